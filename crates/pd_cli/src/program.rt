@@ -1,0 +1,52 @@
+//! One run of the program.
+ghost use Rattle.pd_cli.specs.Statuses.{WritesAtMostReport};
+ghost use Rattle.pd_engine.specs.Outcomes.{WritesReport};
+ghost use Rattle.pd_engine.specs.declared.outcome.Outcome.TheVariants as outcomes;
+ghost use Rattle.pd_format.specs.Bundles.{bundle_limit};
+ghost use Rattle.std.specs.Io.KnownBytes.{Keeps};
+ghost use Rattle.std.specs.Prelude.{◌≡◌, ◌≢◌, ◌≤◌, IfSome, length, vec_len};
+
+use super::bundle::judge_input;
+use super::status::{outcome_status, tell_fault};
+use super::words::{parse, tell_parser};
+use std::alloc::Global;
+use std::io::{Read, Write};
+
+/// Runs the program on its words, of which the first is its name, and gives its exit status.
+///
+/// With no further word a bundle is read from `input`, and its report is written to `output`. Further words are parsed: the
+/// help that they ask for is written to `output`, and what is wrong with them to `errors`. `errors` also has one line for
+/// each fault; where it can't be written, it is left off.
+pub fn run<I: Read + Drop, O: Write, E: Write>(
+    alloc: Global,
+    words: Vec<String>,
+    input: I,
+    output: &mut O,
+    errors: &mut E,
+) -> u8
+    // Status 0 or 1: what is written is the text of the report that the input's bytes make, judged or refused.
+    ensures judged { vec_len words ≤ 1 → result ≡ 0 → IfSome (I.remaining input) (λ bytes.
+        WritesReport bytes outcomes.Judged (O.contents output.old) (O.contents output.new)) }
+    ensures refused { vec_len words ≤ 1 → result ≡ 1 → IfSome (I.remaining input) (λ bytes.
+        WritesReport bytes outcomes.Refused (O.contents output.old) (O.contents output.new)) }
+    ensures short { vec_len words ≤ 1 → result ≤ 1 → IfSome (I.remaining input) (λ bytes. length bytes ≤ bundle_limit) }
+    // A failure leaves at most a part of that text, and a refused allocation or refused words leave nothing.
+    ensures failed { vec_len words ≤ 1 → result ≡ 3 → IfSome (I.remaining input) (λ bytes.
+        WritesAtMostReport bytes (O.contents output.old) (O.contents output.new)) }
+    ensures memory { vec_len words ≤ 1 → result ≡ 4 → Keeps (O.contents output.old) (O.contents output.new) }
+    ensures misused { result ≡ 2 → Keeps (O.contents output.old) (O.contents output.new) }
+    // Nothing is told on the errors of what succeeds, and no other status comes.
+    ensures silent { result ≤ 1 → Keeps (E.contents errors.old) (E.contents errors.new) }
+    ensures used { vec_len words ≤ 1 → result ≢ 2 }
+    ensures known { result ≤ 4 }
+{
+    if words.len() > 1 {
+        if let Err(error) = parse(alloc, &words[1..]) {
+            return tell_parser(&error, output, errors);
+        }
+    }
+    match judge_input(alloc, input, output) {
+        Ok(outcome) => outcome_status(outcome),
+        Err(fault) => tell_fault(&fault, errors),
+    }
+}

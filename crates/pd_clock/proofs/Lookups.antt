@@ -1,0 +1,38 @@
+-- What is looked up at a cut is the state there.
+use Rattle.std.proofs.Common.{◌≡◌, ℕ, ◌+◌, ◌*◌, ◌<◌, ◌≤◌, Bool, cond, List, [], ◌++◌, length, get_or, map, take, refl, sym, ap, ◌∙◌, arith, length-append, inl, inr, ◌⊎◌, ℤ, pos, Some, None}
+use Rattle.std.specs.Prelude.{slice_get, Vec, nat_lt}
+use Rattle.std.specs.Global.{Global}
+use Rattle.std.proofs.lemmas.Bool.{cases_lt, lt-ltb, le-ltb}
+use Rattle.std.proofs.lemmas.Option.{slice_get-get_or, slice_get_past}
+use Rattle.std.proofs.Math.Nat.{mul-le-mul_right}
+use Rattle.pd_model.specs.Events.{event_count, events_of}
+use Rattle.pd_model.specs.Cuts.{FitsProcesses}
+use Rattle.pd_model.specs.Predicates.{last_set, last_set_if_there, state_at}
+use Rattle.pd_clock.specs.Histories.{rows_after}
+use Rattle.pd_events.specs.declared.event.Trace.{Trace}
+use Rattle.pd_events.specs.declared.event.Event.{Event as Happened}
+use Rattle.pd_events.specs.Views.{events_seen}
+use Rattle.pd_clock.specs.Computations.{Keeps, computation_of, recorded_of}
+use Rattle.std.proofs.lemmas.List.{length-map}
+use Rattle.pd_clock.specs.States.{IsLookedUp, values_at, value_at}
+use Rattle.pd_clock.proofs.Rows.{history-at, length-rows_after}
+use Rattle.pd_clock.proofs.Parts.{initial_read}
+
+pub value_is_state : (initial : List (Vec ℤ Global)) (traces : List Trace) (histories : List (Vec ℤ Global)) → Keeps initial traces histories → (counts : List ℕ) → FitsProcesses (computation_of traces) counts → (p v : ℕ) → value_at initial histories counts p v ≡ state_at (recorded_of initial traces).initial (computation_of traces) counts p v
+value_is_state initial traces histories keeps counts fits p v = rw (initial_read initial p) (go (cases_lt v (length (values_at initial p))))
+  where
+    go : (v < length (values_at initial p)) ⊎ (length (values_at initial p) ≤ v) → value_at initial histories counts p v ≡ last_set_if_there v (slice_get (values_at initial p) v) (take (get_or counts p 0) (events_of (computation_of traces) p))
+    go (inl lt) =
+        rw (lt-ltb v (length (values_at initial p)) lt, slice_get-get_or (values_at initial p) v (pos 0) lt, keeps.rows p)
+        (history-at (values_at initial p) (events_of (computation_of traces) p) (get_or counts p 0) v (fits.within p) lt)
+    go (inr le) = rw (le-ltb v (length (values_at initial p)) le, slice_get_past (values_at initial p) v le) refl
+
+pub is_looked_up : (initial : List (Vec ℤ Global)) (traces : List Trace) (histories : List (Vec ℤ Global)) → Keeps initial traces histories → (counts : List ℕ) → FitsProcesses (computation_of traces) counts → IsLookedUp initial histories counts
+is_looked_up initial traces histories keeps counts fits = record {
+  histories_there = keeps.one_each;
+  counts_there = fits.one_each ∙ (length-map traces (λ (process : Trace). events_seen process.events.items) ∙ sym keeps.fits.same);
+  rows_there = λ p.
+      let row : length (rows_after (values_at initial p) (events_of (computation_of traces) p)) ≡ event_count (computation_of traces) p * length (values_at initial p) = length-rows_after (values_at initial p) (events_of (computation_of traces) p) in
+      let few : get_or counts p 0 * length (values_at initial p) ≤ event_count (computation_of traces) p * length (values_at initial p) = mul-le-mul_right (length (values_at initial p)) (fits.within p) in
+      rw (keeps.rows p, length-append (values_at initial p) (rows_after (values_at initial p) (events_of (computation_of traces) p)), row) (omega arith);
+}

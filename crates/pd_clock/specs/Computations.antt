@@ -1,0 +1,33 @@
+-- What the parts of a computation stand for.
+use Rattle.std.specs.Prelude.{◌≡◌, ℕ, ◌+◌, ◌*◌, ◌<◌, ◌≤◌, ◌++◌, List, [], length, map, All, ℤ, Vec, slice_get, Some}
+use Rattle.std.specs.Global.{Global}
+use Rattle.pd_model.specs.Events.{Event, Computation, events_of, event_count}
+use Rattle.pd_model.specs.Predicates.{Recorded}
+use Rattle.pd_clock.specs.States.{values_at}
+use Rattle.pd_clock.specs.Histories.{AreVars, rows_after}
+use Rattle.pd_events.specs.Views.{events_seen}
+use Rattle.pd_events.specs.declared.event.Trace.{Trace}
+use Rattle.pd_events.specs.declared.event.Event.{Event as Happened}
+
+abbrev pub computation_of : List Trace → Computation
+computation_of traces = map (λ (process : Trace). events_seen process.events.items) traces
+
+abbrev pub recorded_of : List (Vec ℤ Global) → List Trace → Recorded
+recorded_of initial traces = record {
+  initial = map (λ (row : Vec ℤ Global). row.items) initial;
+  events = computation_of traces;
+}
+
+-- one to eight processes, each with its variables and at most 10,000 events, which set variables that are there
+pub record FitsInitial (initial : List (Vec ℤ Global)) (traces : List Trace) : Type 0 where
+  pub same : length initial ≡ length traces
+  pub some : 1 ≤ length traces
+  pub few : length traces ≤ 8
+  pub short : (p : ℕ) → event_count (computation_of traces) p ≤ 10000
+  pub vars : (p : ℕ) (process : Trace) → slice_get traces p ≡ Some process → All (λ (event : Happened). AreVars (length (values_at initial p)) event.sets.items) process.events.items
+
+-- the history of each process: its initial values and the row behind each event
+pub record Keeps (initial : List (Vec ℤ Global)) (traces : List Trace) (histories : List (Vec ℤ Global)) : Type 0 where
+  pub fits : FitsInitial initial traces
+  pub one_each : length histories ≡ length initial
+  pub rows : (p : ℕ) → values_at histories p ≡ values_at initial p ++ rows_after (values_at initial p) (events_of (computation_of traces) p)

@@ -1,0 +1,4 @@
+pub mod Histories
+pub mod Computations
+pub mod States
+pub mod StateViews

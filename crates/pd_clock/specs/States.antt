@@ -1,0 +1,22 @@
+-- The value of each variable at a cut, as it is looked up.
+use Rattle.std.specs.Prelude.{◌≡◌, ℕ, ◌+◌, ◌*◌, ◌<◌, ◌≤◌, List, [], length, nat_lt, cond, ℤ, pos, Vec, slice_index, slice_index_or, slice_get, Option, Some, None}
+use Rattle.std.specs.Global.{Global}
+
+abbrev pub values_in : Option (Vec ℤ Global) → List ℤ
+values_in None = []
+values_in (Some row) = row.items
+
+-- the row with this number, and no values where there is none
+abbrev pub values_at : List (Vec ℤ Global) → ℕ → List ℤ
+values_at rows p = values_in (slice_get rows p)
+
+-- the value of variable v of process p behind the events that are counted; 0 for what isn't there
+abbrev pub value_at : List (Vec ℤ Global) → List (Vec ℤ Global) → List ℕ → ℕ → ℕ → ℤ
+value_at initial histories counts p v =
+    cond (nat_lt v (length (values_at initial p))) (slice_index_or (values_at histories p) (slice_index counts p * length (values_at initial p) + v) (pos 0)) (pos 0)
+
+-- each history has the rows up to the count
+pub record IsLookedUp (initial histories : List (Vec ℤ Global)) (counts : List ℕ) : Type 0 where
+  pub histories_there : length histories ≡ length initial
+  pub counts_there : length counts ≡ length initial
+  pub rows_there : (p : ℕ) → slice_index counts p * length (values_at initial p) + length (values_at initial p) ≤ length (values_at histories p)

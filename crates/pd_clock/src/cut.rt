@@ -1,0 +1,39 @@
+//! Counts of events, one for each process.
+ghost use Rattle.std.specs.Prelude.{◌≡◌, ◌≤◌, ◌<◌, ◌+◌, length, slice_index, slice_set, IfOk, IsOk};
+ghost use Rattle.pd_model.specs.Cuts.{one_more};
+
+use smallvec::SmallVec;
+use std::alloc::{AllocError, Global};
+use std::marker::Model;
+
+/// How many events of each process are in a cut, in the order of the processes. Up to 8 counts take no memory.
+#[derive(Drop)]
+pub struct Cut {
+    counts: SmallVec<u64, 8>,
+}
+
+impl Model for Cut {
+    ghost use Rattle.std.specs.Prelude.{ℕ, List};
+
+    ghost Value = { List ℕ };
+
+    ghost view = { λ c. c.counts.items };
+}
+
+impl Cut {
+    /// The cut of these counts. It can't fail for up to 8 of them.
+    pub fn new(alloc: Global, counts: &[u64]) -> Result<Cut, AllocError>
+        ensures ok { IfOk result (λ cut. cut ≡ counts.now) }
+        ensures few { length counts.now ≤ 8 → IsOk result }
+    {
+        let counts = SmallVec::from_slice(alloc, counts)?;
+        Ok(Cut { counts })
+    }
+
+    /// The counts, in the order of the processes.
+    pub fn counts(&self) -> &[u64]
+        ensures { result.now ≡ self.now }
+    {
+        self.counts.as_slice()
+    }
+}

@@ -1,0 +1,9 @@
+pub mod Inputs
+pub mod Joins
+pub mod Parts
+pub mod Texts
+pub mod FitTraces
+pub mod SessionNumbers
+pub mod Feeding
+pub mod WholeInputs
+pub mod Openings

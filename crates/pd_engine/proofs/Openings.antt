@@ -1,0 +1,57 @@
+-- The report of a bundle's parts.
+use Rattle.std.proofs.Common.{◌≡◌, ℕ, ◌<◌, ◌≤◌, Bool, true, false, List, [], ◌∷◌, length, get_or, drop, map, refl, sym, ap, ◌∙◌, subst, arith, Some, None, Option, Ok, Err, inl, inr, ◌⊎◌}
+use Rattle.std.specs.Prelude.{MatchOption, nat_lt}
+use Rattle.std.specs.Borrow.{Bor}
+use Rattle.std.proofs.lemmas.Bool.{cases_lt, lt-ltb}
+use Rattle.std.proofs.lemmas.List.{length-map}
+use Rattle.pd_format.specs.Documents.{Document, InPredicate, IsDocument, IsRefusedDocument}
+use Rattle.pd_format.specs.Documents as documents
+use Rattle.pd_format.specs.Judgements.{PossiblyReport, Refused, IsJudgement, of_read, of_refused, IsReportOfOutcomes, IsReportOfSession, document_refusal, outcomes_of, ended_streams, Told}
+use Rattle.pd_format.specs.Reports.{Refusal}
+use Rattle.pd_format.specs.Sessions.{Outcome, session, TooManyStreams, stream_limit}
+use Rattle.pd_spec.specs.Views.{IsFaultOf}
+use Rattle.pd_spec.specs.declared.fault.SpecFault.{SpecFault}
+use Rattle.pd_spec.specs.declared.fault.SpecFault.TheVariants as faults
+use Rattle.pd_pred.specs.Views.{fault_of}
+use Rattle.pd_format.specs.PredicateTexts.{PredicateFault}
+use Rattle.pd_engine.specs.Refusals.{IsDocumentRefusal}
+
+pub parts_split : (parts : List (Bor (List ℕ))) (d : Bor (List ℕ)) → 0 < length parts → map (λ (part : Bor (List ℕ)). part.now) parts ≡ (get_or parts 0 d).now ∷ map (λ (part : Bor (List ℕ)). part.now) (drop 1 parts)
+parts_split [] d lt = absurd (omega arith)
+parts_split (first ∷ others) d lt = refl
+
+-- with too many streams it doesn't matter what they give
+same_session : (document : Document) (streams : ℕ) (given told : List Outcome) (report : PossiblyReport) → (streams ≤ 16 → given ≡ told) → IsReportOfOutcomes document streams given report → IsReportOfOutcomes document streams told report
+same_session document streams given told report same judged = go (cases_lt 16 streams)
+  where
+    go : (16 < streams) ⊎ (streams ≤ 16) → IsReportOfOutcomes document streams told report
+    go (inr few) = subst (λ (outcomes : List Outcome). IsReportOfOutcomes document streams outcomes report) (same few) judged
+    go (inl many) =
+        let test : nat_lt stream_limit streams ≡ true = lt-ltb stream_limit streams many in
+        let first : session document.names streams given ≡ Err TooManyStreams = rw test refl in
+        let second : session document.names streams told ≡ Err TooManyStreams = rw test refl in
+        subst (λ r. IsReportOfSession document r report) (first ∙ sym second) judged
+
+pub read_judged : (bytes : List ℕ) (parts : List (List ℕ)) (document : Document) (streams : ℕ) (given : List Outcome) → IsDocument bytes document → streams ≡ length parts → (length parts ≤ 16 → given ≡ outcomes_of document.names (ended_streams parts)) → (report : PossiblyReport) → IsReportOfOutcomes document streams given report → IsJudgement bytes (ended_streams parts) report
+read_judged bytes parts document streams given is count same report judged =
+    let many : length (ended_streams parts) ≡ length parts = length-map parts _ in
+    of_read document is
+    (rw many (same_session document (length parts) given (outcomes_of document.names (ended_streams parts)) report same
+    (subst (λ (n : ℕ). IsReportOfOutcomes document n given report) count judged)))
+
+pub refused_judged : (bytes : List ℕ) (streams : List Told) (fault : SpecFault) (refusal : Refusal) → IsFaultOf bytes fault → IsDocumentRefusal fault refusal → IsJudgement bytes streams (Refused refusal)
+refused_judged bytes streams faults.Long refusal is tells = of_refused documents.Long is (ap Refused tells)
+refused_judged bytes streams faults.Json refusal is tells = of_refused documents.Json is (ap Refused tells)
+refused_judged bytes streams faults.Shape refusal is tells = of_refused documents.Shape is (ap Refused tells)
+refused_judged bytes streams faults.Processes refusal is tells = of_refused documents.Processes is (ap Refused tells)
+refused_judged bytes streams faults.Name refusal is tells = of_refused documents.Name is (ap Refused tells)
+refused_judged bytes streams faults.NameTwice refusal is tells = of_refused documents.NameTwice is (ap Refused tells)
+refused_judged bytes streams faults.Vars refusal is tells = of_refused documents.Vars is (ap Refused tells)
+refused_judged bytes streams faults.Predicates refusal is tells = of_refused documents.Predicates is (ap Refused tells)
+refused_judged bytes streams faults.Width refusal is tells = of_refused documents.Width is (ap Refused tells)
+refused_judged bytes streams (faults.Predicate k error) refusal is tells = go (fault_of error.kind) refl
+  where
+    go : (o : Option PredicateFault) → fault_of error.kind ≡ o → IsJudgement bytes streams (Refused refusal)
+    go None at = absurd (rw at at is)
+    go (Some fault) at = of_refused (InPredicate k fault error.at) (rw at at is) (ap Refused (rw at at tells))
+refused_judged bytes streams faults.Memory refusal is tells = absurd tells

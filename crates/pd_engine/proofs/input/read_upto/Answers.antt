@@ -1,0 +1,10 @@
+use Rattle.std.proofs.Common.{arith}
+use Rattle.pd_engine.proofs.Inputs.{nothing_read}
+use Rattle.pd_engine.proofs.input.read_upto.Goals as goal
+
+pub reads-init : goal.reads-init
+reads-init g c = record {
+  room = c.in_ok-piece.ensures (omega arith);
+  within = omega arith;
+  read = rw c.new-bytes.ensures.items (nothing_read (g.R.Read.remaining c.args.reader));
+}

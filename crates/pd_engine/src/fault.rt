@@ -1,0 +1,42 @@
+//! Why the engine gives no report.
+use std::alloc::{AllocError, AllocFailed};
+use thiserror::Error;
+
+/// What kept the engine from its report. None of these says anything about what was read.
+#[derive(Debug, Drop, Error)]
+pub enum EngineFault {
+    /// An allocation was refused.
+    #[error("memory")]
+    Memory,
+    /// The report could not be written, or the writer not flushed.
+    #[error("write")]
+    Write,
+    /// The input could not be read.
+    #[error("read")]
+    Read,
+    /// The bundle has over 67,108,864 bytes.
+    #[error("bundle too long")]
+    BundleLong,
+}
+
+impl From<AllocError> for EngineFault {
+    ghost use Rattle.std.specs.Prelude.{◌≡◌};
+    ghost use Rattle.pd_engine.specs.declared.fault.EngineFault.TheVariants.{Memory};
+
+    ghost from_gives = { λ _ fault. fault ≡ Memory };
+
+    fn from(_e: AllocError) -> EngineFault {
+        EngineFault::Memory
+    }
+}
+
+impl<T: Drop> From<AllocFailed<T>> for EngineFault {
+    ghost use Rattle.std.specs.Prelude.{◌≡◌};
+    ghost use Rattle.pd_engine.specs.declared.fault.EngineFault.TheVariants.{Memory};
+
+    ghost from_gives = { λ _ fault. fault ≡ Memory };
+
+    fn from(_e: AllocFailed<T>) -> EngineFault {
+        EngineFault::Memory
+    }
+}

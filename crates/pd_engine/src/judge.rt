@@ -1,0 +1,128 @@
+//! The report of a session's streams.
+ghost use Rattle.pd_clock.specs.Computations.{FitsInitial};
+ghost use Rattle.pd_engine.specs.Views as views;
+ghost use Rattle.pd_format.specs.Judgements.{IsFound, IsReportOfOutcomes, IsTracesReport, possibly_of};
+ghost use Rattle.pd_gather.specs.Views.{AreTraces, ReadingFits, outcomes_seen, traces_seen};
+ghost use Rattle.pd_model.specs.Answers.{IsPossiblyAnswer};
+ghost use Rattle.pd_model.specs.Order.{HasNoCycle};
+ghost use Rattle.pd_possibly.specs.Answers.{answer_of};
+ghost use Rattle.pd_spec.specs.Named.{named_of};
+ghost use Rattle.pd_spec.specs.Views.{document_of};
+ghost use Rattle.std.specs.List.{AllZip};
+ghost use Rattle.std.specs.Prelude.{◌≡◌, ◌≤◌, All, IfOk, IsOkUnless, map};
+
+use super::refusal::of_streams;
+use super::{Answer, EngineFault, Possibly, Report};
+use pd_clock::Computation;
+use pd_events::Trace;
+use pd_gather::{Gathered, session};
+use pd_level::Gate;
+use pd_possibly::{PossiblyAnswer, possibly};
+use pd_spec::{NamedPred, Spec};
+use std::alloc::{AllocError, Global};
+
+/// The report of what the streams of a session gave: the first refusal, or an answer for each predicate. `workers`, from 1 to
+/// 16, and the gate change nothing yet.
+///
+/// # Errors
+/// `Memory`.
+pub fn report_of<G: Gate + Sync>(
+    alloc: Global,
+    spec: &Spec,
+    gathered: Gathered,
+    workers: u64,
+    gate: &G,
+) -> Result<Report, EngineFault>
+    requires { All (ReadingFits (document_of spec.now).names) gathered.readings.items }
+    ensures report { IfOk result (λ report. IsReportOfOutcomes (document_of spec.now) gathered.streams (outcomes_seen gathered.readings.items) (views.report_of report)) }
+    ensures err { IsOkUnless result EngineFault.Memory }
+{
+    match session(alloc, spec, gathered) {
+        Ok(traces) => judged(alloc, spec, &traces, workers, gate),
+        Err(fault) => {
+            let refusal = of_streams(alloc, spec.names(), fault)?;
+            Ok(Report::Refused(refusal))
+        }
+    }
+}
+
+/// The report of a session's traces.
+fn judged<G: Gate + Sync>(
+    alloc: Global,
+    spec: &Spec,
+    traces: &[Trace],
+    workers: u64,
+    gate: &G,
+) -> Result<Report, EngineFault>
+    requires { AreTraces (document_of spec.now).names traces.now }
+    ensures report { IfOk result (λ report. IsTracesReport (document_of spec.now) (traces_seen traces.now) (views.report_of report)) }
+    ensures err { IsOkUnless result EngineFault.Memory }
+{
+    pd_model::local_events();
+    let computation = Computation::build(alloc, spec.initial_rows(), traces)?;
+    let answers = answers(
+        alloc,
+        spec.predicates(),
+        &computation,
+        spec.width(),
+        workers,
+        gate,
+    )?;
+    Ok(Report::Judged {
+        processes: spec.names().processes() as u64,
+        events: computation.total(),
+        messages: 0,
+        answers,
+    })
+}
+
+/// The answer for each predicate.
+fn answers<G: Gate + Sync>(
+    alloc: Global,
+    asked: &[NamedPred],
+    computation: &Computation<'_>,
+    width: u64,
+    workers: u64,
+    gate: &G,
+) -> Result<Vec<Answer>, AllocError>
+    requires acyclic { HasNoCycle computation.now.events }
+    requires wide { 1 ≤ width }
+    ensures { IfOk result (λ answers. AllZip (IsFound computation.now width) (map named_of asked.now) (map views.found_of answers.items)) }
+{
+    let mut answers = Vec::new(alloc);
+    for predicate in asked {
+        answers.push(answer(alloc, predicate, computation, width, workers, gate)?)?;
+    }
+    Ok(answers)
+}
+
+/// The answer for one predicate.
+fn answer<G: Gate + Sync>(
+    alloc: Global,
+    asked: &NamedPred,
+    computation: &Computation<'_>,
+    width: u64,
+    workers: u64,
+    gate: &G,
+) -> Result<Answer, AllocError>
+    requires acyclic { HasNoCycle computation.now.events }
+    requires wide { 1 ≤ width }
+    ensures { IfOk result (λ answer. IsFound computation.now width (named_of asked.now) (views.found_of answer)) }
+{
+    let found = possibly(alloc, computation, &asked.pred, width, workers, gate)?;
+    Ok(Answer {
+        name: asked.name.clone()?,
+        possibly: told(alloc, &found)?,
+    })
+}
+
+/// The answer as a report tells it.
+fn told(alloc: Global, answer: &PossiblyAnswer) -> Result<Possibly, AllocError>
+    ensures { IfOk result (λ possibly. views.possibly_told possibly ≡ possibly_of (answer_of answer.now)) }
+{
+    match answer {
+        PossiblyAnswer::Yes(cut) => Ok(Possibly::Yes(cut.counts().to_vec(alloc)?)),
+        PossiblyAnswer::No => Ok(Possibly::No),
+        PossiblyAnswer::Unknown(level) => Ok(Possibly::Unknown(*level)),
+    }
+}

@@ -1,0 +1,38 @@
+//! The engine's edge: what it reads, what it refuses, and what it writes.
+//!
+//! Bytes come from a reader up to a limit and are cut into a bundle's parts; a report is a value, and its text is exactly
+//! the one that the definitions give; a text reaches a writer whole, or the call fails. Only a refused allocation is told
+//! as want of memory.
+//!
+//! - `judge`: the report of a session's streams
+//! - `refusal`: refusals in the words of a report
+//! - `report`: reports, and their texts
+//! - `fields`: the fields of a line of text
+//! - `bundle`: the parts of a bundle
+//! - `bundle_judge`: the report of a bundle
+//! - `outcome`: how a session was judged
+//! - `input`: reads a reader up to a limit
+//! - `output`: writes a text
+//! - `fault`: why the engine gives no report
+#![tactic(auto)]
+
+mod bundle;
+mod bundle_judge;
+mod fault;
+mod fields;
+mod input;
+mod judge;
+mod outcome;
+mod output;
+mod refusal;
+mod report;
+#[cfg(test)]
+mod tests;
+
+pub use bundle_judge::judge_bundle;
+pub use fault::EngineFault;
+pub use input::read_upto;
+pub use judge::report_of;
+pub use outcome::Outcome;
+pub use pd_level::{Gate, NoGate};
+pub use report::{Answer, Possibly, Refusal, Report, text};

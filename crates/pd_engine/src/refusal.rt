@@ -1,0 +1,111 @@
+//! Refusals in the words of a report.
+ghost use Rattle.pd_engine.specs.Views.{refusal_of};
+ghost use Rattle.pd_engine.specs.Refusals.{IsDocumentRefusal, NamesStream, kind_word};
+ghost use Rattle.pd_format.specs.Judgements.{session_refusal, stream_word};
+ghost use Rattle.pd_gather.specs.Views.{told};
+ghost use Rattle.pd_events.specs.Views.{stream_kind_seen};
+ghost use Rattle.std.specs.Prelude.{◌≡◌, IfOk, IsOkUnless, MatchOption, Some};
+
+use super::{EngineFault, Refusal};
+use pd_events::StreamKind;
+use pd_gather::SessionFault;
+use pd_pred::{Names, PredErrorKind};
+use pd_spec::SpecFault;
+use std::alloc::Global;
+
+/// The word for a predicate's fault, if it isn't want of memory.
+fn predicate_word(kind: PredErrorKind) -> Option<&'static str>
+    ensures { kind_word kind result }
+{
+    match kind {
+        PredErrorKind::Long => Some("long"),
+        PredErrorKind::Character => Some("character"),
+        PredErrorKind::Number => Some("number"),
+        PredErrorKind::Expected => Some("expected"),
+        PredErrorKind::UnknownName => Some("unknownname"),
+        PredErrorKind::Depth => Some("depth"),
+        PredErrorKind::Memory => None,
+    }
+}
+
+/// The refusal of a document with this fault.
+///
+/// # Errors
+/// `Memory`, where the fault is want of memory.
+pub(crate) fn of_document(fault: SpecFault) -> Result<Refusal, EngineFault>
+    ensures tells { IfOk result (λ refusal. IsDocumentRefusal fault (refusal_of refusal)) }
+    ensures err { IsOkUnless result EngineFault.Memory }
+{
+    match fault {
+        SpecFault::Long => Ok(Refusal::Spec("long")),
+        SpecFault::Json => Ok(Refusal::Spec("json")),
+        SpecFault::Shape => Ok(Refusal::Spec("shape")),
+        SpecFault::Processes => Ok(Refusal::Spec("processes")),
+        SpecFault::Name => Ok(Refusal::Spec("name")),
+        SpecFault::NameTwice => Ok(Refusal::Spec("nametwice")),
+        SpecFault::Vars => Ok(Refusal::Spec("vars")),
+        SpecFault::Predicates => Ok(Refusal::Spec("predicates")),
+        SpecFault::Width => Ok(Refusal::Spec("width")),
+        SpecFault::Predicate(k, error) => match predicate_word(error.kind) {
+            Some(word) => Ok(Refusal::Predicate {
+                k,
+                word,
+                at: error.at,
+            }),
+            None => Err(EngineFault::Memory),
+        },
+        SpecFault::Memory => Err(EngineFault::Memory),
+    }
+}
+
+/// The word for a stream's fault.
+fn stream_word(kind: StreamKind) -> &'static str
+    ensures { result.now ≡ stream_word (stream_kind_seen kind) }
+{
+    match kind {
+        StreamKind::LineTooLong => "linetoolong",
+        StreamKind::StreamTooLong => "streamtoolong",
+        StreamKind::Json => "json",
+        StreamKind::Shape => "shape",
+        StreamKind::Join => "join",
+        StreamKind::UnknownProcess => "unknownprocess",
+        StreamKind::UnknownVar => "unknownvar",
+        StreamKind::Value => "value",
+        StreamKind::Events => "events",
+        StreamKind::Unended => "unended",
+        StreamKind::Read => "read",
+    }
+}
+
+/// The refusal of streams with this fault. A report counts streams from 1.
+///
+/// # Errors
+/// `Memory`, where the fault is want of memory, or the name can't be copied for want of it.
+pub(crate) fn of_streams(
+    alloc: Global,
+    names: &Names,
+    fault: SessionFault,
+) -> Result<Refusal, EngineFault>
+    requires { NamesStream names.now fault }
+    ensures tells { IfOk result (λ refusal. MatchOption (told fault) ⊥ (λ seen. refusal_of refusal ≡ session_refusal names.now seen)) }
+    ensures err { IsOkUnless result EngineFault.Memory }
+{
+    match fault {
+        SessionFault::Streams => Ok(Refusal::Streams),
+        SessionFault::Stream(stream, fault) => Ok(Refusal::Stream {
+            stream: stream + 1,
+            line: fault.line,
+            word: stream_word(fault.kind),
+        }),
+        SessionFault::Taken(stream, line) => Ok(Refusal::Stream {
+            stream: stream + 1,
+            line,
+            word: "taken",
+        }),
+        SessionFault::Absent(process) => {
+            let name = String::from_str(alloc, names.name(process))?;
+            Ok(Refusal::Absent(name))
+        }
+        SessionFault::Memory => Err(EngineFault::Memory),
+    }
+}

@@ -1,0 +1,4 @@
+pub mod FieldViews
+pub mod StatementFacts
+pub mod RecordFacts
+pub mod ReaderSteps

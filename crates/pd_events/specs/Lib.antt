@@ -1,0 +1,5 @@
+pub mod Faults
+pub mod Statements
+pub mod Views
+pub mod Progress
+pub mod Reads

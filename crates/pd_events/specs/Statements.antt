@@ -1,0 +1,22 @@
+-- What a line's statement stands for.
+use Rattle.std.specs.Prelude.{Option, Some, None, String}
+use Rattle.std.specs.Borrow.{Bor}
+use Rattle.std.specs.declared.alloc.Global.{Global}
+use Rattle.std.specs.BTreeMap.{BTreeMap}
+use Rattle.serde_json.specs.declared.value.Value.{Value}
+use Rattle.serde_json.specs.Data.{Members, no_members}
+use Rattle.serde_json.specs.View.{members_view}
+use Rattle.pd_model.specs.Events.{Local}
+use Rattle.pd_format.specs.Records as records
+use Rattle.pd_events.specs.declared.statement.Statement.{Statement}
+use Rattle.pd_events.specs.declared.statement.Statement.TheVariants.{Join, Finish, Event}
+
+-- the variables that are set, with their values
+abbrev pub settings_seen : Option (Bor (BTreeMap (String Global) Value)) → Members
+settings_seen None = no_members
+settings_seen (Some settings) = members_view settings.now.entries
+
+abbrev pub statement_seen : Statement → records.Statement
+statement_seen (Join name) = records.SaysJoin name.now
+statement_seen Finish = records.SaysEnd
+statement_seen (Event settings) = records.SaysEvent Local (settings_seen settings)

@@ -1,0 +1,39 @@
+//! Events, traces and records.
+
+/// What kind of event it is.
+#[derive(Clone, Copy, Debug, PartialEq, Eq)]
+pub enum EventKind {
+    /// An event of its process alone.
+    Local,
+}
+
+/// An event of a process.
+#[derive(Debug, PartialEq, Eq, Drop)]
+pub struct Event {
+    /// What kind of event it is.
+    pub kind: EventKind,
+    /// The variables that it sets, with their values. Variables are counted from 0 among those of the process, and ascend.
+    pub sets: Vec<(usize, i64)>,
+}
+
+/// The events of a process.
+#[derive(Debug, PartialEq, Eq, Drop)]
+pub struct Trace {
+    /// The process, counted from 0.
+    pub process: usize,
+    /// The number of the line in which it joined, counted from 1.
+    pub join_line: u64,
+    /// Its events in their order, at most 10,000.
+    pub events: Vec<Event>,
+}
+
+/// What a line says.
+#[derive(Debug, PartialEq, Eq, Drop)]
+pub enum LineRecord {
+    /// The stream is that of this process, counted from 0.
+    Join(usize),
+    /// An event of the process.
+    Happened(Event),
+    /// The process has no more events.
+    Finish,
+}

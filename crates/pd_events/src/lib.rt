@@ -1,0 +1,30 @@
+//! Records and traces from the lines of a stream.
+//!
+//! `read_record` says exactly what a line says, or the first fault that applies. A trace reader takes a stream's bytes in
+//! pieces; however they are cut, its state, its events and its outcome are those of the reading of all bytes that came
+//! before it closed. Where memory runs out it stays as it was.
+//!
+//! - `event`: events, traces and records
+//! - `fault`: what is wrong with a line or a stream, and how far a stream is
+//! - `json`, `fields`: the JSON value of a line, and its fields
+//! - `statement`: what a line of right shape says
+//! - `record`: the record of a line
+//! - `progress`: how far the lines have been read
+//! - `reader`: the reader of a stream
+#![tactic(auto)]
+
+mod event;
+mod fault;
+mod fields;
+mod json;
+mod progress;
+mod reader;
+mod record;
+mod statement;
+#[cfg(test)]
+mod tests;
+
+pub use event::{Event, EventKind, LineRecord, Trace};
+pub use fault::{RecordFault, StreamFault, StreamKind, StreamState};
+pub use reader::TraceReader;
+pub use record::read_record;

@@ -1,0 +1,202 @@
+//! How far the lines of a stream have been read.
+ghost use Rattle.std.specs.Prelude.{◌≡◌, List, ◌++◌, length, option_map, Ok, IfOk, OnErr, OnOk};
+ghost use Rattle.pd_frames.specs.Views.{line_of, lines_of};
+ghost use Rattle.pd_format.specs.Readings.{IsClosed, NothingMore, with_end};
+ghost use Rattle.std.specs.Bool.{OnFalse, OnTrue};
+ghost use Rattle.pd_format.specs.ReadingLaws.{after_record, read_line, read_on, unless_stopped};
+ghost use Rattle.pd_spec.specs.Views.{document_of};
+ghost use Rattle.pd_events.specs.Faults.{told};
+ghost use Rattle.pd_events.specs.Progress.{in_record, joined_of, joined_seen, open_reading, reading_seen, stop_of, stop_of_fault};
+ghost use Rattle.pd_events.specs.Views.{events_seen, record_seen, stream_kind_seen};
+
+use super::{Event, LineRecord, RecordFault, StreamFault, StreamKind, read_record};
+use pd_frames::Line;
+use pd_spec::Spec;
+use std::alloc::{AllocError, Global};
+
+/// How many events a process may have.
+const EVENT_LIMIT: usize = 10_000;
+
+/// The join of a stream's process.
+#[derive(Clone, Copy)]
+pub struct Join {
+    /// The process, counted from 0.
+    pub process: usize,
+    /// The number of the join's line, counted from 1.
+    pub line: u64,
+}
+
+/// Where a stream is.
+#[derive(Clone, Copy)]
+pub enum Phase {
+    /// No record has come.
+    Fresh,
+    /// Its process has joined.
+    Joined(Join),
+    /// Its end line has come.
+    Ended(Join),
+    /// It has a fault, behind the join if there was one.
+    Faulted(Option<Join>, StreamFault),
+}
+
+impl Phase {
+    /// The join, if there was one.
+    pub fn joined(self) -> Option<Join>
+        ensures { joined_seen result ≡ joined_of self }
+    {
+        match self {
+            Phase::Fresh => None,
+            Phase::Joined(join) | Phase::Ended(join) => Some(join),
+            Phase::Faulted(joined, _) => joined,
+        }
+    }
+
+    /// Whether the end line or a fault has come.
+    pub fn is_closed(self) -> bool
+        ensures yes { OnTrue result (IsClosed (stop_of self)) }
+        ensures no { OnFalse result (stop_of self ≡ NothingMore) }
+    {
+        match self {
+            Phase::Fresh | Phase::Joined(_) => false,
+            Phase::Ended(_) => true,
+            Phase::Faulted(_, _) => true,
+        }
+    }
+
+    /// The same phase with this fault behind it, if there is one and the stream hasn't stopped before.
+    fn ended_by(self, behind: Option<StreamFault>) -> Phase
+        ensures { (events : List Event) → reading_seen result events ≡ with_end (stop_of_fault behind) (reading_seen self events) }
+    {
+        match (self, behind) {
+            (Phase::Fresh, Some(fault)) => Phase::Faulted(None, fault),
+            (Phase::Joined(join), Some(fault)) => Phase::Faulted(Some(join), fault),
+            (phase, _) => phase,
+        }
+    }
+}
+
+/// What a record's fault is in a stream, if it isn't want of memory.
+fn kind_of(fault: RecordFault) -> Option<StreamKind>
+    ensures { option_map stream_kind_seen result ≡ option_map in_record (told fault) }
+{
+    match fault {
+        RecordFault::Json => Some(StreamKind::Json),
+        RecordFault::Shape => Some(StreamKind::Shape),
+        RecordFault::Join => Some(StreamKind::Join),
+        RecordFault::UnknownProcess => Some(StreamKind::UnknownProcess),
+        RecordFault::UnknownVar => Some(StreamKind::UnknownVar),
+        RecordFault::Value => Some(StreamKind::Value),
+        RecordFault::Memory => None,
+    }
+}
+
+/// Takes a record, behind so many events; an event is added to the new ones.
+fn take_record(
+    joined: Option<Join>,
+    kept: usize,
+    new: &mut Vec<Event>,
+    number: u64,
+    said: LineRecord,
+) -> Result<Phase, AllocError>
+    ensures { IfOk result (λ phase. (events : List Event) → length events ≡ kept →
+        reading_seen phase (events ++ new.new.items)
+        ≡ after_record (joined_seen joined) (open_reading (joined_seen joined) (events_seen (events ++ new.old.items))) number (Ok (record_seen said))) }
+{
+    let fault = |kind| Phase::Faulted(joined, StreamFault { line: number, kind });
+    match (joined, said) {
+        (None, LineRecord::Join(process)) => Ok(Phase::Joined(Join {
+            process,
+            line: number,
+        })),
+        (None, LineRecord::Happened(_) | LineRecord::Finish) => Ok(fault(StreamKind::Join)),
+        (Some(_), LineRecord::Join(_)) => Ok(fault(StreamKind::Join)),
+        (Some(join), LineRecord::Happened(event)) => {
+            if kept >= EVENT_LIMIT || new.len() >= EVENT_LIMIT - kept {
+                return Ok(fault(StreamKind::Events));
+            }
+            new.push(event)?;
+            Ok(Phase::Joined(join))
+        }
+        (Some(join), LineRecord::Finish) => Ok(Phase::Ended(join)),
+    }
+}
+
+/// Takes a line, behind so many events. What has stopped stays as it is.
+fn take_line(
+    alloc: Global,
+    spec: &Spec,
+    phase: Phase,
+    kept: usize,
+    new: &mut Vec<Event>,
+    line: &Line,
+) -> Result<Phase, AllocError>
+    ensures { IfOk result (λ after. (events : List Event) → length events ≡ kept →
+        reading_seen after (events ++ new.new.items)
+        ≡ unless_stopped (stop_of phase) (reading_seen phase (events ++ new.old.items))
+        (read_line (document_of spec.now).names (reading_seen phase (events ++ new.old.items)) (line_of line.now))) }
+{
+    if phase.is_closed() {
+        return Ok(phase);
+    }
+    let joined = phase.joined();
+    let process = joined.map(|join| join.process);
+    match read_record(alloc, spec, process, &line.bytes) {
+        Ok(record) => take_record(joined, kept, new, line.number, record),
+        Err(fault) => {
+            let kind = kind_of(fault).ok_or(AllocError)?;
+            Ok(Phase::Faulted(
+                joined,
+                StreamFault {
+                    line: line.number,
+                    kind,
+                },
+            ))
+        }
+    }
+}
+
+/// How far the lines of a stream have been read.
+#[derive(Drop)]
+pub struct Progress {
+    /// Where the stream is.
+    pub phase: Phase,
+    /// The events so far.
+    pub events: Vec<Event>,
+}
+
+impl Progress {
+    /// Takes these lines, and the fault behind them, if there is one.
+    ///
+    /// # Errors
+    /// Where memory runs out; the progress is then as it was.
+    pub fn take_lines(
+        &mut self,
+        alloc: Global,
+        spec: &Spec,
+        lines: &[Line],
+        behind: Option<StreamFault>,
+    ) -> Result<(), AllocError>
+        ensures ok { OnOk result (reading_seen self.new.phase self.new.events.items
+            ≡ with_end (stop_of_fault behind)
+            (read_on (document_of spec.now).names (reading_seen self.old.phase self.old.events.items) (lines_of lines.now))) }
+        ensures err { OnErr result (reading_seen self.new.phase self.new.events.items ≡ reading_seen self.old.phase self.old.events.items) }
+    {
+        let mut phase = self.phase;
+        let mut new = Vec::new(alloc);
+        let kept = self.events.len();
+        for line in lines {
+            phase = take_line(alloc, spec, phase, kept, &mut new, line)?;
+        }
+        self.events.append(&mut new)?;
+        self.phase = phase.ended_by(behind);
+        Ok(())
+    }
+
+    /// Takes the fault behind the lines, if there is one and the stream hasn't stopped before.
+    pub fn end_by(&mut self, behind: Option<StreamFault>)
+        ensures { reading_seen self.new.phase self.new.events.items
+            ≡ with_end (stop_of_fault behind) (reading_seen self.old.phase self.old.events.items) }
+    {
+        self.phase = self.phase.ended_by(behind);
+    }
+}

@@ -1,0 +1,128 @@
+//! The record of a line.
+ghost use Rattle.std.specs.Prelude.{◌≡◌, ℕ, List, map, string_bytes, option_and_then, IfOk, Ok};
+ghost use Rattle.serde_json.specs.Data.{no_members};
+ghost use Rattle.serde_json.specs.Find.{get_member};
+ghost use Rattle.serde_json.specs.View.{members_view};
+ghost use Rattle.pd_model.specs.Events.{Local};
+ghost use Rattle.pd_format.specs.Names.{vars_of};
+ghost use Rattle.pd_format.specs.Records.{event_record, record_of, record_of_statement, sets_from, whole_number};
+ghost use Rattle.pd_spec.specs.Views.{document_of};
+ghost use Rattle.pd_events.specs.Statements.{settings_seen, statement_seen};
+ghost use Rattle.pd_events.specs.Views.{IsRecord, record_seen};
+
+use super::fields::{are_whole, has_only_vars, value_at};
+use super::json::value_of;
+use super::statement::{Statement, statement_of};
+use super::{Event, EventKind, LineRecord, RecordFault};
+use pd_pred::Names;
+use pd_spec::Spec;
+use serde_json::{Map, Value};
+use std::alloc::{AllocError, Global};
+
+/// The variables of this process; none where there is no such process.
+fn vars_of(names: &Names, process: usize) -> &[String]
+    ensures { map string_bytes result.now ≡ vars_of names.now process }
+{
+    if process < names.processes() {
+        names.vars(process)
+    } else {
+        &[]
+    }
+}
+
+/// The whole number that stands at this field, if one does.
+fn whole_at(fields: &Map<String, Value>, name: &str) -> Option<i64>
+    ensures { result ≡ option_and_then whole_number (get_member name.now (members_view fields.now.entries)) }
+{
+    value_at(fields, name)?.as_i64()
+}
+
+/// The variables that are set to a whole number, with it, in the variables' order.
+fn sets_of(
+    alloc: Global,
+    vars: &[String],
+    settings: &Map<String, Value>,
+) -> Result<Vec<(usize, i64)>, AllocError>
+    ensures { IfOk result (λ sets. sets.items ≡ sets_from 0 (map string_bytes vars.now) (members_view settings.now.entries)) }
+{
+    let mut sets = Vec::new(alloc);
+    for (number, var) in vars.iter().enumerate() {
+        if let Some(value) = whole_at(settings, var.as_str()) {
+            sets.push((number, value))?;
+        }
+    }
+    Ok(sets)
+}
+
+/// The event that sets variables, of a process that has these.
+fn event_of(
+    alloc: Global,
+    vars: &[String],
+    settings: &Map<String, Value>,
+) -> Result<LineRecord, RecordFault>
+    ensures { IsRecord (event_record (map string_bytes vars.now) Local (members_view settings.now.entries)) result }
+{
+    if !has_only_vars(vars, settings) {
+        return Err(RecordFault::UnknownVar);
+    }
+    if !are_whole(settings) {
+        return Err(RecordFault::Value);
+    }
+    let sets = sets_of(alloc, vars, settings)?;
+    Ok(LineRecord::Happened(Event {
+        kind: EventKind::Local,
+        sets,
+    }))
+}
+
+/// The event that sets no variable.
+fn event_alone(alloc: Global) -> LineRecord
+    ensures { (vars : List (List ℕ)) → event_record vars Local no_members ≡ Ok (record_seen result) }
+{
+    LineRecord::Happened(Event {
+        kind: EventKind::Local,
+        sets: Vec::new(alloc),
+    })
+}
+
+fn record_of(
+    alloc: Global,
+    names: &Names,
+    joined: Option<usize>,
+    statement: Statement<'_>,
+) -> Result<LineRecord, RecordFault>
+    ensures { IsRecord (record_of_statement names.now joined (statement_seen statement.entry)) result }
+{
+    match (joined, statement) {
+        (None, Statement::Join(name)) => match names.find(name) {
+            Some(process) => Ok(LineRecord::Join(process)),
+            None => Err(RecordFault::UnknownProcess),
+        },
+        (None, Statement::Finish | Statement::Event(_)) => Err(RecordFault::Join),
+        (Some(_), Statement::Join(_)) => Err(RecordFault::Join),
+        (Some(_), Statement::Finish) => Ok(LineRecord::Finish),
+        (Some(_), Statement::Event(None)) => Ok(event_alone(alloc)),
+        (Some(process), Statement::Event(Some(settings))) => {
+            event_of(alloc, vars_of(names, process), settings)
+        }
+    }
+}
+
+/// The record of a line, before the join or after the join of a process, which is counted from 0.
+///
+/// # Errors
+/// The first fault that applies, or want of memory.
+pub fn read_record(
+    alloc: Global,
+    spec: &Spec,
+    joined: Option<usize>,
+    bytes: &[u8],
+) -> Result<LineRecord, RecordFault>
+    ensures { IsRecord (record_of (document_of spec.now).names joined bytes.now) result }
+{
+    let value = value_of(alloc, bytes)?;
+    match statement_of(&value) {
+        Some(statement) => record_of(alloc, spec.names(), joined, statement),
+        None => Err(RecordFault::Shape),
+    }
+}

@@ -1,0 +1,175 @@
+//! Streams whose traces and faults are known.
+ghost use Rattle.std.specs.Prelude.{◌<◌};
+
+use super::{StreamFault, StreamKind, StreamState, Trace, TraceReader};
+use pd_spec::Spec;
+use std::alloc::{AllocError, Global};
+use std::test::Fail;
+
+const DOCUMENT: &str =
+    r#"{"processes":[{"name":"a","vars":{"x":0,"y":0}},{"name":"b","vars":{"z":0}}],"predicates":[{"name":"p","text":"a.x == 1"}]}"#;
+
+fn document(alloc: Global) -> Result<Spec, Fail> {
+    match Spec::read(alloc, DOCUMENT.as_bytes()) {
+        Ok(spec) => Ok(spec),
+        Err(_) => Err(Fail::from("refused")),
+    }
+}
+
+/// What a stream gives that comes in pieces of this size.
+fn outcome_of(
+    alloc: Global,
+    spec: &Spec,
+    stream: &[u8],
+    size: usize,
+) -> Result<Result<Trace, StreamFault>, AllocError>
+    requires { 0 < size }
+{
+    let mut reader = TraceReader::new(alloc, spec);
+    for piece in stream.chunks(size) {
+        reader.feed(piece)?;
+    }
+    reader.end()?;
+    Ok(reader.outcome())
+}
+
+/// The fault of a stream, if it has one.
+fn fault_of(
+    alloc: Global,
+    spec: &Spec,
+    stream: &str,
+) -> Result<Option<(u64, StreamKind)>, AllocError> {
+    match outcome_of(alloc, spec, stream.as_bytes(), 10)? {
+        Ok(_) => Ok(None),
+        Err(fault) => Ok(Some((fault.line, fault.kind))),
+    }
+}
+
+#[test]
+fn cuts_do_not_matter(rt: HostRuntime) -> Result<(), Fail> {
+    let spec = document(rt.alloc())?;
+    let stream =
+        b"\r\n{\"process\":\"b\"}\r\n\r\n{\"set\":{\"z\":-7}}\r\n{}\r\n{\"end\":true}\n what follows";
+    for size in [1usize, 2, 7, 1000] {
+        let Ok(trace) = outcome_of(rt.alloc(), &spec, stream, size)? else {
+            return Err(Fail::from("no trace"));
+        };
+        assert_eq!(rt; (trace.process, trace.join_line), (1, 2));
+        assert_eq!(rt; trace.events.len(), 2);
+        assert_eq!(rt; trace.events[0].sets.as_slice(), [(0, -7)].as_slice());
+        assert_eq!(rt; trace.events[1].sets.len(), 0);
+    }
+    Ok(())
+}
+
+#[test]
+fn tells_each_fault(rt: HostRuntime) -> Result<(), Fail> {
+    let spec = document(rt.alloc())?;
+    let faults = [
+        ("{\"process\":\"a\"}\n{\"set\":1\n", 2, StreamKind::Json),
+        (
+            "{\"process\":\"a\"}\n{\"send\":\"m\"}\n",
+            2,
+            StreamKind::Shape,
+        ),
+        ("\n{}\n", 2, StreamKind::Join),
+        (
+            "{\"process\":\"a\"}\n{\"process\":\"b\"}\n",
+            2,
+            StreamKind::Join,
+        ),
+        ("{\"process\":\"c\"}\n", 1, StreamKind::UnknownProcess),
+        (
+            "{\"process\":\"a\"}\n{\"set\":{\"z\":1}}\n",
+            2,
+            StreamKind::UnknownVar,
+        ),
+        (
+            "{\"process\":\"a\"}\n{\"set\":{\"x\":1.5}}\n",
+            2,
+            StreamKind::Value,
+        ),
+        ("{\"process\":\"a\"}\n{}\n", 3, StreamKind::Unended),
+        ("{\"process\":\"a\"}\n{}", 3, StreamKind::Unended),
+        ("", 1, StreamKind::Unended),
+    ];
+    for (stream, line, kind) in faults {
+        assert_eq!(rt; fault_of(rt.alloc(), &spec, stream)?, Some((line, kind)));
+    }
+    Ok(())
+}
+
+#[test]
+fn events_have_a_limit(rt: HostRuntime) -> Result<(), Fail> {
+    let spec = document(rt.alloc())?;
+    let mut stream = Vec::from_slice(rt.alloc(), b"{\"process\":\"a\"}\n")?;
+    for _ in 0..10_000 {
+        stream.extend_from_slice(b"{}\n")?;
+    }
+    let mut reader = TraceReader::new(rt.alloc(), &spec);
+    reader.feed(&stream)?;
+    assert_eq!(rt;
+        (reader.state(), reader.events()),
+        (StreamState::Joined, 10_000)
+    );
+    reader.feed(b"{}\n{\"end\":true}\n")?;
+    assert_eq!(rt;
+        (reader.state(), reader.events()),
+        (StreamState::Faulted, 10_000)
+    );
+    reader.end()?;
+    let Err(fault) = reader.outcome() else {
+        return Err(Fail::from("a trace"));
+    };
+    assert_eq!(rt; (fault.line, fault.kind), (10_002, StreamKind::Events));
+    Ok(())
+}
+
+#[test]
+fn closes_where_a_read_fails(rt: HostRuntime) -> Result<(), Fail> {
+    let spec = document(rt.alloc())?;
+    let mut reader = TraceReader::new(rt.alloc(), &spec);
+    assert_eq!(rt;
+        (reader.state(), reader.process()),
+        (StreamState::Fresh, None)
+    );
+    reader.feed(b"{\"process\":\"b\"}\n{}")?;
+    assert_eq!(rt;
+        (reader.state(), reader.process()),
+        (StreamState::Joined, Some(1))
+    );
+    assert!(rt; !reader.is_closed());
+    reader.fail();
+    assert!(rt; reader.is_closed());
+    reader.feed(b"\n{\"end\":true}\n")?;
+    let Err(fault) = reader.outcome() else {
+        return Err(Fail::from("a trace"));
+    };
+    assert_eq!(rt; (fault.line, fault.kind), (2, StreamKind::Read));
+    Ok(())
+}
+
+#[test]
+fn bytes_have_limits(rt: HostRuntime) -> Result<(), Fail> {
+    let spec = document(rt.alloc())?;
+    let long = vec![in rt.alloc(); b' '; 65_537]?;
+    let mut reader = TraceReader::new(rt.alloc(), &spec);
+    reader.feed(&long)?;
+    reader.end()?;
+    let Err(fault) = reader.outcome() else {
+        return Err(Fail::from("a trace"));
+    };
+    assert_eq!(rt; (fault.line, fault.kind), (1, StreamKind::LineTooLong));
+    let mut line = vec![in rt.alloc(); b' '; 65_535]?;
+    line.push(b'\n')?;
+    let mut reader = TraceReader::new(rt.alloc(), &spec);
+    for _ in 0..257 {
+        reader.feed(&line)?;
+    }
+    reader.end()?;
+    let Err(fault) = reader.outcome() else {
+        return Err(Fail::from("a trace"));
+    };
+    assert_eq!(rt; (fault.line, fault.kind), (257, StreamKind::StreamTooLong));
+    Ok(())
+}

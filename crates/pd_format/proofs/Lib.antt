@@ -1,0 +1,15 @@
+pub mod Examples
+pub mod LineFacts
+pub mod ReadingFacts
+pub mod Prefixes
+pub mod OneTree
+pub mod PredicateExamples
+pub mod OneLexing
+pub mod OneFault
+pub mod OneAnswer
+pub mod OneReport
+pub mod Depths
+pub mod JsonFacts
+pub mod PartFacts
+pub mod ReadingSteps
+pub mod TraceFits

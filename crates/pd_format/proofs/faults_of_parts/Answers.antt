@@ -1,0 +1,5 @@
+use Rattle.pd_format.proofs.PartFacts.{short_part, long_line, long_stream}
+use Rattle.pd_format.proofs.faults_of_parts.Goals as goal
+
+pub returns : goal.returns
+returns c = record { sound = short_part; long_line = long_line; long_stream = long_stream }

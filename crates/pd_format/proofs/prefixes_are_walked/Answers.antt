@@ -1,0 +1,8 @@
+use Rattle.pd_format.proofs.Prefixes.{begins_is_exact, walk-append}
+use Rattle.pd_format.proofs.prefixes_are_walked.Goals as goal
+
+pub returns-clause-exact : goal.returns-clause-exact
+returns-clause-exact c = begins_is_exact
+
+pub returns-clause-go_on : goal.returns-clause-go_on
+returns-clause-go_on c = walk-append

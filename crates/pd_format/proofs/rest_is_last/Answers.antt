@@ -1,0 +1,5 @@
+use Rattle.pd_format.proofs.PartFacts.{sound_finishes}
+use Rattle.pd_format.proofs.rest_is_last.Goals as goal
+
+pub returns : goal.returns
+returns c = sound_finishes

@@ -1,0 +1,5 @@
+use Rattle.pd_format.proofs.TraceFits.{traces_fit_lem}
+use Rattle.pd_format.proofs.traces_fit.Goals as goal
+
+pub returns : goal.returns
+returns c = traces_fit_lem

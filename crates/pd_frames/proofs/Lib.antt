@@ -1,0 +1,3 @@
+pub mod Feeds
+pub mod Steps
+pub mod Ends

@@ -1,0 +1,14 @@
+use Rattle.std.proofs.Common.{arith}
+use Rattle.pd_frames.proofs.Feeds.{no_feed, no_feed_below, around_feed}
+use Rattle.pd_frames.proofs.cut.split_line.Goals as goal
+
+pub returns-in_err-end : goal.returns-in_err-end
+returns-in_err-end c =
+    rw c.from_residual.ensures (no_feed c.args.bytes.now (λ j below e. c.in_err-end.ensures j (omega arith) below e))
+
+pub returns : goal.returns
+returns c =
+    let found = c.in_ok-end.ensures in (
+      around_feed c.args.bytes.now c.in_ok-end.end found.0.high found.1,
+      no_feed_below c.args.bytes.now c.in_ok-end.end (λ j below e. found.0.before j (omega arith) below e),
+    )

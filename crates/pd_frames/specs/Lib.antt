@@ -1,0 +1,3 @@
+pub mod Views
+pub mod Cuts
+pub mod State

@@ -1,0 +1,123 @@
+//! The streams while they are read.
+ghost use Rattle.pd_events.specs.Reads.{Reads};
+ghost use Rattle.pd_events.specs.Views.{outcome_seen};
+ghost use Rattle.pd_format.specs.Judgements.{outcomes_of};
+ghost use Rattle.pd_format.specs.Names.{ProcessNames};
+ghost use Rattle.pd_format.specs.Readings.{outcome};
+ghost use Rattle.pd_format.specs.Sessions.{Interleaving, stream_reading};
+ghost use Rattle.pd_gather.specs.Taken.{HasClosed, HasTaken, OrderIsNothing, Takes, streams_told};
+ghost use Rattle.pd_gather.specs.Views.{ReadingFits, input_seen, outcomes_seen};
+ghost use Rattle.pd_spec.specs.Views.{document_of};
+ghost use Rattle.std.specs.Bool.{OnFalse, OnTrue};
+ghost use Rattle.std.specs.Prelude.{◌≡◌, ◌<◌, ◌≤◌, ℕ, ◌++◌, ◌∷◌, [], List, All, IfOk, OnErr, OnOk, Some, length, slice_get};
+
+use super::{Gathered, Input};
+use pd_events::{StreamFault, Trace, TraceReader};
+use pd_spec::Spec;
+use std::alloc::{AllocError, Global};
+use std::marker::Model;
+
+/// The readers of all streams of a session. A clause sees them as the list of what each shows of itself.
+#[derive(Drop)]
+pub struct Core<'a> {
+    readers: Vec<TraceReader<'a>>,
+    room: Vec<Result<Trace, StreamFault>>,
+}
+
+impl<'a> Model for Core<'a> {
+    ghost use Rattle.std.specs.Prelude.{◌≡◌, ◌≤◌, List, []};
+    ghost use Rattle.std.specs.Vec.{vec_capacity, vec_len};
+    ghost use Rattle.pd_events.specs.Reads.{ReaderState};
+
+    ghost Value = { List ReaderState };
+
+    ghost view = { λ c. c.readers.items };
+
+    ghost invariant = { λ c. (c.room.items ≡ []) × (vec_len c.readers ≤ vec_capacity c.room) };
+}
+
+/// What the streams give depends on the bytes and the ending of each, and on no order in which their inputs come.
+pub fn order_is_nothing()
+    ensures { OrderIsNothing }
+{}
+
+/// Takes one input of the reader's stream.
+fn take_input(reader: &mut TraceReader<'_>, input: Input<'_>) -> Result<(), AllocError>
+    ensures takes { OnOk result (Takes reader.old reader.new (input_seen input.entry)) }
+    ensures err { OnErr result (reader.new ≡ reader.old) }
+{
+    match input {
+        Input::Piece(bytes) => reader.feed(bytes),
+        Input::End => reader.end(),
+        Input::Failed => {
+            reader.fail();
+            Ok(())
+        }
+    }
+}
+
+impl<'a> Core<'a> {
+    /// The readers of `n` streams, at most 16, of a session with this document.
+    ///
+    /// # Errors
+    /// Where memory runs out.
+    pub fn new(alloc: Global, n: usize, spec: &'a Spec) -> Result<Core<'a>, AllocError>
+        requires { n ≤ 16 }
+        ensures streams { IfOk result (λ core. length core ≡ n) }
+        ensures none { IfOk result (λ core. HasTaken core (document_of spec.now).names []) }
+    {
+        let mut readers = Vec::with_capacity(alloc, n)?;
+        for _ in 0..n {
+            readers.push(TraceReader::new(alloc, spec))?;
+        }
+        let room = Vec::with_capacity(alloc, n)?;
+        Ok(Core { readers, room })
+    }
+
+    /// Takes one input of a stream, which is counted from 0. What comes behind the stream's end or a failed read doesn't
+    /// count.
+    ///
+    /// # Errors
+    /// Where memory runs out; everything is then as it was.
+    pub fn step(&mut self, stream: usize, input: Input<'_>) -> Result<(), AllocError>
+        requires { stream < length self.old }
+        ensures taken { OnOk result ((names : List ProcessNames) (steps : Interleaving) →
+            HasTaken self.old names steps → HasTaken self.new names (steps ++ (stream, input_seen input.entry) ∷ [])) }
+        ensures streams { length self.new ≡ length self.old }
+        ensures err { OnErr result (self.new ≡ self.old) }
+    {
+        take_input(&mut self.readers[stream], input)
+    }
+
+    /// Whether each stream has its end line or a fault.
+    pub fn closed(&self) -> bool
+        ensures yes { OnTrue result (All HasClosed self.now) }
+        ensures no { OnFalse result (All HasClosed self.now → ⊥) }
+    {
+        self.readers.iter().all(|reader| reader.is_closed())
+    }
+
+    /// What the streams gave. Each of them is closed. It takes no memory.
+    pub fn outcome(self) -> Gathered
+        requires { All HasClosed self }
+        ensures streams { result.streams ≡ length self.entry }
+        ensures one_each { length result.readings.items ≡ length self.entry }
+        ensures told { (names : List ProcessNames) (steps : Interleaving) → HasTaken self.entry names steps →
+            outcomes_seen result.readings.items ≡ outcomes_of names (streams_told (length self.entry) steps) }
+        ensures each { (names : List ProcessNames) (steps : Interleaving) → HasTaken self.entry names steps →
+            (i : ℕ) (given : _) → slice_get result.readings.items i ≡ Some given →
+            Some (outcome_seen given) ≡ outcome (stream_reading names steps i) }
+        ensures fit { (names : List ProcessNames) (steps : Interleaving) → HasTaken self.entry names steps →
+            All (ReadingFits names) result.readings.items }
+    {
+        let Core { readers, mut room } = self;
+        let streams = readers.len() as u64;
+        for reader in readers {
+            room.push(reader.outcome()).unwrap();
+        }
+        Gathered {
+            streams,
+            readings: room,
+        }
+    }
+}

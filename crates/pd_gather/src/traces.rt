@@ -1,0 +1,127 @@
+//! The traces of a session.
+ghost use Rattle.pd_events.specs.Views.{outcome_seen, trace_seen};
+ghost use Rattle.pd_format.specs.Names.{ProcessNames};
+ghost use Rattle.pd_format.specs.ReadingLaws.{FitsSession};
+ghost use Rattle.pd_format.specs.Sessions as sessions;
+ghost use Rattle.pd_gather.specs.Views.{AreTraces, IsSession, ReadingFits, is_of, outcomes_seen, told};
+ghost use Rattle.pd_spec.specs.Views.{document_of};
+ghost use Rattle.std.specs.List.{list_any, position};
+ghost use Rattle.std.specs.Prelude.{◌≡◌, ℕ, [], List, All, IfOk, IfSome, Some, option_map};
+
+use super::{Gathered, SessionFault};
+use pd_events::{StreamFault, Trace};
+use pd_pred::Names;
+use pd_spec::Spec;
+use std::alloc::Global;
+
+/// The greatest number of streams.
+const STREAM_LIMIT: u64 = 16;
+
+/// The traces of a session with this document, one for each process, in their order.
+///
+/// # Errors
+/// The first refusal: too many streams; then, of the first stream that has one, its fault or that its process is taken;
+/// then the first process that no stream joined. Also where memory runs out.
+pub fn session(alloc: Global, spec: &Spec, gathered: Gathered) -> Result<Vec<Trace>, SessionFault>
+    requires { All (ReadingFits (document_of spec.now).names) gathered.readings.items }
+    ensures exact { IsSession (sessions.session (document_of spec.now).names gathered.streams (outcomes_seen gathered.readings.items)) result }
+    ensures fits { IfOk result (λ traces. AreTraces (document_of spec.now).names traces.items) }
+{
+    if gathered.streams > STREAM_LIMIT {
+        return Err(SessionFault::Streams);
+    }
+    let readings = gathered.readings;
+    match first_fault(&readings) {
+        Some(fault) => Err(fault),
+        None => in_order(alloc, spec.names(), readings),
+    }
+}
+
+/// The fault of the first stream that has one.
+fn first_fault(readings: &[Result<Trace, StreamFault>]) -> Option<SessionFault>
+    ensures { option_map told result ≡ option_map Some (sessions.first_stream_fault [] (outcomes_seen readings.now)) }
+{
+    for i in 0..readings.len() {
+        let fault = fault_behind(&readings[..i], &readings[i]);
+        if fault.is_some() {
+            return fault;
+        }
+    }
+    None
+}
+
+/// The fault of a stream behind these: its own, or that one of them joined its process.
+fn fault_behind(
+    before: &[Result<Trace, StreamFault>],
+    reading: &Result<Trace, StreamFault>,
+) -> Option<SessionFault>
+    ensures { option_map told result ≡ option_map Some (sessions.stream_fault (outcomes_seen before.now) (outcome_seen reading.now)) }
+{
+    let stream = before.len() as u64;
+    match reading {
+        Err(fault) => Some(SessionFault::Stream(stream, *fault)),
+        Ok(trace) => {
+            if has_joined(trace.process, before) {
+                Some(SessionFault::Taken(stream, trace.join_line))
+            } else {
+                None
+            }
+        }
+    }
+}
+
+/// Whether one of the streams joined this process.
+fn has_joined(process: usize, readings: &[Result<Trace, StreamFault>]) -> bool
+    ensures { result ≡ list_any (is_of process) readings.now }
+{
+    readings.iter().any(|reading| joins(process, reading))
+}
+
+/// Whether the stream joined this process.
+fn joins(process: usize, reading: &Result<Trace, StreamFault>) -> bool
+    ensures { result ≡ is_of process reading.now }
+{
+    match reading {
+        Ok(trace) => trace.process == process,
+        Err(_) => false,
+    }
+}
+
+/// The traces in the processes' order, where no stream has a fault.
+fn in_order(
+    alloc: Global,
+    names: &Names,
+    mut readings: Vec<Result<Trace, StreamFault>>,
+) -> Result<Vec<Trace>, SessionFault>
+    requires { All (ReadingFits names.now) readings.items }
+    ensures exact { IsSession (sessions.traces_from 0 names.now (outcomes_seen readings.items)) result }
+    ensures fits { IfOk result (λ traces. AreTraces names.now traces.items) }
+{
+    let mut traces = Vec::with_capacity(alloc, names.processes())?;
+    for p in 0..names.processes() {
+        match take_trace(p, &mut readings) {
+            Some(trace) => traces.push(trace)?,
+            None => return Err(SessionFault::Absent(p)),
+        }
+    }
+    Ok(traces)
+}
+
+/// Takes the trace of this process out, if there is one.
+fn take_trace(process: usize, readings: &mut Vec<Result<Trace, StreamFault>>) -> Option<Trace>
+    ensures value { option_map trace_seen result ≡ sessions.trace_of process (outcomes_seen readings.old.items) }
+    ensures others { (q : ℕ) → (q ≡ process → ⊥) →
+        sessions.trace_of q (outcomes_seen readings.new.items) ≡ sessions.trace_of q (outcomes_seen readings.old.items) }
+    ensures left { (names : List ProcessNames) → All (ReadingFits names) readings.old.items → All (ReadingFits names) readings.new.items }
+    ensures fits { IfSome result (λ trace. (names : List ProcessNames) → All (ReadingFits names) readings.old.items → FitsSession names (trace_seen trace)) }
+{
+    let at = place_of(process, readings)?;
+    readings.remove(at).ok()
+}
+
+/// Where the trace of this process is.
+fn place_of(process: usize, readings: &[Result<Trace, StreamFault>]) -> Option<usize>
+    ensures { result ≡ position (is_of process) readings.now }
+{
+    readings.iter().position(|reading| joins(process, reading))
+}

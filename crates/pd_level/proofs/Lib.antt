@@ -1,0 +1,4 @@
+pub mod Keys
+pub mod Merges
+pub mod Steps
+pub mod Levels

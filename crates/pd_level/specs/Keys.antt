@@ -1,0 +1,52 @@
+-- Counts below 65536, one for each process, as the digits of one number: the count of process 0 is the highest digit.
+use Rattle.std.specs.Prelude.{◌≡◌, ℕ, zero, suc, ◌+◌, ◌*◌, ◌/◌, ◌%◌, ◌^◌, ◌<◌, List, [], ◌∷◌, length, slice_index, slice_index_or, All, Contains, Bool, false, IsTrue, ◌↔◌, Option, Some, None}
+use Rattle.pd_model.specs.Events.{Computation}
+use Rattle.pd_model.specs.Cuts.{IsConsistent, one_more}
+
+-- the number with these digits
+abbrev pub key_of : List ℕ → ℕ
+key_of [] = 0
+key_of (x ∷ xs) = x * 65536 ^ length xs + key_of xs
+
+-- so many digits of a number
+abbrev pub digits : ℕ → ℕ → List ℕ
+digits zero key = []
+digits (suc n) key = (key / 65536 ^ n) ∷ digits n (key % 65536 ^ n)
+
+-- each is below 65536
+abbrev pub AreDigits : List ℕ → Type 0
+AreDigits counts = All (λ count. count < 65536) counts
+
+-- the number with these digits, if they are digits
+abbrev pub IsPacked : List ℕ → Option ℕ → Type 0
+IsPacked counts None = ¬ AreDigits counts
+IsPacked counts (Some key) = AreDigits counts × (key ≡ key_of counts)
+
+-- each number is below those after it
+abbrev pub Ascending : List ℕ → Type 0
+Ascending xs = (i j : ℕ) → i < j → j < length xs → slice_index xs i < slice_index xs j
+
+-- ascending numbers of so many digits
+pub record AreKeys (n : ℕ) (keys : List ℕ) : Type 0 where
+  pub below : (i : ℕ) → i < length keys → slice_index keys i < 65536 ^ n
+  pub ascending : Ascending keys
+
+-- ascending numbers whose digits are cuts
+pub record AreCuts (c : Computation) (keys : List ℕ) : Type 0 where
+  pub are_keys : AreKeys (length c) keys
+  pub consistent : (i : ℕ) → i < length keys → IsConsistent c (digits (length c) (slice_index keys i))
+
+-- one more event of process p makes this cut of one of those
+abbrev pub IsMoreBy : Computation → List ℕ → ℕ → ℕ → Type 0
+IsMoreBy c keys p x =
+    (key : ℕ) × Contains keys key × IsConsistent c (one_more (digits (length c) key) p) × (x ≡ key_of (one_more (digits (length c) key) p))
+
+-- whether one more event of each process leaves a cut
+pub record CanAdd (c : Computation) (key : ℕ) (can : List Bool) : Type 0 where
+  pub eight : length can ≡ 8
+  pub each : (p : ℕ) → p < length c → IsTrue (slice_index_or can p false) ↔ IsConsistent c (one_more (digits (length c) key) p)
+
+-- the same of each cut
+pub record CanAddAll (c : Computation) (keys : List ℕ) (can : List (List Bool)) : Type 0 where
+  pub one_each : length can ≡ length keys
+  pub each : (i : ℕ) (d : List Bool) → i < length keys → CanAdd c (slice_index keys i) (slice_index_or can i d)

@@ -1,0 +1,119 @@
+//! A level: the consistent cuts with one number of events.
+ghost use Rattle.pd_model.specs.Answers.{IsListOf, MoreThan};
+ghost use Rattle.pd_model.specs.Cuts.{IsConsistent, IsNextOf, empty_cut};
+ghost use Rattle.std.specs.Prelude.{◌≡◌, ◌+◌, ◌<◌, ◌≤◌, ◌==◌, ◌↔◌, All, Contains, IfOk, IsTrue, List, [], ◌∷◌, Some, length, min, slice_get};
+
+use super::LevelFault;
+use super::key::{pack, unpack};
+use super::step::more_by_any;
+use pd_clock::{Computation, Cut};
+use std::alloc::{AllocError, Global};
+use std::marker::Model;
+
+/// A level: its number and its cuts, each as one number whose digits are the counts.
+#[derive(Drop)]
+pub struct Level {
+    number: u64,
+    processes: usize,
+    keys: Vec<u128>,
+}
+
+impl Model for Level {
+    ghost use Rattle.pd_level.specs.Levels.{IsKept, Levelled, cuts_of};
+
+    ghost Value = { Levelled };
+
+    ghost view = { λ l. record { number = l.number; cuts = cuts_of l.processes l.keys.items } };
+
+    ghost invariant = { λ l. IsKept l.processes l.keys.items };
+}
+
+impl Level {
+    /// Level 0, which has the empty cut alone. It fails where an allocation was refused.
+    pub fn first(alloc: Global, computation: &Computation<'_>) -> Result<Level, AllocError>
+        ensures { IfOk result (λ level. level ≡ record { number = 0; cuts = empty_cut computation.now.events ∷ [] }) }
+    {
+        computation.limits();
+        let mut keys = Vec::with_capacity(alloc, 1)?;
+        keys.push(0)?;
+        Ok(Level {
+            number: 0,
+            processes: computation.processes(),
+            keys,
+        })
+    }
+
+    /// The cuts that have one event more than one of the level's, in lexicographic order: at most `width` of them. The number
+    /// stays at the greatest `u64` once it is there.
+    ///
+    /// `Wide` says that there are more, and `Memory` that an allocation was refused. The level itself stays as it is. No process
+    /// may have more than 10,000 events, so that each count is a digit.
+    pub fn next(
+        alloc: Global,
+        computation: &Computation<'_>,
+        level: &Level,
+        width: u64,
+    ) -> Result<Level, LevelFault>
+        requires cuts { All (IsConsistent computation.now.events) level.now.cuts }
+        requires wide { 1 ≤ width }
+        ensures list { IfOk result (λ next. IsListOf (IsNextOf computation.now.events level.now.cuts) next.cuts) }
+        ensures narrow { IfOk result (λ next. length next.cuts ≤ width) }
+        ensures number { IfOk result (λ next. next.number ≡ min (level.now.number + 1) 18446744073709551615) }
+        ensures wide { result ≡ Err LevelFault.Wide → MoreThan width (IsNextOf computation.now.events level.now.cuts) }
+    {
+        computation.limits();
+        let keys = more_by_any(alloc, computation, &level.keys)?;
+        if keys.len() as u64 > width {
+            return Err(LevelFault::Wide);
+        }
+        Ok(Level {
+            number: level.number.saturating_add(1),
+            processes: computation.processes(),
+            keys,
+        })
+    }
+
+    /// The number of the level, from 0: how many events each of its cuts has.
+    pub fn number(&self) -> u64
+        ensures { result ≡ self.now.number }
+    {
+        self.number
+    }
+
+    /// How many cuts there are.
+    pub fn len(&self) -> usize
+        ensures { result ≡ length self.now.cuts }
+    {
+        self.keys.len()
+    }
+
+    /// Whether there is no cut.
+    pub fn is_empty(&self) -> bool
+        ensures { result ≡ (length self.now.cuts == 0) }
+    {
+        self.keys.is_empty()
+    }
+
+    /// The cut with this index, from 0. It takes no memory.
+    pub fn cut(&self, alloc: Global, i: usize) -> Cut
+        requires { i < length self.now.cuts }
+        ensures { slice_get self.now.cuts i ≡ Some result }
+    {
+        let counts = unpack(self.keys[i], self.processes);
+        Cut::new(alloc, &counts[..self.processes]).unwrap()
+    }
+
+    /// Whether the cut is one of the level's. It takes no memory.
+    pub fn contains(&self, cut: &Cut) -> bool
+        ensures { IsTrue result ↔ Contains self.now.cuts cut.now }
+    {
+        let counts = cut.counts();
+        if counts.len() != self.processes {
+            return false;
+        }
+        match pack(counts) {
+            Some(key) => self.keys.as_slice().binary_search(&key).is_ok(),
+            None => false,
+        }
+    }
+}

@@ -1,0 +1,17 @@
+pub mod Lists
+pub mod Counts
+pub mod Chains
+pub mod Consistency
+pub mod Steps
+pub mod Walks
+pub mod CutsAndCounts
+pub mod Paths
+pub mod OneAnswer
+pub mod Pigeonhole
+pub mod Stuck
+pub mod ClockLemmas
+pub mod LevelLists
+pub mod WalkSteps
+pub mod Tried
+pub mod Decisions
+pub mod NoMessages

@@ -1,0 +1,11 @@
+pub mod Events
+pub mod Messages
+pub mod Order
+pub mod Cuts
+pub mod Predicates
+pub mod Observations
+pub mod Answers
+pub mod Laws
+pub mod Walks
+pub mod Examples
+pub mod LocalEvents

@@ -1,0 +1,78 @@
+//! The walk up the levels.
+ghost use Rattle.pd_model.specs.Answers.{IsPossiblyAnswer};
+ghost use Rattle.pd_model.specs.Cuts.{IsConsistent, total};
+ghost use Rattle.pd_model.specs.Order.{HasNoCycle};
+ghost use Rattle.pd_model.specs.Predicates.{test_of};
+ghost use Rattle.pd_possibly.specs.Answers.{answer_of, IsFirstIn};
+ghost use Rattle.pd_pred.specs.Views.{predicate_of};
+ghost use Rattle.std.specs.Prelude.{◌≡◌, ◌+◌, ◌^◌, ◌<◌, ◌≤◌, false, All, IfOk, IfNone, IfSome, length};
+
+use super::PossiblyAnswer;
+use pd_clock::{Computation, Cut};
+use pd_level::{Gate, Level, LevelFault};
+use pd_pred::Pred;
+use std::alloc::{AllocError, Global};
+
+/// The answer for a predicate over a computation, under a bound on the width of the levels, from 1 on. `workers`, from 1 to
+/// 16, and the gate change nothing yet.
+///
+/// Source: Cooper and Marzullo, Consistent Detection of Global Predicates, 1991.
+pub fn possibly<G: Gate + Sync>(
+    alloc: Global,
+    computation: &Computation<'_>,
+    pred: &Pred,
+    width: u64,
+    _workers: u64,
+    _gate: &G,
+) -> Result<PossiblyAnswer, AllocError>
+    requires acyclic { HasNoCycle computation.now.events }
+    requires wide { 1 ≤ width }
+    ensures { IfOk result (λ answer. IsPossiblyAnswer computation.now.events (test_of computation.now (predicate_of pred.now)) width (answer_of answer)) }
+{
+    // the laws that the proof uses
+    pd_model::levels();
+    pd_model::possibly_walk();
+    let total = computation.total();
+    let mut level = Level::first(alloc, computation)?;
+    for k in 0..total + 1 {
+        match first_satisfying(alloc, computation, pred, &level) {
+            Some(cut) => return Ok(PossiblyAnswer::Yes(cut)),
+            None => {}
+        }
+        match Level::next(alloc, computation, &level, width) {
+            Ok(next) => level = next,
+            Err(LevelFault::Wide) => return Ok(PossiblyAnswer::Unknown(k + 1)),
+            Err(LevelFault::Memory) => return Err(AllocError),
+        }
+    }
+    Ok(PossiblyAnswer::No)
+}
+
+/// The first cut of the level that satisfies.
+fn first_satisfying(
+    alloc: Global,
+    computation: &Computation<'_>,
+    pred: &Pred,
+    level: &Level,
+) -> Option<Cut>
+    requires { All (IsConsistent computation.now.events) level.now.cuts }
+    ensures found { IfSome result (IsFirstIn (test_of computation.now (predicate_of pred.now)) level.now.cuts) }
+    ensures none { IfNone result (All (λ cut. test_of computation.now (predicate_of pred.now) cut ≡ false) level.now.cuts) }
+{
+    for i in 0..level.len() {
+        let cut = level.cut(alloc, i);
+        if satisfies(computation, pred, &cut) {
+            return Some(cut);
+        }
+    }
+    None
+}
+
+/// Whether the cut satisfies.
+fn satisfies(computation: &Computation<'_>, pred: &Pred, cut: &Cut) -> bool
+    requires { IsConsistent computation.now.events cut.now }
+    ensures { result ≡ test_of computation.now (predicate_of pred.now) cut.now }
+{
+    let state = computation.at(cut);
+    pred.holds(&state)
+}

@@ -1,0 +1,16 @@
+pub mod Positions
+pub mod WalkFacts
+pub mod PlacementFacts
+pub mod PlacementWalk
+pub mod Digits
+pub mod TooLarge
+pub mod Runs
+pub mod Symbols
+pub mod LexedSoFar
+pub mod Reading
+pub mod ClearNames
+pub mod Fronts
+pub mod WalkSteps
+pub mod TermsRead
+pub mod RulesRead
+pub mod KnownNames

@@ -1,0 +1,130 @@
+-- What is read from the front of tokens, and where a walk over them is then.
+use Rattle.std.specs.Prelude.{◌≡◌, ℕ, ◌<◌, ◌≤◌, Bool, true, false, IsFalse, List, [], ◌∷◌, ◌++◌, length, Some}
+use Rattle.std.specs.Str.{bytes_eq}
+use Rattle.pd_model.specs.Predicates.{Term, Sign, Plus, Minus, Predicate}
+use Rattle.pd_format.specs.Names.{ProcessNames, process_named, var_named}
+use Rattle.pd_format.specs.Tokens.{Token, Word, Digits, Relates, Dot, Signs}
+use Rattle.pd_format.specs.PredicateTexts.{tokens_of, NumbersFit, is_star}
+use Rattle.pd_format.specs.Grammar.{NamedBy, SpellsTerm, SpellsSum, Rule, Spells}
+use Rattle.pd_format.specs.PrefixWalk.{Side, Mode, AtTerm, AtOperand, BehindTerm, BehindOperand, Inside, AtEnd, walk}
+use Rattle.pd_pred.specs.Tokens.{all_placed, token_of}
+use Rattle.pd_pred.specs.declared.token.Placed.{Placed}
+
+-- the tokens of the grammar that these stand for
+abbrev pub seen : List Placed → List Token
+seen tokens = tokens_of (all_placed tokens)
+
+-- ---- what stands at the front
+
+-- the first token is this one, and the rest follows it
+pub record Follows (token : Token) (tokens rest : List Placed) : Type 0 where
+  pub first : Placed
+  pub parts : tokens ≡ first ∷ rest
+  pub is : token_of first.token ≡ token
+
+abbrev pub is_this : List ℕ → Token → Bool
+is_this word (Word w) = bytes_eq w word
+is_this word _ = false
+
+abbrev pub begins_with_word : List ℕ → List Token → Bool
+begins_with_word word [] = false
+begins_with_word word (t ∷ rest) = is_this word t
+
+abbrev pub is_sign : Token → Bool
+is_sign (Signs sign) = true
+is_sign _ = false
+
+abbrev pub begins_with_sign : List Token → Bool
+begins_with_sign [] = false
+begins_with_sign (t ∷ rest) = is_sign t
+
+abbrev pub is_number : Token → Bool
+is_number (Digits n) = true
+is_number _ = false
+
+abbrev pub begins_with_number : List Token → Bool
+begins_with_number [] = false
+begins_with_number (t ∷ rest) = is_number t
+
+abbrev pub begins_with_star : List Token → Bool
+begins_with_star [] = false
+begins_with_star (t ∷ rest) = is_star t
+
+abbrev pub is_any_word : Token → Bool
+is_any_word (Word w) = true
+is_any_word _ = false
+
+abbrev pub begins_with_any_word : List Token → Bool
+begins_with_any_word [] = false
+begins_with_any_word (t ∷ rest) = is_any_word t
+
+abbrev pub is_relation : Token → Bool
+is_relation (Relates comparison) = true
+is_relation _ = false
+
+abbrev pub begins_with_relation : List Token → Bool
+begins_with_relation [] = false
+begins_with_relation (t ∷ rest) = is_relation t
+
+-- the tokens behind a first minus
+abbrev pub without_minus : List Token → List Token
+without_minus [] = []
+without_minus (Signs Minus ∷ rest) = rest
+without_minus (t ∷ rest) = t ∷ rest
+
+-- The sign of a first term: a minus that is written, or else a plus that isn't.
+abbrev pub IsFirstSign : Sign → List Placed → List Placed → Type 0
+IsFirstSign Minus tokens rest = Follows (Signs Minus) tokens rest
+IsFirstSign Plus tokens rest = (tokens ≡ rest) × IsFalse (begins_with_sign (seen tokens))
+
+-- ---- where a walk is
+
+-- from this mode, inside some number of parentheses, the tokens lead to the end
+abbrev pub Leads : Mode → List Token → Type 0
+Leads mode tokens = (d : ℕ) × (walk (Inside mode d) tokens ≡ Some AtEnd)
+
+-- the same on some side of a comparison
+abbrev pub LeadsOnSide : (Side → Mode) → List Token → Type 0
+LeadsOnSide mode tokens = (side : Side) × Leads (mode side) tokens
+
+-- Where the tokens lead to the end from the one mode, the rest does from the other.
+abbrev pub GoesOn : Mode → List Token → Mode → List Token → Type 0
+GoesOn from tokens to rest = (d : ℕ) → walk (Inside from d) tokens ≡ Some AtEnd → walk (Inside to d) rest ≡ Some AtEnd
+
+-- ---- what may be assumed of tokens
+
+-- the names refer to a variable
+abbrev pub IsKnown : List ProcessNames → List ℕ → List ℕ → Type 0
+IsKnown names process var = (p v : ℕ) × (process_named names process ≡ Some p) × (var_named names p var ≡ Some v)
+
+-- each reference is known, no number is too large, and there are few tokens
+pub record AreReadable (names : List ProcessNames) (tokens : List Placed) : Type 0 where
+  pub known : (before after : List Token) (process var : List ℕ) → seen tokens ≡ before ++ Word process ∷ Dot ∷ Word var ∷ after → IsKnown names process var
+  pub fit : NumbersFit (all_placed tokens)
+  pub few : length tokens ≤ 4097
+
+-- ---- what is read
+
+-- a term
+pub record IsTermRead (names : List ProcessNames) (from : Side → Mode) (tokens rest : List Placed) (term : Term) : Type 0 where
+  pub front : List Placed
+  pub parts : tokens ≡ front ++ rest
+  pub fewer : length rest < length tokens
+  pub spells : SpellsTerm (NamedBy names) (seen front) term
+  pub goes_on : (side : Side) → GoesOn (from side) (seen tokens) (BehindTerm side) (seen rest)
+
+-- a sum
+pub record IsSumRead (names : List ProcessNames) (tokens rest : List Placed) (terms : List (Sign × Term)) : Type 0 where
+  pub front : List Placed
+  pub parts : tokens ≡ front ++ rest
+  pub fewer : length rest < length tokens
+  pub spells : SpellsSum (NamedBy names) (seen front) terms
+  pub goes_on : (side : Side) → GoesOn (AtTerm side) (without_minus (seen tokens)) (BehindTerm side) (seen rest)
+
+-- a predicate by a rule of the grammar
+pub record IsRead (names : List ProcessNames) (rule : Rule) (tokens rest : List Placed) (predicate : Predicate) : Type 0 where
+  pub front : List Placed
+  pub parts : tokens ≡ front ++ rest
+  pub fewer : length rest < length tokens
+  pub spells : Spells (NamedBy names) rule (seen front) predicate
+  pub goes_on : GoesOn AtOperand (seen tokens) BehindOperand (seen rest)

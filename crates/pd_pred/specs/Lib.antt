@@ -1,0 +1,11 @@
+pub mod Names
+pub mod Views
+pub mod Trees
+pub mod Tokens
+pub mod Lexing
+pub mod States
+pub mod Openers
+pub mod Placement
+pub mod Numbers
+pub mod Building
+pub mod Beginnings

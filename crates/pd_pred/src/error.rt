@@ -1,0 +1,60 @@
+//! Why a text is refused as a predicate.
+use std::alloc::{AllocError, AllocFailed};
+
+/// What is wrong with a predicate's text.
+#[derive(Clone, Copy, Debug, PartialEq, Eq)]
+pub enum PredErrorKind {
+    /// The text has over 4,096 bytes.
+    Long,
+    /// A byte begins no token and is neither space nor tab.
+    Character,
+    /// A number is over 9223372036854775807, or over 2147483647 with `*` behind it.
+    Number,
+    /// A token with which the tokens so far begin no predicate.
+    Expected,
+    /// A name that no process has, or that no variable of the process has.
+    UnknownName,
+    /// A `(` or `not` inside 64 others.
+    Depth,
+    /// Memory ran out.
+    Memory,
+}
+
+/// A refusal of a predicate's text.
+#[derive(Clone, Copy, Debug, PartialEq, Eq)]
+pub struct PredError {
+    /// What is wrong.
+    pub kind: PredErrorKind,
+    /// The byte where it is wrong, counted from 1; 0 where memory ran out.
+    pub at: u64,
+}
+
+impl PredError {
+    /// The refusal for want of memory.
+    pub const MEMORY: PredError = PredError {
+        kind: PredErrorKind::Memory,
+        at: 0,
+    };
+}
+
+impl From<AllocError> for PredError {
+    ghost use Rattle.std.specs.Prelude.{◌≡◌};
+    ghost use Rattle.pd_pred.specs.Views.{memory_error};
+
+    ghost from_gives = { λ _ e. e ≡ memory_error };
+
+    fn from(_e: AllocError) -> PredError {
+        PredError::MEMORY
+    }
+}
+
+impl<T: Drop> From<AllocFailed<T>> for PredError {
+    ghost use Rattle.std.specs.Prelude.{◌≡◌};
+    ghost use Rattle.pd_pred.specs.Views.{memory_error};
+
+    ghost from_gives = { λ _ e. e ≡ memory_error };
+
+    fn from(_e: AllocFailed<T>) -> PredError {
+        PredError::MEMORY
+    }
+}

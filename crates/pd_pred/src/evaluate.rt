@@ -1,0 +1,126 @@
+//! What a predicate means at a state.
+ghost use Rattle.pd_model.specs.Predicates as model;
+ghost use Rattle.pd_model.specs.Predicates.{holds_at};
+ghost use Rattle.pd_pred.specs.Trees.{comparison_of, sign_of, sum_of, term_of, tree_of};
+ghost use Rattle.std.specs.Int.RustNames.{unsigned_abs};
+ghost use Rattle.std.specs.Prelude.{◌≡◌, ◌<◌, ◌^◌};
+
+use super::Values;
+use super::tree::{Comparison, Sign, SignedTerm, Sum, Term, Tree};
+
+/// Whether the predicate is true at the state.
+pub(crate) fn holds<V: Values>(tree: &Tree, values: &V) -> bool
+    ensures { result ≡ holds_at (V.state values.now) (tree_of tree.now) }
+{
+    match tree {
+        Tree::Always => true,
+        Tree::Never => false,
+        Tree::Compare {
+            left,
+            comparison,
+            right,
+        } => compares(
+            *comparison,
+            sum_value(left, values),
+            sum_value(right, values),
+        ),
+        Tree::Not(inner) => !holds(inner, values),
+        Tree::And(left, right) => holds(left, values) && holds(right, values),
+        Tree::Or(left, right) => holds(left, values) || holds(right, values),
+    }
+}
+
+/// The value of a term, without its sign.
+fn term_value<V: Values>(term: Term, values: &V) -> i128
+    ensures value { result ≡ model.term_value (V.state values.now) (term_of term) }
+    ensures bound { unsigned_abs result < 2 ^ 95 }
+{
+    match term {
+        Term::Number(number) => i128::from(number),
+        Term::Variable { process, var } => i128::from(values.value(process, var)),
+        Term::Times {
+            factor,
+            process,
+            var,
+        } => i128::from(factor) * i128::from(values.value(process, var)),
+    }
+}
+
+/// The value of a term with its sign.
+fn signed_value<V: Values>(signed: SignedTerm, values: &V) -> i128
+    ensures value { result ≡ model.signed (sign_of signed.sign) (model.term_value (V.state values.now) (term_of signed.term)) }
+    ensures bound { unsigned_abs result < 2 ^ 95 }
+{
+    let value = term_value(signed.term, values);
+    match signed.sign {
+        Sign::Plus => value,
+        Sign::Minus => 0 - value,
+    }
+}
+
+/// The value of a sum, without bound: 128 bits hold it.
+fn sum_value<V: Values>(sum: &Sum, values: &V) -> i128
+    ensures { result ≡ model.sum_value (V.state values.now) (sum_of sum.now) }
+{
+    let mut total = 0;
+    for term in &sum.terms {
+        total += signed_value(*term, values);
+    }
+    total
+}
+
+fn compares(comparison: Comparison, x: i128, y: i128) -> bool
+    ensures { result ≡ model.compares (comparison_of comparison) x y }
+{
+    match comparison {
+        Comparison::Equals => x == y,
+        Comparison::Differs => x != y,
+        Comparison::IsLess => x < y,
+        Comparison::IsAtMost => x <= y,
+        Comparison::IsGreater => x > y,
+        Comparison::IsAtLeast => x >= y,
+    }
+}
+
+#[cfg(test)]
+mod tests {
+    use super::*;
+    use std::test::Fail;
+
+    // each variable has this value
+    struct Everywhere(i64);
+
+    impl Values for Everywhere {
+        ghost state = { λ s _ _. s.0 };
+
+        fn value(&self, _process: usize, _var: usize) -> i64 {
+            self.0
+        }
+    }
+
+    #[test]
+    fn adds_past_64_bits(rt: HostRuntime) -> Result<(), Fail> {
+        let product = Term::Times {
+            factor: 2_147_483_647,
+            process: 0,
+            var: 0,
+        };
+        let number = Term::Number(9_223_372_036_854_775_807);
+        let terms = vec![in rt.alloc();
+            SignedTerm {
+                sign: Sign::Plus,
+                term: product
+            },
+            SignedTerm {
+                sign: Sign::Plus,
+                term: number
+            },
+        ]?;
+        let sum = Sum { terms };
+        let most = sum_value(&sum, &Everywhere(9_223_372_036_854_775_807));
+        assert_eq!(rt; most, 19_807_040_628_566_084_396_238_503_936);
+        let least = sum_value(&sum, &Everywhere(-9_223_372_036_854_775_808));
+        assert_eq!(rt; least, -19_807_040_610_119_340_324_676_435_969);
+        Ok(())
+    }
+}

@@ -1,0 +1,36 @@
+//! The predicate language: names that a predicate may speak of, the reader of its text, and what it means at a state.
+//!
+//! A text is read exactly where it is a predicate of the grammar over the session's names; otherwise the first fault is
+//! told with its byte. A predicate is evaluated over whole numbers without bound, and takes no memory for it.
+//!
+//! - `names`: the processes of a session and their variables
+//! - `values`: where the values of variables come from
+//! - `error`: why a text is refused
+//! - `predicate`: the predicate itself
+//! - `token`, `lexer`: the tokens of a text, and how they are read
+//! - `numbers`: the numbers that digits write, and their limits
+//! - `state`, `openers`, `placement`: what may stand next, what is open, and which token is misplaced
+//! - `tree`, `build`: the syntax tree, and how it is built of tokens that were checked before
+//! - `evaluate`: what a tree means at a state
+#![tactic(auto)]
+
+mod build;
+mod error;
+mod evaluate;
+mod lexer;
+mod names;
+mod numbers;
+mod openers;
+mod placement;
+mod predicate;
+mod state;
+#[cfg(test)]
+mod tests;
+mod token;
+mod tree;
+mod values;
+
+pub use error::{PredError, PredErrorKind};
+pub use names::{Names, ProcessNames, distinct_names_are_clear};
+pub use predicate::Pred;
+pub use values::Values;

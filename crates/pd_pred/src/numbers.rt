@@ -1,0 +1,105 @@
+//! The numbers that digits write.
+ghost use Rattle.pd_format.specs.PredicateTexts as format;
+ghost use Rattle.pd_format.specs.PredicateTexts.{NumbersFit};
+ghost use Rattle.pd_format.specs.Tokens.{number_from};
+ghost use Rattle.pd_pred.specs.Numbers.{IsFirstTooLarge};
+ghost use Rattle.pd_pred.specs.Tokens.{all_placed, token_of};
+ghost use Rattle.std.specs.Prelude.{◌≡◌, ◌<◌, ◌-◌, ◌^◌, nat_lt, MatchOption};
+
+use super::token::{Placed, Token};
+
+/// The greatest number in a text.
+const MAX_NUMBER: u64 = 9_223_372_036_854_775_807;
+
+/// The greatest number with a `*` behind it.
+const MAX_FACTOR: u64 = 2_147_483_647;
+
+/// What a digit counts for.
+fn digit_value(digit: u8) -> u8
+    ensures { result ≡ digit - 48 }
+{
+    digit.saturating_sub(b'0')
+}
+
+/// The number that the digits write.
+pub(crate) fn number_of(digits: &str) -> u64
+    requires { number_from 0 digits.now < 2 ^ 64 }
+    ensures { result ≡ number_from 0 digits.now }
+{
+    let mut number = 0;
+    for digit in digits.as_bytes() {
+        number = 10 * number + u64::from(digit_value(*digit));
+    }
+    number
+}
+
+/// Whether the digits, of which there may be any number, write a number over the limit.
+fn exceeds(digits: &str, limit: u64) -> bool
+    ensures { result ≡ nat_lt limit (number_from 0 digits.now) }
+{
+    let mut number = 0u128;
+    for digit in digits.as_bytes() {
+        number = 10 * number + u128::from(digit_value(*digit));
+        if number > u128::from(limit) {
+            return true;
+        }
+    }
+    false
+}
+
+fn begins_with_star(tokens: &[Placed<'_>]) -> bool
+    ensures { result ≡ format.begins_with_star (all_placed tokens.now) }
+{
+    match tokens.first() {
+        Some(first) => matches!(first.token, Token::Star),
+        None => false,
+    }
+}
+
+/// Whether the token is a number too large for its place, which these tokens follow.
+fn is_too_large(token: Token<'_>, after: &[Placed<'_>]) -> bool
+    ensures { result ≡ format.is_too_large (token_of token.entry) (all_placed after.now) }
+{
+    match token {
+        Token::Digits(digits) => {
+            exceeds(digits, MAX_NUMBER) || exceeds(digits, MAX_FACTOR) && begins_with_star(after)
+        }
+        _ => false,
+    }
+}
+
+/// The first byte of the first number that is too large, counted from 1.
+pub(crate) fn first_too_large(tokens: &[Placed<'_>]) -> Option<u64>
+    ensures { MatchOption result (NumbersFit (all_placed tokens.now)) (IsFirstTooLarge (all_placed tokens.now)) }
+{
+    for (i, placed) in tokens.iter().enumerate() {
+        if is_too_large(placed.token, &tokens[i + 1..]) {
+            return Some(placed.at);
+        }
+    }
+    None
+}
+
+#[cfg(test)]
+mod tests {
+    use super::super::lexer::lex;
+    use super::*;
+    use std::test::Fail;
+
+    #[test]
+    fn reads_digits(rt: HostRuntime) {
+        assert_eq!(rt; number_of("0012"), 12);
+        assert_eq!(rt; number_of("9223372036854775807"), 9_223_372_036_854_775_807);
+    }
+
+    #[test]
+    fn finds_the_first_too_large(rt: HostRuntime) -> Result<(), Fail> {
+        let factor = lex(rt.alloc(), "2147483648 < 2147483648 * a.x")?;
+        assert_eq!(rt; first_too_large(&factor), Some(14));
+        let number = lex(rt.alloc(), "1 < 9223372036854775808")?;
+        assert_eq!(rt; first_too_large(&number), Some(5));
+        let greatest = lex(rt.alloc(), "2147483647 * a.x < 9223372036854775807")?;
+        assert_eq!(rt; first_too_large(&greatest), None);
+        Ok(())
+    }
+}

@@ -1,0 +1,265 @@
+//! Bundles with their reports.
+use super::slow::judged;
+use pd_engine::Outcome;
+use std::alloc::{AllocError, Global};
+use std::str;
+use std::test::Fail;
+
+/// A bundle, line by line or several lines at once, and the text of its report.
+pub(crate) struct Row {
+    lines: &'static [&'static str],
+    report: &'static str,
+}
+
+const TWO: &str = r#"{"processes":[{"name":"a","vars":{"x":0}},{"name":"b","vars":{"y":0}}],"#;
+
+const BOTH: &str = r#""predicates":[{"name":"both","text":"a.x == 1 and b.y == 1"}]"#;
+
+const AHEAD: &str = r#""predicates":[{"name":"ahead","text":"a.x > b.y"}]"#;
+
+const ONE: &str = r#"{"processes":[{"name":"a","vars":{"x":0}}],"#;
+
+const THREE: &str =
+    r#"{"processes":[{"name":"a","vars":{"n":0}},{"name":"b","vars":{"n":0}},{"name":"c","vars":{"n":0}}],"#;
+
+const TOP: &str =
+    r#""predicates":[{"name":"top","text":"a.n + b.n + c.n == 30"},{"name":"never","text":"a.n == 99"}]"#;
+
+const CLOSE: &str = "}\n";
+
+const A: &str = "---\n{\"process\":\"a\"}\n";
+
+const B: &str = "---\n{\"process\":\"b\"}\n";
+
+const C: &str = "---\n{\"process\":\"c\"}\n";
+
+const X0: &str = "{\"set\":{\"x\":0}}\n";
+
+const X1: &str = "{\"set\":{\"x\":1}}\n";
+
+const Y0: &str = "{\"set\":{\"y\":0}}\n";
+
+const Y1: &str = "{\"set\":{\"y\":1}}\n";
+
+const TEN: &str =
+    "{\"set\":{\"n\":1}}\n{\"set\":{\"n\":2}}\n{\"set\":{\"n\":3}}\n{\"set\":{\"n\":4}}\n{\"set\":{\"n\":5}}\n{\"set\":{\"n\":6}}\n{\"set\":{\"n\":7}}\n{\"set\":{\"n\":8}}\n{\"set\":{\"n\":9}}\n{\"set\":{\"n\":10}}\n";
+
+const END: &str = "{\"end\":true}\n";
+
+static JUDGED: [Row; 9] = [
+    Row {
+        lines: &[TWO, BOTH, CLOSE, A, X1, X0, END, B, Y1, Y0, END],
+        report: "session 2 processes 4 events 0 messages\nboth possibly yes 1,1\n",
+    },
+    Row {
+        lines: &[TWO, BOTH, CLOSE, B, Y1, Y0, END, A, X1, X0, END],
+        report: "session 2 processes 4 events 0 messages\nboth possibly yes 1,1\n",
+    },
+    Row {
+        lines: &[TWO, BOTH, ",\"width\":1}\n", A, X1, X0, END, B, Y1, Y0, END],
+        report: "session 2 processes 4 events 0 messages\nboth possibly unknown 1\n",
+    },
+    Row {
+        lines: &[TWO, AHEAD, CLOSE, A, X1, END, B, Y1, END],
+        report: "session 2 processes 2 events 0 messages\nahead possibly yes 1,0\n",
+    },
+    Row {
+        lines: &[TWO, AHEAD, ",\"width\":1}\n", A, X1, END, B, Y1, END],
+        report: "session 2 processes 2 events 0 messages\nahead possibly unknown 1\n",
+    },
+    Row {
+        lines: &[
+            ONE,
+            r#""predicates":[{"name":"big","text":"2147483647 * a.x + a.x > 0"}]}"#,
+            "\n",
+            A,
+            "{\"set\":{\"x\":9223372036854775807}}\n",
+            END,
+        ],
+        report: "session 1 processes 1 events 0 messages\nbig possibly yes 1\n",
+    },
+    Row {
+        lines: &[THREE, TOP, CLOSE, A, TEN, END, B, TEN, END, C, TEN, END],
+        report: "session 3 processes 30 events 0 messages\ntop possibly yes 10,10,10\nnever possibly no\n",
+    },
+    Row {
+        lines: &[
+            THREE,
+            TOP,
+            ",\"width\":91}\n",
+            A,
+            TEN,
+            END,
+            B,
+            TEN,
+            END,
+            C,
+            TEN,
+            END,
+        ],
+        report: "session 3 processes 30 events 0 messages\ntop possibly yes 10,10,10\nnever possibly no\n",
+    },
+    Row {
+        lines: &[
+            THREE,
+            TOP,
+            ",\"width\":90}\n",
+            A,
+            TEN,
+            END,
+            B,
+            TEN,
+            END,
+            C,
+            TEN,
+            END,
+        ],
+        report: "session 3 processes 30 events 0 messages\ntop possibly unknown 15\nnever possibly unknown 15\n",
+    },
+];
+
+static REFUSED: [Row; 17] = [
+    Row {
+        lines: &[],
+        report: "refused spec json\n",
+    },
+    Row {
+        lines: &[TWO, CLOSE],
+        report: "refused spec json\n",
+    },
+    Row {
+        lines: &[TWO, BOTH, ",\"width\":0}\n"],
+        report: "refused spec width\n",
+    },
+    Row {
+        lines: &[ONE, r#""predicates":[{"name":"p","text":"a.x"}]}"#],
+        report: "refused predicate 1 expected at 4\n",
+    },
+    Row {
+        lines: &[
+            ONE,
+            r#""predicates":[{"name":"p","text":"true"},{"name":"q","text":"a.y < 1"}]}"#,
+        ],
+        report: "refused predicate 2 unknownname at 3\n",
+    },
+    Row {
+        lines: &[
+            TWO, AHEAD, CLOSE, A, A, A, A, A, A, A, A, A, A, A, A, A, A, A, A, A,
+        ],
+        report: "refused streams\n",
+    },
+    Row {
+        lines: &[
+            TWO, AHEAD, CLOSE, A, END, B, END, A, A, A, A, A, A, A, A, A, A, A, A, A, A,
+        ],
+        report: "refused stream 3 line 2 unended\n",
+    },
+    Row {
+        lines: &[TWO, AHEAD, CLOSE, A, X1, END],
+        report: "refused absent b\n",
+    },
+    Row {
+        lines: &[TWO, AHEAD, CLOSE],
+        report: "refused absent a\n",
+    },
+    Row {
+        lines: &[TWO, AHEAD, CLOSE, A, X1, END, A, X1, END],
+        report: "refused stream 2 line 1 taken\n",
+    },
+    Row {
+        lines: &[
+            TWO,
+            AHEAD,
+            CLOSE,
+            A,
+            "{\"send\":\"m\"}\n",
+            X1,
+            END,
+            B,
+            Y1,
+            END,
+        ],
+        report: "refused stream 1 line 2 shape\n",
+    },
+    Row {
+        lines: &[TWO, AHEAD, CLOSE, A, X1, END, B, Y1],
+        report: "refused stream 2 line 3 unended\n",
+    },
+    Row {
+        lines: &[TWO, AHEAD, CLOSE, A, X1, END, B, Y1, "\n", A],
+        report: "refused stream 2 line 4 unended\n",
+    },
+    Row {
+        lines: &[TWO, AHEAD, CLOSE, A, X1, END, B, Y1, X1, END],
+        report: "refused stream 2 line 3 unknownvar\n",
+    },
+    Row {
+        lines: &[
+            TWO,
+            AHEAD,
+            CLOSE,
+            A,
+            "{\"set\":{\"x\":9223372036854775808}}\n",
+            END,
+            B,
+            END,
+        ],
+        report: "refused stream 1 line 2 value\n",
+    },
+    Row {
+        lines: &[TWO, AHEAD, CLOSE, "---\n\r\n", X1, END, B, END],
+        report: "refused stream 1 line 2 join\n",
+    },
+    Row {
+        lines: &[TWO, AHEAD, CLOSE, A, END, C, END],
+        report: "refused stream 2 line 1 unknownprocess\n",
+    },
+];
+
+/// The bundle with this end of each line.
+pub(crate) fn bundle_of(
+    alloc: Global,
+    lines: &[&str],
+    line_end: &str,
+) -> Result<Vec<u8>, AllocError> {
+    let mut bundle = Vec::new(alloc);
+    for line in lines {
+        for byte in line.as_bytes() {
+            match *byte {
+                b'\n' => bundle.extend_from_slice(line_end.as_bytes())?,
+                other => bundle.push(other)?,
+            }
+        }
+    }
+    Ok(bundle)
+}
+
+/// Whether the line ends change nothing, and neither does the last byte where it ends the last line.
+#[test]
+fn judged_bundles(rt: HostRuntime) -> Result<(), Fail> {
+    for row in &JUDGED {
+        for line_end in ["\n", "\r\n", "\n\n", "\n \t\r\n"] {
+            let mut bundle = bundle_of(rt.alloc(), row.lines, line_end)?;
+            let (outcome, report) = judged(rt.alloc(), &bundle)?;
+            assert_eq!(rt; str::from_utf8(&report)?, row.report);
+            assert_eq!(rt; outcome, Outcome::Judged);
+            assert_eq!(rt; bundle.pop(), Some(b'\n'));
+            let (_, cut_report) = judged(rt.alloc(), &bundle)?;
+            assert_eq!(rt; str::from_utf8(&cut_report)?, row.report);
+        }
+    }
+    Ok(())
+}
+
+#[test]
+fn refused_bundles(rt: HostRuntime) -> Result<(), Fail> {
+    for row in &REFUSED {
+        for line_end in ["\n", "\r\n"] {
+            let bundle = bundle_of(rt.alloc(), row.lines, line_end)?;
+            let (outcome, report) = judged(rt.alloc(), &bundle)?;
+            assert_eq!(rt; str::from_utf8(&report)?, row.report);
+            assert_eq!(rt; outcome, Outcome::Refused);
+        }
+    }
+    Ok(())
+}

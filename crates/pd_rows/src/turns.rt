@@ -1,0 +1,126 @@
+//! Streams that take turns.
+ghost use Rattle.std.specs.Prelude.{◌≡◌, length};
+
+use pd_events::{StreamFault, StreamKind, Trace};
+use pd_gather::{Core, Input};
+use pd_spec::Spec;
+use std::alloc::AllocError;
+use std::test::Fail;
+
+const DOCUMENT: &str =
+    "{\"processes\":[{\"name\":\"a\",\"vars\":{\"x\":0,\"y\":0}},{\"name\":\"b\",\"vars\":{\"n\":0}}],\"predicates\":[{\"name\":\"p\",\"text\":\"true\"}]}";
+
+/// What a stream gives: its process, the line of its join and how many events it has, or its fault.
+type Given = Result<(usize, u64, usize), StreamFault>;
+
+/// The bytes of two streams, and what each gives, whether it comes in one piece or both come in turns of one byte.
+struct Case {
+    first: &'static str,
+    second: &'static str,
+    given_first: Given,
+    given_second: Given,
+}
+
+static CASES: [Case; 4] = [
+    Case {
+        first: "{\"process\":\"a\"}\n{\"set\":{\"y\":2,\"x\":-1}}\n{}\n{\"end\":true}\n",
+        second: "\n \t\r\n{\"process\":\"b\"}\r\n{\"end\":true}",
+        given_first: Ok((0, 1, 2)),
+        given_second: Ok((1, 3, 0)),
+    },
+    Case {
+        first: "{\"process\":\"b\"}\n{}\n{}\n{}",
+        second: "{\"process\":\"b\"}\n{\"end\":true}\n not read",
+        given_first: Err(StreamFault {
+            line: 5,
+            kind: StreamKind::Unended,
+        }),
+        given_second: Ok((1, 1, 0)),
+    },
+    Case {
+        first: "",
+        second: "{\"process\":\"a\"}\n{\"set\":{\"n\":1}}\n{\"set\":",
+        given_first: Err(StreamFault {
+            line: 1,
+            kind: StreamKind::Unended,
+        }),
+        given_second: Err(StreamFault {
+            line: 2,
+            kind: StreamKind::UnknownVar,
+        }),
+    },
+    Case {
+        first: "{\"process\":\"a\"}\n{\"set\":{\"x\":1}}\n{\"set\":{\"x\":1.5}}\n",
+        second: "{\"end\":true}\n{",
+        given_first: Err(StreamFault {
+            line: 3,
+            kind: StreamKind::Value,
+        }),
+        given_second: Err(StreamFault {
+            line: 1,
+            kind: StreamKind::Join,
+        }),
+    },
+];
+
+/// Hands over each stream in one piece.
+fn feed_whole(core: &mut Core<'_>, case: &Case) -> Result<(), AllocError>
+    requires { length core.old ≡ 2 }
+    ensures { length core.new ≡ 2 }
+{
+    core.step(0, Input::Piece(case.first.as_bytes()))?;
+    core.step(0, Input::End)?;
+    core.step(1, Input::Piece(case.second.as_bytes()))?;
+    core.step(1, Input::End)
+}
+
+/// The byte with this number, from 0, or nothing where there is none.
+fn byte_at(text: &str, at: usize) -> &[u8] {
+    match text.as_bytes().get(at..) {
+        Some(bytes) => &bytes[..bytes.len().min(1)],
+        None => &[],
+    }
+}
+
+/// Hands over both streams in turns of one byte, the second stream first.
+fn feed_in_turns(core: &mut Core<'_>, case: &Case) -> Result<(), AllocError>
+    requires { length core.old ≡ 2 }
+    ensures { length core.new ≡ 2 }
+{
+    let turns = case.first.len().max(case.second.len());
+    for at in 0..turns {
+        core.step(1, Input::Piece(byte_at(case.second, at)))?;
+        core.step(0, Input::Piece(byte_at(case.first, at)))?;
+    }
+    core.step(1, Input::End)?;
+    core.step(0, Input::End)
+}
+
+fn given(reading: &Result<Trace, StreamFault>) -> Given {
+    match reading {
+        Ok(trace) => Ok((trace.process, trace.join_line, trace.events.len())),
+        Err(fault) => Err(*fault),
+    }
+}
+
+#[test]
+fn turns_change_nothing(rt: HostRuntime) -> Result<(), Fail> {
+    let alloc = rt.alloc();
+    let spec = Spec::read(alloc, DOCUMENT.as_bytes())?;
+    for case in &CASES {
+        let mut whole = Core::new(alloc, 2, &spec)?;
+        feed_whole(&mut whole, case)?;
+        let mut turns = Core::new(alloc, 2, &spec)?;
+        feed_in_turns(&mut turns, case)?;
+        assert!(rt; whole.closed());
+        assert!(rt; turns.closed());
+        let whole = whole.outcome();
+        let turns = turns.outcome();
+        assert!(rt; whole.readings == turns.readings);
+        assert_eq!(rt; (whole.streams, turns.streams), (2, 2));
+        assert_eq!(rt; whole.readings.len(), 2);
+        assert_eq!(rt; given(&whole.readings[0]), case.given_first);
+        assert_eq!(rt; given(&whole.readings[1]), case.given_second);
+    }
+    Ok(())
+}

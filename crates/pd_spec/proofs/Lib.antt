@@ -1,0 +1,12 @@
+pub mod Mapped
+pub mod MemberViews
+pub mod Distinct
+pub mod DocumentFacts
+pub mod Each
+pub mod Faultless
+pub mod JsonValues
+pub mod OutlineViews
+pub mod PredicateFaults
+pub mod Rows
+pub mod TwiceLemmas
+pub mod Words

@@ -1,0 +1,7 @@
+pub mod Outlines
+pub mod DocumentParts
+pub mod Faults
+pub mod Named
+pub mod Predicates
+pub mod Sound
+pub mod Views

@@ -1,0 +1,35 @@
+-- The faults in the texts of predicates.
+use Rattle.std.specs.Prelude.{◌≡◌, ℕ, ◌+◌, List, ◌∷◌, ◌++◌, length, MatchOption}
+use Rattle.std.specs.List.{AllByRecursion}
+use Rattle.pd_model.specs.Predicates.{Predicate}
+use Rattle.pd_format.specs.Names.{ProcessNames}
+use Rattle.pd_format.specs.PredicateTexts.{PredicateFault, IsPredicate, IsRefused}
+use Rattle.pd_pred.specs.Views.{fault_of}
+use Rattle.pd_spec.specs.declared.fault.SpecFault.{SpecFault}
+use Rattle.pd_spec.specs.declared.fault.SpecFault.TheVariants as kinds
+
+-- the fault tells why this predicate's text is refused, or that memory ran out
+abbrev pub IsFaultIn : List ProcessNames → List ℕ × List ℕ → ℕ → SpecFault → Type 0
+IsFaultIn names written number kinds.Memory = Unit {0}
+IsFaultIn names written number (kinds.Predicate k error) = (k ≡ number) × MatchOption (fault_of error.kind) ⊥ (λ fault. IsRefused names written.1 fault error.at)
+IsFaultIn names written number _ = ⊥
+
+-- the text is a predicate
+abbrev pub IsSomePredicate : List ProcessNames → List ℕ × List ℕ → Type 0
+IsSomePredicate names written = (predicate : Predicate) × IsPredicate names written.1 predicate
+
+-- the predicate of this number is refused, and those before it aren't
+pub record IsRefusedAmong (names : List ProcessNames) (written : List (List ℕ × List ℕ)) (number : ℕ) (fault : PredicateFault) (at : ℕ) : Type 0 where
+  pub before : List (List ℕ × List ℕ)
+  pub refused : List ℕ × List ℕ
+  pub after : List (List ℕ × List ℕ)
+  pub parts : written ≡ before ++ refused ∷ after
+  pub place : number ≡ length before + 1
+  pub stands : IsRefused names refused.1 fault at
+  pub none_before : AllByRecursion (IsSomePredicate names) before
+
+-- the fault tells the first predicate that is refused, or that memory ran out
+abbrev pub IsFaultAmong : List ProcessNames → List (List ℕ × List ℕ) → SpecFault → Type 0
+IsFaultAmong names written kinds.Memory = Unit {0}
+IsFaultAmong names written (kinds.Predicate number error) = MatchOption (fault_of error.kind) ⊥ (λ fault. IsRefusedAmong names written number fault error.at)
+IsFaultAmong names written _ = ⊥

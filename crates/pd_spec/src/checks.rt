@@ -1,0 +1,185 @@
+//! The faults of a document of right shape, but for those in the texts of predicates.
+ghost use Rattle.std.specs.Prelude.{◌≡◌, ◌||◌, length, map, string_bytes, is_some, ◌&&◌, IfOk, IfErr, OnOk, None, option_map, option_and_then};
+ghost use Rattle.std.specs.List.{list_all};
+ghost use Rattle.std.specs.BTreeMap.{keys, values};
+ghost use Rattle.serde_json.specs.Find.{as_number, as_i64};
+ghost use Rattle.serde_json.specs.View.{view};
+ghost use Rattle.pd_format.specs.Documents.{has_twice, is_within, outline_fault, predicate_names, process_names, vars_fit, width_fits};
+ghost use Rattle.pd_format.specs.Names.{is_name};
+ghost use Rattle.pd_format.specs.Records.{whole_number};
+ghost use Rattle.pd_spec.specs.Faults.{Tells};
+ghost use Rattle.pd_spec.specs.Outlines.{process_seen, predicate_seen, outline_seen, has_names};
+
+use super::SpecFault;
+use super::name::is_name;
+use super::outline::{Outline, PredicateOutline, ProcessOutline};
+use super::twice::has_twice;
+use serde_json::{Map, Value};
+use std::alloc::{AllocError, Global};
+
+/// The most processes of a session.
+const PROCESS_LIMIT: usize = 8;
+
+/// The most variables of a process.
+const VAR_LIMIT: usize = 16;
+
+/// The most predicates of a session.
+const PREDICATE_LIMIT: usize = 16;
+
+/// The greatest width.
+const WIDTH_LIMIT: i64 = 65_536;
+
+fn process_names<'a>(
+    alloc: Global,
+    processes: &[ProcessOutline<'a>],
+) -> Result<Vec<&'a str>, AllocError>
+    ensures { IfOk result (λ names. names.items ≡ map (λ process. process.name) processes.now) }
+{
+    processes.iter().map(|process| process.name).collect(alloc)
+}
+
+fn predicate_names<'a>(
+    alloc: Global,
+    predicates: &[PredicateOutline<'a>],
+) -> Result<Vec<&'a str>, AllocError>
+    ensures { IfOk result (λ names. names.items ≡ map (λ predicate. predicate.name) predicates.now) }
+{
+    predicates
+        .iter()
+        .map(|predicate| predicate.name)
+        .collect(alloc)
+}
+
+fn processes_have_twice(alloc: Global, processes: &[ProcessOutline]) -> Result<bool, AllocError>
+    ensures { IfOk result (λ twice. twice ≡ has_twice (map (λ process. process.0) (map process_seen processes.now))) }
+{
+    let names = process_names(alloc, processes)?;
+    has_twice(alloc, &names)
+}
+
+fn predicates_have_twice(alloc: Global, predicates: &[PredicateOutline]) -> Result<bool, AllocError>
+    ensures { IfOk result (λ twice. twice ≡ has_twice (map (λ predicate. predicate.0) (map predicate_seen predicates.now))) }
+{
+    let names = predicate_names(alloc, predicates)?;
+    has_twice(alloc, &names)
+}
+
+fn are_var_names(vars: &Map<String, Value>) -> bool
+    ensures { result ≡ list_all (λ key. is_name (string_bytes key)) (keys vars.now) }
+{
+    vars.keys().all(|key| is_name(key.as_str()))
+}
+
+fn processes_are_named(processes: &[ProcessOutline]) -> bool
+    ensures { result ≡ list_all (λ process. is_name process.name.now) processes.now }
+{
+    processes.iter().all(|process| is_name(process.name))
+}
+
+fn vars_are_named(processes: &[ProcessOutline]) -> bool
+    ensures { result ≡ list_all (λ process. list_all (λ key. is_name (string_bytes key)) (keys process.vars.now)) processes.now }
+{
+    processes.iter().all(|process| are_var_names(process.vars))
+}
+
+fn predicates_are_named(predicates: &[PredicateOutline]) -> bool
+    ensures { result ≡ list_all (λ predicate. is_name predicate.name.now) predicates.now }
+{
+    predicates.iter().all(|predicate| is_name(predicate.name))
+}
+
+fn are_whole_numbers(vars: &Map<String, Value>) -> bool
+    ensures { result ≡ list_all (λ value. is_some (whole_number (view value))) (values vars.now) }
+{
+    vars.values().all(|value| value.as_i64().is_some())
+}
+
+fn vars_fit(process: &ProcessOutline) -> bool
+    ensures { result ≡ vars_fit (process_seen process.now) }
+{
+    process.vars.len() <= VAR_LIMIT && are_whole_numbers(process.vars)
+}
+
+fn all_vars_fit(processes: &[ProcessOutline]) -> bool
+    ensures { result ≡ list_all (λ process. vars_fit (process_seen process)) processes.now }
+{
+    processes.iter().all(|process| vars_fit(process))
+}
+
+fn width_fits(width: Option<&Value>) -> bool
+    ensures { result ≡ width_fits (option_map (λ value. view value.now) width.entry) }
+{
+    match width {
+        None => true,
+        Some(value) => match value.as_i64() {
+            Some(width) => 1 <= width && width <= WIDTH_LIMIT,
+            None => false,
+        },
+    }
+}
+
+impl Outline<'_> {
+    fn processes_fit(&self) -> bool
+        ensures { result ≡ is_within 1 8 (length (outline_seen self.now).processes) }
+    {
+        1 <= self.processes.len() && self.processes.len() <= PROCESS_LIMIT
+    }
+
+    fn is_named(&self) -> bool
+        ensures { result ≡ has_names (outline_seen self.now) }
+    {
+        processes_are_named(&self.processes)
+            && vars_are_named(&self.processes)
+            && predicates_are_named(&self.predicates)
+    }
+
+    fn has_name_twice(&self, alloc: Global) -> Result<bool, AllocError>
+        ensures { IfOk result (λ twice. twice ≡ (has_twice (process_names (outline_seen self.now)) || has_twice (predicate_names (outline_seen self.now)))) }
+    {
+        if processes_have_twice(alloc, &self.processes)? {
+            return Ok(true);
+        }
+        predicates_have_twice(alloc, &self.predicates)
+    }
+
+    fn vars_fit(&self) -> bool
+        ensures { result ≡ list_all vars_fit (outline_seen self.now).processes }
+    {
+        all_vars_fit(&self.processes)
+    }
+
+    fn predicates_fit(&self) -> bool
+        ensures { result ≡ is_within 1 16 (length (outline_seen self.now).predicates) }
+    {
+        1 <= self.predicates.len() && self.predicates.len() <= PREDICATE_LIMIT
+    }
+
+    /// Whether the outline has no fault.
+    ///
+    /// # Errors
+    /// The first fault of the outline, or want of memory.
+    pub(crate) fn check(&self, alloc: Global) -> Result<(), SpecFault>
+        ensures ok { OnOk result (outline_fault (outline_seen self.now) ≡ None) }
+        ensures err { IfErr result (λ fault. Tells fault (outline_fault (outline_seen self.now))) }
+    {
+        if !self.processes_fit() {
+            return Err(SpecFault::Processes);
+        }
+        if !self.is_named() {
+            return Err(SpecFault::Name);
+        }
+        if self.has_name_twice(alloc)? {
+            return Err(SpecFault::NameTwice);
+        }
+        if !self.vars_fit() {
+            return Err(SpecFault::Vars);
+        }
+        if !self.predicates_fit() {
+            return Err(SpecFault::Predicates);
+        }
+        if !width_fits(self.width) {
+            return Err(SpecFault::Width);
+        }
+        Ok(())
+    }
+}

@@ -1,0 +1,37 @@
+//! The session document: a JSON object with the fields `processes`, `predicates` and, if it is there, `width`. A process
+//! has a `name`, and in `vars` its variables with their initial values; a predicate has a `name` and a `text`.
+//!
+//! `Spec::read` answers `Ok` exactly with the document that the bytes are, and otherwise with the first fault that
+//! applies. Only want of memory is told without a claim about the bytes. A `Spec` keeps the bounds of its parts as a
+//! ghost field, on which callers rely.
+//!
+//! - `spec`: the document, and its reader
+//! - `named`: a predicate with its name
+//! - `fault`: why bytes are no document
+//! - `json`: the JSON value of bytes
+//! - `fields`: the fields of a JSON object
+//! - `outline`: the parts of a document, borrowed from the JSON value
+//! - `checks`: the faults of an outline, in their order
+//! - `name`: what is a name
+//! - `twice`: whether a text stands twice in a list
+//! - `parts`: the names and the initial values, made from an outline
+//! - `predicates`: the predicates, parsed one after another
+#![tactic(auto)]
+
+mod checks;
+mod fault;
+mod fields;
+mod json;
+mod name;
+mod named;
+mod outline;
+mod parts;
+mod predicates;
+mod spec;
+#[cfg(test)]
+mod tests;
+mod twice;
+
+pub use fault::SpecFault;
+pub use named::NamedPred;
+pub use spec::Spec;
