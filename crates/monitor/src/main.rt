@@ -12,7 +12,14 @@ fn words(rt: &HostRuntime) -> io::Result<Vec<String>> {
 fn main(rt: HostRuntime) -> ExitCode {
     let mut errors = rt.stderr();
     let status = match words(&rt) {
-        Ok(words) => pd_cli::run(rt.alloc(), words, rt.stdin(), &mut rt.stdout(), &mut errors),
+        Ok(words) => pd_cli::run(
+            &rt,
+            rt.alloc(),
+            words,
+            rt.stdin(),
+            &mut rt.stdout(),
+            &mut errors,
+        ),
         Err(error) => pd_cli::tell_unread_words(&error, &mut errors),
     };
     ExitCode::from(status)

@@ -8,6 +8,7 @@ ghost use Rattle.std.specs.Prelude.{◌≡◌, ◌<◌, ◌≤◌, Err, IfOk, If
 use pd_engine::{EngineFault, NoGate, Outcome, judge_bundle};
 use std::alloc::Global;
 use std::io::{Read, Write};
+use std::random::RandomSource;
 
 /// How many workers judge a bundle.
 const WORKERS: u64 = 1;
@@ -16,7 +17,8 @@ const WORKERS: u64 = 1;
 ///
 /// # Errors
 /// As `judge_bundle`, and `Write` too where the output can't be flushed. `Memory` leaves nothing written.
-pub(crate) fn judge_input<I: Read + Drop, O: Write>(
+pub(crate) fn judge_input<S: RandomSource, I: Read + Drop, O: Write>(
+    rt: &S,
     alloc: Global,
     input: I,
     output: &mut O,
@@ -31,7 +33,7 @@ pub(crate) fn judge_input<I: Read + Drop, O: Write>(
     ensures unread { result ≡ Err EngineFault.BundleLong → Keeps (O.contents output.old) (O.contents output.new) }
     ensures memory { result ≡ Err EngineFault.Memory → Keeps (O.contents output.old) (O.contents output.new) }
 {
-    let outcome = judge_bundle(alloc, input, WORKERS, &NoGate, output)?;
+    let outcome = judge_bundle(rt, alloc, input, WORKERS, &NoGate, output)?;
     if output.flush().is_err() {
         return Err(EngineFault::Write);
     }

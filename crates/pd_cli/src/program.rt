@@ -11,13 +11,15 @@ use super::status::{outcome_status, tell_fault};
 use super::words::{parse, tell_parser};
 use std::alloc::Global;
 use std::io::{Read, Write};
+use std::random::RandomSource;
 
 /// Runs the program on its words, of which the first is its name, and gives its exit status.
 ///
 /// With no further word a bundle is read from `input`, and its report is written to `output`. Further words are parsed: the
 /// help that they ask for is written to `output`, and what is wrong with them to `errors`. `errors` also has one line for
 /// each fault; where it can't be written, it is left off.
-pub fn run<I: Read + Drop, O: Write, E: Write>(
+pub fn run<S: RandomSource, I: Read + Drop, O: Write, E: Write>(
+    rt: &S,
     alloc: Global,
     words: Vec<String>,
     input: I,
@@ -45,7 +47,7 @@ pub fn run<I: Read + Drop, O: Write, E: Write>(
             return tell_parser(&error, output, errors);
         }
     }
-    match judge_input(alloc, input, output) {
+    match judge_input(rt, alloc, input, output) {
         Ok(outcome) => outcome_status(outcome),
         Err(fault) => tell_fault(&fault, errors),
     }

@@ -1,46 +1,46 @@
 //! The program's statuses, and what it writes.
 use super::{JUDGED, MISUSED, NO_MEMORY, REFUSED, run, tell_unread_words};
-use std::alloc::{AllocError, Global};
+use std::alloc::AllocError;
 use std::io;
 use std::test::Fail;
 
 /// What a run on these words and this input gives: its status, its output and its errors.
 fn run_on(
-    alloc: Global,
+    rt: &HostRuntime,
     words: &[&str],
     input: &[u8],
 ) -> Result<(u8, Vec<u8>, Vec<u8>), AllocError> {
+    let alloc = rt.alloc();
     let mut given = Vec::new(alloc);
     for word in words {
         given.push(String::from_str(alloc, word)?)?;
     }
     let mut output = Vec::new(alloc);
     let mut errors = Vec::new(alloc);
-    let status = run(alloc, given, input, &mut output, &mut errors);
+    let status = run(rt, alloc, given, input, &mut output, &mut errors);
     Ok((status, output, errors))
 }
 
 #[test]
 fn statuses(rt: HostRuntime) -> Result<(), Fail> {
-    let alloc = rt.alloc();
-    let (status, output, errors) = run_on(alloc, &["monitor"], b"")?;
+    let (status, output, errors) = run_on(&rt, &["monitor"], b"")?;
     assert_eq!(rt; status, REFUSED);
     assert_eq!(rt; output.as_slice(), b"refused spec json\n".as_slice());
     assert!(rt; errors.is_empty());
     let bundle =
         b"{\"processes\":[{\"name\":\"a\",\"vars\":{\"x\":0}},{\"name\":\"b\",\"vars\":{\"y\":0}}],\"predicates\":[{\"name\":\"both\",\"text\":\"a.x == 1 and b.y == 1\"}]}\n---\n{\"process\":\"a\"}\n{\"set\":{\"x\":1}}\n{\"set\":{\"x\":0}}\n{\"end\":true}\n---\n{\"process\":\"b\"}\n{\"set\":{\"y\":1}}\n{\"set\":{\"y\":0}}\n{\"end\":true}\n";
-    let (status, output, errors) = run_on(alloc, &["monitor"], bundle)?;
+    let (status, output, errors) = run_on(&rt, &["monitor"], bundle)?;
     assert_eq!(rt; status, JUDGED);
     assert_eq!(rt;
         output.as_slice(),
         b"session 2 processes 4 events 0 messages\nboth possibly yes 1,1\n".as_slice()
     );
     assert!(rt; errors.is_empty());
-    let (status, output, errors) = run_on(alloc, &["monitor", "--help"], b"")?;
+    let (status, output, errors) = run_on(&rt, &["monitor", "--help"], b"")?;
     assert_eq!(rt; status, JUDGED);
     assert!(rt; output.starts_with(b"Judges predicates"));
     assert!(rt; errors.is_empty());
-    let (status, output, errors) = run_on(alloc, &["monitor", "judge", "x"], b"")?;
+    let (status, output, errors) = run_on(&rt, &["monitor", "judge", "x"], b"")?;
     assert_eq!(rt; status, MISUSED);
     assert!(rt; output.is_empty());
     assert!(rt; errors.starts_with(b"error: "));

@@ -1,18 +1,18 @@
 -- What is looked up at a cut is the state there.
-use Rattle.std.proofs.Common.{◌≡◌, ℕ, ◌+◌, ◌*◌, ◌<◌, ◌≤◌, Bool, cond, List, [], ◌++◌, length, get_or, map, take, refl, sym, ap, ◌∙◌, arith, length-append, inl, inr, ◌⊎◌, ℤ, pos, Some, None}
-use Rattle.std.specs.Prelude.{slice_get, Vec, nat_lt}
+use Rattle.std.proofs.Common.{◌≡◌, ℕ, ◌*◌, ◌<◌, ◌≤◌, List, length, get_or, take, refl, sym, ◌∙◌, arith, length-append, inl, inr, ◌⊎◌, ℤ, pos}
+use Rattle.std.specs.Prelude.{slice_get, Vec}
 use Rattle.std.specs.Global.{Global}
 use Rattle.std.proofs.lemmas.Bool.{cases_lt, lt-ltb, le-ltb}
 use Rattle.std.proofs.lemmas.Option.{slice_get-get_or, slice_get_past}
 use Rattle.std.proofs.Math.Nat.{mul-le-mul_right}
 use Rattle.pd_model.specs.Events.{event_count, events_of}
 use Rattle.pd_model.specs.Cuts.{FitsProcesses}
-use Rattle.pd_model.specs.Predicates.{last_set, last_set_if_there, state_at}
+use Rattle.pd_model.specs.Predicates.{last_set_if_there, state_at}
 use Rattle.pd_clock.specs.Histories.{rows_after}
 use Rattle.pd_events.specs.declared.event.Trace.{Trace}
-use Rattle.pd_events.specs.declared.event.Event.{Event as Happened}
 use Rattle.pd_events.specs.Views.{events_seen}
-use Rattle.pd_clock.specs.Computations.{Keeps, computation_of, recorded_of}
+use Rattle.pd_clock.specs.Computations.{Keeps, recorded_of}
+use Rattle.pd_events.specs.Views.{computation_of}
 use Rattle.std.proofs.lemmas.List.{length-map}
 use Rattle.pd_clock.specs.States.{IsLookedUp, values_at, value_at}
 use Rattle.pd_clock.proofs.Rows.{history-at, length-rows_after}

@@ -1,18 +1,12 @@
 -- The parts of a computation, read by the number of a process.
-use Rattle.std.proofs.Common.{◌≡◌, ℕ, zero, suc, ◌<◌, ◌≤◌, List, [], ◌∷◌, ◌++◌, length, get_or, map, refl, sym, ap, ◌∙◌, arith, ℤ, Some, None, Option}
-use Rattle.std.specs.Prelude.{slice_get, Vec, option_map}
-use Rattle.std.proofs.lemmas.List.{length-map}
-use Rattle.pd_events.specs.declared.event.EventKind.{EventKind}
-use Rattle.pd_events.specs.declared.event.EventKind.TheVariants as kinds
-use Rattle.pd_events.specs.Views.{event_seen, kind_seen}
+use Rattle.std.proofs.Common.{◌≡◌, ℕ, zero, suc, ◌<◌, ◌≤◌, List, [], ◌∷◌, ◌++◌, length, get_or, map, refl, ap, arith, ℤ, Some}
+use Rattle.std.specs.Prelude.{slice_get, Vec}
 use Rattle.std.specs.Global.{Global}
 use Rattle.std.proofs.lemmas.Option.{slice_get_read, slice_get_past}
-use Rattle.pd_model.specs.Events.{Computation, Event, Place, Local, Kind, numbered, kind_at, event_at, event_count, IsEvent, events_of}
-use Rattle.pd_model.specs.LocalEvents.{HasLocalEvents}
+use Rattle.pd_model.specs.Events.{events_of}
 use Rattle.pd_events.specs.declared.event.Trace.{Trace}
-use Rattle.pd_events.specs.declared.event.Event.{Event as Happened}
 use Rattle.pd_events.specs.Views.{events_seen}
-use Rattle.pd_clock.specs.Computations.{computation_of}
+use Rattle.pd_events.specs.Views.{computation_of}
 use Rattle.pd_clock.specs.States.{values_at, values_in}
 
 pub got : {A : Type 0} (xs : List A) (p : ℕ) (x : A) → p < length xs → x ≡ get_or xs p x → slice_get xs p ≡ Some x
@@ -64,27 +58,3 @@ pub initial_read : (rows : List (Vec ℤ Global)) (p : ℕ) → get_or (map (λ 
 initial_read [] p = refl
 initial_read (row ∷ rows) zero = refl
 initial_read (row ∷ rows) (suc p) = initial_read rows p
-
-local_kind : (k : EventKind) → kind_seen k ≡ Local
-local_kind kinds.Local = refl
-
-local_at : (traces : List Happened) (i : ℕ) → i < length traces → option_map (λ (event : Event). event.kind) (slice_get (events_seen traces) i) ≡ Some Local
-local_at [] i lt = absurd (omega arith)
-local_at (event ∷ later) zero lt = ap Some (local_kind event.kind)
-local_at (event ∷ later) (suc i) lt = local_at later i (omega arith)
-
-length-events : (traces : List Happened) → length (events_seen traces) ≡ length traces
-length-events traces = length-map traces (λ (event : Happened). event_seen event)
-
-local_numbered : (traces : List Happened) (n : ℕ) → 1 ≤ n → n ≤ length (events_seen traces) → option_map (λ (event : Event). event.kind) (numbered (events_seen traces) n) ≡ Some Local
-local_numbered traces zero low high = absurd (omega arith)
-local_numbered traces (suc n) low high = local_at traces n (omega (arith, length-events traces))
-
--- every event is local
-pub only_local_events : (traces : List Trace) → HasLocalEvents (computation_of traces)
-only_local_events traces e is = go traces e.process e.number is.0 is.1
-  where
-    go : (traces : List Trace) (p n : ℕ) → 1 ≤ n → n ≤ length (events_of (computation_of traces) p) → option_map (λ (event : Event). event.kind) (numbered (events_of (computation_of traces) p) n) ≡ Some Local
-    go [] p n low high = absurd (omega arith)
-    go (process ∷ others) zero n low high = local_numbered process.events.items n low high
-    go (process ∷ others) (suc p) n low high = go others p n low high

@@ -1,16 +1,13 @@
 -- What the parts of a computation stand for.
-use Rattle.std.specs.Prelude.{◌≡◌, ℕ, ◌+◌, ◌*◌, ◌<◌, ◌≤◌, ◌++◌, List, [], length, map, All, ℤ, Vec, slice_get, Some}
+use Rattle.std.specs.Prelude.{◌≡◌, ℕ, ◌≤◌, ◌++◌, List, length, map, All, ℤ, Vec, slice_get, Some}
 use Rattle.std.specs.Global.{Global}
-use Rattle.pd_model.specs.Events.{Event, Computation, events_of, event_count}
+use Rattle.pd_model.specs.Events.{events_of, event_count}
 use Rattle.pd_model.specs.Predicates.{Recorded}
 use Rattle.pd_clock.specs.States.{values_at}
 use Rattle.pd_clock.specs.Histories.{AreVars, rows_after}
-use Rattle.pd_events.specs.Views.{events_seen}
+use Rattle.pd_events.specs.Views.{computation_of}
 use Rattle.pd_events.specs.declared.event.Trace.{Trace}
 use Rattle.pd_events.specs.declared.event.Event.{Event as Happened}
-
-abbrev pub computation_of : List Trace → Computation
-computation_of traces = map (λ (process : Trace). events_seen process.events.items) traces
 
 abbrev pub recorded_of : List (Vec ℤ Global) → List Trace → Recorded
 recorded_of initial traces = record {

@@ -1,5 +1,5 @@
 -- The values of a process's variables behind each of its events.
-use Rattle.std.specs.Prelude.{◌≡◌, ℕ, ◌+◌, ◌<◌, List, [], ◌∷◌, ◌++◌, length, map, slice_set, All, ℤ}
+use Rattle.std.specs.Prelude.{ℕ, ◌<◌, List, [], ◌∷◌, ◌++◌, slice_set, All, ℤ}
 use Rattle.pd_model.specs.Events.{Event}
 
 -- the values after these settings, one after another

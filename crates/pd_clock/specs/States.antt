@@ -1,5 +1,5 @@
 -- The value of each variable at a cut, as it is looked up.
-use Rattle.std.specs.Prelude.{◌≡◌, ℕ, ◌+◌, ◌*◌, ◌<◌, ◌≤◌, List, [], length, nat_lt, cond, ℤ, pos, Vec, slice_index, slice_index_or, slice_get, Option, Some, None}
+use Rattle.std.specs.Prelude.{◌≡◌, ℕ, ◌+◌, ◌*◌, ◌≤◌, List, [], length, nat_lt, cond, ℤ, pos, Vec, slice_index, slice_index_or, slice_get, Option, Some, None}
 use Rattle.std.specs.Global.{Global}
 
 abbrev pub values_in : Option (Vec ℤ Global) → List ℤ

@@ -1,34 +1,48 @@
 //! A finished computation.
-ghost use Rattle.pd_clock.specs.Computations.{FitsInitial, Keeps, computation_of, recorded_of};
+ghost use Rattle.pd_clock.specs.Computations.{FitsInitial, Keeps, recorded_of};
+ghost use Rattle.pd_events.specs.Views.{computation_of};
+ghost use Rattle.pd_clock.specs.Orders.{cycle_seen};
 ghost use Rattle.pd_clock.specs.StateViews.{state_of};
 ghost use Rattle.pd_model.specs.Cuts.{FitsProcesses, IsConsistent, one_more, total};
-ghost use Rattle.pd_model.specs.Events.{event_count};
+ghost use Rattle.pd_match.specs.Views.{place_seen};
+ghost use Rattle.pd_model.specs.Events.{IsEvent, event_count};
+ghost use Rattle.pd_model.specs.Messages.{HasLawfulMessages, IsMessageList};
+ghost use Rattle.pd_model.specs.Order.{HappenedBefore, HasNoCycle, IsClock, IsReportedCycle};
 ghost use Rattle.pd_model.specs.Predicates.{state_at};
-ghost use Rattle.std.specs.Prelude.{◌≡◌, ◌<◌, ◌≤◌, ◌↔◌, ℕ, IfOk, IsTrue, length, slice_index};
+ghost use Rattle.std.specs.Prelude.{◌≡◌, ◌<◌, ◌≤◌, ◌↔◌, ℕ, IfErr, IfOk, IfSome, IsTrue, length, slice_index};
 
+use super::clocks::{has_past, has_pasts};
+use super::cycle::reported_cycle;
 use super::history::history;
-use super::{Cut, State};
+use super::order::{Order, put_in_order};
+use super::{BuildFault, Cut, State};
 use pd_events::Trace;
+use pd_match::{Matched, Place};
 use std::alloc::{AllocError, Global};
 use std::marker::Model;
 
-/// The events of each process, and the values of its variables behind each event.
+/// The events of each process, with the values of its variables behind each event, and its clock.
 #[derive(Drop)]
 pub struct Computation<'a> {
     initial: &'a [Vec<i64>],
     traces: &'a [Trace],
     histories: Vec<Vec<i64>>,
+    clocks: Vec<Vec<u64>>,
 }
 
 impl<'a> Model for Computation<'a> {
     ghost use Rattle.pd_model.specs.Predicates.{Recorded};
     ghost use Rattle.pd_clock.specs.Computations.{recorded_of, Keeps};
+    ghost use Rattle.pd_events.specs.Views.{computation_of};
+    ghost use Rattle.pd_clock.specs.Orders.{HasClocks};
+    ghost use Rattle.pd_model.specs.Cuts.{full_cut};
+    ghost use Rattle.pd_model.specs.Order.{HasNoCycle};
 
     ghost Value = { Recorded };
 
     ghost view = { λ c. recorded_of c.initial.now c.traces.now };
 
-    ghost invariant = { λ c. Keeps c.initial.now c.traces.now c.histories.items };
+    ghost invariant = { λ c. Keeps c.initial.now c.traces.now c.histories.items × HasClocks (computation_of c.traces.now) (full_cut (computation_of c.traces.now)) c.clocks.items × HasNoCycle (computation_of c.traces.now) };
 }
 
 /// The history of each process.
@@ -75,21 +89,33 @@ fn none_above(counts: &[u64], traces: &[Trace]) -> bool
 }
 
 impl<'a> Computation<'a> {
-    /// The computation of these traces, which stand in the order of the processes and whose events are local: for each
-    /// process the initial values of its variables, and its trace.
+    /// The computation of these traces, which stand in the order of the processes: for each process the initial values of its
+    /// variables, and its trace. The messages are those of the traces.
+    ///
+    /// # Errors
+    /// `Cycle` exactly where some event happened before itself, or `Memory`.
     pub fn build(
         alloc: Global,
         initial: &'a [Vec<i64>],
         traces: &'a [Trace],
-    ) -> Result<Computation<'a>, AllocError>
-        requires { FitsInitial initial.now traces.now }
-        ensures { IfOk result (λ computation. computation ≡ recorded_of initial.now traces.now) }
+        matched: &Matched,
+    ) -> Result<Computation<'a>, BuildFault>
+        requires fits { FitsInitial initial.now traces.now }
+        requires lawful { HasLawfulMessages (computation_of traces.now) }
+        requires messages { IsMessageList (computation_of traces.now) matched.now }
+        ensures recorded { IfOk result (λ computation. computation ≡ recorded_of initial.now traces.now) }
+        ensures acyclic { IfOk result (λ computation. HasNoCycle (computation_of traces.now)) }
+        ensures cycle { IfErr result (λ fault. IfSome (cycle_seen fault) (IsReportedCycle (computation_of traces.now))) }
     {
-        let histories = histories(alloc, initial, traces)?;
+        let Order { done, clocks } = put_in_order(alloc, traces, matched)?;
+        if let Some(places) = reported_cycle(alloc, traces, matched, &done)? {
+            return Err(BuildFault::Cycle(places));
+        }
         Ok(Computation {
             initial,
             traces,
-            histories,
+            histories: histories(alloc, initial, traces)?,
+            clocks,
         })
     }
 
@@ -100,12 +126,13 @@ impl<'a> Computation<'a> {
         self.traces.len()
     }
 
-    /// What bounds every computation: 1 to 8 processes, each with at most 10,000 events. It has no code: a caller's proof
-    /// has these facts by calling it.
+    /// What holds of every computation: it has 1 to 8 processes, each with at most 10,000 events, and no event happened before
+    /// itself. It has no code: a caller's proof has these facts by calling it.
     pub fn limits(&self)
         ensures some { 1 ≤ length self.now.events }
         ensures few { length self.now.events ≤ 8 }
         ensures short { (p : ℕ) → event_count self.now.events p ≤ 10000 }
+        ensures acyclic { HasNoCycle self.now.events }
     {
         let _initial = &self.initial;
     }
@@ -139,9 +166,7 @@ impl<'a> Computation<'a> {
     pub fn consistent(&self, cut: &Cut) -> bool
         ensures { IsTrue result ↔ IsConsistent self.now.events cut.now }
     {
-        pd_model::local_events();
-        let _events = &self.traces;
-        self.fits(cut)
+        self.fits(cut) && has_pasts(&self.clocks, cut.counts())
     }
 
     /// Whether one more event of process `p`, counted from 0, leaves a cut.
@@ -150,9 +175,35 @@ impl<'a> Computation<'a> {
         requires within { p < length self.now.events }
         ensures { IsTrue result ↔ IsConsistent self.now.events (one_more counts.now p) }
     {
-        pd_model::local_events();
-        let _events = &self.traces;
-        counts[p] < self.events(p)
+        counts[p] < self.events(p) && has_past(&self.clocks[p], counts[p] + 1, counts, p)
+    }
+
+    /// Whether the place is that of an event.
+    pub fn has(&self, place: Place) -> bool
+        ensures { IsTrue result ↔ IsEvent self.now.events (place_seen place) }
+    {
+        place.process < self.processes()
+            && 1 <= place.number
+            && place.number <= self.events(place.process)
+    }
+
+    /// How many events of process `q`, counted from 0, are this event or happened before it. They are the first so many.
+    pub fn clock(&self, place: Place, q: usize) -> u64
+        requires event { IsEvent self.now.events (place_seen place) }
+        requires within { q < length self.now.events }
+        ensures { IsClock self.now.events (place_seen place) q result }
+    {
+        self.clocks[place.process][(place.number as usize - 1) * self.processes() + q]
+    }
+
+    /// Whether event `e` happened before event `f`.
+    pub fn before(&self, e: Place, f: Place) -> bool
+        requires first { IsEvent self.now.events (place_seen e) }
+        requires second { IsEvent self.now.events (place_seen f) }
+        ensures { IsTrue result ↔ HappenedBefore self.now.events (place_seen e) (place_seen f) }
+    {
+        self.limits();
+        e != f && e.number <= self.clock(f, e.process)
     }
 
     /// The state at a cut that fits.

@@ -1,20 +1,33 @@
 //! A finished computation: its events, its consistent cuts and the state at each of them.
 //!
 //! A computation is seen by contracts as what was recorded: the initial values and the events of each process. A cut is
-//! seen as its counts. `consistent` tells whether counts are those of a cut that is closed under happened-before, and
-//! `at` gives the state there, whose values are looked up by index and computed once for each event.
+//! seen as its counts. `build` refuses events of which one happened before itself, and tells the causal cycle. `before` and
+//! `clock` tell happened-before, `consistent` whether counts are those of a cut that is closed under it, and `at` gives the state
+//! there, whose values are looked up by index and computed once for each event.
 //!
 //! - `cut`: counts of events, one for each process
 //! - `history`: the values of one process's variables behind each of its events
+//! - `order`: an order of the events by which each has its clock
+//! - `cycle`: the cycle that is reported where there is no such order
+//! - `clocks`: what clocks tell of counts
 //! - `computation`: the whole
 //! - `state`: the values at a cut
+//! - `fault`: why there is no computation
 #![tactic(auto)]
 
+mod clocks;
 mod computation;
 mod cut;
+mod cycle;
+mod fault;
 mod history;
+mod order;
 mod state;
+#[cfg(test)]
+mod tests;
 
 pub use computation::Computation;
 pub use cut::Cut;
+pub use fault::BuildFault;
+pub use pd_match::Place;
 pub use state::State;

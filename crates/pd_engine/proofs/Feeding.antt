@@ -1,18 +1,17 @@
 -- Streams handed over whole, one after another.
-use Rattle.std.proofs.Common.{◌≡◌, ◌≢◌, ℕ, zero, suc, ◌+◌, ◌<◌, ◌≤◌, Bool, true, false, cond, List, [], ◌∷◌, ◌++◌, length, get_or, map, refl, sym, ap, ◌∙◌, subst, arith, append_assoc, append-nil, inl, inr, ◌⊎◌, All, Some, None, Option, below_more}
-use Rattle.std.specs.Prelude.{slice_get, nat_eq}
+use Rattle.std.proofs.Common.{◌≡◌, ◌≢◌, ℕ, suc, ◌+◌, ◌<◌, Bool, true, false, cond, List, [], ◌∷◌, ◌++◌, length, get_or, map, refl, ap, ◌∙◌, subst, arith, append-nil, inl, inr, ◌⊎◌, All, Some, None, Option, below_more}
+use Rattle.std.specs.Prelude.{nat_eq}
 use Rattle.std.proofs.lemmas.Bool.Decides.{eqb_tells}
-use Rattle.std.proofs.lemmas.Bool.{cases_lt}
 use Rattle.std.proofs.lemmas.Option.{slice_get-get_or}
 use Rattle.pd_format.specs.Lines.{frame_fault, FrameFault}
 use Rattle.pd_format.specs.Lines as lines
 use Rattle.pd_format.specs.Names.{ProcessNames}
 use Rattle.pd_format.specs.Readings.{Ending, Ended, Stop, NothingMore, EndLine, Fault, IsClosed, by_end_line, by_fault, reading, reading_of_lines, lines_of, stop_at_end, stop_or}
-use Rattle.pd_format.specs.Sessions.{Interleaving, Input, Piece, AtEnd, Broken, inputs_of, joined_pieces, ending_of_inputs, bytes_of, ending_of}
-use Rattle.pd_format.specs.Judgements.{Told, ended_streams}
+use Rattle.pd_format.specs.Sessions.{Interleaving, Input, Piece, AtEnd, inputs_of, joined_pieces, ending_of_inputs, bytes_of, ending_of}
+use Rattle.pd_format.specs.Judgements.{ended_streams}
 use Rattle.pd_events.specs.Reads.{ReaderState, Reads}
 use Rattle.pd_gather.specs.Taken.{HasTaken, HasClosed, told_from, streams_told}
-use Rattle.pd_engine.specs.Openings.{HasFed, joined, pieces_of, whole_stream}
+use Rattle.pd_engine.specs.Openings.{HasFed, joined, whole_stream}
 
 -- ---- the inputs of one stream
 

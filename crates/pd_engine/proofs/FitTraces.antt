@@ -1,28 +1,31 @@
 -- The traces of a session fit its document, and what they record.
-use Rattle.std.proofs.Common.{◌≡◌, ℕ, zero, suc, ◌+◌, ◌<◌, ◌≤◌, List, [], ◌∷◌, length, get_or, map, refl, sym, ap, ◌∙◌, subst, arith, ℤ, Some, None, Option, All}
-use Rattle.std.specs.Prelude.{slice_get, Vec}
+use Rattle.std.proofs.Common.{◌≡◌, ℕ, zero, suc, ◌<◌, ◌≤◌, List, [], ◌∷◌, length, get_or, map, refl, sym, ap, ◌∙◌, subst, arith, ℤ, Some, None, Option, All}
+use Rattle.std.specs.Prelude.{slice_get, Vec, IfSome, MatchOption}
 use Rattle.std.specs.Global.{Global}
 use Rattle.std.specs.List.{AllZip}
 use Rattle.std.proofs.lemmas.List.{length-map}
 use Rattle.std.proofs.Math.ListN.{get_or-map}
 use Rattle.pd_model.specs.Events.{Computation, Event, Place, events_of, event_count}
 use Rattle.pd_model.specs.Cuts.{total}
-use Rattle.pd_model.specs.LocalEvents.{HasLocalEvents, LocalIsWellFormed, LocalHasNoMessage}
+use Rattle.pd_model.specs.Messages.{Fault, HasLawfulMessages, IsMessageList, IsReported}
+use Rattle.pd_model.specs.Order.{HasNoCycle, IsReportedCycle, IsWellFormed}
 use Rattle.pd_model.specs.Predicates.{Recorded}
 use Rattle.pd_format.specs.Documents.{Document}
-use Rattle.pd_format.specs.Judgements.{Found, IsFound, IsTracesReport, of_answers, Judged, events_of_traces}
+use Rattle.pd_format.specs.Judgements.{IsFound, IsTracesReport, of_answers, of_cycle, of_messages, PossiblyReport, Refused, events_of_traces, match_refusal, named_place}
 use Rattle.pd_format.specs.Judgements as judgements
 use Rattle.pd_format.specs.Names.{ProcessNames, vars_of}
-use Rattle.pd_format.specs.ReadingLaws.{FitsProcess, FitsSession}
-use Rattle.pd_format.specs.Readings as readings
+use Rattle.pd_format.specs.ReadingLaws.{FitsProcess}
+use Rattle.pd_format.specs.Reports as reports
+use Rattle.pd_format.specs.Reports.{Refusal}
 use Rattle.pd_spec.specs.Sound.{IsSound, lengths, vars_of_each}
-use Rattle.pd_events.specs.Views.{event_seen, events_seen, trace_seen}
+use Rattle.pd_events.specs.Views.{computation_of, event_seen, events_seen}
 use Rattle.pd_events.specs.declared.event.Trace.{Trace}
 use Rattle.pd_events.specs.declared.event.Event.{Event as Happened}
 use Rattle.pd_gather.specs.Views.{AreTraces, traces_seen}
 use Rattle.pd_clock.specs.Histories.{AreVars}
-use Rattle.pd_clock.specs.Computations.{FitsInitial, computation_of, recorded_of}
+use Rattle.pd_clock.specs.Computations.{FitsInitial, recorded_of}
 use Rattle.pd_clock.specs.States.{values_at}
+use Rattle.pd_engine.specs.Judged.{IsJudged}
 
 abbrev items_of : List (Vec ℤ Global) → List (List ℤ)
 items_of rows = map (λ (row : Vec ℤ Global). row.items) rows
@@ -63,21 +66,24 @@ known_of_seen names p n same events fits k d lt =
     let fit : FitsProcess names p (event_seen (get_or events k d)) = subst (FitsProcess names p) at (fits k (event_seen d) within) in
     subst (λ (m : ℕ). AreVars m (get_or events k d).sets.items) same fit.known
 
+pub traces_short : (names : List ProcessNames) (traces : List Trace) → AreTraces names traces → (p : ℕ) → event_count (computation_of traces) p ≤ 10000
+traces_short names traces are p = rw (events_at traces p) (short_in (slice_get traces p) refl)
+  where
+    short_in : (found : Option Trace) → slice_get traces p ≡ found → length (seen_in found) ≤ 10000
+    short_in None at = omega arith
+    short_in (Some trace) at = (are.fit p trace at).few_events
+
 pub fits_initial : (names : List ProcessNames) (rows : List (Vec ℤ Global)) (predicates : List (List ℕ)) (width : ℕ) (traces : List Trace) → IsSound names (items_of rows) predicates width → AreTraces names traces → FitsInitial rows traces
 fits_initial names rows predicates width traces sound are = record {
   same = sym (length-map rows (λ (row : Vec ℤ Global). row.items)) ∙ (as_many (items_of rows) names sound.rows ∙ sym are.one_each);
   some = let e : length traces ≡ length names = are.one_each in let s : 1 ≤ length names = sound.some_process in omega arith;
   few = let e : length traces ≡ length names = are.one_each in let s : length names ≤ 8 = sound.few_processes in omega arith;
-  short = λ p. rw (events_at traces p) (short_in p (slice_get traces p) refl);
+  short = traces_short names traces are;
   vars = λ p trace at.
       let same : trace.process ≡ p = are.process p trace at in
       known_of_seen names p (length (values_at rows p)) (sym (row_width rows names p sound.rows)) trace.events.items
       (subst (λ (q : ℕ). All (FitsProcess names q) (events_seen trace.events.items)) same (are.fit p trace at).events_fit);
 }
-  where
-    short_in : (p : ℕ) (found : Option Trace) → slice_get traces p ≡ found → length (seen_in found) ≤ 10000
-    short_in p None at = omega arith
-    short_in p (Some trace) at = (are.fit p trace at).few_events
 
 -- ---- what was recorded
 
@@ -90,10 +96,27 @@ same_recorded document rows traces same =
     ap (λ (initial : List (List ℤ)). let r : Recorded = record { initial = initial; events = computation_of traces } in r) same
     ∙ ap (λ (events : Computation). let r : Recorded = record { initial = document.initial; events = events } in r) (same_events traces)
 
+pub traces_length : (names : List ProcessNames) (traces : List Trace) → AreTraces names traces → length (computation_of traces) ≡ length names
+traces_length names traces are = length-map traces (λ (trace : Trace). events_seen trace.events.items) ∙ are.one_each
+
+-- ---- the reports of traces
+
+messages_report : (document : Document) (traces : List Trace) (fault : Fault) → IsReported (computation_of traces) fault → IsTracesReport document (traces_seen traces) (Refused (match_refusal document.names fault))
+messages_report document traces fault r = of_messages fault (subst (λ (c : Computation). IsReported c fault) (same_events traces) r)
+
+pub refused_report : (document : Document) (names : List ProcessNames) (traces : List Trace) (told : Option Fault) (refusal : Refusal) → names ≡ document.names → IfSome told (IsReported (computation_of traces)) → MatchOption told ⊥ (λ fault. refusal ≡ match_refusal names fault) → IsTracesReport document (traces_seen traces) (Refused refusal)
+refused_report document names traces None refusal same is tells = absurd tells
+refused_report document names traces (Some fault) refusal same is tells = rw (tells, same) (messages_report document traces fault is)
+
+pub cycle_report : (document : Document) (traces : List Trace) (cycle : List Place) → HasLawfulMessages (computation_of traces) → IsReportedCycle (computation_of traces) cycle → IsTracesReport document (traces_seen traces) (Refused (reports.Cycle (map (named_place document.names) cycle)))
+cycle_report document traces cycle lawful r =
+    of_cycle cycle (subst HasLawfulMessages (same_events traces) lawful) (subst (λ (c : Computation). IsReportedCycle c cycle) (same_events traces) r)
+
 -- the report with these answers
-pub answers_report : (document : Document) (traces : List readings.Trace) (recorded : Recorded) (processes events : ℕ) (found : List Found) → recorded ≡ judgements.recorded_of document traces → processes ≡ length document.names → events ≡ total recorded.events → LocalIsWellFormed → LocalHasNoMessage → HasLocalEvents recorded.events → AllZip (IsFound recorded document.width) document.predicates found → IsTracesReport document traces (Judged processes events 0 found)
-answers_report document traces recorded processes events found same many sum well none local zip =
-    let local' : HasLocalEvents (events_of_traces traces) = subst (λ (r : Recorded). HasLocalEvents r.events) same local in
-    let zip' : AllZip (IsFound (judgements.recorded_of document traces) document.width) document.predicates found = subst (λ (r : Recorded). AllZip (IsFound r document.width) document.predicates found) same zip in
-    let sum' : events ≡ total (events_of_traces traces) = sum ∙ ap (λ (r : Recorded). total r.events) same in
-    rw (many, sum') (of_answers [] found (well (events_of_traces traces) local') (none (events_of_traces traces) local') zip')
+pub answers_report : (document : Document) (rows : List (Vec ℤ Global)) (traces : List Trace) (messages : List (Place × Place)) (report : PossiblyReport) → items_of rows ≡ document.initial → HasLawfulMessages (computation_of traces) → HasNoCycle (computation_of traces) → IsMessageList (computation_of traces) messages → IsJudged document (recorded_of rows traces) (length messages) report → IsTracesReport document (traces_seen traces) report
+answers_report document rows traces messages report initial lawful acyclic list judged =
+    let same : computation_of traces ≡ events_of_traces (traces_seen traces) = same_events traces in
+    let recorded : recorded_of rows traces ≡ judgements.recorded_of document (traces_seen traces) = same_recorded document rows traces initial in
+    let well : IsWellFormed (events_of_traces (traces_seen traces)) = record { messages = subst HasLawfulMessages same lawful; no_cycle = subst HasNoCycle same acyclic } in
+    let zip : AllZip (IsFound (judgements.recorded_of document (traces_seen traces)) document.width) document.predicates judged.found = subst (λ (r : Recorded). AllZip (IsFound r document.width) document.predicates judged.found) recorded judged.answered in
+    rw (judged.told, ap total same) (of_answers messages judged.found well (subst (λ (c : Computation). IsMessageList c messages) same list) zip)

@@ -7,3 +7,4 @@ pub mod SessionNumbers
 pub mod Feeding
 pub mod WholeInputs
 pub mod Openings
+pub mod RefusedPlaces

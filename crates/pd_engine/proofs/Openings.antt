@@ -1,12 +1,12 @@
 -- The report of a bundle's parts.
-use Rattle.std.proofs.Common.{◌≡◌, ℕ, ◌<◌, ◌≤◌, Bool, true, false, List, [], ◌∷◌, length, get_or, drop, map, refl, sym, ap, ◌∙◌, subst, arith, Some, None, Option, Ok, Err, inl, inr, ◌⊎◌}
-use Rattle.std.specs.Prelude.{MatchOption, nat_lt}
+use Rattle.std.proofs.Common.{◌≡◌, ℕ, ◌<◌, ◌≤◌, true, List, [], ◌∷◌, length, get_or, drop, map, refl, sym, ap, ◌∙◌, subst, arith, Some, None, Option, Err, inl, inr, ◌⊎◌}
+use Rattle.std.specs.Prelude.{nat_lt}
 use Rattle.std.specs.Borrow.{Bor}
 use Rattle.std.proofs.lemmas.Bool.{cases_lt, lt-ltb}
 use Rattle.std.proofs.lemmas.List.{length-map}
 use Rattle.pd_format.specs.Documents.{Document, InPredicate, IsDocument, IsRefusedDocument}
 use Rattle.pd_format.specs.Documents as documents
-use Rattle.pd_format.specs.Judgements.{PossiblyReport, Refused, IsJudgement, of_read, of_refused, IsReportOfOutcomes, IsReportOfSession, document_refusal, outcomes_of, ended_streams, Told}
+use Rattle.pd_format.specs.Judgements.{PossiblyReport, Refused, IsJudgement, of_read, of_refused, IsReportOfOutcomes, IsReportOfSession, outcomes_of, ended_streams, Told}
 use Rattle.pd_format.specs.Reports.{Refusal}
 use Rattle.pd_format.specs.Sessions.{Outcome, session, TooManyStreams, stream_limit}
 use Rattle.pd_spec.specs.Views.{IsFaultOf}

@@ -1,9 +1,9 @@
 -- The numbers in a session's fault.
-use Rattle.std.proofs.Common.{◌≡◌, ℕ, suc, ◌+◌, ◌<◌, ◌≤◌, Bool, true, false, cond, List, [], ◌∷◌, ◌++◌, length, refl, sym, ap, ◌∙◌, arith, length-append, Some, None, Option, Ok, Err, Result}
+use Rattle.std.proofs.Common.{◌≡◌, ℕ, suc, ◌+◌, ◌<◌, Bool, true, false, cond, List, [], ◌∷◌, ◌++◌, length, refl, ap, ◌∙◌, arith, length-append, Some, None, Option, Ok, Err, Result}
 use Rattle.std.specs.Prelude.{nat_lt}
 use Rattle.pd_format.specs.Names.{ProcessNames}
-use Rattle.pd_format.specs.Readings.{Trace, StreamFault}
-use Rattle.pd_format.specs.Sessions.{SessionFault, TooManyStreams, Stream, Taken, Absent, Outcome, has_joined, stream_fault, fault_or, first_stream_fault, trace_of, traces_from, or_traces, session, stream_limit}
+use Rattle.pd_format.specs.Readings.{Trace}
+use Rattle.pd_format.specs.Sessions.{SessionFault, TooManyStreams, Stream, Taken, Absent, Outcome, has_joined, stream_fault, fault_or, first_stream_fault, trace_of, traces_from, session, stream_limit}
 
 -- a stream told is one of so many, and a process told is one of so many
 abbrev pub IsCounted : ℕ → ℕ → SessionFault → Type 0

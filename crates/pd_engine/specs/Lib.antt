@@ -2,3 +2,4 @@ pub mod Views
 pub mod Refusals
 pub mod Openings
 pub mod Outcomes
+pub mod Judged

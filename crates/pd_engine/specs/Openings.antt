@@ -1,5 +1,5 @@
 -- What a bundle is opened to, and the steps that hand a part to its reader.
-use Rattle.std.specs.Prelude.{◌≡◌, ℕ, ◌<◌, ◌≤◌, List, [], ◌∷◌, ◌++◌, map, flat_map, All, Vec, slice_index_or}
+use Rattle.std.specs.Prelude.{◌≡◌, ℕ, ◌<◌, ◌≤◌, List, [], ◌∷◌, ◌++◌, map, flat_map, All, slice_index_or}
 use Rattle.pd_format.specs.Names.{ProcessNames}
 use Rattle.pd_format.specs.Judgements.{PossiblyReport, IsReportOfParts, IsReportOfOutcomes}
 use Rattle.pd_format.specs.Judgements as judgements
@@ -8,7 +8,6 @@ use Rattle.pd_format.specs.Sessions.{Interleaving, Piece, AtEnd, inputs_of, byte
 use Rattle.pd_events.specs.Reads.{ReaderState}
 use Rattle.pd_gather.specs.Taken.{HasTaken}
 use Rattle.pd_gather.specs.Views.{ReadingFits, outcomes_seen}
-use Rattle.pd_gather.specs.declared.gathered.Gathered.{Gathered}
 use Rattle.pd_spec.specs.Views.{document_of}
 use Rattle.pd_engine.specs.Views.{refusal_of}
 use Rattle.pd_engine.specs.declared.bundle_judge.Opened.{Opened}

@@ -12,6 +12,9 @@ use Rattle.pd_spec.specs.declared.fault.SpecFault.{SpecFault}
 use Rattle.pd_spec.specs.declared.fault.SpecFault.TheVariants as faults
 use Rattle.pd_gather.specs.declared.fault.SessionFault.{SessionFault}
 use Rattle.pd_gather.specs.declared.fault.SessionFault.TheVariants as sessions
+use Rattle.pd_match.specs.declared.fault.MatchFault.{MatchFault}
+use Rattle.pd_match.specs.declared.fault.MatchFault.TheVariants as matches
+use Rattle.pd_match.specs.declared.place.Place.{Place}
 
 -- the word is that of the fault
 abbrev pub kind_word : PredErrorKind → Option (Bor (List ℕ)) → Type 0
@@ -42,3 +45,15 @@ NamesStream names (sessions.Taken stream line) = stream + 1 < 184467440737095516
 NamesStream names (sessions.Absent process) = process < length names
 NamesStream names sessions.Streams = Unit {0}
 NamesStream names sessions.Memory = Unit {0}
+
+-- the process of the place is there
+abbrev pub HasNames : List ProcessNames → Place → Type 0
+HasNames names place = place.process < length names
+
+-- the process of the place that is told is there
+abbrev pub NamesPlace : List ProcessNames → MatchFault → Type 0
+NamesPlace names (matches.SendTwice place) = HasNames names place
+NamesPlace names (matches.Orphan place) = HasNames names place
+NamesPlace names (matches.SelfMessage place) = HasNames names place
+NamesPlace names (matches.ReceivedTwice place) = HasNames names place
+NamesPlace names matches.Memory = Unit {0}

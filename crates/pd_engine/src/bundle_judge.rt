@@ -24,6 +24,7 @@ use pd_level::Gate;
 use pd_spec::Spec;
 use std::alloc::{AllocError, Global};
 use std::io::{Read, Write};
+use std::random::RandomSource;
 
 /// The most bytes of a bundle.
 const BUNDLE_LIMIT: usize = 67_108_864;
@@ -101,7 +102,8 @@ fn open(alloc: Global, bundle: Vec<u8>) -> Result<Opened, EngineFault>
 }
 
 /// The report of a bundle.
-fn bundle_report<G: Gate + Sync>(
+fn bundle_report<S: RandomSource, G: Gate + Sync>(
+    rt: &S,
     alloc: Global,
     bundle: Vec<u8>,
     workers: u64,
@@ -112,7 +114,7 @@ fn bundle_report<G: Gate + Sync>(
 {
     match open(alloc, bundle)? {
         Opened::Refused(refusal) => Ok(Report::Refused(refusal)),
-        Opened::Session(spec, gathered) => report_of(alloc, &spec, gathered, workers, gate),
+        Opened::Session(spec, gathered) => report_of(rt, alloc, &spec, gathered, workers, gate),
     }
 }
 
@@ -121,7 +123,8 @@ fn bundle_report<G: Gate + Sync>(
 /// # Errors
 /// `Memory`, `Read` where the reader fails, and `BundleLong` where it has more than 67,108,864 bytes leave nothing written.
 /// `Write` leaves a front of the report written, and not all of it.
-pub fn judge_bundle<R: Read + Drop, W: Write, G: Gate + Sync>(
+pub fn judge_bundle<S: RandomSource, R: Read + Drop, W: Write, G: Gate + Sync>(
+    rt: &S,
     alloc: Global,
     reader: R,
     workers: u64,
@@ -145,7 +148,7 @@ pub fn judge_bundle<R: Read + Drop, W: Write, G: Gate + Sync>(
     if bundle.len() > BUNDLE_LIMIT {
         return Err(EngineFault::BundleLong);
     }
-    let report = bundle_report(alloc, bundle, workers, gate)?;
+    let report = bundle_report(rt, alloc, bundle, workers, gate)?;
     let text = text(alloc, &report)?;
     write_text(&text, writer)?;
     Ok(outcome_of_report(&report))

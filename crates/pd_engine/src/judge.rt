@@ -1,9 +1,11 @@
 //! The report of a session's streams.
-ghost use Rattle.pd_clock.specs.Computations.{FitsInitial};
+ghost use Rattle.pd_engine.specs.Judged.{IsJudged};
 ghost use Rattle.pd_engine.specs.Views as views;
 ghost use Rattle.pd_format.specs.Judgements.{IsFound, IsReportOfOutcomes, IsTracesReport, possibly_of};
+ghost use Rattle.pd_events.specs.Views.{computation_of};
 ghost use Rattle.pd_gather.specs.Views.{AreTraces, ReadingFits, outcomes_seen, traces_seen};
 ghost use Rattle.pd_model.specs.Answers.{IsPossiblyAnswer};
+ghost use Rattle.pd_model.specs.Messages.{HasLawfulMessages, IsMessageList};
 ghost use Rattle.pd_model.specs.Order.{HasNoCycle};
 ghost use Rattle.pd_possibly.specs.Answers.{answer_of};
 ghost use Rattle.pd_spec.specs.Named.{named_of};
@@ -11,22 +13,25 @@ ghost use Rattle.pd_spec.specs.Views.{document_of};
 ghost use Rattle.std.specs.List.{AllZip};
 ghost use Rattle.std.specs.Prelude.{◌≡◌, ◌≤◌, All, IfOk, IsOkUnless, map};
 
-use super::refusal::of_streams;
+use super::refusal::{of_cycle, of_messages, of_streams};
 use super::{Answer, EngineFault, Possibly, Report};
-use pd_clock::Computation;
+use pd_clock::{BuildFault, Computation};
 use pd_events::Trace;
 use pd_gather::{Gathered, session};
 use pd_level::Gate;
+use pd_match::{Matched, match_messages};
 use pd_possibly::{PossiblyAnswer, possibly};
 use pd_spec::{NamedPred, Spec};
 use std::alloc::{AllocError, Global};
+use std::random::RandomSource;
 
 /// The report of what the streams of a session gave: the first refusal, or an answer for each predicate. `workers`, from 1 to
 /// 16, and the gate change nothing yet.
 ///
 /// # Errors
 /// `Memory`.
-pub fn report_of<G: Gate + Sync>(
+pub fn report_of<S: RandomSource, G: Gate + Sync>(
+    rt: &S,
     alloc: Global,
     spec: &Spec,
     gathered: Gathered,
@@ -38,7 +43,7 @@ pub fn report_of<G: Gate + Sync>(
     ensures err { IsOkUnless result EngineFault.Memory }
 {
     match session(alloc, spec, gathered) {
-        Ok(traces) => judged(alloc, spec, &traces, workers, gate),
+        Ok(traces) => judged(rt, alloc, spec, &traces, workers, gate),
         Err(fault) => {
             let refusal = of_streams(alloc, spec.names(), fault)?;
             Ok(Report::Refused(refusal))
@@ -47,7 +52,8 @@ pub fn report_of<G: Gate + Sync>(
 }
 
 /// The report of a session's traces.
-fn judged<G: Gate + Sync>(
+fn judged<S: RandomSource, G: Gate + Sync>(
+    rt: &S,
     alloc: Global,
     spec: &Spec,
     traces: &[Trace],
@@ -58,12 +64,57 @@ fn judged<G: Gate + Sync>(
     ensures report { IfOk result (λ report. IsTracesReport (document_of spec.now) (traces_seen traces.now) (views.report_of report)) }
     ensures err { IsOkUnless result EngineFault.Memory }
 {
-    pd_model::local_events();
-    let computation = Computation::build(alloc, spec.initial_rows(), traces)?;
+    match match_messages(rt, alloc, traces) {
+        Ok(matched) => ordered(alloc, spec, traces, &matched, workers, gate),
+        Err(fault) => {
+            let refusal = of_messages(alloc, spec.names(), fault)?;
+            Ok(Report::Refused(refusal))
+        }
+    }
+}
+
+/// The report of a session's traces, whose messages are lawful.
+fn ordered<G: Gate + Sync>(
+    alloc: Global,
+    spec: &Spec,
+    traces: &[Trace],
+    matched: &Matched,
+    workers: u64,
+    gate: &G,
+) -> Result<Report, EngineFault>
+    requires traces { AreTraces (document_of spec.now).names traces.now }
+    requires lawful { HasLawfulMessages (computation_of traces.now) }
+    requires messages { IsMessageList (computation_of traces.now) matched.now }
+    ensures report { IfOk result (λ report. IsTracesReport (document_of spec.now) (traces_seen traces.now) (views.report_of report)) }
+    ensures err { IsOkUnless result EngineFault.Memory }
+{
+    match Computation::build(alloc, spec.initial_rows(), traces, matched) {
+        Ok(computation) => answered(alloc, spec, &computation, matched.messages(), workers, gate),
+        Err(BuildFault::Cycle(cycle)) => {
+            let refusal = of_cycle(alloc, spec.names(), &cycle)?;
+            Ok(Report::Refused(refusal))
+        }
+        Err(BuildFault::Memory) => Err(EngineFault::Memory),
+    }
+}
+
+/// The report of a computation with so many messages: an answer for each predicate.
+fn answered<G: Gate + Sync>(
+    alloc: Global,
+    spec: &Spec,
+    computation: &Computation<'_>,
+    messages: u64,
+    workers: u64,
+    gate: &G,
+) -> Result<Report, EngineFault>
+    requires acyclic { HasNoCycle computation.now.events }
+    ensures report { IfOk result (λ report. IsJudged (document_of spec.now) computation.now messages (views.report_of report)) }
+    ensures err { IsOkUnless result EngineFault.Memory }
+{
     let answers = answers(
         alloc,
         spec.predicates(),
-        &computation,
+        computation,
         spec.width(),
         workers,
         gate,
@@ -71,7 +122,7 @@ fn judged<G: Gate + Sync>(
     Ok(Report::Judged {
         processes: spec.names().processes() as u64,
         events: computation.total(),
-        messages: 0,
+        messages,
         answers,
     })
 }

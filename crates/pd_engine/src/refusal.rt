@@ -1,17 +1,20 @@
 //! Refusals in the words of a report.
-ghost use Rattle.pd_engine.specs.Views.{refusal_of};
-ghost use Rattle.pd_engine.specs.Refusals.{IsDocumentRefusal, NamesStream, kind_word};
-ghost use Rattle.pd_format.specs.Judgements.{session_refusal, stream_word};
+ghost use Rattle.pd_engine.specs.Views.{place_of, places_of, refusal_of};
+ghost use Rattle.pd_engine.specs.Refusals.{HasNames, IsDocumentRefusal, NamesPlace, NamesStream, kind_word};
+ghost use Rattle.pd_format.specs.Judgements.{match_refusal, named_place, session_refusal, stream_word};
+ghost use Rattle.pd_format.specs.Reports as reports;
 ghost use Rattle.pd_gather.specs.Views.{told};
 ghost use Rattle.pd_events.specs.Views.{stream_kind_seen};
-ghost use Rattle.std.specs.Prelude.{◌≡◌, IfOk, IsOkUnless, MatchOption, Some};
+ghost use Rattle.pd_match.specs.Views.{fault_seen, place_seen};
+ghost use Rattle.std.specs.Prelude.{◌≡◌, ◌<◌, All, IfOk, IsOkUnless, MatchOption, Some, length, map};
 
 use super::{EngineFault, Refusal};
 use pd_events::StreamKind;
 use pd_gather::SessionFault;
+use pd_match::{MatchFault, Place};
 use pd_pred::{Names, PredErrorKind};
 use pd_spec::SpecFault;
-use std::alloc::Global;
+use std::alloc::{AllocError, Global};
 
 /// The word for a predicate's fault, if it isn't want of memory.
 fn predicate_word(kind: PredErrorKind) -> Option<&'static str>
@@ -71,6 +74,7 @@ fn stream_word(kind: StreamKind) -> &'static str
         StreamKind::UnknownProcess => "unknownprocess",
         StreamKind::UnknownVar => "unknownvar",
         StreamKind::Value => "value",
+        StreamKind::MessageId => "messageid",
         StreamKind::Events => "events",
         StreamKind::Unended => "unended",
         StreamKind::Read => "read",
@@ -108,4 +112,62 @@ pub(crate) fn of_streams(
         }
         SessionFault::Memory => Err(EngineFault::Memory),
     }
+}
+
+/// The name of a place's process, and the place's number.
+fn named(alloc: Global, names: &Names, place: Place) -> Result<(String, u64), AllocError>
+    requires { place.process < length names.now }
+    ensures { IfOk result (λ named. place_of named ≡ named_place names.now (place_seen place)) }
+{
+    let name = String::from_str(alloc, names.name(place.process))?;
+    Ok((name, place.number))
+}
+
+/// The refusal of an event with this word.
+fn of_event(
+    alloc: Global,
+    names: &Names,
+    word: &'static str,
+    place: Place,
+) -> Result<Refusal, AllocError>
+    requires { place.process < length names.now }
+    ensures { IfOk result (λ refusal. refusal_of refusal ≡ reports.Match word.now (named_place names.now (place_seen place))) }
+{
+    let (name, number) = named(alloc, names, place)?;
+    Ok(Refusal::Match { word, name, number })
+}
+
+/// The refusal of messages with this fault.
+///
+/// # Errors
+/// `Memory`, where the fault is want of memory, or the name can't be copied for want of it.
+pub(crate) fn of_messages(
+    alloc: Global,
+    names: &Names,
+    fault: MatchFault,
+) -> Result<Refusal, EngineFault>
+    requires { NamesPlace names.now fault }
+    ensures tells { IfOk result (λ refusal. MatchOption (fault_seen fault) ⊥ (λ seen. refusal_of refusal ≡ match_refusal names.now seen)) }
+    ensures err { IsOkUnless result EngineFault.Memory }
+{
+    let refusal = match fault {
+        MatchFault::SendTwice(place) => of_event(alloc, names, "sendtwice", place)?,
+        MatchFault::Orphan(place) => of_event(alloc, names, "orphan", place)?,
+        MatchFault::SelfMessage(place) => of_event(alloc, names, "selfmessage", place)?,
+        MatchFault::ReceivedTwice(place) => of_event(alloc, names, "receivedtwice", place)?,
+        MatchFault::Memory => return Err(EngineFault::Memory),
+    };
+    Ok(refusal)
+}
+
+/// The refusal of a causal cycle.
+pub(crate) fn of_cycle(alloc: Global, names: &Names, cycle: &[Place]) -> Result<Refusal, AllocError>
+    requires { All (HasNames names.now) cycle.now }
+    ensures { IfOk result (λ refusal. refusal_of refusal ≡ reports.Cycle (map (λ place. named_place names.now (place_seen place)) cycle.now)) }
+{
+    let mut places = Vec::new(alloc);
+    for &place in cycle {
+        places.push(named(alloc, names, place)?)?;
+    }
+    Ok(Refusal::Cycle(places))
 }

@@ -1,12 +1,18 @@
 -- The record of a line, from its value.
 use Rattle.std.proofs.Common.{◌≡◌, ◌⊎◌, ℕ, suc, List, [], ◌∷◌, refl, sym, ◌∙◌, ap, inl, inr}
-use Rattle.std.specs.Prelude.{Option, Some, None, Err, option_and_then}
+use Rattle.std.specs.Prelude.{Option, Some, None, Ok, Err, String, option_and_then}
+use Rattle.std.specs.Borrow.{Bor}
+use Rattle.std.specs.declared.alloc.Global.{Global}
+use Rattle.std.specs.BTreeMap.{BTreeMap}
+use Rattle.serde_json.specs.declared.value.Value.{Value}
 use Rattle.serde_json.specs.Data.{Data, no_members}
 use Rattle.pd_format.specs.Names.{ProcessNames}
-use Rattle.pd_format.specs.Records.{json_value, statement_of, without_messages, sets_from, record_of_shape, record_of_value, record_of, Json}
+use Rattle.pd_format.specs.Records.{json_value, statement_of, sets_from, record_of_shape, record_of_value, record_of, Json}
 use Rattle.pd_format.specs.Records as records
 use Rattle.pd_events.specs.declared.fault.RecordFault.{RecordFault}
 use Rattle.pd_events.specs.declared.fault.RecordFault.TheVariants as faults
+use Rattle.pd_events.specs.Parts.{sets_due}
+use Rattle.pd_events.specs.Statements.{settings_seen}
 use Rattle.pd_events.specs.Views.{IsRecord}
 
 pub no_sets : (v : ℕ) (vars : List (List ℕ)) → sets_from v vars no_members ≡ []
@@ -22,6 +28,11 @@ pub fault_of_value : (names : List ProcessNames) (joined : Option ℕ) (bytes : 
 fault_of_value names joined bytes fault (inl memory) = rw memory tt
 fault_of_value names joined bytes fault (inr (json, none)) = rw json (no_value names joined bytes none)
 
-pub record_of_its_value : (names : List ProcessNames) (joined : Option ℕ) (bytes : List ℕ) (value : Data) (statement : Option records.Statement) → json_value bytes ≡ Some value → statement ≡ option_and_then without_messages (statement_of value) → record_of names joined bytes ≡ record_of_shape names joined statement
+pub record_of_its_value : (names : List ProcessNames) (joined : Option ℕ) (bytes : List ℕ) (value : Data) (statement : Option records.Statement) → json_value bytes ≡ Some value → statement ≡ statement_of value → record_of names joined bytes ≡ record_of_shape names joined statement
 unfolding record_of
 record_of_its_value names joined bytes value statement e f = ap (λ v. record_of_value names joined v) e ∙ ap (λ s. record_of_shape names joined s) (sym f)
+
+-- a line that says no settings sets nothing
+pub nothing_set : (vars : List (List ℕ)) (settings : Option (Bor (BTreeMap (String Global) Value))) → settings ≡ None → sets_due vars (settings_seen settings) ≡ Ok []
+nothing_set vars None e = ap (λ sets. Ok sets) (no_sets 0 vars)
+nothing_set vars (Some settings) e = absurd (cc)

@@ -15,4 +15,5 @@ told faults.Join = Some records.Join
 told faults.UnknownProcess = Some records.UnknownProcess
 told faults.UnknownVar = Some records.UnknownVar
 told faults.Value = Some records.Value
+told faults.MessageId = Some records.MessageId
 told faults.Memory = None

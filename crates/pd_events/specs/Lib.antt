@@ -3,3 +3,4 @@ pub mod Statements
 pub mod Views
 pub mod Progress
 pub mod Reads
+pub mod Parts

@@ -6,8 +6,10 @@ use Rattle.std.specs.BTreeMap.{BTreeMap}
 use Rattle.serde_json.specs.declared.value.Value.{Value}
 use Rattle.serde_json.specs.Data.{Members, no_members}
 use Rattle.serde_json.specs.View.{members_view}
-use Rattle.pd_model.specs.Events.{Local}
+use Rattle.pd_model.specs.Events as events
 use Rattle.pd_format.specs.Records as records
+use Rattle.pd_events.specs.declared.statement.Said.{Said}
+use Rattle.pd_events.specs.declared.statement.Said.TheVariants.{Local, Send, Recv}
 use Rattle.pd_events.specs.declared.statement.Statement.{Statement}
 use Rattle.pd_events.specs.declared.statement.Statement.TheVariants.{Join, Finish, Event}
 
@@ -16,7 +18,13 @@ abbrev pub settings_seen : Option (Bor (BTreeMap (String Global) Value)) → Mem
 settings_seen None = no_members
 settings_seen (Some settings) = members_view settings.now.entries
 
+-- the kind of event that is said
+abbrev pub kind_said : Said → events.Kind
+kind_said Local = events.Local
+kind_said (Send id) = events.Send id.now
+kind_said (Recv id) = events.Receive id.now
+
 abbrev pub statement_seen : Statement → records.Statement
 statement_seen (Join name) = records.SaysJoin name.now
 statement_seen Finish = records.SaysEnd
-statement_seen (Event settings) = records.SaysEvent Local (settings_seen settings)
+statement_seen (Event kind settings) = records.SaysEvent (kind_said kind) (settings_seen settings)

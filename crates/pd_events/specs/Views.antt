@@ -1,5 +1,5 @@
 -- What the program's records, traces and faults stand for.
-use Rattle.std.specs.Prelude.{◌≡◌, List, map, Result, Ok, Err, MatchResult, MatchOption}
+use Rattle.std.specs.Prelude.{◌≡◌, List, map, string_bytes, Result, Ok, Err, MatchResult, MatchOption}
 use Rattle.pd_model.specs.Events as events
 use Rattle.pd_format.specs.Records as records
 use Rattle.pd_format.specs.Readings as readings
@@ -19,12 +19,18 @@ use Rattle.pd_events.specs.declared.fault.StreamState.TheVariants as states
 
 abbrev pub kind_seen : EventKind → events.Kind
 kind_seen kinds.Local = events.Local
+kind_seen (kinds.Send id) = events.Send (string_bytes id)
+kind_seen (kinds.Recv id) = events.Receive (string_bytes id)
 
 abbrev pub event_seen : Event → events.Event
 event_seen event = record { kind = kind_seen event.kind; sets = event.sets.items }
 
 abbrev pub events_seen : List Event → List events.Event
 events_seen all = map event_seen all
+
+-- the events of each trace
+abbrev pub computation_of : List Trace → events.Computation
+computation_of traces = map (λ (process : Trace). events_seen process.events.items) traces
 
 abbrev pub trace_seen : Trace → readings.Trace
 trace_seen trace = record { process = trace.process; join_line = trace.join_line; events = events_seen trace.events.items }
@@ -48,6 +54,7 @@ stream_kind_seen wrong.Join = readings.InRecord records.Join
 stream_kind_seen wrong.UnknownProcess = readings.InRecord records.UnknownProcess
 stream_kind_seen wrong.UnknownVar = readings.InRecord records.UnknownVar
 stream_kind_seen wrong.Value = readings.InRecord records.Value
+stream_kind_seen wrong.MessageId = readings.InRecord records.MessageId
 stream_kind_seen wrong.Events = readings.TooManyEvents
 stream_kind_seen wrong.Unended = readings.Unended
 stream_kind_seen wrong.Read = readings.ReadFailed

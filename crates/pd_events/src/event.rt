@@ -1,10 +1,14 @@
 //! Events, traces and records.
 
 /// What kind of event it is.
-#[derive(Clone, Copy, Debug, PartialEq, Eq)]
+#[derive(Debug, PartialEq, Eq, Drop)]
 pub enum EventKind {
     /// An event of its process alone.
     Local,
+    /// It sends the message with this id, which has 1 to 64 bytes.
+    Send(String),
+    /// It receives the message with this id, which has 1 to 64 bytes.
+    Recv(String),
 }
 
 /// An event of a process.

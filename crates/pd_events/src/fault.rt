@@ -16,6 +16,8 @@ pub enum RecordFault {
     UnknownVar,
     /// A value that isn't a whole number of 64 bits.
     Value,
+    /// The id of a message that has no byte, or more than 64.
+    MessageId,
     /// Memory ran out.
     Memory,
 }
@@ -61,6 +63,8 @@ pub enum StreamKind {
     UnknownVar,
     /// A value that isn't a whole number of 64 bits.
     Value,
+    /// The id of a message that has no byte, or more than 64.
+    MessageId,
     /// The process has more than 10,000 events.
     Events,
     /// The input ended before the end line.

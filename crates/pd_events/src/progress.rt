@@ -86,6 +86,7 @@ fn kind_of(fault: RecordFault) -> Option<StreamKind>
         RecordFault::UnknownProcess => Some(StreamKind::UnknownProcess),
         RecordFault::UnknownVar => Some(StreamKind::UnknownVar),
         RecordFault::Value => Some(StreamKind::Value),
+        RecordFault::MessageId => Some(StreamKind::MessageId),
         RecordFault::Memory => None,
     }
 }

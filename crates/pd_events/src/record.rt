@@ -1,23 +1,25 @@
 //! The record of a line.
-ghost use Rattle.std.specs.Prelude.{◌≡◌, ℕ, List, map, string_bytes, option_and_then, IfOk, Ok};
-ghost use Rattle.serde_json.specs.Data.{no_members};
+ghost use Rattle.std.specs.Prelude.{◌≡◌, map, string_bytes, option_and_then, IfOk};
 ghost use Rattle.serde_json.specs.Find.{get_member};
 ghost use Rattle.serde_json.specs.View.{members_view};
-ghost use Rattle.pd_model.specs.Events.{Local};
 ghost use Rattle.pd_format.specs.Names.{vars_of};
 ghost use Rattle.pd_format.specs.Records.{event_record, record_of, record_of_statement, sets_from, whole_number};
 ghost use Rattle.pd_spec.specs.Views.{document_of};
-ghost use Rattle.pd_events.specs.Statements.{settings_seen, statement_seen};
-ghost use Rattle.pd_events.specs.Views.{IsRecord, record_seen};
+ghost use Rattle.pd_events.specs.Parts.{IsId, IsKind, IsSets};
+ghost use Rattle.pd_events.specs.Statements.{kind_said, settings_seen, statement_seen};
+ghost use Rattle.pd_events.specs.Views.{IsRecord};
 
 use super::fields::{are_whole, has_only_vars, value_at};
 use super::json::value_of;
-use super::statement::{Statement, statement_of};
+use super::statement::{Said, Statement, statement_of};
 use super::{Event, EventKind, LineRecord, RecordFault};
 use pd_pred::Names;
 use pd_spec::Spec;
 use serde_json::{Map, Value};
 use std::alloc::{AllocError, Global};
+
+/// The most bytes of a message's id.
+const MAX_ID: usize = 64;
 
 /// The variables of this process; none where there is no such process.
 fn vars_of(names: &Names, process: usize) -> &[String]
@@ -54,13 +56,13 @@ fn sets_of(
     Ok(sets)
 }
 
-/// The event that sets variables, of a process that has these.
-fn event_of(
+/// The variables that settings set, where a process has these.
+fn sets_checked(
     alloc: Global,
     vars: &[String],
     settings: &Map<String, Value>,
-) -> Result<LineRecord, RecordFault>
-    ensures { IsRecord (event_record (map string_bytes vars.now) Local (members_view settings.now.entries)) result }
+) -> Result<Vec<(usize, i64)>, RecordFault>
+    ensures { IsSets (map string_bytes vars.now) (members_view settings.now.entries) result }
 {
     if !has_only_vars(vars, settings) {
         return Err(RecordFault::UnknownVar);
@@ -68,23 +70,59 @@ fn event_of(
     if !are_whole(settings) {
         return Err(RecordFault::Value);
     }
-    let sets = sets_of(alloc, vars, settings)?;
-    Ok(LineRecord::Happened(Event {
-        kind: EventKind::Local,
-        sets,
-    }))
+    Ok(sets_of(alloc, vars, settings)?)
 }
 
-/// The event that sets no variable.
-fn event_alone(alloc: Global) -> LineRecord
-    ensures { (vars : List (List ℕ)) → event_record vars Local no_members ≡ Ok (record_seen result) }
+/// The variables that an event of a process with these sets, if it says any.
+fn sets_said(
+    alloc: Global,
+    vars: &[String],
+    settings: Option<&Map<String, Value>>,
+) -> Result<Vec<(usize, i64)>, RecordFault>
+    ensures { IsSets (map string_bytes vars.now) (settings_seen settings.entry) result }
 {
-    LineRecord::Happened(Event {
-        kind: EventKind::Local,
-        sets: Vec::new(alloc),
-    })
+    match settings {
+        None => Ok(Vec::new(alloc)),
+        Some(settings) => sets_checked(alloc, vars, settings),
+    }
 }
 
+/// The id of a message, which has 1 to 64 bytes.
+fn id_of(alloc: Global, id: &str) -> Result<String, RecordFault>
+    ensures { IsId id.now result }
+{
+    if id.is_empty() || id.len() > MAX_ID {
+        return Err(RecordFault::MessageId);
+    }
+    Ok(String::from_str(alloc, id)?)
+}
+
+/// The kind of event that is said.
+fn kind_of(alloc: Global, said: Said<'_>) -> Result<EventKind, RecordFault>
+    ensures { IsKind (kind_said said.entry) result }
+{
+    match said {
+        Said::Local => Ok(EventKind::Local),
+        Said::Send(id) => Ok(EventKind::Send(id_of(alloc, id)?)),
+        Said::Recv(id) => Ok(EventKind::Recv(id_of(alloc, id)?)),
+    }
+}
+
+/// The event that is said, of a process that has these variables.
+fn event_of(
+    alloc: Global,
+    vars: &[String],
+    said: Said<'_>,
+    settings: Option<&Map<String, Value>>,
+) -> Result<LineRecord, RecordFault>
+    ensures { IsRecord (event_record (map string_bytes vars.now) (kind_said said.entry) (settings_seen settings.entry)) result }
+{
+    let sets = sets_said(alloc, vars, settings)?;
+    let kind = kind_of(alloc, said)?;
+    Ok(LineRecord::Happened(Event { kind, sets }))
+}
+
+/// The record that is said, before the join or after it.
 fn record_of(
     alloc: Global,
     names: &Names,
@@ -98,12 +136,11 @@ fn record_of(
             Some(process) => Ok(LineRecord::Join(process)),
             None => Err(RecordFault::UnknownProcess),
         },
-        (None, Statement::Finish | Statement::Event(_)) => Err(RecordFault::Join),
+        (None, Statement::Finish | Statement::Event(_, _)) => Err(RecordFault::Join),
         (Some(_), Statement::Join(_)) => Err(RecordFault::Join),
         (Some(_), Statement::Finish) => Ok(LineRecord::Finish),
-        (Some(_), Statement::Event(None)) => Ok(event_alone(alloc)),
-        (Some(process), Statement::Event(Some(settings))) => {
-            event_of(alloc, vars_of(names, process), settings)
+        (Some(process), Statement::Event(said, settings)) => {
+            event_of(alloc, vars_of(names, process), said, settings)
         }
     }
 }

@@ -1,12 +1,23 @@
 //! What a line of right shape says.
-ghost use Rattle.std.specs.Prelude.{◌≡◌, option_map, option_and_then};
+ghost use Rattle.std.specs.Prelude.{◌≡◌, option_map};
 ghost use Rattle.serde_json.specs.View.{view, members_view};
 ghost use Rattle.pd_format.specs.Lists.{first_some};
-ghost use Rattle.pd_format.specs.Records.{join_statement, end_statement, event_statement, without_messages, statement_of};
-ghost use Rattle.pd_events.specs.Statements.{statement_seen};
+ghost use Rattle.pd_format.specs.Records.{end_statement, event_statement, join_statement, kind_of, settings_of, statement_of};
+ghost use Rattle.pd_events.specs.Statements.{kind_said, settings_seen, statement_seen};
 
 use super::fields::{has_only, only_field, value_at};
 use serde_json::{Map, Value};
+
+/// The kind of event that a line says.
+#[derive(Clone, Copy)]
+pub enum Said<'a> {
+    /// An event of its process alone.
+    Local,
+    /// It sends the message with this id.
+    Send(&'a str),
+    /// It receives the message with this id.
+    Recv(&'a str),
+}
 
 /// What a line says, before its names and values are looked at.
 #[derive(Clone, Copy)]
@@ -15,8 +26,8 @@ pub enum Statement<'a> {
     Join(&'a str),
     /// The process has no more events.
     Finish,
-    /// An event, with the variables that it sets, if it says any.
-    Event(Option<&'a Map<String, Value>>),
+    /// An event of this kind, with the variables that it sets, if it says any.
+    Event(Said<'a>, Option<&'a Map<String, Value>>),
 }
 
 /// The join or the end that the fields say, if there is one alone.
@@ -34,26 +45,44 @@ fn only_statement(fields: &Map<String, Value>) -> Option<Statement<'_>>
     None
 }
 
-/// The event that the fields say. Messages aren't read yet.
+/// The kind of event, by the ids of what it sends and of what it receives. It doesn't do both.
+fn kind_in<'a>(sent: Option<&'a Value>, received: Option<&'a Value>) -> Option<Said<'a>>
+    ensures { option_map kind_said result
+        ≡ kind_of (option_map (λ value. view value.now) sent.entry) (option_map (λ value. view value.now) received.entry) }
+{
+    match (sent, received) {
+        (None, None) => Some(Said::Local),
+        (Some(id), None) => Some(Said::Send(id.as_str()?)),
+        (None, Some(id)) => Some(Said::Recv(id.as_str()?)),
+        (Some(_), Some(_)) => None,
+    }
+}
+
+/// The variables that are set, if any are said. What says them is an object.
+fn settings(value: Option<&Value>) -> Option<Option<&Map<String, Value>>>
+    ensures { option_map settings_seen result ≡ settings_of (option_map (λ value. view value.now) value.entry) }
+{
+    match value {
+        Some(value) => Some(Some(value.as_object()?)),
+        None => Some(None),
+    }
+}
+
+/// The event that the fields say.
 fn event_of(fields: &Map<String, Value>) -> Option<Statement<'_>>
-    ensures { option_map statement_seen result
-        ≡ option_and_then without_messages (event_statement (members_view fields.now.entries)) }
+    ensures { option_map statement_seen result ≡ event_statement (members_view fields.now.entries) }
 {
     if !has_only(&["send", "recv", "set"], fields) {
         return None;
     }
-    if value_at(fields, "send").is_some() || value_at(fields, "recv").is_some() {
-        return None;
-    }
-    match value_at(fields, "set") {
-        Some(value) => Some(Statement::Event(Some(value.as_object()?))),
-        None => Some(Statement::Event(None)),
-    }
+    let kind = kind_in(value_at(fields, "send"), value_at(fields, "recv"))?;
+    let settings = settings(value_at(fields, "set"))?;
+    Some(Statement::Event(kind, settings))
 }
 
 /// What the value says, if it has the shape of a record.
 pub fn statement_of(value: &Value) -> Option<Statement<'_>>
-    ensures { option_map statement_seen result ≡ option_and_then without_messages (statement_of (view value.now)) }
+    ensures { option_map statement_seen result ≡ statement_of (view value.now) }
 {
     let fields = value.as_object()?;
     match only_statement(fields) {

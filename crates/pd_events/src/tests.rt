@@ -1,7 +1,7 @@
 //! Streams whose traces and faults are known.
 ghost use Rattle.std.specs.Prelude.{◌<◌};
 
-use super::{StreamFault, StreamKind, StreamState, Trace, TraceReader};
+use super::{EventKind, StreamFault, StreamKind, StreamState, Trace, TraceReader};
 use pd_spec::Spec;
 use std::alloc::{AllocError, Global};
 use std::test::Fail;
@@ -68,9 +68,25 @@ fn tells_each_fault(rt: HostRuntime) -> Result<(), Fail> {
     let faults = [
         ("{\"process\":\"a\"}\n{\"set\":1\n", 2, StreamKind::Json),
         (
-            "{\"process\":\"a\"}\n{\"send\":\"m\"}\n",
+            "{\"process\":\"a\"}\n{\"send\":\"m\",\"recv\":\"k\"}\n",
             2,
             StreamKind::Shape,
+        ),
+        ("{\"process\":\"a\"}\n{\"recv\":1}\n", 2, StreamKind::Shape),
+        (
+            "{\"process\":\"a\"}\n{\"send\":\"\"}\n",
+            2,
+            StreamKind::MessageId,
+        ),
+        (
+            "{\"process\":\"a\"}\n{\"recv\":\"12345678901234567890123456789012345678901234567890123456789012345\"}\n",
+            2,
+            StreamKind::MessageId,
+        ),
+        (
+            "{\"process\":\"a\"}\n{\"send\":\"\",\"set\":{\"x\":true}}\n",
+            2,
+            StreamKind::Value,
         ),
         ("\n{}\n", 2, StreamKind::Join),
         (
@@ -96,6 +112,23 @@ fn tells_each_fault(rt: HostRuntime) -> Result<(), Fail> {
     for (stream, line, kind) in faults {
         assert_eq!(rt; fault_of(rt.alloc(), &spec, stream)?, Some((line, kind)));
     }
+    Ok(())
+}
+
+#[test]
+fn messages_are_read(rt: HostRuntime) -> Result<(), Fail> {
+    let spec = document(rt.alloc())?;
+    let longest = "1234567890123456789012345678901234567890123456789012345678901234";
+    let stream = format!(in rt.alloc();
+        "{{\"process\":\"a\"}}\n{{\"set\":{{\"y\":3}},\"send\":\"m\"}}\n{{\"recv\":\"{longest}\"}}\n{{\"end\":true}}\n"
+    )?;
+    let Ok(trace) = outcome_of(rt.alloc(), &spec, stream.as_bytes(), 7)? else {
+        return Err(Fail::from("no trace"));
+    };
+    assert_eq!(rt; trace.events.len(), 2);
+    assert!(rt; matches!(&trace.events[0].kind, EventKind::Send(id) if id.as_str() == "m"));
+    assert_eq!(rt; trace.events[0].sets.as_slice(), [(1, 3)].as_slice());
+    assert!(rt; matches!(&trace.events[1].kind, EventKind::Recv(id) if id.as_str() == longest));
     Ok(())
 }
 

@@ -4,11 +4,11 @@ use Rattle.std.specs.Prelude.{◌==◌, codes, Option, Some, None, Result, Ok, E
 use Rattle.std.specs.Str.{is_utf8, chars}
 use Rattle.std.specs.Fmt.{digits}
 use Rattle.serde_json.proofs.OnLiterals.{serde_json_on_literals}
-use Rattle.pd_model.specs.Events.{Local, Event}
+use Rattle.pd_model.specs.Events.{Local, Send, Event}
 use Rattle.pd_format.specs.Lines.{line, open_lines, finished_lines, frame_fault, has_line_feed, line_number, LineTooLong}
 use Rattle.pd_format.proofs.LineFacts.{fault-append, short_is_sound_lem, unended-no_feed}
 use Rattle.pd_format.specs.Names.{ProcessNames}
-use Rattle.pd_format.specs.Records.{RecordFault, Json, Shape, Join, UnknownProcess, UnknownVar, Value, LineRecord, Joins, Ends, record_of}
+use Rattle.pd_format.specs.Records.{RecordFault, Json, Shape, Join, UnknownProcess, UnknownVar, Value, MessageId, LineRecord, Joins, Happens, Ends, record_of}
 use Rattle.pd_format.specs.Readings.{Reading, Ended, Open, reading, outcome, Trace, StreamFault, Unended, InRecord}
 use Rattle.pd_format.specs.Documents as documents
 use Rattle.pd_format.specs.Documents.{DocumentFault, Outline, outline_of_bytes, names_of, initial_of, width_of}
@@ -71,15 +71,15 @@ pub other_var : record_of names (Some 0) (codes "{\"set\":{\"z\":1}}") ≡ Err U
 unfolding on_lines
 other_var = refl
 
-pub no_id : record_of names (Some 0) (codes "{\"send\":\"\"}") ≡ Err Shape
+pub no_id : record_of names (Some 0) (codes "{\"send\":\"\"}") ≡ Err MessageId
 unfolding on_lines
 no_id = refl
 
-pub long_id : record_of names (Some 0) (codes "{\"send\":\"" ++ replicate 65 97 ++ codes "\"}") ≡ Err Shape
+pub long_id : record_of names (Some 0) (codes "{\"send\":\"" ++ replicate 65 97 ++ codes "\"}") ≡ Err MessageId
 unfolding on_lines
 long_id = refl
 
-pub send_and_set : record_of names (Some 0) (codes "{\"send\":\"m\",\"set\":{\"x\":-7}}\r") ≡ Err Shape
+pub send_and_set : record_of names (Some 0) (codes "{\"send\":\"m\",\"set\":{\"x\":-7}}\r") ≡ Ok (Happens (record { kind = Send (codes "m"); sets = (0, ℤ.negsuc 6) ∷ [] }))
 unfolding on_lines
 send_and_set = refl
 

@@ -12,7 +12,7 @@ use Rattle.pd_model.specs.Events.{Event, Linked, Kind, SetsAscend}
 use Rattle.pd_format.specs.Lists.{unless}
 use Rattle.pd_format.specs.Lines.{Line}
 use Rattle.pd_format.specs.Names.{ProcessNames, process_named, vars_of}
-use Rattle.pd_format.specs.Records.{RecordFault, Join, LineRecord, Joins, Happens, Ends, Statement, SaysJoin, SaysEnd, SaysEvent, json_value, whole_number, without_messages, statement_of, sets_from, join_record, record_of_statement, record_of_shape, record_of_value, record_of}
+use Rattle.pd_format.specs.Records.{RecordFault, Join, LineRecord, Joins, Happens, Ends, Statement, SaysJoin, SaysEnd, SaysEvent, json_value, whole_number, statement_of, sets_from, join_record, record_of_statement, record_of_shape, record_of_value, record_of}
 use Rattle.pd_format.specs.Readings.{Ending, Open, Stop, NothingMore, EndLine, Fault, InRecord, TooManyEvents, event_limit, Reading, not_joined, reading_of_lines, lines_of, stop_at_end, stop_or, with_end, reading, outcome_of, outcome, Trace, StreamFault}
 use Rattle.pd_format.specs.ReadingLaws.{stopped_by, after_record, process_of, read_line, unless_stopped, read_on, FitsProcess, FitsSession}
 use Rattle.pd_format.proofs.ReadingSteps.{from_start}
@@ -69,7 +69,7 @@ shape_joins names (Some (SaysEvent kind settings)) p h = absurd (cc)
 
 value_joins : (names : List ProcessNames) (v : Option Data) (p : ℕ) → record_of_value names None v ≡ Ok (Joins p) → p < length names
 value_joins names None p h = absurd (cc)
-value_joins names (Some value) p h = shape_joins names (option_and_then without_messages (statement_of value)) p h
+value_joins names (Some value) p h = shape_joins names (statement_of value) p h
 
 joins_known : (names : List ProcessNames) (bytes : List ℕ) (p : ℕ) → record_of names None bytes ≡ Ok (Joins p) → p < length names
 unfolding record_of
@@ -89,7 +89,7 @@ shape_happens names q (Some (SaysEvent kind settings)) event h = event_fits name
 
 value_happens : (names : List ProcessNames) (q : ℕ) (v : Option Data) (event : Event) → record_of_value names (Some q) v ≡ Ok (Happens event) → FitsProcess names q event
 value_happens names q None event h = absurd (cc)
-value_happens names q (Some value) event h = shape_happens names q (option_and_then without_messages (statement_of value)) event h
+value_happens names q (Some value) event h = shape_happens names q (statement_of value) event h
 
 events_fit_record : (names : List ProcessNames) (q : ℕ) (bytes : List ℕ) (event : Event) → record_of names (Some q) bytes ≡ Ok (Happens event) → FitsProcess names q event
 unfolding record_of

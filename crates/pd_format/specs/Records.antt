@@ -115,21 +115,13 @@ record_of_statement names (Some process) (SaysJoin name) = Err Join
 record_of_statement names (Some process) SaysEnd = Ok Ends
 record_of_statement names (Some process) (SaysEvent kind settings) = event_record (vars_of names process) kind settings
 
--- Messages aren't read yet: a line that sends or receives counts as one of wrong shape.
-abbrev pub without_messages : Statement → Option Statement
-without_messages (SaysJoin name) = Some (SaysJoin name)
-without_messages SaysEnd = Some SaysEnd
-without_messages (SaysEvent Local settings) = Some (SaysEvent Local settings)
-without_messages (SaysEvent (Send id) settings) = None
-without_messages (SaysEvent (Receive id) settings) = None
-
 abbrev pub record_of_shape : List ProcessNames → Option ℕ → Option Statement → Result LineRecord RecordFault
 record_of_shape names joined None = Err Shape
 record_of_shape names joined (Some statement) = record_of_statement names joined statement
 
 abbrev pub record_of_value : List ProcessNames → Option ℕ → Option Data → Result LineRecord RecordFault
 record_of_value names joined None = Err Json
-record_of_value names joined (Some value) = record_of_shape names joined (option_and_then without_messages (statement_of value))
+record_of_value names joined (Some value) = record_of_shape names joined (statement_of value)
 
 -- the record of a line, or the first fault that applies
 unfoldable pub record_of : List ProcessNames → Option ℕ → List ℕ → Result LineRecord RecordFault

@@ -31,7 +31,7 @@ fn failed_reads(rt: HostRuntime) -> Result<(), Fail> {
                 },
             };
             let mut writer = SlowWriter::new(alloc, ROOM, Full::Fails)?;
-            match judge_bundle(alloc, reader, 1, &NoGate, &mut writer) {
+            match judge_bundle(&rt, alloc, reader, 1, &NoGate, &mut writer) {
                 Ok(_) => {
                     assert_eq!(rt; writer.taken.as_slice(), report.as_bytes());
                     assert!(rt; bundle.len() < calls);
@@ -56,7 +56,7 @@ fn failed_writes(rt: HostRuntime) -> Result<(), Fail> {
         for full in [Full::Fails, Full::Idles] {
             for room in 0..=report.len() {
                 let mut writer = SlowWriter::new(alloc, room, full)?;
-                match judge_bundle(alloc, bundle.as_bytes(), 1, &NoGate, &mut writer) {
+                match judge_bundle(&rt, alloc, bundle.as_bytes(), 1, &NoGate, &mut writer) {
                     Ok(_) => assert_eq!(rt; room, report.len()),
                     Err(EngineFault::Write) => assert!(rt; room < report.len()),
                     Err(fault) => return Err(Fail::from(fault)),

@@ -86,13 +86,14 @@ impl Write for SlowWriter {
 }
 
 /// The outcome and the report of a bundle that is read and written a byte a call.
-pub(crate) fn judged(alloc: Global, bundle: &[u8]) -> Result<(Outcome, Vec<u8>), EngineFault> {
+pub(crate) fn judged(rt: &HostRuntime, bundle: &[u8]) -> Result<(Outcome, Vec<u8>), EngineFault> {
+    let alloc = rt.alloc();
     let reader = SlowReader {
         bytes: bundle,
         calls: usize::MAX,
         failure: ErrorKind::Other,
     };
     let mut writer = SlowWriter::new(alloc, ROOM, Full::Fails)?;
-    let outcome = judge_bundle(alloc, reader, 1, &NoGate, &mut writer)?;
+    let outcome = judge_bundle(rt, alloc, reader, 1, &NoGate, &mut writer)?;
     Ok((outcome, writer.taken))
 }

@@ -1,14 +1,13 @@
 -- The histories, one for each process.
-use Rattle.std.proofs.Common.{◌≡◌, ℕ, ◌<◌, ◌≤◌, ◌++◌, List, [], ◌∷◌, length, length-append, refl, sym, ap, ◌∙◌, arith, subst, below_more, ℤ, inl, inr, ◌⊎◌}
-use Rattle.std.specs.Prelude.{All, Vec}
-use Rattle.std.specs.Global.{Global}
+use Rattle.std.proofs.Common.{◌≡◌, ℕ, ◌<◌, ◌≤◌, ◌++◌, List, [], ◌∷◌, length, length-append, refl, sym, ap, ◌∙◌, arith, subst, below_more, inl, inr, ◌⊎◌}
+use Rattle.std.specs.Prelude.{All}
 use Rattle.std.proofs.lemmas.Bool.{cases_lt}
-use Rattle.pd_model.specs.Events.{events_of, Event}
+use Rattle.pd_model.specs.Events.{events_of}
 use Rattle.pd_clock.specs.Histories.{AreVars, rows_after}
 use Rattle.pd_events.specs.declared.event.Trace.{Trace}
 use Rattle.pd_events.specs.declared.event.Event.{Event as Happened}
 use Rattle.pd_events.specs.Views.{events_seen}
-use Rattle.pd_clock.specs.Computations.{computation_of}
+use Rattle.pd_events.specs.Views.{computation_of}
 use Rattle.pd_clock.specs.States.{values_at}
 use Rattle.pd_clock.proofs.Parts.{got, values_read, values_before, values_last, values_past, events_read, events_past}
 use Rattle.pd_clock.proofs.computation.histories.Goals as goal

@@ -1,6 +1,6 @@
 use Rattle.std.proofs.Common.{ℕ, ◌<◌, ◌≤◌, get_or}
 use Rattle.pd_model.specs.Events.{event_count}
-use Rattle.pd_clock.specs.Computations.{computation_of}
+use Rattle.pd_events.specs.Views.{computation_of}
 use Rattle.pd_clock.proofs.computation.none_above.Given as goal
 
 abbrev pub invariant-loop-i : goal.invariant-loop-i

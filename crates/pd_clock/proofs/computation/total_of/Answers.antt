@@ -1,7 +1,5 @@
 -- The number of events, process by process.
-use Rattle.std.proofs.Common.{◌≡◌, ℕ, ◌+◌, ◌<◌, ◌≤◌, ◌++◌, List, [], ◌∷◌, length, take, map, sum, get_or, refl, sym, ap, ◌∙◌, arith}
-use Rattle.std.specs.Prelude.{Vec, ℤ, vec_len}
-use Rattle.std.specs.Global.{Global}
+use Rattle.std.proofs.Common.{◌≡◌, ℕ, ◌+◌, ◌<◌, ◌≤◌, ◌++◌, List, [], ◌∷◌, length, take, sum, sym, ap, ◌∙◌, arith}
 use Rattle.std.proofs.lemmas.List.{length-map, map-append, take_more}
 use Rattle.std.proofs.lemmas.List.Sums.{sum_by-append}
 use Rattle.pd_model.specs.Cuts.{total, full_cut}
@@ -10,7 +8,7 @@ use Rattle.pd_events.specs.Views.{event_seen}
 use Rattle.pd_events.specs.declared.event.Trace.{Trace}
 use Rattle.pd_events.specs.declared.event.Event.{Event as Happened}
 use Rattle.pd_events.specs.Views.{events_seen}
-use Rattle.pd_clock.specs.Computations.{computation_of}
+use Rattle.pd_events.specs.Views.{computation_of}
 use Rattle.pd_clock.proofs.Parts.{events_read}
 use Rattle.pd_clock.proofs.computation.total_of.Goals as goal
 

@@ -1,6 +1,6 @@
 use Rattle.std.proofs.Common.{◌≡◌, ◌≤◌, ◌*◌, take}
 use Rattle.pd_model.specs.Cuts.{total}
-use Rattle.pd_clock.specs.Computations.{computation_of}
+use Rattle.pd_events.specs.Views.{computation_of}
 use Rattle.pd_clock.proofs.computation.total_of.Given as goal
 
 abbrev pub invariant-loop-process : goal.invariant-loop-process

@@ -1,4 +1,4 @@
-use Rattle.std.proofs.Common.{◌≡◌, drop, length}
+use Rattle.std.proofs.Common.{◌≡◌, drop}
 use Rattle.pd_clock.specs.Histories.{row_after}
 use Rattle.pd_clock.proofs.history.apply.Given as goal
 

@@ -1,12 +1,12 @@
 -- What whole streams give.
-use Rattle.std.proofs.Common.{◌≡◌, ℕ, ◌<◌, ◌≤◌, ◌+◌, List, [], length, get_or, map, refl, sym, ap, ◌∙◌, subst, arith}
+use Rattle.std.proofs.Common.{◌≡◌, ℕ, ◌≤◌, List, [], length, map, sym, ap, ◌∙◌, subst, arith}
 use Rattle.std.proofs.lemmas.List.{length-map}
 use Rattle.std.proofs.Math.ListN.{get_or-map}
 use Rattle.std.specs.Borrow.{Bor}
 use Rattle.pd_format.specs.Judgements.{ended_streams, outcomes_of}
 use Rattle.pd_gather.specs.Taken.{streams_told}
 use Rattle.pd_spec.specs.Views.{document_of}
-use Rattle.pd_engine.specs.Openings.{HasFed, joined}
+use Rattle.pd_engine.specs.Openings.{HasFed}
 use Rattle.pd_engine.proofs.Feeding.{fed_none, fed_more, all_closed, all_told}
 use Rattle.pd_engine.proofs.bundle_judge.gather_whole.Goals as goal
 

@@ -1,6 +1,5 @@
 -- The report of a bundle.
-use Rattle.std.proofs.Common.{◌≡◌, ℕ, ◌<◌, ◌≤◌, List, length, take, refl, sym, ap, ◌∙◌, subst, arith, Err}
-use Rattle.std.specs.Io.KnownBytes.{Appends}
+use Rattle.std.proofs.Common.{◌≡◌, ◌∙◌, arith}
 use Rattle.pd_format.specs.Judgements.{possibly_text}
 use Rattle.pd_engine.specs.Views.{report_of}
 use Rattle.pd_engine.specs.Outcomes.{WritesFront, WritesReport}

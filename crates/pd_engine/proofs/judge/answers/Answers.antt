@@ -1,10 +1,9 @@
 -- The answers so far.
-use Rattle.std.proofs.Common.{◌≡◌, ℕ, ◌+◌, ◌<◌, List, [], ◌∷◌, ◌++◌, length, map, take, refl, sym, ap, ◌∙◌, subst, arith}
+use Rattle.std.proofs.Common.{◌≡◌, ◌+◌, ◌<◌, List, [], ◌∷◌, ◌++◌, length, map, take, sym, ap, ◌∙◌}
 use Rattle.std.specs.List.{AllZip}
 use Rattle.std.proofs.lemmas.List.{take_more, map-append}
 use Rattle.pd_engine.specs.Views as views
-use Rattle.pd_format.specs.Documents.{NamedPredicate}
-use Rattle.pd_format.specs.Judgements.{Found, IsFound}
+use Rattle.pd_format.specs.Judgements.{IsFound}
 use Rattle.pd_spec.specs.Named.{named_of}
 use Rattle.pd_spec.specs.declared.named.NamedPred.{NamedPred}
 use Rattle.pd_engine.proofs.judge.answers.Goals as goal

@@ -1,11 +1,8 @@
 -- The state at a cut.
-use Rattle.std.proofs.Common.{◌≡◌, ℕ, List, ◌∙◌, sym, ap, subst}
-use Rattle.std.specs.Prelude.{ℤ, Vec}
-use Rattle.std.specs.Global.{Global}
+use Rattle.std.proofs.Common.{◌≡◌, ℕ, sym, subst}
 use Rattle.pd_model.specs.Cuts.{FitsProcesses}
 use Rattle.pd_model.specs.Predicates.{Recorded, state_at}
-use Rattle.pd_clock.specs.Computations.{Keeps, computation_of, recorded_of}
-use Rattle.pd_clock.specs.States.{IsLookedUp, value_at}
+use Rattle.pd_events.specs.Views.{computation_of}
 use Rattle.pd_clock.specs.StateViews.{state_of}
 use Rattle.pd_clock.proofs.Lookups.{is_looked_up, value_is_state}
 use Rattle.pd_clock.proofs.computation.Computation.at.Goals as goal
@@ -13,7 +10,7 @@ use Rattle.pd_clock.proofs.computation.Computation.at.Goals as goal
 pub new-requires : goal.new-requires
 new-requires c =
     let fits : FitsProcesses (computation_of c.self.inside.traces.now) c.args.cut.now = subst (λ (r : Recorded). FitsProcesses r.events c.args.cut.now) (sym c.self.view_is) c.requires in
-    rw (c.deref.ensures.value, c.counts.ensures) (is_looked_up c.self.inside.initial.now c.self.inside.traces.now c.self.inside.histories.items c.self.invariant c.args.cut.now fits)
+    rw (c.deref.ensures.value, c.counts.ensures) (is_looked_up c.self.inside.initial.now c.self.inside.traces.now c.self.inside.histories.items c.self.invariant.0 c.args.cut.now fits)
 
 pub returns : goal.returns
 returns c =
@@ -21,5 +18,5 @@ returns c =
     let each : (p v : ℕ) → state_of c.new.result p v ≡ state_at c.args.self.now.initial c.args.self.now.events c.args.cut.now p v = λ p v.
     subst (λ (r : Recorded). state_of c.new.result p v ≡ state_at r.initial r.events c.args.cut.now p v) c.self.view_is
     (rw (c.new.ensures.initial, c.new.ensures.histories, c.new.ensures.counts, c.deref.ensures.value, c.counts.ensures)
-    (value_is_state c.self.inside.initial.now c.self.inside.traces.now c.self.inside.histories.items c.self.invariant c.args.cut.now fits p v)) in
+    (value_is_state c.self.inside.initial.now c.self.inside.traces.now c.self.inside.histories.items c.self.invariant.0 c.args.cut.now fits p v)) in
     λ i p v. each p v i

@@ -1,12 +1,18 @@
--- Counts of local events are consistent where they fit.
-use Rattle.std.proofs.Common.{◌≡◌, ℕ, sym, ap, subst}
-use Rattle.pd_model.specs.Events.{Computation}
-use Rattle.pd_model.specs.LocalEvents.{HasLocalEvents}
+-- Counts that fit are consistent where they have what the clocks tell.
+use Rattle.std.proofs.Common.{◌≡◌, ◌↔◌, ap}
+use Rattle.pd_model.specs.Cuts.{FitsProcesses, IsConsistent}
 use Rattle.pd_model.specs.Predicates.{Recorded}
-use Rattle.pd_clock.proofs.Parts.{only_local_events}
+use Rattle.pd_events.specs.Views.{computation_of}
+use Rattle.pd_clock.specs.Pasts.{HasPasts}
+use Rattle.pd_clock.proofs.PastFacts.{consistent_exactly}
 use Rattle.pd_clock.proofs.computation.Computation.consistent.Goals as goal
 
-pub returns : goal.returns
-returns c =
-    let local : HasLocalEvents c.args.self.now.events = subst (λ (r : Recorded). HasLocalEvents r.events) c.self.view_is (only_local_events c.self.inside.traces.now) in
-    (λ yes. c.local_events.ensures.consistent c.args.self.now.events local c.args.cut.now (c.fits.ensures.0 yes), λ ok. c.fits.ensures.1 ok.fits)
+pub returns-then-fits : goal.returns-then-fits
+returns-then-fits c =
+    let same : computation_of c.self.inside.traces.now ≡ c.args.self.now.events = ap (λ (r : Recorded). r.events) c.self.view_is in
+    let fits : FitsProcesses (computation_of c.self.inside.traces.now) c.args.cut.now = rw same (c.fits.ensures.0 c.if-fits.true) in
+    let exact : HasPasts c.self.inside.clocks.items c.args.cut.now ↔ IsConsistent (computation_of c.self.inside.traces.now) c.args.cut.now = consistent_exactly (computation_of c.self.inside.traces.now) c.self.inside.clocks.items c.self.invariant.2 c.self.invariant.1 c.args.cut.now fits in
+    rw (← same) (
+      λ passes. exact.0 (rw (c.deref.ensures.value, c.counts.ensures) at (c.has_pasts.ensures.0 passes)),
+      λ ok. c.has_pasts.ensures.1 (rw (c.deref.ensures.value, c.counts.ensures) (exact.1 ok)),
+    )

@@ -1,0 +1,7 @@
+use Rattle.std.proofs.Common.{subst}
+use Rattle.pd_model.specs.Order.{HasNoCycle}
+use Rattle.pd_model.specs.Predicates.{Recorded}
+use Rattle.pd_clock.proofs.computation.Computation.limits.Goals as goal
+
+pub returns-clause-acyclic : goal.returns-clause-acyclic
+returns-clause-acyclic c = subst (λ (r : Recorded). HasNoCycle r.events) c.self.view_is c.self.invariant.2

@@ -1,0 +1,32 @@
+//! What the clocks of events tell of counts.
+ghost use Rattle.pd_clock.specs.Pasts.{HasPast, HasPasts, Reach};
+ghost use Rattle.std.specs.Prelude.{◌*◌, ◌≤◌, ◌↔◌, IsTrue, length};
+
+/// Whether the counts have each event of another process that happened before event `number` of process `p`. The clocks are
+/// those of `p`, one behind another, each with a number for each count.
+pub(crate) fn has_past(clocks: &[u64], number: u64, counts: &[u64], p: usize) -> bool
+    requires some { 1 ≤ number }
+    requires there { number * length counts.now ≤ length clocks.now }
+    ensures { IsTrue result ↔ HasPast clocks.now number counts.now p }
+{
+    let start = (number as usize - 1) * counts.len();
+    for q in 0..counts.len() {
+        if q != p && clocks[start + q] > counts[q] {
+            return false;
+        }
+    }
+    true
+}
+
+/// Whether the counts have each event that happened before the last counted one of some other process.
+pub(crate) fn has_pasts(clocks: &[Vec<u64>], counts: &[u64]) -> bool
+    requires { Reach clocks.now counts.now }
+    ensures { IsTrue result ↔ HasPasts clocks.now counts.now }
+{
+    for p in 0..counts.len() {
+        if counts[p] > 0 && !has_past(&clocks[p], counts[p], counts, p) {
+            return false;
+        }
+    }
+    true
+}

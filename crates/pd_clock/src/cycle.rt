@@ -1,0 +1,116 @@
+//! The causal cycle that is reported.
+ghost use Rattle.pd_clock.specs.Orders.{LeavesStuck, places_seen};
+ghost use Rattle.pd_events.specs.Views.{computation_of};
+ghost use Rattle.pd_match.specs.Views.{place_seen};
+ghost use Rattle.pd_model.specs.Events as events;
+ghost use Rattle.pd_model.specs.Events.{event_count, place};
+ghost use Rattle.pd_model.specs.Messages.{HasLawfulMessages, IsMessageList};
+ghost use Rattle.pd_model.specs.Order.{GoesBackTo, HasNoCycle, IsFirstStuck, IsLeastStuck, IsReportedCycle, IsStuck};
+ghost use Rattle.std.specs.Prelude.{◌≡◌, ◌==◌, ◌≤◌, ◌<◌, ℕ, IfOk, IfNone, IfSome, drop, length, position};
+
+use pd_events::Trace;
+use pd_match::{Matched, Place};
+use std::alloc::{AllocError, Global};
+
+/// The cycle that is reported, if there is one: `done` tells how many of the first events of each process are not stuck on a
+/// causal cycle or behind one.
+pub(crate) fn reported_cycle(
+    alloc: Global,
+    traces: &[Trace],
+    matched: &Matched,
+    done: &[u64],
+) -> Result<Option<Vec<Place>>, AllocError>
+    requires few { length traces.now ≤ 8 }
+    requires short { (p : ℕ) → event_count (computation_of traces.now) p ≤ 10000 }
+    requires lawful { HasLawfulMessages (computation_of traces.now) }
+    requires messages { IsMessageList (computation_of traces.now) matched.now }
+    requires stuck { LeavesStuck (computation_of traces.now) done.now }
+    ensures none { IfOk result (λ cycle. IfNone cycle (HasNoCycle (computation_of traces.now))) }
+    ensures some { IfOk result (λ cycle. IfSome cycle (λ places. IsReportedCycle (computation_of traces.now) (places_seen places.items))) }
+{
+    match least_stuck(traces, done) {
+        Some(first) => Ok(Some(cycle_from(alloc, traces, matched, done, first)?)),
+        None => Ok(None),
+    }
+}
+
+/// The first stuck event of the least process that has one, if any has.
+fn least_stuck(traces: &[Trace], done: &[u64]) -> Option<Place>
+    requires { LeavesStuck (computation_of traces.now) done.now }
+    ensures some { IfSome result (λ first. IsLeastStuck (computation_of traces.now) (place_seen first)) }
+    ensures none { IfNone result ((e : events.Place) → ¬ IsStuck (computation_of traces.now) e) }
+{
+    for p in 0..traces.len() {
+        if let Some(first) = first_stuck(traces, done, p) {
+            return Some(first);
+        }
+    }
+    None
+}
+
+/// The first stuck event of process `p`, if it has one.
+fn first_stuck(traces: &[Trace], done: &[u64], p: usize) -> Option<Place>
+    requires within { p < length traces.now }
+    requires stuck { LeavesStuck (computation_of traces.now) done.now }
+    ensures process { IfSome result (λ first. first.process ≡ p) }
+    ensures some { IfSome result (λ first. IsFirstStuck (computation_of traces.now) (place_seen first)) }
+    ensures none { IfNone result ((n : ℕ) → ¬ IsStuck (computation_of traces.now) (place p n)) }
+{
+    if done[p] < traces[p].events.len() as u64 {
+        return Some(Place {
+            process: p,
+            number: done[p] + 1,
+        });
+    }
+    None
+}
+
+/// Goes back from `first`, the least stuck event, until a process comes again, and gives the places from that process on.
+fn cycle_from(
+    alloc: Global,
+    traces: &[Trace],
+    matched: &Matched,
+    done: &[u64],
+    first: Place,
+) -> Result<Vec<Place>, AllocError>
+    requires messages { IsMessageList (computation_of traces.now) matched.now }
+    requires stuck { LeavesStuck (computation_of traces.now) done.now }
+    requires least { IsLeastStuck (computation_of traces.now) (place_seen first) }
+    ensures { IfOk result (λ cycle. IsReportedCycle (computation_of traces.now) (places_seen cycle.items)) }
+{
+    let mut taken = Vec::with_capacity(alloc, traces.len())?;
+    let mut here = first;
+    loop {
+        if let Some(start) = place_of(here.process, &taken) {
+            return from_place(alloc, &taken, start);
+        }
+        taken.push(here)?;
+        here = gone_back(traces, matched, done, here);
+    }
+}
+
+/// From a receipt that is the first stuck event of its process to the first stuck event of the process that sent its message.
+fn gone_back(traces: &[Trace], matched: &Matched, done: &[u64], receipt: Place) -> Place
+    requires messages { IsMessageList (computation_of traces.now) matched.now }
+    requires stuck { LeavesStuck (computation_of traces.now) done.now }
+    requires receipt { IsFirstStuck (computation_of traces.now) (place_seen receipt) }
+    ensures { GoesBackTo (computation_of traces.now) (place_seen receipt) (place_seen result) }
+{
+    let send = matched.sender(receipt).unwrap();
+    first_stuck(traces, done, send.process).unwrap()
+}
+
+/// Where the first place of this process is in the list, if it is there.
+fn place_of(process: usize, places: &[Place]) -> Option<usize>
+    ensures { result ≡ position (λ place. place.process == process) places.now }
+{
+    places.iter().position(|place| place.process == process)
+}
+
+/// The places from this one on.
+fn from_place(alloc: Global, places: &[Place], start: usize) -> Result<Vec<Place>, AllocError>
+    requires { start < length places.now }
+    ensures { IfOk result (λ rest. rest.items ≡ drop start places.now) }
+{
+    Vec::from_slice(alloc, &places[start..])
+}

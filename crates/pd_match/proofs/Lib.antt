@@ -1,0 +1,6 @@
+mod Places
+mod Ids
+mod Reports
+mod Traces
+mod Pairs
+mod Senders

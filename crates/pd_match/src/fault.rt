@@ -1,0 +1,40 @@
+//! Why the events can't be matched.
+use super::Place;
+use std::alloc::{AllocError, AllocFailed};
+
+/// Why the events can't be matched.
+#[derive(Clone, Copy, Debug, PartialEq, Eq)]
+pub enum MatchFault {
+    /// The id of this send is sent at an earlier place.
+    SendTwice(Place),
+    /// No send has the id of this receipt.
+    Orphan(Place),
+    /// The send with the id of this receipt is of its own process.
+    SelfMessage(Place),
+    /// The id of this receipt is received at an earlier place.
+    ReceivedTwice(Place),
+    /// Memory ran out.
+    Memory,
+}
+
+impl From<AllocError> for MatchFault {
+    ghost use Rattle.std.specs.Prelude.{◌≡◌};
+    ghost use Rattle.pd_match.specs.declared.fault.MatchFault.TheVariants.{Memory};
+
+    ghost from_gives = { λ _ fault. fault ≡ Memory };
+
+    fn from(_refused: AllocError) -> MatchFault {
+        MatchFault::Memory
+    }
+}
+
+impl<T: Drop> From<AllocFailed<T>> for MatchFault {
+    ghost use Rattle.std.specs.Prelude.{◌≡◌};
+    ghost use Rattle.pd_match.specs.declared.fault.MatchFault.TheVariants.{Memory};
+
+    ghost from_gives = { λ _ fault. fault ≡ Memory };
+
+    fn from(_refused: AllocFailed<T>) -> MatchFault {
+        MatchFault::Memory
+    }
+}

@@ -1,0 +1,59 @@
+//! Matches sends and receipts.
+ghost use Rattle.pd_events.specs.Views.{computation_of};
+ghost use Rattle.pd_match.specs.Views.{fault_seen};
+ghost use Rattle.pd_model.specs.Events.{event_count};
+ghost use Rattle.pd_model.specs.Messages.{HasLawfulMessages, IsMessageList, IsReported};
+ghost use Rattle.std.specs.Prelude.{◌≤◌, ℕ, IfErr, IfOk, IfSome};
+
+use super::receiving::senders_in;
+use super::sending::sends_of;
+use super::{MatchFault, Matched};
+use indexmap::IndexMap;
+use pd_events::Trace;
+use std::alloc::Global;
+use std::hash::{BuildHasher, BuildHasherDefault, FoldHasher, RandomState};
+use std::random::RandomSource;
+
+/// Matches sends and receipts. Ids are looked up in maps that hash as told.
+fn match_by<S: BuildHasher + Copy + Drop>(
+    alloc: Global,
+    traces: &[Trace],
+    hasher: S,
+) -> Result<Matched, MatchFault>
+    ensures lawful { IfOk result (λ matched. HasLawfulMessages (computation_of traces.now)) }
+    ensures messages { IfOk result (λ matched. IsMessageList (computation_of traces.now) matched) }
+    ensures fault { IfErr result (λ told. IfSome (fault_seen told) (λ fault. IsReported (computation_of traces.now) fault)) }
+{
+    let sends = sends_of(alloc, traces, hasher)?;
+    let mut received = IndexMap::with_hasher(alloc, hasher);
+    let mut pairs = Vec::new(alloc);
+    let mut senders = Vec::new(alloc);
+    for p in 0..traces.len() {
+        senders.push(senders_in(alloc, traces, p, &sends, &mut received, &mut pairs)?)?;
+    }
+    Ok(Matched::new(pairs, senders))
+}
+
+/// Matches the sends and receipts of traces, which stand in the order of the processes: each receipt with the send that has its
+/// id. Ids are looked up in a map that is hashed with keys from the system, or with fixed ones where it gives none.
+///
+/// # Errors
+/// The first send whose id is sent at an earlier place; where there is none, the first receipt that is at fault; or `Memory`.
+pub fn match_messages<R: RandomSource>(
+    rt: &R,
+    alloc: Global,
+    traces: &[Trace],
+) -> Result<Matched, MatchFault>
+    requires short { (p : ℕ) → event_count (computation_of traces.now) p ≤ 10000 }
+    ensures lawful { IfOk result (λ matched. HasLawfulMessages (computation_of traces.now)) }
+    ensures messages { IfOk result (λ matched. IsMessageList (computation_of traces.now) matched) }
+    ensures fault { IfErr result (λ told. IfSome (fault_seen told) (λ fault. IsReported (computation_of traces.now) fault)) }
+{
+    match RandomState::new(rt) {
+        Ok(keys) => match_by(alloc, traces, keys),
+        Err(_) => {
+            let fixed: BuildHasherDefault<FoldHasher> = BuildHasherDefault::new();
+            match_by(alloc, traces, fixed)
+        }
+    }
+}

@@ -1,0 +1,167 @@
+//! Bundles whose messages are refused, and bundles with a causal cycle.
+use super::bundles::{A, B, BOTH, C, CLOSE, END, Row, THREE, TWO, bundle_of};
+use super::messages::{GAP, NONE, RECV_M, SEND_K, SEND_M};
+use super::slow::judged;
+use pd_engine::Outcome;
+use std::str;
+use std::test::Fail;
+
+const RECV_K: &str = "{\"recv\":\"k\"}\n";
+
+const SEND_X: &str = "{\"send\":\"x\"}\n";
+
+const RECV_X: &str = "{\"recv\":\"x\"}\n";
+
+const SEND_H: &str = "{\"send\":\"h\"}\n";
+
+const RECV_H: &str = "{\"recv\":\"h\"}\n";
+
+/// Messages that are refused.
+static FAULTS: [Row; 15] = [
+    Row {
+        lines: &[TWO, BOTH, CLOSE, A, END, B, RECV_M, END],
+        report: "refused orphan b#1\n",
+    },
+    Row {
+        lines: &[
+            TWO,
+            BOTH,
+            CLOSE,
+            A,
+            SEND_M,
+            END,
+            B,
+            "{\"recv\":\"M\"}\n",
+            END,
+        ],
+        report: "refused orphan b#1\n",
+    },
+    Row {
+        lines: &[TWO, BOTH, CLOSE, A, SEND_M, END, B, SEND_M, END],
+        report: "refused sendtwice b#1\n",
+    },
+    Row {
+        lines: &[TWO, BOTH, CLOSE, B, SEND_M, END, A, NONE, SEND_M, END],
+        report: "refused sendtwice b#1\n",
+    },
+    Row {
+        lines: &[
+            TWO, BOTH, CLOSE, A, SEND_M, SEND_M, SEND_M, END, B, SEND_M, END,
+        ],
+        report: "refused sendtwice a#2\n",
+    },
+    Row {
+        lines: &[TWO, BOTH, CLOSE, A, SEND_M, END, B, RECV_M, RECV_M, END],
+        report: "refused receivedtwice b#2\n",
+    },
+    Row {
+        lines: &[
+            THREE, GAP, CLOSE, C, RECV_M, END, B, SEND_M, END, A, RECV_M, END,
+        ],
+        report: "refused receivedtwice c#1\n",
+    },
+    Row {
+        lines: &[TWO, BOTH, CLOSE, A, SEND_M, RECV_M, END, B, END],
+        report: "refused selfmessage a#2\n",
+    },
+    Row {
+        lines: &[TWO, BOTH, CLOSE, A, RECV_M, SEND_M, END, B, END],
+        report: "refused selfmessage a#1\n",
+    },
+    Row {
+        lines: &[TWO, BOTH, CLOSE, A, RECV_M, END, B, SEND_M, RECV_M, END],
+        report: "refused selfmessage b#2\n",
+    },
+    Row {
+        lines: &[TWO, BOTH, CLOSE, A, RECV_X, END, B, SEND_M, SEND_M, END],
+        report: "refused sendtwice b#2\n",
+    },
+    Row {
+        lines: &[
+            TWO, BOTH, CLOSE, B, RECV_X, END, A, SEND_M, RECV_M, RECV_X, END,
+        ],
+        report: "refused selfmessage a#2\n",
+    },
+    Row {
+        lines: &[
+            TWO, BOTH, CLOSE, A, RECV_X, RECV_X, END, B, SEND_M, RECV_M, END,
+        ],
+        report: "refused orphan a#1\n",
+    },
+    Row {
+        lines: &[
+            TWO, BOTH, CLOSE, A, SEND_M, END, B, RECV_M, RECV_M, RECV_X, END,
+        ],
+        report: "refused receivedtwice b#2\n",
+    },
+    Row {
+        lines: &[
+            TWO, BOTH, CLOSE, A, RECV_K, SEND_M, END, B, RECV_M, SEND_K, RECV_X, END,
+        ],
+        report: "refused orphan b#3\n",
+    },
+];
+
+/// Causal cycles.
+static CYCLES: [Row; 7] = [
+    Row {
+        lines: &[
+            TWO, BOTH, CLOSE, A, RECV_K, SEND_M, END, B, RECV_M, SEND_K, END,
+        ],
+        report: "refused cycle a#1,b#1\n",
+    },
+    Row {
+        lines: &[
+            TWO, BOTH, CLOSE, B, RECV_M, SEND_K, END, A, RECV_K, SEND_M, END,
+        ],
+        report: "refused cycle a#1,b#1\n",
+    },
+    Row {
+        lines: &[
+            TWO, BOTH, CLOSE, A, NONE, RECV_K, NONE, SEND_M, END, B, SEND_X, NONE, RECV_M, SEND_K,
+            END,
+        ],
+        report: "refused cycle a#2,b#3\n",
+    },
+    Row {
+        lines: &[
+            THREE, GAP, CLOSE, A, RECV_K, SEND_M, END, B, RECV_M, SEND_X, END, C, RECV_X, SEND_K,
+            END,
+        ],
+        report: "refused cycle a#1,c#1,b#1\n",
+    },
+    Row {
+        lines: &[
+            THREE, GAP, CLOSE, C, RECV_M, SEND_K, END, B, RECV_K, SEND_M, SEND_X, END, A, RECV_X,
+            END,
+        ],
+        report: "refused cycle b#1,c#1\n",
+    },
+    Row {
+        lines: &[
+            THREE, GAP, CLOSE, B, NONE, NONE, RECV_K, SEND_M, END, A, NONE, RECV_X, END, C, RECV_M,
+            SEND_K, SEND_X, END,
+        ],
+        report: "refused cycle c#1,b#3\n",
+    },
+    Row {
+        lines: &[
+            THREE, GAP, CLOSE, A, RECV_K, SEND_X, END, C, RECV_H, SEND_M, END, B, RECV_M, RECV_X,
+            SEND_K, SEND_H, END,
+        ],
+        report: "refused cycle b#1,c#1\n",
+    },
+];
+
+#[test]
+fn refused_messages(rt: HostRuntime) -> Result<(), Fail> {
+    for row in FAULTS.iter().chain(&CYCLES) {
+        for line_end in ["\n", "\r\n"] {
+            let bundle = bundle_of(rt.alloc(), row.lines, line_end)?;
+            let (outcome, report) = judged(&rt, &bundle)?;
+            assert_eq!(rt; str::from_utf8(&report)?, row.report);
+            assert_eq!(rt; outcome, Outcome::Refused);
+        }
+    }
+    Ok(())
+}
