@@ -4,8 +4,11 @@
 lattice   4 processes of 17 events each, with no messages: 104,976 cuts; 16 small comparisons that no cut satisfies
 terms     the same cuts; 16 predicates of 4,096 bytes that no cut satisfies
 streams   8 processes of 10,000 events each, every event setting 16 variables; one predicate that the empty cut satisfies
+messages  8 processes of 10,000 events each, nearly all of them sends and receipts of a run without a cycle; the same predicate
+locals    the same lines with each send and receipt replaced by a local event of the same length, for comparison with messages
 """
 import json
+import random
 import sys
 
 
@@ -63,4 +66,60 @@ def streams():
                                 for i in range(10000))) for name in names])
 
 
-{"lattice": lattice, "terms": terms, "streams": streams}[sys.argv[1]]()
+def talk(processes, events):
+    """A run: while some process has room, one of them receives a message that has arrived, or sends one, or does neither.
+
+    A message is received only after it was sent, so that no event can happen before itself. The seed is fixed."""
+    rng = random.Random(1)
+    lists = [[] for _ in range(processes)]
+    arrived = [[] for _ in range(processes)]
+    running = list(range(processes))
+    sent = 0
+    while running:
+        process = rng.choice(running)
+        roll = rng.random()
+        if arrived[process] and roll < 0.55:
+            inbox = arrived[process]
+            pick = rng.randrange(len(inbox))
+            inbox[pick], inbox[-1] = inbox[-1], inbox[pick]
+            event = {"recv": inbox.pop()}
+        elif processes > 1 and roll < 0.99:
+            other = rng.randrange(processes - 1)
+            message = f"m{sent}"
+            sent += 1
+            arrived[other + (other >= process)].append(message)
+            event = {"send": message}
+        else:
+            event = {"set": {"x": sent}}
+        lists[process].append(event)
+        if len(lists[process]) == events:
+            running.remove(process)
+    return lists
+
+
+def local(event):
+    """The line of a local event, with as many bytes as this one's. A few are too short to set anything: they are empty objects."""
+    line = json.dumps(event)
+    if "set" in event:
+        return line
+    digits = len(line) - len(json.dumps({"set": {"x": 0}})) + 1
+    return json.dumps({"set": {"x": 10 ** (digits - 1)}}) if digits > 0 else "{}".ljust(len(line))
+
+
+def talkers(line_of):
+    """Eight talking processes, each event written by `line_of`; a walk for the predicate ends at the empty cut."""
+    names = [f"p{k}" for k in range(8)]
+    head = document([(name, ["x"]) for name in names], [("start", "p0.x == 0")], 4096)
+    ends = [(json.dumps({"process": name}), json.dumps({"end": True})) for name in names]
+    bundle(head, [[join, *map(line_of, events), end] for (join, end), events in zip(ends, talk(8, 10000))])
+
+
+def messages():
+    talkers(json.dumps)
+
+
+def locals_alone():
+    talkers(local)
+
+
+{"lattice": lattice, "terms": terms, "streams": streams, "messages": messages, "locals": locals_alone}[sys.argv[1]]()

@@ -1,7 +1,13 @@
 #!/usr/bin/env python3
 """measure.py PROGRAM [RUNS]: runs the program on the generated bundles and prints the least time and the peak memory.
 
-The machine may be shared, so compare figures of one call with each other, not with those of another day."""
+Seconds are those of the whole program, from its start to its end, with nothing taken off. In `messages` and `locals` the walk ends at
+the empty cut, so events a second go from bytes to the built computation. The two have lines of the same lengths, so the last line tells
+what matching and building over messages cost beside reading. It is no exact part: a computation is built over local events too, and an
+event that sets a variable keeps a number where one with a message keeps its id.
+
+Each round runs every session once, so that the sessions of one round share what else the machine does. The machine may be shared, so
+compare figures of one call with each other, not with those of another day."""
 import os
 import resource
 import subprocess
@@ -11,7 +17,8 @@ import time
 
 HERE = os.path.dirname(os.path.abspath(__file__))
 CUTS = 18 ** 4
-SESSIONS = ["lattice", "terms", "streams"]
+EVENTS = 8 * 10000
+SESSIONS = ["lattice", "terms", "streams", "messages", "locals"]
 
 
 def run(program, path):
@@ -26,22 +33,34 @@ def run(program, path):
     return seconds, usage.ru_maxrss * 1024
 
 
+def line(name, size, seconds, memory):
+    """The figures of one session."""
+    text = f"{name}: {size / 1e6:.1f} MB in, {seconds:.3f} s, {size / 1e6 / seconds:.1f} MB/s, peak {memory / 1e6:.1f} MB"
+    if name in ("lattice", "terms"):
+        return text + f", {16 * CUTS / seconds / 1e6:.2f} million cuts evaluated a second"
+    return text + f", {EVENTS / seconds / 1e3:.0f} thousand events a second"
+
+
 def main():
     program = os.path.abspath(sys.argv[1])
     runs = int(sys.argv[2]) if len(sys.argv) > 2 else 3
     with tempfile.TemporaryDirectory() as folder:
-        for name in SESSIONS:
-            path = os.path.join(folder, name)
+        paths = {name: os.path.join(folder, name) for name in SESSIONS}
+        for name, path in paths.items():
             with open(path, "wb") as out:
                 subprocess.run([sys.executable, os.path.join(HERE, "generate.py"), name], stdout=out, check=True)
-            size = os.path.getsize(path)
-            results = [run(program, path) for _ in range(runs)]
-            seconds = min(result[0] for result in results)
-            memory = max(result[1] for result in results)
-            line = f"{name}: {size / 1e6:.1f} MB in, {seconds:.3f} s, {size / 1e6 / seconds:.1f} MB/s, peak {memory / 1e6:.1f} MB"
-            if name != "streams":
-                line += f", {16 * CUTS / seconds / 1e6:.2f} million cuts evaluated a second"
-            print(line)
+        results = {name: [] for name in SESSIONS}
+        for _ in range(runs):
+            for name, path in paths.items():
+                results[name].append(run(program, path))
+        sizes = {name: os.path.getsize(path) for name, path in paths.items()}
+    seconds = {name: min(result[0] for result in results[name]) for name in SESSIONS}
+    memory = {name: max(result[1] for result in results[name]) for name in SESSIONS}
+    for name in SESSIONS:
+        print(line(name, sizes[name], seconds[name], memory[name]))
+    more = seconds["messages"] - seconds["locals"]
+    print(f"messages beside locals: {more:+.3f} s, {more / EVENTS * 1e9:+.0f} ns an event, "
+          f"peak {(memory['messages'] - memory['locals']) / 1e6:+.1f} MB")
 
 
 main()
