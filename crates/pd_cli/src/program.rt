@@ -1,6 +1,7 @@
 //! One run of the program.
 ghost use Rattle.pd_cli.specs.Statuses.{WritesAtMostReport};
 ghost use Rattle.pd_engine.specs.Outcomes.{WritesReport};
+ghost use Rattle.pd_engine.specs.Truths.{WritesTruth};
 ghost use Rattle.pd_engine.specs.declared.outcome.Outcome.TheVariants as outcomes;
 ghost use Rattle.pd_format.specs.Bundles.{bundle_limit};
 ghost use Rattle.std.specs.Io.KnownBytes.{Keeps};
@@ -12,6 +13,39 @@ use super::words::{parse, tell_parser};
 use std::alloc::Global;
 use std::io::{Read, Write};
 use std::random::RandomSource;
+
+/// Runs the program on its words, of which the first is its name, and gives its exit status.
+fn run_words<S: RandomSource, I: Read + Drop, O: Write, E: Write>(
+    rt: &S,
+    alloc: Global,
+    words: Vec<String>,
+    input: I,
+    output: &mut O,
+    errors: &mut E,
+) -> u8
+    ensures judged { vec_len words ≤ 1 → result ≡ 0 → IfSome (I.remaining input) (λ bytes.
+        WritesReport bytes outcomes.Judged (O.contents output.old) (O.contents output.new)) }
+    ensures refused { vec_len words ≤ 1 → result ≡ 1 → IfSome (I.remaining input) (λ bytes.
+        WritesReport bytes outcomes.Refused (O.contents output.old) (O.contents output.new)) }
+    ensures short { vec_len words ≤ 1 → result ≤ 1 → IfSome (I.remaining input) (λ bytes. length bytes ≤ bundle_limit) }
+    ensures failed { vec_len words ≤ 1 → result ≡ 3 → IfSome (I.remaining input) (λ bytes.
+        WritesAtMostReport bytes (O.contents output.old) (O.contents output.new)) }
+    ensures memory { vec_len words ≤ 1 → result ≡ 4 → Keeps (O.contents output.old) (O.contents output.new) }
+    ensures misused { result ≡ 2 → Keeps (O.contents output.old) (O.contents output.new) }
+    ensures silent { result ≤ 1 → Keeps (E.contents errors.old) (E.contents errors.new) }
+    ensures used { vec_len words ≤ 1 → result ≢ 2 }
+    ensures known { result ≤ 4 }
+{
+    if words.len() > 1 {
+        if let Err(error) = parse(alloc, &words[1..]) {
+            return tell_parser(&error, output, errors);
+        }
+    }
+    match judge_input(rt, alloc, input, output) {
+        Ok(outcome) => outcome_status(outcome),
+        Err(fault) => tell_fault(&fault, errors),
+    }
+}
 
 /// Runs the program on its words, of which the first is its name, and gives its exit status.
 ///
@@ -31,6 +65,9 @@ pub fn run<S: RandomSource, I: Read + Drop, O: Write, E: Write>(
         WritesReport bytes outcomes.Judged (O.contents output.old) (O.contents output.new)) }
     ensures refused { vec_len words ≤ 1 → result ≡ 1 → IfSome (I.remaining input) (λ bytes.
         WritesReport bytes outcomes.Refused (O.contents output.old) (O.contents output.new)) }
+    // Where the input holds a well-formed session with no level over the width, that report tells the truth of each predicate.
+    ensures headline { vec_len words ≤ 1 → result ≤ 1 → IfSome (I.remaining input) (λ bytes.
+        WritesTruth bytes (O.contents output.old) (O.contents output.new)) }
     ensures short { vec_len words ≤ 1 → result ≤ 1 → IfSome (I.remaining input) (λ bytes. length bytes ≤ bundle_limit) }
     // A failure leaves at most a part of that text, and a refused allocation or refused words leave nothing.
     ensures failed { vec_len words ≤ 1 → result ≡ 3 → IfSome (I.remaining input) (λ bytes.
@@ -42,13 +79,6 @@ pub fn run<S: RandomSource, I: Read + Drop, O: Write, E: Write>(
     ensures used { vec_len words ≤ 1 → result ≢ 2 }
     ensures known { result ≤ 4 }
 {
-    if words.len() > 1 {
-        if let Err(error) = parse(alloc, &words[1..]) {
-            return tell_parser(&error, output, errors);
-        }
-    }
-    match judge_input(rt, alloc, input, output) {
-        Ok(outcome) => outcome_status(outcome),
-        Err(fault) => tell_fault(&fault, errors),
-    }
+    pd_judgement::headline_of_bundle();
+    run_words(rt, alloc, words, input, output, errors)
 }

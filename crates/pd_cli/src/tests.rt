@@ -33,7 +33,7 @@ fn statuses(rt: HostRuntime) -> Result<(), Fail> {
     assert_eq!(rt; status, JUDGED);
     assert_eq!(rt;
         output.as_slice(),
-        b"session 2 processes 4 events 0 messages\nboth possibly yes 1,1\n".as_slice()
+        b"session 2 processes 4 events 0 messages\nboth possibly yes 1,1\nboth definitely no b,b,a,a\n".as_slice()
     );
     assert!(rt; errors.is_empty());
     let (status, output, errors) = run_on(&rt, &["monitor", "--help"], b"")?;

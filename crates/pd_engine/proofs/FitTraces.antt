@@ -11,12 +11,12 @@ use Rattle.pd_model.specs.Messages.{Fault, HasLawfulMessages, IsMessageList, IsR
 use Rattle.pd_model.specs.Order.{HasNoCycle, IsReportedCycle, IsWellFormed}
 use Rattle.pd_model.specs.Predicates.{Recorded}
 use Rattle.pd_format.specs.Documents.{Document}
-use Rattle.pd_format.specs.Judgements.{IsFound, IsTracesReport, of_answers, of_cycle, of_messages, PossiblyReport, Refused, events_of_traces, match_refusal, named_place}
+use Rattle.pd_format.specs.Judgements.{IsAnswered, IsTracesReport, of_answers, of_cycle, of_messages, events_of_traces, match_refusal, named_place}
 use Rattle.pd_format.specs.Judgements as judgements
 use Rattle.pd_format.specs.Names.{ProcessNames, vars_of}
 use Rattle.pd_format.specs.ReadingLaws.{FitsProcess}
 use Rattle.pd_format.specs.Reports as reports
-use Rattle.pd_format.specs.Reports.{Refusal}
+use Rattle.pd_format.specs.Reports.{Refusal, Refused, Report}
 use Rattle.pd_spec.specs.Sound.{IsSound, lengths, vars_of_each}
 use Rattle.pd_events.specs.Views.{computation_of, event_seen, events_seen}
 use Rattle.pd_events.specs.declared.event.Trace.{Trace}
@@ -113,10 +113,10 @@ cycle_report document traces cycle lawful r =
     of_cycle cycle (subst HasLawfulMessages (same_events traces) lawful) (subst (λ (c : Computation). IsReportedCycle c cycle) (same_events traces) r)
 
 -- the report with these answers
-pub answers_report : (document : Document) (rows : List (Vec ℤ Global)) (traces : List Trace) (messages : List (Place × Place)) (report : PossiblyReport) → items_of rows ≡ document.initial → HasLawfulMessages (computation_of traces) → HasNoCycle (computation_of traces) → IsMessageList (computation_of traces) messages → IsJudged document (recorded_of rows traces) (length messages) report → IsTracesReport document (traces_seen traces) report
+pub answers_report : (document : Document) (rows : List (Vec ℤ Global)) (traces : List Trace) (messages : List (Place × Place)) (report : Report) → items_of rows ≡ document.initial → HasLawfulMessages (computation_of traces) → HasNoCycle (computation_of traces) → IsMessageList (computation_of traces) messages → IsJudged document (recorded_of rows traces) (length messages) report → IsTracesReport document (traces_seen traces) report
 answers_report document rows traces messages report initial lawful acyclic list judged =
     let same : computation_of traces ≡ events_of_traces (traces_seen traces) = same_events traces in
     let recorded : recorded_of rows traces ≡ judgements.recorded_of document (traces_seen traces) = same_recorded document rows traces initial in
     let well : IsWellFormed (events_of_traces (traces_seen traces)) = record { messages = subst HasLawfulMessages same lawful; no_cycle = subst HasNoCycle same acyclic } in
-    let zip : AllZip (IsFound (judgements.recorded_of document (traces_seen traces)) document.width) document.predicates judged.found = subst (λ (r : Recorded). AllZip (IsFound r document.width) document.predicates judged.found) recorded judged.answered in
-    rw (judged.told, ap total same) (of_answers messages judged.found well (subst (λ (c : Computation). IsMessageList c messages) same list) zip)
+    let zip : AllZip (IsAnswered document.names (judgements.recorded_of document (traces_seen traces)) document.width) document.predicates judged.answers = subst (λ (r : Recorded). AllZip (IsAnswered document.names r document.width) document.predicates judged.answers) recorded judged.answered in
+    rw (judged.told, ap total same) (of_answers messages judged.answers well (subst (λ (c : Computation). IsMessageList c messages) same list) zip)

@@ -8,3 +8,5 @@ pub mod Feeding
 pub mod WholeInputs
 pub mod Openings
 pub mod RefusedPlaces
+pub mod PrintedPaths
+pub mod TruthFacts

@@ -6,8 +6,8 @@ use Rattle.std.proofs.lemmas.Bool.{cases_lt, lt-ltb}
 use Rattle.std.proofs.lemmas.List.{length-map}
 use Rattle.pd_format.specs.Documents.{Document, InPredicate, IsDocument, IsRefusedDocument}
 use Rattle.pd_format.specs.Documents as documents
-use Rattle.pd_format.specs.Judgements.{PossiblyReport, Refused, IsJudgement, of_read, of_refused, IsReportOfOutcomes, IsReportOfSession, outcomes_of, ended_streams, Told}
-use Rattle.pd_format.specs.Reports.{Refusal}
+use Rattle.pd_format.specs.Judgements.{IsJudgement, of_read, of_refused, IsReportOfOutcomes, IsReportOfSession, outcomes_of, ended_streams, Told}
+use Rattle.pd_format.specs.Reports.{Refusal, Refused, Report}
 use Rattle.pd_format.specs.Sessions.{Outcome, session, TooManyStreams, stream_limit}
 use Rattle.pd_spec.specs.Views.{IsFaultOf}
 use Rattle.pd_spec.specs.declared.fault.SpecFault.{SpecFault}
@@ -21,7 +21,7 @@ parts_split [] d lt = absurd (omega arith)
 parts_split (first ∷ others) d lt = refl
 
 -- with too many streams it doesn't matter what they give
-same_session : (document : Document) (streams : ℕ) (given told : List Outcome) (report : PossiblyReport) → (streams ≤ 16 → given ≡ told) → IsReportOfOutcomes document streams given report → IsReportOfOutcomes document streams told report
+same_session : (document : Document) (streams : ℕ) (given told : List Outcome) (report : Report) → (streams ≤ 16 → given ≡ told) → IsReportOfOutcomes document streams given report → IsReportOfOutcomes document streams told report
 same_session document streams given told report same judged = go (cases_lt 16 streams)
   where
     go : (16 < streams) ⊎ (streams ≤ 16) → IsReportOfOutcomes document streams told report
@@ -32,7 +32,7 @@ same_session document streams given told report same judged = go (cases_lt 16 st
         let second : session document.names streams told ≡ Err TooManyStreams = rw test refl in
         subst (λ r. IsReportOfSession document r report) (first ∙ sym second) judged
 
-pub read_judged : (bytes : List ℕ) (parts : List (List ℕ)) (document : Document) (streams : ℕ) (given : List Outcome) → IsDocument bytes document → streams ≡ length parts → (length parts ≤ 16 → given ≡ outcomes_of document.names (ended_streams parts)) → (report : PossiblyReport) → IsReportOfOutcomes document streams given report → IsJudgement bytes (ended_streams parts) report
+pub read_judged : (bytes : List ℕ) (parts : List (List ℕ)) (document : Document) (streams : ℕ) (given : List Outcome) → IsDocument bytes document → streams ≡ length parts → (length parts ≤ 16 → given ≡ outcomes_of document.names (ended_streams parts)) → (report : Report) → IsReportOfOutcomes document streams given report → IsJudgement bytes (ended_streams parts) report
 read_judged bytes parts document streams given is count same report judged =
     let many : length (ended_streams parts) ≡ length parts = length-map parts _ in
     of_read document is

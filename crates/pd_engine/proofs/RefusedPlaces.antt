@@ -63,11 +63,11 @@ first_longer [] [] zs first e = absurd (cc)
 first_longer [] (y ∷ ys) zs first e = e
 first_longer (x ∷ xs) ys zs first e = e
 
-all_behind : (P : Place → Type 0) (xs ys : List Place) → All P (xs ++ ys) → All P ys
+pub all_behind : {A : Type 0} (P : A → Type 0) (xs ys : List A) → All P (xs ++ ys) → All P ys
 all_behind P [] ys all = all
 all_behind P (x ∷ xs) ys all = all_behind P xs ys (λ k d below. all (suc k) d (omega (arith, below)))
 
-all_ahead : (P : Place → Type 0) (xs ys : List Place) → All P (xs ++ ys) → All P xs
+pub all_ahead : {A : Type 0} (P : A → Type 0) (xs ys : List A) → All P (xs ++ ys) → All P xs
 all_ahead P [] ys all = λ k d below. absurd (omega arith)
 all_ahead P (x ∷ xs) ys all = All-cons P x xs (all 0 x (omega arith)) (all_ahead P xs ys (λ k d below. all (suc k) d (omega (arith, below))))
 

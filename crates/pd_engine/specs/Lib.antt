@@ -3,3 +3,5 @@ pub mod Refusals
 pub mod Openings
 pub mod Outcomes
 pub mod Judged
+pub mod Paths
+pub mod Truths

@@ -1,8 +1,8 @@
 -- What a bundle is opened to, and the steps that hand a part to its reader.
 use Rattle.std.specs.Prelude.{◌≡◌, ℕ, ◌<◌, ◌≤◌, List, [], ◌∷◌, ◌++◌, map, flat_map, All, slice_index_or}
 use Rattle.pd_format.specs.Names.{ProcessNames}
-use Rattle.pd_format.specs.Judgements.{PossiblyReport, IsReportOfParts, IsReportOfOutcomes}
-use Rattle.pd_format.specs.Judgements as judgements
+use Rattle.pd_format.specs.Judgements.{IsReportOfParts, IsReportOfOutcomes}
+use Rattle.pd_format.specs.Reports as reports
 use Rattle.pd_format.specs.Readings.{Ended}
 use Rattle.pd_format.specs.Sessions.{Interleaving, Piece, AtEnd, inputs_of, bytes_of, ending_of}
 use Rattle.pd_events.specs.Reads.{ReaderState}
@@ -34,7 +34,7 @@ pub record HasFed (core : List ReaderState) (names : List ProcessNames) (streams
 
 -- a bundle of these parts is refused by its document, or its streams' readings make its report
 abbrev pub IsOpened : List (List ℕ) → Opened → Type 0
-IsOpened parts (Refused refusal) = IsReportOfParts parts (judgements.Refused (refusal_of refusal))
+IsOpened parts (Refused refusal) = IsReportOfParts parts (reports.Refused (refusal_of refusal))
 IsOpened parts (Session spec gathered) =
     All (ReadingFits (document_of spec).names) gathered.readings.items
-    × ((report : PossiblyReport) → IsReportOfOutcomes (document_of spec) gathered.streams (outcomes_seen gathered.readings.items) report → IsReportOfParts parts report)
+    × ((report : reports.Report) → IsReportOfOutcomes (document_of spec) gathered.streams (outcomes_seen gathered.readings.items) report → IsReportOfParts parts report)

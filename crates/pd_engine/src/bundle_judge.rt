@@ -1,6 +1,7 @@
 //! The report of a bundle.
 ghost use Rattle.pd_engine.specs.Openings.{HasFed, IsOpened, joined, whole_stream};
 ghost use Rattle.pd_engine.specs.Outcomes.{WritesFront, WritesReport};
+ghost use Rattle.pd_engine.specs.Truths.{WritesTruth};
 ghost use Rattle.pd_engine.specs.Views as views;
 ghost use Rattle.pd_format.specs.Bundles.{bundle_limit, parts_of};
 ghost use Rattle.pd_format.specs.Judgements.{IsReportOfBundle, ended_streams, outcomes_of};
@@ -118,6 +119,35 @@ fn bundle_report<S: RandomSource, G: Gate + Sync>(
     }
 }
 
+/// Reads a bundle, judges it, and writes its report.
+fn write_judged<S: RandomSource, R: Read + Drop, W: Write, G: Gate + Sync>(
+    rt: &S,
+    alloc: Global,
+    reader: R,
+    workers: u64,
+    gate: &G,
+    writer: &mut W,
+) -> Result<Outcome, EngineFault>
+    ensures written { IfOk result (λ outcome. IfSome (R.remaining reader) (λ input.
+        WritesReport input outcome (W.contents writer.old) (W.contents writer.new))) }
+    ensures short { IfOk result (λ outcome. IfSome (R.remaining reader) (λ input. length input ≤ bundle_limit)) }
+    ensures long { result ≡ Err EngineFault.BundleLong → IfSome (R.remaining reader) (λ input. bundle_limit < length input) }
+    ensures part { result ≡ Err EngineFault.Write → IfSome (R.remaining reader) (λ input.
+        WritesFront input (W.contents writer.old) (W.contents writer.new)) }
+    ensures memory { result ≡ Err EngineFault.Memory → Keeps (W.contents writer.old) (W.contents writer.new) }
+    ensures read { result ≡ Err EngineFault.Read → Keeps (W.contents writer.old) (W.contents writer.new) }
+    ensures unread { result ≡ Err EngineFault.BundleLong → Keeps (W.contents writer.old) (W.contents writer.new) }
+{
+    let bundle = read_upto(alloc, reader, BUNDLE_LIMIT)?;
+    if bundle.len() > BUNDLE_LIMIT {
+        return Err(EngineFault::BundleLong);
+    }
+    let report = bundle_report(rt, alloc, bundle, workers, gate)?;
+    let text = text(alloc, &report)?;
+    write_text(&text, writer)?;
+    Ok(outcome_of_report(&report))
+}
+
 /// Reads a bundle, judges it, and writes its report. `workers`, from 1 to 16, and the gate change nothing yet.
 ///
 /// # Errors
@@ -134,6 +164,9 @@ pub fn judge_bundle<S: RandomSource, R: Read + Drop, W: Write, G: Gate + Sync>(
     // What is written is the text of the report that the input's bytes make, which is judged or refused as is told.
     ensures written { IfOk result (λ outcome. IfSome (R.remaining reader) (λ input.
         WritesReport input outcome (W.contents writer.old) (W.contents writer.new))) }
+    // Where the input holds a well-formed session with no level over the width, it tells the truth of each predicate.
+    ensures headline { IfOk result (λ outcome. IfSome (R.remaining reader) (λ input.
+        WritesTruth input (W.contents writer.old) (W.contents writer.new))) }
     // The input is too long exactly where that is told.
     ensures short { IfOk result (λ outcome. IfSome (R.remaining reader) (λ input. length input ≤ bundle_limit)) }
     ensures long { result ≡ Err EngineFault.BundleLong → IfSome (R.remaining reader) (λ input. bundle_limit < length input) }
@@ -144,12 +177,6 @@ pub fn judge_bundle<S: RandomSource, R: Read + Drop, W: Write, G: Gate + Sync>(
     ensures read { result ≡ Err EngineFault.Read → Keeps (W.contents writer.old) (W.contents writer.new) }
     ensures unread { result ≡ Err EngineFault.BundleLong → Keeps (W.contents writer.old) (W.contents writer.new) }
 {
-    let bundle = read_upto(alloc, reader, BUNDLE_LIMIT)?;
-    if bundle.len() > BUNDLE_LIMIT {
-        return Err(EngineFault::BundleLong);
-    }
-    let report = bundle_report(rt, alloc, bundle, workers, gate)?;
-    let text = text(alloc, &report)?;
-    write_text(&text, writer)?;
-    Ok(outcome_of_report(&report))
+    pd_judgement::headline_of_bundle();
+    write_judged(rt, alloc, reader, workers, gate, writer)
 }

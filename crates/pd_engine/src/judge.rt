@@ -1,26 +1,31 @@
 //! The report of a session's streams.
 ghost use Rattle.pd_engine.specs.Judged.{IsJudged};
 ghost use Rattle.pd_engine.specs.Views as views;
-ghost use Rattle.pd_format.specs.Judgements.{IsFound, IsReportOfOutcomes, IsTracesReport, possibly_of};
+ghost use Rattle.pd_format.specs.Judgements.{IsAnswered, IsReportOfOutcomes, IsTracesReport, definitely_of, name_of_process, possibly_of};
 ghost use Rattle.pd_events.specs.Views.{computation_of};
 ghost use Rattle.pd_gather.specs.Views.{AreTraces, ReadingFits, outcomes_seen, traces_seen};
 ghost use Rattle.pd_model.specs.Answers.{IsPossiblyAnswer};
 ghost use Rattle.pd_model.specs.Messages.{HasLawfulMessages, IsMessageList};
 ghost use Rattle.pd_model.specs.Order.{HasNoCycle};
+ghost use Rattle.pd_definitely.specs.Answers as avoidances;
+ghost use Rattle.pd_engine.specs.Paths.{IsTold};
+ghost use Rattle.pd_engine.specs.Truths.{TellsTruthOf};
 ghost use Rattle.pd_possibly.specs.Answers.{answer_of};
 ghost use Rattle.pd_spec.specs.Named.{named_of};
 ghost use Rattle.pd_spec.specs.Views.{document_of};
 ghost use Rattle.std.specs.List.{AllZip};
-ghost use Rattle.std.specs.Prelude.{◌≡◌, ◌≤◌, All, IfOk, IsOkUnless, map};
+ghost use Rattle.std.specs.Prelude.{◌≡◌, ◌<◌, ◌≤◌, All, IfOk, IsOkUnless, length, map, string_bytes};
 
 use super::refusal::{of_cycle, of_messages, of_streams};
-use super::{Answer, EngineFault, Possibly, Report};
+use super::{Answer, Definitely, EngineFault, Possibly, Report};
 use pd_clock::{BuildFault, Computation};
+use pd_definitely::{DefinitelyAnswer, definitely};
 use pd_events::Trace;
 use pd_gather::{Gathered, session};
 use pd_level::Gate;
 use pd_match::{Matched, match_messages};
 use pd_possibly::{PossiblyAnswer, possibly};
+use pd_pred::Names;
 use pd_spec::{NamedPred, Spec};
 use std::alloc::{AllocError, Global};
 use std::random::RandomSource;
@@ -31,6 +36,26 @@ use std::random::RandomSource;
 /// # Errors
 /// `Memory`.
 pub fn report_of<S: RandomSource, G: Gate + Sync>(
+    rt: &S,
+    alloc: Global,
+    spec: &Spec,
+    gathered: Gathered,
+    workers: u64,
+    gate: &G,
+) -> Result<Report, EngineFault>
+    requires { All (ReadingFits (document_of spec.now).names) gathered.readings.items }
+    // The report is the one that the definitions give.
+    ensures report { IfOk result (λ report. IsReportOfOutcomes (document_of spec.now) gathered.streams (outcomes_seen gathered.readings.items) (views.report_of report)) }
+    // Where the streams make a well-formed computation with no level over the width, it tells the truth of each predicate.
+    ensures headline { IfOk result (λ report. TellsTruthOf (document_of spec.now) gathered.streams (outcomes_seen gathered.readings.items) (views.report_of report)) }
+    ensures err { IsOkUnless result EngineFault.Memory }
+{
+    pd_judgement::headline();
+    gathered_report(rt, alloc, spec, gathered, workers, gate)
+}
+
+/// The report of what the streams of a session gave.
+fn gathered_report<S: RandomSource, G: Gate + Sync>(
     rt: &S,
     alloc: Global,
     spec: &Spec,
@@ -108,17 +133,11 @@ fn answered<G: Gate + Sync>(
     gate: &G,
 ) -> Result<Report, EngineFault>
     requires acyclic { HasNoCycle computation.now.events }
+    requires processes { length computation.now.events ≡ length (document_of spec.now).names }
     ensures report { IfOk result (λ report. IsJudged (document_of spec.now) computation.now messages (views.report_of report)) }
     ensures err { IsOkUnless result EngineFault.Memory }
 {
-    let answers = answers(
-        alloc,
-        spec.predicates(),
-        computation,
-        spec.width(),
-        workers,
-        gate,
-    )?;
+    let answers = answers(alloc, spec, computation, workers, gate)?;
     Ok(Report::Judged {
         processes: spec.names().processes() as u64,
         events: computation.total(),
@@ -130,19 +149,19 @@ fn answered<G: Gate + Sync>(
 /// The answer for each predicate.
 fn answers<G: Gate + Sync>(
     alloc: Global,
-    asked: &[NamedPred],
+    spec: &Spec,
     computation: &Computation<'_>,
-    width: u64,
     workers: u64,
     gate: &G,
 ) -> Result<Vec<Answer>, AllocError>
     requires acyclic { HasNoCycle computation.now.events }
-    requires wide { 1 ≤ width }
-    ensures { IfOk result (λ answers. AllZip (IsFound computation.now width) (map named_of asked.now) (map views.found_of answers.items)) }
+    requires processes { length computation.now.events ≡ length (document_of spec.now).names }
+    ensures { IfOk result (λ answers. AllZip (IsAnswered (document_of spec.now).names computation.now (document_of spec.now).width) (document_of spec.now).predicates (map views.answer_seen answers.items)) }
 {
+    let asked = spec.predicates();
     let mut answers = Vec::new(alloc);
     for predicate in asked {
-        answers.push(answer(alloc, predicate, computation, width, workers, gate)?)?;
+        answers.push(answer(alloc, spec, predicate, computation, workers, gate)?)?;
     }
     Ok(answers)
 }
@@ -150,20 +169,23 @@ fn answers<G: Gate + Sync>(
 /// The answer for one predicate.
 fn answer<G: Gate + Sync>(
     alloc: Global,
+    spec: &Spec,
     asked: &NamedPred,
     computation: &Computation<'_>,
-    width: u64,
     workers: u64,
     gate: &G,
 ) -> Result<Answer, AllocError>
     requires acyclic { HasNoCycle computation.now.events }
-    requires wide { 1 ≤ width }
-    ensures { IfOk result (λ answer. IsFound computation.now width (named_of asked.now) (views.found_of answer)) }
+    requires processes { length computation.now.events ≡ length (document_of spec.now).names }
+    ensures { IfOk result (λ answer. IsAnswered (document_of spec.now).names computation.now (document_of spec.now).width (named_of asked.now) (views.answer_seen answer)) }
 {
+    let width = spec.width();
     let found = possibly(alloc, computation, &asked.pred, width, workers, gate)?;
+    let avoided = definitely(alloc, computation, &asked.pred, width, workers, gate)?;
     Ok(Answer {
         name: asked.name.clone()?,
         possibly: told(alloc, &found)?,
+        definitely: told_by_names(alloc, spec.names(), &avoided)?,
     })
 }
 
@@ -175,5 +197,41 @@ fn told(alloc: Global, answer: &PossiblyAnswer) -> Result<Possibly, AllocError>
         PossiblyAnswer::Yes(cut) => Ok(Possibly::Yes(cut.counts().to_vec(alloc)?)),
         PossiblyAnswer::No => Ok(Possibly::No),
         PossiblyAnswer::Unknown(level) => Ok(Possibly::Unknown(*level)),
+    }
+}
+
+/// The name of a process, which is counted from 0.
+fn name_of(alloc: Global, names: &Names, p: usize) -> Result<String, AllocError>
+    requires { p < length names.now }
+    ensures { IfOk result (λ name. string_bytes name ≡ name_of_process names.now p) }
+{
+    String::from_str(alloc, names.name(p))
+}
+
+/// The names of processes, which are counted from 0.
+fn names_of(alloc: Global, names: &Names, path: &[usize]) -> Result<Vec<String>, AllocError>
+    requires { All (λ p. p < length names.now) path.now }
+    ensures { IfOk result (λ told. map string_bytes told.items ≡ map (name_of_process names.now) path.now) }
+{
+    let mut told = Vec::new(alloc);
+    for &p in path {
+        told.push(name_of(alloc, names, p)?)?;
+    }
+    Ok(told)
+}
+
+/// The answer as a report tells it, with an observation by the names of its processes.
+fn told_by_names(
+    alloc: Global,
+    names: &Names,
+    answer: &DefinitelyAnswer,
+) -> Result<Definitely, AllocError>
+    requires { IsTold (length names.now) answer.now }
+    ensures { IfOk result (λ definitely. views.definitely_told definitely ≡ definitely_of names.now (avoidances.answer_of answer.now)) }
+{
+    match answer {
+        DefinitelyAnswer::Yes(level) => Ok(Definitely::Yes(*level)),
+        DefinitelyAnswer::No(path) => Ok(Definitely::No(names_of(alloc, names, path)?)),
+        DefinitelyAnswer::Unknown(level) => Ok(Definitely::Unknown(*level)),
     }
 }

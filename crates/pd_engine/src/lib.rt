@@ -35,4 +35,4 @@ pub use input::read_upto;
 pub use judge::report_of;
 pub use outcome::Outcome;
 pub use pd_level::{Gate, NoGate};
-pub use report::{Answer, Possibly, Refusal, Report, text};
+pub use report::{Answer, Definitely, Possibly, Refusal, Report, text};

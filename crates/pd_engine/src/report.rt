@@ -1,8 +1,7 @@
 //! Reports, and their texts.
-ghost use Rattle.pd_engine.specs.Views.{answers_text, found_of, places_of, possibly_told, refusal_of, report_of};
-ghost use Rattle.pd_format.specs.Judgements.{Judged as JudgedReport, found_line, possibly_text};
-ghost use Rattle.pd_format.specs.Reports.{Predicate as RefusedPredicate, Stream as RefusedStream, place_text, possibly_words, refusal_words, spaced, with_commas};
-ghost use Rattle.std.specs.Prelude.{◌≡◌, ◌∷◌, [], ◌++◌, map, OnOk, IfOk};
+ghost use Rattle.pd_engine.specs.Views.{answer_seen, answers_text, definitely_told, places_of, possibly_told, refusal_of, report_of};
+ghost use Rattle.pd_format.specs.Reports.{Judged as JudgedReport, Predicate as RefusedPredicate, Stream as RefusedStream, answer_lines, definitely_words, path_text, place_text, possibly_words, refusal_words, report_text, spaced, text_of_lines, with_commas};
+ghost use Rattle.std.specs.Prelude.{◌≡◌, ◌∷◌, [], ◌++◌, codes, map, string_bytes, OnOk, IfOk};
 
 use super::fields::{push_bytes, push_number, push_numbers};
 use std::alloc::{AllocError, Global};
@@ -32,6 +31,8 @@ pub struct Answer {
     pub name: String,
     /// Whether some consistent cut satisfies it.
     pub possibly: Possibly,
+    /// Whether every observation passes through a cut that satisfies it.
+    pub definitely: Definitely,
 }
 
 /// Whether some consistent cut satisfies a predicate.
@@ -42,6 +43,17 @@ pub enum Possibly {
     /// There is none.
     No,
     /// The lattice level, counted from 0, that has more cuts than the width allows.
+    Unknown(u64),
+}
+
+/// Whether every observation passes through a cut that satisfies a predicate.
+#[derive(Debug, Drop)]
+pub enum Definitely {
+    /// Each does. The lattice level, counted from 0, is the least that none reaches without such a cut.
+    Yes(u64),
+    /// This one doesn't: the names of the processes in the order in which their events happen.
+    No(Vec<String>),
+    /// The lattice level, counted from 0, that has more avoiding cuts than the width allows.
     Unknown(u64),
 }
 
@@ -126,14 +138,88 @@ fn push_possibly(out: &mut Vec<u8>, possibly: &Possibly) -> Result<(), AllocErro
     }
 }
 
-/// Appends an answer's line.
-fn push_answer(out: &mut Vec<u8>, answer: &Answer) -> Result<(), AllocError>
-    ensures { OnOk result (out.new.items ≡ out.old.items ++ (found_line (found_of answer.now) ++ 10 ∷ [])) }
+/// Appends a name.
+fn push_name(out: &mut Vec<u8>, name: &str) -> Result<(), AllocError>
+    ensures { OnOk result (out.new.items ≡ out.old.items ++ name.now) }
 {
-    push_bytes(out, answer.name.as_bytes())?;
+    push_bytes(out, name.as_bytes())
+}
+
+/// Appends names with a comma between each two.
+fn push_names(out: &mut Vec<u8>, names: &[String]) -> Result<(), AllocError>
+    ensures { OnOk result (out.new.items ≡ out.old.items ++ with_commas (map string_bytes names.now)) }
+{
+    let Some((first, others)) = names.split_first() else {
+        return Ok(());
+    };
+    push_name(out, first)?;
+    for name in others {
+        push_bytes(out, b",")?;
+        push_name(out, name)?;
+    }
+    Ok(())
+}
+
+/// Appends an observation: the names of its processes, or a dash where it has no event.
+fn push_path(out: &mut Vec<u8>, path: &[String]) -> Result<(), AllocError>
+    ensures { OnOk result (out.new.items ≡ out.old.items ++ path_text (map string_bytes path.now)) }
+{
+    if path.is_empty() {
+        return push_bytes(out, b"-");
+    }
+    push_names(out, path)
+}
+
+/// Appends the words of an answer on every observation.
+fn push_definitely(out: &mut Vec<u8>, definitely: &Definitely) -> Result<(), AllocError>
+    ensures { OnOk result (out.new.items ≡ out.old.items ++ spaced (definitely_words (definitely_told definitely.now))) }
+{
+    match definitely {
+        Definitely::Yes(level) => {
+            push_bytes(out, b"yes ")?;
+            push_number(out, *level)
+        }
+        Definitely::No(path) => {
+            push_bytes(out, b"no ")?;
+            push_path(out, path)
+        }
+        Definitely::Unknown(level) => {
+            push_bytes(out, b"unknown ")?;
+            push_number(out, *level)
+        }
+    }
+}
+
+/// Appends the line of Possibly.
+fn push_possibly_line(out: &mut Vec<u8>, name: &str, possibly: &Possibly) -> Result<(), AllocError>
+    ensures { OnOk result (out.new.items ≡ out.old.items ++ (spaced (name.now ∷ codes "possibly" ∷ possibly_words (possibly_told possibly.now)) ++ 10 ∷ [])) }
+{
+    push_bytes(out, name.as_bytes())?;
     push_bytes(out, b" possibly ")?;
-    push_possibly(out, &answer.possibly)?;
+    push_possibly(out, possibly)?;
     push_bytes(out, b"\n")
+}
+
+/// Appends the line of Definitely.
+fn push_definitely_line(
+    out: &mut Vec<u8>,
+    name: &str,
+    definitely: &Definitely,
+) -> Result<(), AllocError>
+    ensures { OnOk result (out.new.items ≡ out.old.items ++ (spaced (name.now ∷ codes "definitely" ∷ definitely_words (definitely_told definitely.now)) ++ 10 ∷ [])) }
+{
+    push_bytes(out, name.as_bytes())?;
+    push_bytes(out, b" definitely ")?;
+    push_definitely(out, definitely)?;
+    push_bytes(out, b"\n")
+}
+
+/// Appends an answer's lines.
+fn push_answer(out: &mut Vec<u8>, answer: &Answer) -> Result<(), AllocError>
+    ensures { OnOk result (out.new.items ≡ out.old.items ++ text_of_lines (answer_lines (answer_seen answer.now))) }
+{
+    push_possibly_line(out, &answer.name, &answer.possibly)?;
+    push_definitely_line(out, &answer.name, &answer.definitely)
 }
 
 /// Appends the line that counts what a session has.
@@ -143,7 +229,7 @@ fn push_session(
     events: u64,
     messages: u64,
 ) -> Result<(), AllocError>
-    ensures { OnOk result (out.new.items ≡ out.old.items ++ possibly_text (JudgedReport processes events messages [])) }
+    ensures { OnOk result (out.new.items ≡ out.old.items ++ report_text (JudgedReport processes events messages [])) }
 {
     push_bytes(out, b"session ")?;
     push_number(out, processes)?;
@@ -216,12 +302,12 @@ fn push_answers(out: &mut Vec<u8>, answers: &[Answer]) -> Result<(), AllocError>
     Ok(())
 }
 
-/// A report's text: a line for the session and one for each answer, or one for the refusal, each ended by an LF.
+/// A report's text: a line for the session and two for each answer, or one for the refusal, each ended by an LF.
 ///
 /// # Errors
 /// Where memory runs out.
 pub fn text(alloc: Global, report: &Report) -> Result<Vec<u8>, AllocError>
-    ensures { IfOk result (λ text. text.items ≡ possibly_text (report_of report.now)) }
+    ensures { IfOk result (λ text. text.items ≡ report_text (report_of report.now)) }
 {
     let mut out = Vec::new(alloc);
     match report {

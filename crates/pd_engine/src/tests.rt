@@ -1,7 +1,7 @@
 //! Texts, parts, reads and writes that are known.
 use super::bundle::parts;
 use super::output::write_text;
-use super::{Answer, EngineFault, Possibly, Refusal, Report, read_upto, text};
+use super::{Answer, Definitely, EngineFault, Possibly, Refusal, Report, read_upto, text};
 use std::alloc::{AllocError, Global};
 use std::io;
 use std::io::{Error, ErrorKind, Read, Write};
@@ -23,14 +23,17 @@ fn judged_reports(rt: HostRuntime) -> Result<(), Fail> {
     let ahead = Answer {
         name: string(alloc, "ahead")?,
         possibly: Possibly::Yes(vec![in alloc; 1, 0]?),
+        definitely: Definitely::No(vec![in alloc; string(alloc, "b")?, string(alloc, "a")?]?),
     };
     let both = Answer {
         name: string(alloc, "both")?,
         possibly: Possibly::No,
+        definitely: Definitely::No(Vec::new(alloc)),
     };
     let wide = Answer {
         name: string(alloc, "wide")?,
         possibly: Possibly::Unknown(12),
+        definitely: Definitely::Unknown(13),
     };
     let report = Report::Judged {
         processes: 2,
@@ -39,7 +42,7 @@ fn judged_reports(rt: HostRuntime) -> Result<(), Fail> {
         answers: vec![in alloc; ahead, both, wide]?,
     };
     let want =
-        "session 2 processes 2 events 0 messages\nahead possibly yes 1,0\nboth possibly no\nwide possibly unknown 12\n";
+        "session 2 processes 2 events 0 messages\nahead possibly yes 1,0\nahead definitely no b,a\nboth possibly no\nboth definitely no -\nwide possibly unknown 12\nwide definitely unknown 13\n";
     assert_eq!(rt; text(alloc, &report)?.as_slice(), want.as_bytes());
     Ok(())
 }

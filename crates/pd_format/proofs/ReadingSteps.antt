@@ -6,7 +6,7 @@ use Rattle.pd_format.specs.Lines.{Line, FrameFault, frame_fault, open_lines, fin
 use Rattle.pd_format.specs.Lines as lines
 use Rattle.pd_format.specs.Names.{ProcessNames}
 use Rattle.pd_format.specs.Records.{RecordFault, Join, LineRecord, Joins, Happens, Ends, record_of}
-use Rattle.pd_format.specs.Readings.{Ending, Open, Ended, Failed, Stop, NothingMore, EndLine, Fault, InRecord, TooManyEvents, Unended, ReadFailed, stopped, event_limit, Course, with_first, course_from, course_of, Reading, not_joined, reading_from, reading_of_lines, lines_of, stop_at_end, stop_or, with_end, reading, StreamKind}
+use Rattle.pd_format.specs.Readings.{Open, Ended, Failed, Stop, NothingMore, EndLine, Fault, InRecord, TooManyEvents, Unended, ReadFailed, stopped, event_limit, Course, with_first, course_from, course_of, Reading, not_joined, reading_from, reading_of_lines, stop_at_end, with_end, reading, StreamKind}
 use Rattle.pd_format.specs.ReadingLaws.{stopped_by, after_record, read_line, unless_stopped, read_on}
 use Rattle.pd_format.proofs.LineFacts.{append_nil}
 

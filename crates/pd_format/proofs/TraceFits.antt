@@ -1,5 +1,5 @@
 -- Each trace that a stream gives fits the session's names.
-use Rattle.std.proofs.Common.{◌≡◌, ℕ, zero, suc, ◌+◌, ◌<◌, ◌≤◌, Bool, true, false, cond, List, [], ◌∷◌, ◌++◌, length, refl, sym, ◌∙◌, ap, subst, length-append, ℤ, arith}
+use Rattle.std.proofs.Common.{◌≡◌, ℕ, suc, ◌+◌, ◌<◌, ◌≤◌, Bool, true, false, cond, List, [], ◌∷◌, ◌++◌, length, refl, sym, ◌∙◌, ap, subst, length-append, ℤ, arith}
 use Rattle.std.specs.Prelude.{Option, Some, None, nat_lt, Result, Ok, Err, All, option_map, option_and_then}
 use Rattle.std.specs.List.{cons_option}
 use Rattle.std.proofs.lemmas.Bool.Decides.{nat_tests}
@@ -8,12 +8,12 @@ use Rattle.std.proofs.lemmas.List.Quantifiers.{position-Some}
 use Rattle.serde_json.specs.Data.{Data, Members}
 use Rattle.serde_json.specs.Find.{get_member}
 use Rattle.std.specs.Str.{bytes_eq}
-use Rattle.pd_model.specs.Events.{Event, Linked, Kind, SetsAscend}
+use Rattle.pd_model.specs.Events.{Event, Linked, Kind}
 use Rattle.pd_format.specs.Lists.{unless}
 use Rattle.pd_format.specs.Lines.{Line}
 use Rattle.pd_format.specs.Names.{ProcessNames, process_named, vars_of}
-use Rattle.pd_format.specs.Records.{RecordFault, Join, LineRecord, Joins, Happens, Ends, Statement, SaysJoin, SaysEnd, SaysEvent, json_value, whole_number, statement_of, sets_from, join_record, record_of_statement, record_of_shape, record_of_value, record_of}
-use Rattle.pd_format.specs.Readings.{Ending, Open, Stop, NothingMore, EndLine, Fault, InRecord, TooManyEvents, event_limit, Reading, not_joined, reading_of_lines, lines_of, stop_at_end, stop_or, with_end, reading, outcome_of, outcome, Trace, StreamFault}
+use Rattle.pd_format.specs.Records.{RecordFault, Join, LineRecord, Joins, Happens, Ends, Statement, SaysJoin, SaysEnd, SaysEvent, json_value, whole_number, statement_of, sets_from, join_record, record_of_shape, record_of_value, record_of}
+use Rattle.pd_format.specs.Readings.{Ending, Stop, NothingMore, EndLine, Fault, InRecord, TooManyEvents, event_limit, Reading, not_joined, reading_of_lines, lines_of, reading, outcome_of, outcome, Trace}
 use Rattle.pd_format.specs.ReadingLaws.{stopped_by, after_record, process_of, read_line, unless_stopped, read_on, FitsProcess, FitsSession}
 use Rattle.pd_format.proofs.ReadingSteps.{from_start}
 

@@ -1,5 +1,5 @@
 -- A session in one input: the document and the streams, with separator lines between them.
-use Rattle.std.specs.Prelude.{ℕ, Bool, ◌||◌, ◌==◌, if◌then◌else◌, List, [], ◌∷◌, ◌++◌, codes}
+use Rattle.std.specs.Prelude.{ℕ, Bool, ◌==◌, if◌then◌else◌, List, [], ◌∷◌, ◌++◌, codes}
 use Rattle.pd_format.specs.Lists.{is_one_of}
 use Rattle.pd_format.specs.Lines.{line_feed}
 

@@ -1,13 +1,12 @@
 -- The report that a document and its streams make: the first refusal, or an answer for each predicate.
--- Definitely isn't answered yet.
-use Rattle.std.specs.Prelude.{◌≡◌, ℕ, ◌+◌, List, [], ◌∷◌, ◌++◌, length, map, flat_map, codes, Option, Some, None, option_map, unwrap_or, slice_get, decimal, Result, Ok, Err}
+use Rattle.std.specs.Prelude.{◌≡◌, ℕ, ◌+◌, List, [], ◌∷◌, length, map, codes, option_map, unwrap_or, slice_get, Result, Ok, Err}
 use Rattle.std.specs.List.{AllZip, filter_map}
 use Rattle.pd_model.specs.Events.{Computation, Place}
 use Rattle.pd_model.specs.Messages.{Fault, SendTwice, Orphan, SelfMessage, ReceivedTwice, IsReported, HasLawfulMessages, IsMessageList}
 use Rattle.pd_model.specs.Order.{IsWellFormed, IsReportedCycle}
 use Rattle.pd_model.specs.Cuts.{total}
 use Rattle.pd_model.specs.Predicates.{Recorded, test_of}
-use Rattle.pd_model.specs.Answers.{PossiblyAnswer, PossiblyYes, PossiblyNo, PossiblyUnknown, IsPossiblyAnswer}
+use Rattle.pd_model.specs.Answers.{PossiblyAnswer, PossiblyYes, PossiblyNo, PossiblyUnknown, IsPossiblyAnswer, DefinitelyAnswer, DefinitelyYes, DefinitelyNo, DefinitelyUnknown, IsDefinitelyAnswer}
 use Rattle.pd_format.specs.Names.{ProcessNames}
 use Rattle.pd_format.specs.PredicateTexts.{PredicateFault}
 use Rattle.pd_format.specs.PredicateTexts as predicates
@@ -17,31 +16,9 @@ use Rattle.pd_format.specs.Readings.{Ending, Ended, StreamKind, LineTooLong, Str
 use Rattle.pd_format.specs.Documents.{Document, NamedPredicate, DocumentFault, IsDocument, IsRefusedDocument}
 use Rattle.pd_format.specs.Documents as documents
 use Rattle.pd_format.specs.Sessions.{SessionFault, TooManyStreams, Stream, Taken, Absent, Outcome, session}
-use Rattle.pd_format.specs.Reports.{Possibly, NamedPlace, Refusal, refusal_words, possibly_words, spaced, text_of_lines}
+use Rattle.pd_format.specs.Reports.{Possibly, Definitely, Answer, NamedPlace, Refusal, Report, Judged, Refused}
 use Rattle.pd_format.specs.Reports as reports
 use Rattle.pd_format.specs.Bundles.{parts_of}
-
--- ---- reports with Possibly alone
-
-pub record Found : Type 0 where
-  pub name : List ℕ
-  pub possibly : Possibly
-
-pub data PossiblyReport : Type 0 where
-  Judged : (processes events messages : ℕ) (found : List Found) → PossiblyReport
-  Refused : Refusal → PossiblyReport
-
-abbrev pub found_line : Found → List ℕ
-found_line found = spaced (found.name ∷ codes "possibly" ∷ possibly_words found.possibly)
-
-abbrev pub possibly_lines : PossiblyReport → List (List ℕ)
-possibly_lines (Judged processes events messages found) =
-    spaced (codes "session" ∷ decimal processes ∷ codes "processes" ∷ decimal events ∷ codes "events" ∷ decimal messages ∷ codes "messages" ∷ [])
-    ∷ map found_line found
-possibly_lines (Refused refusal) = spaced (codes "refused" ∷ refusal_words refusal) ∷ []
-
-abbrev pub possibly_text : PossiblyReport → List ℕ
-possibly_text report = text_of_lines (possibly_lines report)
 
 -- ---- refusals in words
 
@@ -115,26 +92,36 @@ possibly_of (PossiblyYes cut) = Possibly.Yes cut
 possibly_of PossiblyNo = Possibly.No
 possibly_of (PossiblyUnknown level) = Possibly.Unknown level
 
--- the answer for one predicate, under this width
-pub record IsFound (recorded : Recorded) (width : ℕ) (asked : NamedPredicate) (found : Found) : Type 0 where
-  pub name : found.name ≡ asked.name
-  pub answer : PossiblyAnswer
-  pub told : found.possibly ≡ possibly_of answer
-  pub right : IsPossiblyAnswer recorded.events (test_of recorded asked.predicate) width answer
+-- the avoiding observation as the names of its processes
+abbrev pub definitely_of : List ProcessNames → DefinitelyAnswer → Definitely
+definitely_of names (DefinitelyYes level) = Definitely.Yes level
+definitely_of names (DefinitelyNo path) = Definitely.No (map (name_of_process names) path)
+definitely_of names (DefinitelyUnknown level) = Definitely.Unknown level
+
+-- The answer for one predicate: whether some consistent cut satisfies it, and whether every observation passes through such
+-- a cut, under this width.
+pub record IsAnswered (names : List ProcessNames) (recorded : Recorded) (width : ℕ) (asked : NamedPredicate) (answer : Answer) : Type 0 where
+  pub name : answer.name ≡ asked.name
+  pub possibly : PossiblyAnswer
+  pub possibly_told : answer.possibly ≡ possibly_of possibly
+  pub possibly_right : IsPossiblyAnswer recorded.events (test_of recorded asked.predicate) width possibly
+  pub definitely : DefinitelyAnswer
+  pub definitely_told : answer.definitely ≡ definitely_of names definitely
+  pub definitely_right : IsDefinitelyAnswer recorded.events (test_of recorded asked.predicate) width definitely
 
 -- The report of traces: the first fault of the messages, else the causal cycle, else the answers.
-pub data IsTracesReport (document : Document) (traces : List Trace) : PossiblyReport → Type 0 where
+pub data IsTracesReport (document : Document) (traces : List Trace) : Report → Type 0 where
   of_messages : (fault : Fault) → IsReported (events_of_traces traces) fault → IsTracesReport document traces (Refused (match_refusal document.names fault))
   of_cycle : (cycle : List Place) → HasLawfulMessages (events_of_traces traces) → IsReportedCycle (events_of_traces traces) cycle → IsTracesReport document traces (Refused (reports.Cycle (map (named_place document.names) cycle)))
-  of_answers : (messages : List (Place × Place)) (found : List Found) → IsWellFormed (events_of_traces traces) → IsMessageList (events_of_traces traces) messages → AllZip (IsFound (recorded_of document traces) document.width) document.predicates found → IsTracesReport document traces (Judged (length document.names) (total (events_of_traces traces)) (length messages) found)
+  of_answers : (messages : List (Place × Place)) (answers : List Answer) → IsWellFormed (events_of_traces traces) → IsMessageList (events_of_traces traces) messages → AllZip (IsAnswered document.names (recorded_of document traces) document.width) document.predicates answers → IsTracesReport document traces (Judged (length document.names) (total (events_of_traces traces)) (length messages) answers)
 
 -- the report of what a session comes to
-abbrev pub IsReportOfSession : Document → Result (List Trace) SessionFault → PossiblyReport → Type 0
+abbrev pub IsReportOfSession : Document → Result (List Trace) SessionFault → Report → Type 0
 IsReportOfSession document (Err fault) report = report ≡ Refused (session_refusal document.names fault)
 IsReportOfSession document (Ok traces) report = IsTracesReport document traces report
 
 -- the report of so many streams with these outcomes
-abbrev pub IsReportOfOutcomes : Document → ℕ → List Outcome → PossiblyReport → Type 0
+abbrev pub IsReportOfOutcomes : Document → ℕ → List Outcome → Report → Type 0
 IsReportOfOutcomes document streams outcomes report = IsReportOfSession document (session document.names streams outcomes) report
 
 -- what a stream told: its bytes, and how they ended
@@ -146,7 +133,7 @@ abbrev pub outcomes_of : List ProcessNames → List Told → List Outcome
 outcomes_of names streams = filter_map (λ (told : Told). outcome (reading names told.ending told.bytes)) streams
 
 -- the report of a document's bytes and of what the streams told
-pub data IsJudgement (bytes : List ℕ) (streams : List Told) (report : PossiblyReport) : Type 0 where
+pub data IsJudgement (bytes : List ℕ) (streams : List Told) (report : Report) : Type 0 where
   of_refused : (fault : DocumentFault) → IsRefusedDocument bytes fault → report ≡ Refused (document_refusal fault) → IsJudgement bytes streams report
   of_read : (document : Document) → IsDocument bytes document → IsReportOfOutcomes document (length streams) (outcomes_of document.names streams) report → IsJudgement bytes streams report
 
@@ -154,9 +141,9 @@ abbrev pub ended_streams : List (List ℕ) → List Told
 ended_streams parts = map (λ bytes. record { ending = Ended; bytes = bytes }) parts
 
 -- the report of a bundle: its first part is the document, and the others are the streams
-abbrev pub IsReportOfParts : List (List ℕ) → PossiblyReport → Type 0
+abbrev pub IsReportOfParts : List (List ℕ) → Report → Type 0
 IsReportOfParts [] report = ⊥
 IsReportOfParts (document ∷ streams) report = IsJudgement document (ended_streams streams) report
 
-abbrev pub IsReportOfBundle : List ℕ → PossiblyReport → Type 0
+abbrev pub IsReportOfBundle : List ℕ → Report → Type 0
 IsReportOfBundle bytes report = IsReportOfParts (parts_of bytes) report

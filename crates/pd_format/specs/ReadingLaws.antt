@@ -4,7 +4,7 @@ use Rattle.pd_model.specs.Events.{Event, SetsAscend}
 use Rattle.pd_format.specs.Lines.{Line, FrameFault, frame_fault, open_lines, finished_lines, line_count, line_number, IsBatch}
 use Rattle.pd_format.specs.Names.{ProcessNames, vars_of}
 use Rattle.pd_format.specs.Records.{RecordFault, Join, LineRecord, Joins, Happens, Ends, record_of}
-use Rattle.pd_format.specs.Readings.{Ending, Open, Ended, Failed, Stop, NothingMore, EndLine, Fault, InRecord, TooManyEvents, Unended, ReadFailed, event_limit, Reading, reading_of_lines, stop_at_end, with_end, reading, outcome, Trace}
+use Rattle.pd_format.specs.Readings.{Ending, Open, Ended, Failed, Stop, NothingMore, EndLine, Fault, InRecord, TooManyEvents, Unended, ReadFailed, event_limit, Reading, stop_at_end, with_end, reading, outcome, Trace}
 
 abbrev pub stopped_by : Reading → Stop → Reading
 stopped_by r stop = record { joined = r.joined; events = r.events; stop = stop }

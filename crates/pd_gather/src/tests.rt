@@ -1,12 +1,15 @@
 //! Streams fed in turns, and each refusal of a session.
-ghost use Rattle.pd_gather.specs.Views.{ReadingFits};
+ghost use Rattle.pd_format.specs.Names.{ProcessNames};
+ghost use Rattle.pd_format.specs.Sessions.{Interleaving};
+ghost use Rattle.pd_gather.specs.Taken.{HasTaken};
+ghost use Rattle.pd_gather.specs.Views.{ReadingFits, input_seen};
 ghost use Rattle.pd_spec.specs.Views.{document_of};
-ghost use Rattle.std.specs.Prelude.{◌≤◌, All, IfOk, length};
+ghost use Rattle.std.specs.Prelude.{◌≡◌, ◌<◌, ◌≤◌, ◌++◌, ◌∷◌, [], All, IfOk, List, OnOk, length};
 
 use super::{Core, Gathered, Input, SessionFault, session};
 use pd_events::{StreamFault, StreamKind};
 use pd_spec::Spec;
-use std::alloc::Global;
+use std::alloc::{AllocError, Global};
 use std::test::Fail;
 
 const DOCUMENT: &[u8] =
@@ -20,6 +23,19 @@ fn spec(alloc: Global) -> Result<Spec, Fail> {
     match Spec::read(alloc, DOCUMENT) {
         Ok(spec) => Ok(spec),
         Err(_) => Err(Fail::from("refused")),
+    }
+}
+
+/// Takes an input, and takes it again where memory was refused: nothing has changed by then.
+fn take(core: &mut Core<'_>, stream: usize, input: Input<'_>) -> Result<(), AllocError>
+    requires { stream < length core.old }
+    ensures taken { OnOk result ((names : List ProcessNames) (steps : Interleaving) →
+        HasTaken core.old names steps → HasTaken core.new names (steps ++ (stream, input_seen input.entry) ∷ [])) }
+    ensures streams { length core.new ≡ length core.old }
+{
+    match core.step(stream, input) {
+        Ok(()) => Ok(()),
+        Err(_) => core.step(stream, input),
     }
 }
 
@@ -39,7 +55,7 @@ fn gathered(
         if stream >= streams {
             return Err(Fail::from("no such stream"));
         }
-        core.step(stream, input)?;
+        take(&mut core, stream, input)?;
     }
     if core.closed() {
         Ok(core.outcome())

@@ -2,3 +2,4 @@ pub mod Keys
 pub mod Merges
 pub mod Steps
 pub mod Levels
+pub mod Kept

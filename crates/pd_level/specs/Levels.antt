@@ -1,5 +1,6 @@
 -- What a level stands for.
-use Rattle.std.specs.Prelude.{ℕ, ◌≤◌, List, map}
+use Rattle.std.specs.Prelude.{ℕ, ◌≤◌, Bool, List, [], ◌∷◌, map, cond}
+use Rattle.std.specs.Bool.{beq}
 use Rattle.pd_level.specs.Keys.{AreKeys, digits}
 
 -- the number of a level, from 0, and its cuts as counts
@@ -15,3 +16,10 @@ cuts_of processes keys = map (λ key. digits processes key) keys
 pub record IsKept (processes : ℕ) (keys : List ℕ) : Type 0 where
   pub few : processes ≤ 8
   pub are_keys : AreKeys processes keys
+
+-- those of the elements whose mark is the one that is wanted
+abbrev pub kept_by : {A : Type 0} → Bool → List Bool → List A → List A
+kept_by wanted [] xs = []
+kept_by wanted (mark ∷ marks) [] = []
+kept_by wanted (mark ∷ marks) (x ∷ xs) =
+    cond (beq mark wanted) (x ∷ kept_by wanted marks xs) (kept_by wanted marks xs)

@@ -1,9 +1,11 @@
 //! A level: the consistent cuts with one number of events.
 ghost use Rattle.pd_model.specs.Answers.{IsListOf, MoreThan};
 ghost use Rattle.pd_model.specs.Cuts.{IsConsistent, IsNextOf, empty_cut};
+ghost use Rattle.pd_level.specs.Levels.{kept_by};
 ghost use Rattle.std.specs.Prelude.{◌≡◌, ◌+◌, ◌<◌, ◌≤◌, ◌==◌, ◌↔◌, All, Contains, IfOk, IsTrue, List, [], ◌∷◌, Some, length, min, slice_get};
 
 use super::LevelFault;
+use super::keep::keep_marked;
 use super::key::{pack, unpack};
 use super::step::more_by_any;
 use pd_clock::{Computation, Cut};
@@ -115,5 +117,15 @@ impl Level {
             Some(key) => self.keys.as_slice().binary_search(&key).is_ok(),
             None => false,
         }
+    }
+
+    /// Keeps the cuts whose mark is the one that is wanted, in their order. There is one mark for each cut. The number stays,
+    /// and no memory is taken.
+    pub fn keep(&mut self, marks: &[bool], wanted: bool)
+        requires { length marks.now ≡ length self.old.cuts }
+        ensures cuts { self.new.cuts ≡ kept_by wanted marks.now self.old.cuts }
+        ensures number { self.new.number ≡ self.old.number }
+    {
+        keep_marked(&mut self.keys, marks, wanted);
     }
 }

@@ -14,11 +14,13 @@
 //! - `can`: of which processes one more event leaves a cut
 //! - `step`: the cuts that have one event more
 //! - `merge`: two ascending lists as one
+//! - `keep`: some of the cuts, by their marks
 #![tactic(auto)]
 
 mod can;
 mod fault;
 mod gate;
+mod keep;
 mod key;
 mod level;
 mod merge;

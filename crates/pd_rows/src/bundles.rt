@@ -26,6 +26,9 @@ pub(crate) const THREE: &str =
 const TOP: &str =
     r#""predicates":[{"name":"top","text":"a.n + b.n + c.n == 30"},{"name":"never","text":"a.n == 99"}]"#;
 
+const FOUND: &str =
+    "session 3 processes 30 events 0 messages\ntop possibly yes 10,10,10\ntop definitely yes 30\nnever possibly no\nnever definitely no c,c,c,c,c,c,c,c,c,c,b,b,b,b,b,b,b,b,b,b,a,a,a,a,a,a,a,a,a,a\n";
+
 pub(crate) const CLOSE: &str = "}\n";
 
 pub(crate) const A: &str = "---\n{\"process\":\"a\"}\n";
@@ -34,13 +37,13 @@ pub(crate) const B: &str = "---\n{\"process\":\"b\"}\n";
 
 pub(crate) const C: &str = "---\n{\"process\":\"c\"}\n";
 
-const X0: &str = "{\"set\":{\"x\":0}}\n";
+pub(crate) const X0: &str = "{\"set\":{\"x\":0}}\n";
 
-const X1: &str = "{\"set\":{\"x\":1}}\n";
+pub(crate) const X1: &str = "{\"set\":{\"x\":1}}\n";
 
-const Y0: &str = "{\"set\":{\"y\":0}}\n";
+pub(crate) const Y0: &str = "{\"set\":{\"y\":0}}\n";
 
-const Y1: &str = "{\"set\":{\"y\":1}}\n";
+pub(crate) const Y1: &str = "{\"set\":{\"y\":1}}\n";
 
 const TEN: &str =
     "{\"set\":{\"n\":1}}\n{\"set\":{\"n\":2}}\n{\"set\":{\"n\":3}}\n{\"set\":{\"n\":4}}\n{\"set\":{\"n\":5}}\n{\"set\":{\"n\":6}}\n{\"set\":{\"n\":7}}\n{\"set\":{\"n\":8}}\n{\"set\":{\"n\":9}}\n{\"set\":{\"n\":10}}\n";
@@ -50,23 +53,23 @@ pub(crate) const END: &str = "{\"end\":true}\n";
 static JUDGED: [Row; 9] = [
     Row {
         lines: &[TWO, BOTH, CLOSE, A, X1, X0, END, B, Y1, Y0, END],
-        report: "session 2 processes 4 events 0 messages\nboth possibly yes 1,1\n",
+        report: "session 2 processes 4 events 0 messages\nboth possibly yes 1,1\nboth definitely no b,b,a,a\n",
     },
     Row {
         lines: &[TWO, BOTH, CLOSE, B, Y1, Y0, END, A, X1, X0, END],
-        report: "session 2 processes 4 events 0 messages\nboth possibly yes 1,1\n",
+        report: "session 2 processes 4 events 0 messages\nboth possibly yes 1,1\nboth definitely no b,b,a,a\n",
     },
     Row {
         lines: &[TWO, BOTH, ",\"width\":1}\n", A, X1, X0, END, B, Y1, Y0, END],
-        report: "session 2 processes 4 events 0 messages\nboth possibly unknown 1\n",
+        report: "session 2 processes 4 events 0 messages\nboth possibly unknown 1\nboth definitely unknown 1\n",
     },
     Row {
         lines: &[TWO, AHEAD, CLOSE, A, X1, END, B, Y1, END],
-        report: "session 2 processes 2 events 0 messages\nahead possibly yes 1,0\n",
+        report: "session 2 processes 2 events 0 messages\nahead possibly yes 1,0\nahead definitely no b,a\n",
     },
     Row {
         lines: &[TWO, AHEAD, ",\"width\":1}\n", A, X1, END, B, Y1, END],
-        report: "session 2 processes 2 events 0 messages\nahead possibly unknown 1\n",
+        report: "session 2 processes 2 events 0 messages\nahead possibly unknown 1\nahead definitely no b,a\n",
     },
     Row {
         lines: &[
@@ -77,11 +80,11 @@ static JUDGED: [Row; 9] = [
             "{\"set\":{\"x\":9223372036854775807}}\n",
             END,
         ],
-        report: "session 1 processes 1 events 0 messages\nbig possibly yes 1\n",
+        report: "session 1 processes 1 events 0 messages\nbig possibly yes 1\nbig definitely yes 1\n",
     },
     Row {
         lines: &[THREE, TOP, CLOSE, A, TEN, END, B, TEN, END, C, TEN, END],
-        report: "session 3 processes 30 events 0 messages\ntop possibly yes 10,10,10\nnever possibly no\n",
+        report: FOUND,
     },
     Row {
         lines: &[
@@ -98,7 +101,7 @@ static JUDGED: [Row; 9] = [
             TEN,
             END,
         ],
-        report: "session 3 processes 30 events 0 messages\ntop possibly yes 10,10,10\nnever possibly no\n",
+        report: FOUND,
     },
     Row {
         lines: &[
@@ -115,7 +118,7 @@ static JUDGED: [Row; 9] = [
             TEN,
             END,
         ],
-        report: "session 3 processes 30 events 0 messages\ntop possibly unknown 15\nnever possibly unknown 15\n",
+        report: "session 3 processes 30 events 0 messages\ntop possibly unknown 15\ntop definitely unknown 15\nnever possibly unknown 15\nnever definitely unknown 15\n",
     },
 ];
 

@@ -2,22 +2,34 @@
 //!
 //! - `slow`: a reader and a writer that go a byte a call, and may fail
 //! - `bundles`: bundles with their reports
+//! - `definite`: bundles whose avoiding cuts are worth a look
 //! - `messages`: bundles whose processes send each other messages
 //! - `unlawful`: bundles whose messages are refused, and bundles with a causal cycle
 //! - `faults`: reads and writes that fail
 //! - `relation`: happened-before as a table of places, and what can be wrong with messages
 //! - `sessions`: small sessions, drawn at random
 //! - `written`: the bundles of drawn sessions
+//! - `cuts`: the consistent cuts of small computations, and which of them satisfy a predicate
+//! - `avoiding`: Definitely by avoiding cuts
 //! - `plain`: a plain program that judges all counts of small computations
+//! - `observations`: Definitely by all observations, where there are few of them
 //! - `turns`: streams that take turns
 #![tactic(auto)]
 
 #[cfg(test)]
+mod avoiding;
+#[cfg(test)]
 mod bundles;
+#[cfg(test)]
+mod cuts;
+#[cfg(test)]
+mod definite;
 #[cfg(test)]
 mod faults;
 #[cfg(test)]
 mod messages;
+#[cfg(test)]
+mod observations;
 #[cfg(test)]
 mod plain;
 #[cfg(test)]

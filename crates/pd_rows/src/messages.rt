@@ -44,7 +44,7 @@ static JUDGED: [Row; 13] = [
         lines: &[
             TWO, BOTH, CLOSE, A, SEND_M_X1, RECV_K_X0, END, B, SEND_K_Y1, RECV_M_Y0, END,
         ],
-        report: "session 2 processes 4 events 2 messages\nboth possibly yes 1,1\n",
+        report: "session 2 processes 4 events 2 messages\nboth possibly yes 1,1\nboth definitely yes 2\n",
     },
     Row {
         lines: &[
@@ -60,15 +60,15 @@ static JUDGED: [Row; 13] = [
             RECV_K_X0,
             END,
         ],
-        report: "session 2 processes 4 events 2 messages\nboth possibly unknown 1\n",
+        report: "session 2 processes 4 events 2 messages\nboth possibly unknown 1\nboth definitely unknown 1\n",
     },
     Row {
         lines: &[TWO, SKEW, CLOSE, A, SEND_M_X1, END, B, RECV_M_Y1, END],
-        report: "session 2 processes 2 events 1 messages\nskew possibly no\n",
+        report: "session 2 processes 2 events 1 messages\nskew possibly no\nskew definitely no a,b\n",
     },
     Row {
         lines: &[TWO, SKEW, CLOSE, B, RECV_M_Y1, END, A, SEND_M_X1, END],
-        report: "session 2 processes 2 events 1 messages\nskew possibly no\n",
+        report: "session 2 processes 2 events 1 messages\nskew possibly no\nskew definitely no a,b\n",
     },
     Row {
         lines: &[
@@ -82,13 +82,13 @@ static JUDGED: [Row; 13] = [
             RECV_M_Y1,
             END,
         ],
-        report: "session 2 processes 2 events 1 messages\nskew possibly no\n",
+        report: "session 2 processes 2 events 1 messages\nskew possibly no\nskew definitely no a,b\n",
     },
     Row {
         lines: &[
             TWO, SKEW, CLOSE, A, NONE, SEND_M_X1, END, B, SEND_K_Y1, RECV_M, END,
         ],
-        report: "session 2 processes 4 events 1 messages\nskew possibly yes 0,1\n",
+        report: "session 2 processes 4 events 1 messages\nskew possibly yes 0,1\nskew definitely no a,a,b,b\n",
     },
     Row {
         lines: &[
@@ -104,11 +104,11 @@ static JUDGED: [Row; 13] = [
             NONE,
             END,
         ],
-        report: "session 2 processes 4 events 1 messages\nboth possibly unknown 2\n",
+        report: "session 2 processes 4 events 1 messages\nboth possibly unknown 2\nboth definitely unknown 2\n",
     },
     Row {
         lines: &[TWO, BOTH, CLOSE, A, SEND_M, END, B, END],
-        report: "session 2 processes 1 events 0 messages\nboth possibly no\n",
+        report: "session 2 processes 1 events 0 messages\nboth possibly no\nboth definitely no a\n",
     },
     Row {
         lines: &[
@@ -126,7 +126,7 @@ static JUDGED: [Row; 13] = [
             "{\"send\":\"m\",\"set\":{\"n\":1}}\n",
             END,
         ],
-        report: "session 3 processes 4 events 2 messages\ngap possibly no\n",
+        report: "session 3 processes 4 events 2 messages\ngap possibly no\ngap definitely no c,a,a,b\n",
     },
     Row {
         lines: &[
@@ -144,21 +144,21 @@ static JUDGED: [Row; 13] = [
             "{\"send\":\"m\",\"set\":{\"n\":1}}\n",
             END,
         ],
-        report: "session 3 processes 4 events 2 messages\ngap possibly yes 1,1,0\n",
+        report: "session 3 processes 4 events 2 messages\ngap possibly yes 1,1,0\ngap definitely no c,a,b,a\n",
     },
     Row {
         lines: &[
             TWO, BOTH, CLOSE, A, OPEN_SEND, LONGEST, CLOSE_ID, END, B, OPEN_RECV, LONGEST,
             CLOSE_ID, END,
         ],
-        report: "session 2 processes 2 events 1 messages\nboth possibly no\n",
+        report: "session 2 processes 2 events 1 messages\nboth possibly no\nboth definitely no a,b\n",
     },
     Row {
         lines: &[
             TWO, BOTH, CLOSE, A, OPEN_SEND, WIDEST, CLOSE_ID, END, B, OPEN_RECV, WIDEST, CLOSE_ID,
             END,
         ],
-        report: "session 2 processes 2 events 1 messages\nboth possibly no\n",
+        report: "session 2 processes 2 events 1 messages\nboth possibly no\nboth definitely no a,b\n",
     },
     Row {
         lines: &[
@@ -172,7 +172,7 @@ static JUDGED: [Row; 13] = [
             "{\"recv\":\"\\u006d\"}\n",
             END,
         ],
-        report: "session 2 processes 2 events 1 messages\nboth possibly no\n",
+        report: "session 2 processes 2 events 1 messages\nboth possibly no\nboth definitely no a,b\n",
     },
 ];
 

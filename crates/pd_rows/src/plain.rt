@@ -1,11 +1,10 @@
 //! A plain program that judges all counts of small computations.
+use super::avoiding::{definitely, write_definite};
+use super::cuts::{CUTS, Cut, counts_at, full, is_consistent, satisfies, size};
 use super::relation::{
-    Fault, MOST_EVENTS, MOST_PROCESSES, Table, cycle, first_fault, happened_before, messages,
-    number_of, process_of,
+    Fault, Table, cycle, first_fault, happened_before, messages, number_of, process_of,
 };
-use super::sessions::{
-    Comparator, Comparison, Joint, Numbers, Predicate, Process, Session, make_session,
-};
+use super::sessions::{Numbers, Predicate, Session, make_session};
 use super::slow::judged;
 use super::written::bundle;
 use std::alloc::{AllocError, Global};
@@ -16,15 +15,15 @@ use std::test::Fail;
 /// How many sessions are judged.
 const SESSIONS: u64 = 160;
 
-/// How many counts a process has at most.
-const COUNTS: usize = MOST_EVENTS + 1;
-
 /// Parts of lines, and in how many lines of the reports of sessions with messages each of them stands at least.
-const TOLD: [(&str, usize); 9] = [
+const TOLD: [(&str, usize); 12] = [
     ("session ", 50),
     (" possibly yes ", 15),
     (" possibly no", 15),
     (" possibly unknown ", 15),
+    (" definitely yes ", 10),
+    (" definitely no ", 10),
+    (" definitely unknown ", 10),
     ("refused cycle ", 10),
     ("refused sendtwice ", 2),
     ("refused orphan ", 2),
@@ -32,97 +31,27 @@ const TOLD: [(&str, usize); 9] = [
     ("refused receivedtwice ", 2),
 ];
 
-/// Whether, and where, a predicate holds.
+/// Whether some cut satisfies a predicate, and which is the first.
 enum Verdict {
-    Yes([usize; MOST_PROCESSES]),
+    Yes(Cut),
     No,
     Unknown(usize),
 }
 
-/// The variable's value behind this many events.
-fn value(process: &Process, events: usize) -> i64 {
-    let mut value = process.initial;
-    for set in process.sets.iter().take(events) {
-        if let Some(new) = set {
-            value = *new;
-        }
-    }
-    value
-}
-
-fn compares(comparison: &Comparison, state: [i64; MOST_PROCESSES]) -> bool {
-    let mut sum = 0i64;
-    for (factor, value) in comparison.factors.iter().zip(state) {
-        sum = sum.wrapping_add(factor.wrapping_mul(value));
-    }
-    match comparison.comparator {
-        Comparator::Is => sum == comparison.bound,
-        Comparator::IsNot => sum != comparison.bound,
-        Comparator::Less => sum < comparison.bound,
-        Comparator::AtLeast => sum >= comparison.bound,
-    }
-}
-
-fn holds(predicate: &Predicate, state: [i64; MOST_PROCESSES]) -> bool {
-    let left = compares(&predicate.left, state);
-    let right = compares(&predicate.right, state);
-    match predicate.joint {
-        Joint::And => left && right,
-        Joint::Or => left || right,
-        Joint::NotBoth => !(left && right),
-    }
-}
-
-/// Whether the event at this place is among the first so many of its process.
-fn includes(cut: [usize; MOST_PROCESSES], place: usize) -> bool {
-    match cut.get(process_of(place)) {
-        Some(count) => number_of(place) <= *count,
-        None => false,
-    }
-}
-
-/// Whether the counts include one of these places.
-fn includes_any(cut: [usize; MOST_PROCESSES], places: &[bool]) -> bool {
-    for (place, is_in) in places.iter().enumerate() {
-        if *is_in && includes(cut, place) {
-            return true;
-        }
-    }
-    false
-}
-
-/// Whether the counts include each event that happened before one that they include.
-fn is_closed(before: &Table, cut: [usize; MOST_PROCESSES]) -> bool {
-    for (place, later) in before.iter().enumerate() {
-        if !includes(cut, place) && includes_any(cut, later) {
-            return false;
-        }
-    }
-    true
-}
-
-/// How many consistent cuts of this many events in all there are, and the first of them whose state satisfies the predicate.
+/// How many consistent cuts of this many events in all there are, and the first of them that satisfies the predicate.
 fn search_level(
-    processes: &[Process; MOST_PROCESSES],
+    session: &Session,
     before: &Table,
     predicate: &Predicate,
     level: usize,
-) -> (u64, Option<[usize; MOST_PROCESSES]>) {
-    let [a, b, c] = processes;
+) -> (u64, Option<Cut>) {
     let mut cuts = 0u64;
     let mut first = None;
-    for number in 0..COUNTS * COUNTS * COUNTS {
-        let cut = [
-            number / (COUNTS * COUNTS),
-            number / COUNTS % COUNTS,
-            number % COUNTS,
-        ];
-        let [i, j, k] = cut;
-        let fits = i <= a.len && j <= b.len && k <= c.len;
-        if fits && i + j + k == level && is_closed(before, cut) {
+    for number in 0..CUTS {
+        let cut = counts_at(number);
+        if size(cut) == level && is_consistent(session, before, cut) {
             cuts = cuts.wrapping_add(1);
-            let state = [value(a, i), value(b, j), value(c, k)];
-            if first.is_none() && holds(predicate, state) {
+            if first.is_none() && satisfies(session, predicate, cut) {
                 first = Some(cut);
             }
         }
@@ -130,9 +59,9 @@ fn search_level(
     (cuts, first)
 }
 
-fn judge(session: &Session, before: &Table, predicate: &Predicate) -> Verdict {
-    for level in 0..=MOST_PROCESSES * MOST_EVENTS {
-        let (cuts, first) = search_level(&session.processes, before, predicate, level);
+fn possibly(session: &Session, before: &Table, predicate: &Predicate) -> Verdict {
+    for level in 0..=size(full(session)) {
+        let (cuts, first) = search_level(session, before, predicate, level);
         if cuts > session.width {
             return Verdict::Unknown(level);
         }
@@ -180,18 +109,18 @@ fn cyclic(alloc: Global, session: &Session, places: &[usize]) -> Result<String, 
     Ok(text)
 }
 
-/// Appends the answer for a predicate of a session of so many processes.
-fn write_answer(
+/// Appends the line that tells whether a cut satisfies.
+fn write_verdict(
     text: &mut String,
+    session: &Session,
     name: &str,
     verdict: Verdict,
-    count: usize,
 ) -> Result<(), AllocError> {
     match verdict {
         Verdict::Yes(cut) => {
             let [i, j, k] = cut;
             write!(text, "{name} possibly yes {i},{j}")?;
-            if count == 3 {
+            if session.count == 3 {
                 write!(text, ",{k}")?;
             }
             text.push_str("\n")
@@ -201,22 +130,35 @@ fn write_answer(
     }
 }
 
+/// Appends the answers for a predicate.
+fn write_answers(
+    text: &mut String,
+    alloc: Global,
+    session: &Session,
+    before: &Table,
+    name: &str,
+    predicate: &Predicate,
+) -> Result<(), AllocError> {
+    write_verdict(text, session, name, possibly(session, before, predicate))?;
+    let definite = definitely(alloc, session, before, predicate)?;
+    write_definite(text, session, name, &definite)
+}
+
 /// The report of a session in which no event happened before itself.
 fn answered(alloc: Global, session: &Session, before: &Table) -> Result<String, AllocError> {
     let count = session.count;
-    let [a, b, c] = session.processes;
-    let events = a.len.wrapping_add(b.len).wrapping_add(c.len);
+    let events = size(full(session));
     let messages = messages(&session.kinds);
     let mut text = format!(in alloc;
         "session {count} processes {events} events {messages} messages\n"
     )?;
-    write_answer(&mut text, "p", judge(session, before, &session.p), count)?;
-    write_answer(&mut text, "q", judge(session, before, &session.q), count)?;
+    write_answers(&mut text, alloc, session, before, "p", &session.p)?;
+    write_answers(&mut text, alloc, session, before, "q", &session.q)?;
     Ok(text)
 }
 
 /// The report that a session must have.
-fn report(alloc: Global, session: &Session) -> Result<String, AllocError> {
+pub(crate) fn report(alloc: Global, session: &Session) -> Result<String, AllocError> {
     if let Some(fault) = first_fault(&session.kinds) {
         return refused(alloc, session, fault);
     }
@@ -228,7 +170,7 @@ fn report(alloc: Global, session: &Session) -> Result<String, AllocError> {
 }
 
 /// In how many lines of the text this part stands.
-fn lines_with(text: &str, part: &str) -> usize {
+pub(crate) fn lines_with(text: &str, part: &str) -> usize {
     let mut lines = 0usize;
     for line in text.lines() {
         lines = lines.wrapping_add(usize::from(line.contains(part)));

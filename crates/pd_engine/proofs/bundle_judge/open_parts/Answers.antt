@@ -2,7 +2,8 @@
 use Rattle.std.proofs.Common.{◌≡◌, ℕ, ◌-◌, List, [], length, take, drop, get_or, map, sym, ◌∙◌, subst}
 use Rattle.std.specs.Borrow.{Bor}
 use Rattle.std.proofs.lemmas.List.{take_rest, length-map}
-use Rattle.pd_format.specs.Judgements.{Refused, IsReportOfParts, ended_streams}
+use Rattle.pd_format.specs.Judgements.{IsReportOfParts, ended_streams}
+use Rattle.pd_format.specs.Reports.{Refused}
 use Rattle.pd_gather.specs.Views.{outcomes_seen}
 use Rattle.pd_spec.specs.Views.{document_of}
 use Rattle.pd_engine.specs.Views.{refusal_of}

@@ -1,10 +1,12 @@
 -- The answers so far.
-use Rattle.std.proofs.Common.{◌≡◌, ◌+◌, ◌<◌, List, [], ◌∷◌, ◌++◌, length, map, take, sym, ap, ◌∙◌}
+use Rattle.std.proofs.Common.{◌≡◌, ◌+◌, ◌<◌, List, [], ◌∷◌, ◌++◌, length, map, take, sym, ap, ◌∙◌, subst, arith}
 use Rattle.std.specs.List.{AllZip}
-use Rattle.std.proofs.lemmas.List.{take_more, map-append}
+use Rattle.std.proofs.lemmas.List.{take_all, take_more, map-append}
 use Rattle.pd_engine.specs.Views as views
-use Rattle.pd_format.specs.Judgements.{IsFound}
+use Rattle.pd_format.specs.Documents.{NamedPredicate}
+use Rattle.pd_format.specs.Judgements.{IsAnswered}
 use Rattle.pd_spec.specs.Named.{named_of}
+use Rattle.pd_spec.specs.Views.{document_of}
 use Rattle.pd_spec.specs.declared.named.NamedPred.{NamedPred}
 use Rattle.pd_engine.proofs.judge.answers.Goals as goal
 
@@ -16,10 +18,17 @@ zip_push R (a ∷ xs) (b ∷ ys) x y all here = (all.0, zip_push R xs ys x y all
 
 pub loop-predicate-preserved : goal.loop-predicate-preserved
 loop-predicate-preserved g c =
-    let lt : c.loop-predicate.predicate-index < length c.args.asked.now = c.loop-predicate-test.true in
-    let more : take (c.loop-predicate.predicate-index + 1) c.args.asked.now ≡ take c.loop-predicate.predicate-index c.args.asked.now ++ c.predicate-item.result ∷ [] =
-    take_more c.args.asked.now c.loop-predicate.predicate-index c.predicate-item.result lt ∙ ap (λ (p : NamedPred). take c.loop-predicate.predicate-index c.args.asked.now ++ p ∷ []) (sym c.predicate-item.is) in
-    let named : map named_of (take (c.loop-predicate.predicate-index + 1) c.args.asked.now) ≡ map named_of (take c.loop-predicate.predicate-index c.args.asked.now) ++ named_of c.predicate-item.result ∷ [] =
-    ap (map named_of) more ∙ map-append named_of (take c.loop-predicate.predicate-index c.args.asked.now) (c.predicate-item.result ∷ []) in
-    rw (named, c.in_ok-push.ensures.items, map-append views.found_of c.loop-predicate.answers.items (c.in_ok-answer.field-0 ∷ []))
-    (zip_push (IsFound c.args.computation.now c.args.width) (map named_of (take c.loop-predicate.predicate-index c.args.asked.now)) (map views.found_of c.loop-predicate.answers.items) (named_of c.predicate-item.result) (views.found_of c.in_ok-answer.field-0) c.loop-predicate.invariant c.in_ok-answer.ensures)
+    let asked : List NamedPred = c.predicates-asked.result.now in
+    let lt : c.loop-predicate.predicate-index < length asked = c.loop-predicate-test.true in
+    let more : take (c.loop-predicate.predicate-index + 1) asked ≡ take c.loop-predicate.predicate-index asked ++ c.predicate-item.result ∷ [] =
+    take_more asked c.loop-predicate.predicate-index c.predicate-item.result lt ∙ ap (λ (p : NamedPred). take c.loop-predicate.predicate-index asked ++ p ∷ []) (sym c.predicate-item.is) in
+    let named : map named_of (take (c.loop-predicate.predicate-index + 1) asked) ≡ map named_of (take c.loop-predicate.predicate-index asked) ++ named_of c.predicate-item.result ∷ [] =
+    ap (map named_of) more ∙ map-append named_of (take c.loop-predicate.predicate-index asked) (c.predicate-item.result ∷ []) in
+    rw (named, c.in_ok-push.ensures.items, map-append views.answer_seen c.loop-predicate.answers.items (c.in_ok-answer.field-0 ∷ []))
+    (zip_push (IsAnswered (document_of c.args.spec.now).names c.args.computation.now (document_of c.args.spec.now).width) (map named_of (take c.loop-predicate.predicate-index asked)) (map views.answer_seen c.loop-predicate.answers.items) (named_of c.predicate-item.result) (views.answer_seen c.in_ok-answer.field-0) c.loop-predicate.invariant c.in_ok-answer.ensures)
+
+pub returns : goal.returns
+returns g c =
+    let asked : List NamedPred = c.predicates-asked.result.now in
+    let whole : take c.loop-predicate.predicate-index asked ≡ asked = take_all c.loop-predicate.predicate-index asked (omega arith) in
+    subst (λ (all : List NamedPredicate). AllZip (IsAnswered (document_of c.args.spec.now).names c.args.computation.now (document_of c.args.spec.now).width) all (map views.answer_seen c.loop-predicate.answers.items)) (ap (map named_of) whole ∙ c.predicates-asked.ensures) c.loop-predicate.invariant

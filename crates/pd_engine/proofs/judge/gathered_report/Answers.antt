@@ -11,7 +11,7 @@ use Rattle.pd_gather.specs.declared.fault.SessionFault.TheVariants as faults
 use Rattle.pd_spec.specs.Views.{document_of}
 use Rattle.pd_engine.specs.Refusals.{NamesStream}
 use Rattle.pd_engine.proofs.SessionNumbers.{counted}
-use Rattle.pd_engine.proofs.judge.report_of.Goals as goal
+use Rattle.pd_engine.proofs.judge.gathered_report.Goals as goal
 
 -- the numbers in a fault fit
 numbers_fit : (names : List ProcessNames) (streams : ℕ) (outcomes : List Outcome) (fault : SessionFault) → length outcomes < 18446744073709551616 → MatchOption (told fault) (Unit {0}) (λ f. session names streams outcomes ≡ Err f) → NamesStream names fault

@@ -1,0 +1,105 @@
+#!/usr/bin/env python3
+"""refuse_memory.py PROGRAM BUNDLE..: refuses each of the program's allocations in turn.
+
+For each bundle and each N, counted upward until a run meets no refusal, the program runs with its Nth allocation refused. It must end
+with status 4, nothing on standard output and `monitor: memory` on standard error, or with the report of a run that is refused nothing.
+The first allocations are the C library's own. The status is 1 where a run does anything else. It needs gcc."""
+import os
+import subprocess
+import sys
+import tempfile
+
+SHIM = r"""
+#include <errno.h>
+#include <stdio.h>
+#include <stdlib.h>
+
+void *__libc_malloc(size_t);
+void *__libc_calloc(size_t, size_t);
+void *__libc_realloc(void *, size_t);
+void *__libc_memalign(size_t, size_t);
+
+static long asked, refused = -1;
+
+static int is_refused(void) {
+    if (refused < 0) {
+        const char *number = getenv("REFUSED");
+        refused = number ? atol(number) : 0;
+    }
+    return ++asked == refused;
+}
+
+void *malloc(size_t size) {
+    if (is_refused()) { errno = ENOMEM; return 0; }
+    return __libc_malloc(size);
+}
+
+void *calloc(size_t count, size_t size) {
+    if (is_refused()) { errno = ENOMEM; return 0; }
+    return __libc_calloc(count, size);
+}
+
+void *realloc(void *old, size_t size) {
+    if (is_refused()) { errno = ENOMEM; return 0; }
+    return __libc_realloc(old, size);
+}
+
+void *aligned_alloc(size_t alignment, size_t size) {
+    if (is_refused()) { errno = ENOMEM; return 0; }
+    return __libc_memalign(alignment, size);
+}
+
+int posix_memalign(void **given, size_t alignment, size_t size) {
+    if (is_refused()) return ENOMEM;
+    *given = __libc_memalign(alignment, size);
+    return *given ? 0 : ENOMEM;
+}
+
+__attribute__((destructor)) static void tell(void) {
+    FILE *told = fopen(getenv("ASKED"), "w");
+    if (told) { fprintf(told, "%ld", asked); fclose(told); }
+}
+"""
+
+
+def run(program, bundle, folder, number):
+    """What a run gives, and how many allocations it asked for."""
+    asked = os.path.join(folder, "asked")
+    shim = {"LD_PRELOAD": os.path.join(folder, "shim.so"), "REFUSED": str(number), "ASKED": asked}
+    run = subprocess.run([program], input=bundle, capture_output=True, env={**os.environ, **shim})
+    with open(asked) as told:
+        return (run.returncode, run.stdout, run.stderr), int(told.read())
+
+
+def refuse_each(program, path, folder):
+    """Whether each run tells that memory ran out, or gives the report."""
+    with open(path, "rb") as opened:
+        bundle = opened.read()
+    want, _ = run(program, bundle, folder, 0)
+    memory, same, number, asked = 0, 0, 0, 1
+    while number <= asked:
+        number += 1
+        given, asked = run(program, bundle, folder, number)
+        if given == (4, b"", b"monitor: memory\n"):
+            memory += 1
+        elif given == want:
+            same += 1
+        else:
+            print(f"{path}: allocation {number}: {given}")
+            return False
+    print(f"{path}: {memory} refusals told, {same} runs with the report")
+    return True
+
+
+def main():
+    program = os.path.abspath(sys.argv[1])
+    with tempfile.TemporaryDirectory() as folder:
+        source = os.path.join(folder, "shim.c")
+        with open(source, "w") as out:
+            out.write(SHIM)
+        subprocess.run(["gcc", "-O1", "-shared", "-fPIC", "-o", os.path.join(folder, "shim.so"), source], check=True)
+        if not all([refuse_each(program, path, folder) for path in sys.argv[2:]]):
+            raise SystemExit(1)
+
+
+main()

@@ -1,0 +1,8 @@
+use Rattle.std.proofs.Common.{◌≡◌, map, take}
+use Rattle.std.specs.Prelude.{string_bytes}
+use Rattle.pd_format.specs.Judgements.{name_of_process}
+use Rattle.pd_engine.proofs.judge.names_of.Given as goal
+
+abbrev pub invariant-loop-p : goal.invariant-loop-p
+invariant-loop-p l =
+    map string_bytes l.told.items ≡ map (name_of_process l.names) (take l.p-index l.path)

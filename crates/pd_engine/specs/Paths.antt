@@ -1,0 +1,10 @@
+-- An observation whose processes have names.
+use Rattle.std.specs.Prelude.{ℕ, ◌<◌, All}
+use Rattle.pd_definitely.specs.declared.answer.DefinitelyAnswer.{DefinitelyAnswer}
+use Rattle.pd_definitely.specs.declared.answer.DefinitelyAnswer.TheVariants.{Yes, No, Unknown}
+
+-- each process of the observation is one of so many
+abbrev pub IsTold : ℕ → DefinitelyAnswer → Type 0
+IsTold processes (Yes level) = Unit {0}
+IsTold processes (No path) = All (λ p. p < processes) path.items
+IsTold processes (Unknown level) = Unit {0}

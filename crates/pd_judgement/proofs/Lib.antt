@@ -1,0 +1,7 @@
+pub mod HeadlineFacts
+pub mod HeadlineOfBundles
+pub mod OrderedKeys
+pub mod DocumentNames
+pub mod DocumentsAreSingle
+pub mod MessageLists
+pub mod ReportsAreSingle

@@ -1,0 +1,6 @@
+-- The report of a bundle's bytes tells the truth.
+use Rattle.pd_judgement.proofs.HeadlineOfBundles.{headline_of_bundle_lem}
+use Rattle.pd_judgement.proofs.headline_of_bundle.Goals as goal
+
+pub returns : goal.returns
+returns c = headline_of_bundle_lem

@@ -1,0 +1,45 @@
+//! Laws of the judgement. A bundle has at most one report: bytes are at most one document, or are refused with one fault,
+//! and never both; a document and what its streams tell have at most one report. And a report of a computation of which no
+//! level is over the width says the truth of each predicate.
+//! The definitions stand in `pd_format`, and the statements in `specs/`. Each function here has no code: its contract is a
+//! law, which is proved for all bytes.
+#![tactic(auto)]
+
+ghost use Rattle.pd_judgement.specs.Headline.{Headline, HeadlineOfBundle};
+ghost use Rattle.pd_judgement.specs.OneReport.{
+  OneDocument,
+  DocumentNotRefused,
+  OneDocumentFault,
+  OneReportOfOutcomes,
+  OneReportOfBundle,
+  NotJudgedAndRefused,
+};
+
+/// Bytes are one document, or are refused with one fault, and never both.
+pub fn one_document()
+    ensures single { OneDocument }
+    ensures not_refused { DocumentNotRefused }
+    ensures fault { OneDocumentFault }
+{}
+
+/// A document and the outcomes of its streams have one report.
+pub fn one_report_of_outcomes()
+    ensures { OneReportOfOutcomes }
+{}
+
+/// A bundle has one report, so none is both judged and refused.
+pub fn one_report_of_bundle()
+    ensures single { OneReportOfBundle }
+    ensures judged_or_refused { NotJudgedAndRefused }
+{}
+
+/// A report of a narrow computation says the truth of each predicate: whether some consistent cut satisfies it, and whether
+/// every observation passes through such a cut; and it prints a satisfying cut or an avoiding observation.
+pub fn headline()
+    ensures { Headline }
+{}
+
+/// The same of the report of a bundle's bytes.
+pub fn headline_of_bundle()
+    ensures { HeadlineOfBundle }
+{}
