@@ -1,7 +1,5 @@
 pub mod Inputs
-pub mod Joins
 pub mod Parts
-pub mod Texts
 pub mod FitTraces
 pub mod SessionNumbers
 pub mod Feeding
@@ -10,3 +8,4 @@ pub mod Openings
 pub mod RefusedPlaces
 pub mod PrintedPaths
 pub mod TruthFacts
+pub mod WriteFaults

@@ -9,7 +9,7 @@ use Rattle.pd_events.specs.Reads.{ReaderState}
 use Rattle.pd_gather.specs.Taken.{HasTaken}
 use Rattle.pd_gather.specs.Views.{ReadingFits, outcomes_seen}
 use Rattle.pd_spec.specs.Views.{document_of}
-use Rattle.pd_engine.specs.Views.{refusal_of}
+use Rattle.pd_report.specs.Views.{refusal_of}
 use Rattle.pd_engine.specs.declared.bundle_judge.Opened.{Opened}
 use Rattle.pd_engine.specs.declared.bundle_judge.Opened.TheVariants.{Refused, Session}
 

@@ -2,7 +2,7 @@
 ghost use Rattle.pd_engine.specs.Openings.{HasFed, IsOpened, joined, whole_stream};
 ghost use Rattle.pd_engine.specs.Outcomes.{WritesFront, WritesReport};
 ghost use Rattle.pd_engine.specs.Truths.{WritesTruth};
-ghost use Rattle.pd_engine.specs.Views as views;
+ghost use Rattle.pd_report.specs.Views as views;
 ghost use Rattle.pd_format.specs.Bundles.{bundle_limit, parts_of};
 ghost use Rattle.pd_format.specs.Judgements.{IsReportOfBundle, ended_streams, outcomes_of};
 ghost use Rattle.pd_format.specs.Names.{ProcessNames};
@@ -16,12 +16,11 @@ ghost use Rattle.std.specs.Prelude.{◌≡◌, ◌<◌, ◌≤◌, ◌++◌, ℕ
 use super::bundle::parts;
 use super::judge::report_of;
 use super::outcome::outcome_of_report;
-use super::output::write_text;
 use super::refusal::of_document;
-use super::report::text;
-use super::{EngineFault, Outcome, Refusal, Report, read_upto};
+use super::{EngineFault, Outcome, read_upto};
 use pd_gather::{Core, Gathered, Input};
 use pd_level::Gate;
+use pd_report::{Refusal, Report, write};
 use pd_spec::Spec;
 use std::alloc::{AllocError, Global};
 use std::io::{Read, Write};
@@ -89,7 +88,7 @@ fn open_parts(alloc: Global, parts: &[&[u8]]) -> Result<Opened, EngineFault>
             let gathered = gather_whole(alloc, &spec, &parts[1..])?;
             Ok(Opened::Session(spec, gathered))
         }
-        Err(fault) => Ok(Opened::Refused(of_document(fault)?)),
+        Err(fault) => Ok(Opened::Refused(of_document(alloc, fault)?)),
     }
 }
 
@@ -143,8 +142,7 @@ fn write_judged<S: RandomSource, R: Read + Drop, W: Write, G: Gate + Sync>(
         return Err(EngineFault::BundleLong);
     }
     let report = bundle_report(rt, alloc, bundle, workers, gate)?;
-    let text = text(alloc, &report)?;
-    write_text(&text, writer)?;
+    write(alloc, &report, writer)?;
     Ok(outcome_of_report(&report))
 }
 

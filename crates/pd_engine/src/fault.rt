@@ -1,4 +1,5 @@
 //! Why the engine gives no report.
+use pd_report::WriteFault;
 use std::alloc::{AllocError, AllocFailed};
 use thiserror::Error;
 
@@ -38,5 +39,19 @@ impl<T: Drop> From<AllocFailed<T>> for EngineFault {
 
     fn from(_e: AllocFailed<T>) -> EngineFault {
         EngineFault::Memory
+    }
+}
+
+impl From<WriteFault> for EngineFault {
+    ghost use Rattle.std.specs.Prelude.{◌≡◌};
+    ghost use Rattle.pd_engine.specs.Faults.{fault_of};
+
+    ghost from_gives = { λ fault e. e ≡ fault_of fault };
+
+    fn from(fault: WriteFault) -> EngineFault {
+        match fault {
+            WriteFault::Memory => EngineFault::Memory,
+            WriteFault::Write => EngineFault::Write,
+        }
     }
 }

@@ -1,6 +1,6 @@
 //! The report of a session's streams.
 ghost use Rattle.pd_engine.specs.Judged.{IsJudged};
-ghost use Rattle.pd_engine.specs.Views as views;
+ghost use Rattle.pd_report.specs.Views as views;
 ghost use Rattle.pd_format.specs.Judgements.{IsAnswered, IsReportOfOutcomes, IsTracesReport, definitely_of, name_of_process, possibly_of};
 ghost use Rattle.pd_events.specs.Views.{computation_of};
 ghost use Rattle.pd_gather.specs.Views.{AreTraces, ReadingFits, outcomes_seen, traces_seen};
@@ -16,8 +16,8 @@ ghost use Rattle.pd_spec.specs.Views.{document_of};
 ghost use Rattle.std.specs.List.{AllZip};
 ghost use Rattle.std.specs.Prelude.{◌≡◌, ◌<◌, ◌≤◌, All, IfOk, IsOkUnless, length, map, string_bytes};
 
+use super::EngineFault;
 use super::refusal::{of_cycle, of_messages, of_streams};
-use super::{Answer, Definitely, EngineFault, Possibly, Report};
 use pd_clock::{BuildFault, Computation};
 use pd_definitely::{DefinitelyAnswer, definitely};
 use pd_events::Trace;
@@ -26,6 +26,7 @@ use pd_level::Gate;
 use pd_match::{Matched, match_messages};
 use pd_possibly::{PossiblyAnswer, possibly};
 use pd_pred::Names;
+use pd_report::{Answer, Definitely, Possibly, Report};
 use pd_spec::{NamedPred, Spec};
 use std::alloc::{AllocError, Global};
 use std::random::RandomSource;
@@ -156,7 +157,7 @@ fn answers<G: Gate + Sync>(
 ) -> Result<Vec<Answer>, AllocError>
     requires acyclic { HasNoCycle computation.now.events }
     requires processes { length computation.now.events ≡ length (document_of spec.now).names }
-    ensures { IfOk result (λ answers. AllZip (IsAnswered (document_of spec.now).names computation.now (document_of spec.now).width) (document_of spec.now).predicates (map views.answer_seen answers.items)) }
+    ensures { IfOk result (λ answers. AllZip (IsAnswered (document_of spec.now).names computation.now (document_of spec.now).width) (document_of spec.now).predicates (map views.answer_of answers.items)) }
 {
     let asked = spec.predicates();
     let mut answers = Vec::new(alloc);
@@ -177,7 +178,7 @@ fn answer<G: Gate + Sync>(
 ) -> Result<Answer, AllocError>
     requires acyclic { HasNoCycle computation.now.events }
     requires processes { length computation.now.events ≡ length (document_of spec.now).names }
-    ensures { IfOk result (λ answer. IsAnswered (document_of spec.now).names computation.now (document_of spec.now).width (named_of asked.now) (views.answer_seen answer)) }
+    ensures { IfOk result (λ answer. IsAnswered (document_of spec.now).names computation.now (document_of spec.now).width (named_of asked.now) (views.answer_of answer)) }
 {
     let width = spec.width();
     let found = possibly(alloc, computation, &asked.pred, width, workers, gate)?;
@@ -191,7 +192,7 @@ fn answer<G: Gate + Sync>(
 
 /// The answer as a report tells it.
 fn told(alloc: Global, answer: &PossiblyAnswer) -> Result<Possibly, AllocError>
-    ensures { IfOk result (λ possibly. views.possibly_told possibly ≡ possibly_of (answer_of answer.now)) }
+    ensures { IfOk result (λ possibly. views.possibly_of possibly ≡ possibly_of (answer_of answer.now)) }
 {
     match answer {
         PossiblyAnswer::Yes(cut) => Ok(Possibly::Yes(cut.counts().to_vec(alloc)?)),
@@ -227,7 +228,7 @@ fn told_by_names(
     answer: &DefinitelyAnswer,
 ) -> Result<Definitely, AllocError>
     requires { IsTold (length names.now) answer.now }
-    ensures { IfOk result (λ definitely. views.definitely_told definitely ≡ definitely_of names.now (avoidances.answer_of answer.now)) }
+    ensures { IfOk result (λ definitely. views.definitely_of definitely ≡ definitely_of names.now (avoidances.answer_of answer.now)) }
 {
     match answer {
         DefinitelyAnswer::Yes(level) => Ok(Definitely::Yes(*level)),

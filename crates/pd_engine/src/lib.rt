@@ -6,26 +6,20 @@
 //!
 //! - `judge`: the report of a session's streams
 //! - `refusal`: refusals in the words of a report
-//! - `report`: reports, and their texts
-//! - `fields`: the fields of a line of text
 //! - `bundle`: the parts of a bundle
 //! - `bundle_judge`: the report of a bundle
 //! - `outcome`: how a session was judged
 //! - `input`: reads a reader up to a limit
-//! - `output`: writes a text
 //! - `fault`: why the engine gives no report
 #![tactic(auto)]
 
 mod bundle;
 mod bundle_judge;
 mod fault;
-mod fields;
 mod input;
 mod judge;
 mod outcome;
-mod output;
 mod refusal;
-mod report;
 #[cfg(test)]
 mod tests;
 
@@ -35,4 +29,4 @@ pub use input::read_upto;
 pub use judge::report_of;
 pub use outcome::Outcome;
 pub use pd_level::{Gate, NoGate};
-pub use report::{Answer, Definitely, Possibly, Refusal, Report, text};
+pub use pd_report::{Answer, Definitely, Possibly, Refusal, Report, text};

@@ -1,9 +1,9 @@
 //! How a session was judged.
 ghost use Rattle.pd_engine.specs.Outcomes.{outcome_of};
-ghost use Rattle.pd_engine.specs.Views.{report_of};
+ghost use Rattle.pd_report.specs.Views.{report_of};
 ghost use Rattle.std.specs.Prelude.{◌≡◌};
 
-use super::Report;
+use pd_report::Report;
 
 /// How a session was judged.
 #[derive(Clone, Copy, Debug, PartialEq, Eq)]

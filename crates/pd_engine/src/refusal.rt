@@ -1,18 +1,20 @@
 //! Refusals in the words of a report.
-ghost use Rattle.pd_engine.specs.Views.{place_of, places_of, refusal_of};
+ghost use Rattle.pd_report.specs.Views.{place_of, places_of, refusal_of};
 ghost use Rattle.pd_engine.specs.Refusals.{HasNames, IsDocumentRefusal, NamesPlace, NamesStream, kind_word};
 ghost use Rattle.pd_format.specs.Judgements.{match_refusal, named_place, session_refusal, stream_word};
 ghost use Rattle.pd_format.specs.Reports as reports;
 ghost use Rattle.pd_gather.specs.Views.{told};
 ghost use Rattle.pd_events.specs.Views.{stream_kind_seen};
+ghost use Rattle.pd_spec.specs.declared.fault.SpecFault.TheVariants as faults;
 ghost use Rattle.pd_match.specs.Views.{fault_seen, place_seen};
 ghost use Rattle.std.specs.Prelude.{◌≡◌, ◌<◌, All, IfOk, IsOkUnless, MatchOption, Some, length, map};
 
-use super::{EngineFault, Refusal};
+use super::EngineFault;
 use pd_events::StreamKind;
 use pd_gather::SessionFault;
 use pd_match::{MatchFault, Place};
-use pd_pred::{Names, PredErrorKind};
+use pd_pred::{Names, PredError, PredErrorKind};
+use pd_report::Refusal;
 use pd_spec::SpecFault;
 use std::alloc::{AllocError, Global};
 
@@ -31,34 +33,53 @@ fn predicate_word(kind: PredErrorKind) -> Option<&'static str>
     }
 }
 
+/// The refusal of a document by this word.
+fn of_word(alloc: Global, word: &str) -> Result<Refusal, AllocError>
+    ensures { IfOk result (λ refusal. refusal_of refusal ≡ reports.Spec word.now) }
+{
+    Ok(Refusal::Spec(String::from_str(alloc, word)?))
+}
+
+/// The refusal of predicate `k`, which is counted from 1.
+///
+/// # Errors
+/// `Memory`, where the error is want of memory, or the word can't be copied for want of it.
+fn of_predicate(alloc: Global, k: u64, error: PredError) -> Result<Refusal, EngineFault>
+    ensures tells { IfOk result (λ refusal. IsDocumentRefusal (faults.Predicate k error) (refusal_of refusal)) }
+    ensures err { IsOkUnless result EngineFault.Memory }
+{
+    match predicate_word(error.kind) {
+        Some(word) => Ok(Refusal::Predicate {
+            k,
+            word: String::from_str(alloc, word)?,
+            at: error.at,
+        }),
+        None => Err(EngineFault::Memory),
+    }
+}
+
 /// The refusal of a document with this fault.
 ///
 /// # Errors
-/// `Memory`, where the fault is want of memory.
-pub(crate) fn of_document(fault: SpecFault) -> Result<Refusal, EngineFault>
+/// `Memory`, where the fault is want of memory, or the word can't be copied for want of it.
+pub(crate) fn of_document(alloc: Global, fault: SpecFault) -> Result<Refusal, EngineFault>
     ensures tells { IfOk result (λ refusal. IsDocumentRefusal fault (refusal_of refusal)) }
     ensures err { IsOkUnless result EngineFault.Memory }
 {
-    match fault {
-        SpecFault::Long => Ok(Refusal::Spec("long")),
-        SpecFault::Json => Ok(Refusal::Spec("json")),
-        SpecFault::Shape => Ok(Refusal::Spec("shape")),
-        SpecFault::Processes => Ok(Refusal::Spec("processes")),
-        SpecFault::Name => Ok(Refusal::Spec("name")),
-        SpecFault::NameTwice => Ok(Refusal::Spec("nametwice")),
-        SpecFault::Vars => Ok(Refusal::Spec("vars")),
-        SpecFault::Predicates => Ok(Refusal::Spec("predicates")),
-        SpecFault::Width => Ok(Refusal::Spec("width")),
-        SpecFault::Predicate(k, error) => match predicate_word(error.kind) {
-            Some(word) => Ok(Refusal::Predicate {
-                k,
-                word,
-                at: error.at,
-            }),
-            None => Err(EngineFault::Memory),
-        },
-        SpecFault::Memory => Err(EngineFault::Memory),
-    }
+    let refusal = match fault {
+        SpecFault::Long => of_word(alloc, "long")?,
+        SpecFault::Json => of_word(alloc, "json")?,
+        SpecFault::Shape => of_word(alloc, "shape")?,
+        SpecFault::Processes => of_word(alloc, "processes")?,
+        SpecFault::Name => of_word(alloc, "name")?,
+        SpecFault::NameTwice => of_word(alloc, "nametwice")?,
+        SpecFault::Vars => of_word(alloc, "vars")?,
+        SpecFault::Predicates => of_word(alloc, "predicates")?,
+        SpecFault::Width => of_word(alloc, "width")?,
+        SpecFault::Predicate(k, error) => of_predicate(alloc, k, error)?,
+        SpecFault::Memory => return Err(EngineFault::Memory),
+    };
+    Ok(refusal)
 }
 
 /// The word for a stream's fault.
@@ -99,12 +120,12 @@ pub(crate) fn of_streams(
         SessionFault::Stream(stream, fault) => Ok(Refusal::Stream {
             stream: stream + 1,
             line: fault.line,
-            word: stream_word(fault.kind),
+            word: String::from_str(alloc, stream_word(fault.kind))?,
         }),
         SessionFault::Taken(stream, line) => Ok(Refusal::Stream {
             stream: stream + 1,
             line,
-            word: "taken",
+            word: String::from_str(alloc, "taken")?,
         }),
         SessionFault::Absent(process) => {
             let name = String::from_str(alloc, names.name(process))?;
@@ -124,17 +145,16 @@ fn named(alloc: Global, names: &Names, place: Place) -> Result<(String, u64), Al
 }
 
 /// The refusal of an event with this word.
-fn of_event(
-    alloc: Global,
-    names: &Names,
-    word: &'static str,
-    place: Place,
-) -> Result<Refusal, AllocError>
+fn of_event(alloc: Global, names: &Names, word: &str, place: Place) -> Result<Refusal, AllocError>
     requires { place.process < length names.now }
     ensures { IfOk result (λ refusal. refusal_of refusal ≡ reports.Match word.now (named_place names.now (place_seen place))) }
 {
     let (name, number) = named(alloc, names, place)?;
-    Ok(Refusal::Match { word, name, number })
+    Ok(Refusal::Match {
+        word: String::from_str(alloc, word)?,
+        name,
+        number,
+    })
 }
 
 /// The refusal of messages with this fault.

@@ -1,81 +1,10 @@
-//! Texts, parts, reads and writes that are known.
+//! Parts and reads that are known.
 use super::bundle::parts;
-use super::output::write_text;
-use super::{Answer, Definitely, EngineFault, Possibly, Refusal, Report, read_upto, text};
+use super::{EngineFault, read_upto};
 use std::alloc::{AllocError, Global};
 use std::io;
-use std::io::{Error, ErrorKind, Read, Write};
+use std::io::{Error, ErrorKind, Read};
 use std::test::Fail;
-
-fn string(alloc: Global, name: &str) -> Result<String, AllocError> {
-    String::from_str(alloc, name)
-}
-
-/// Whether the refusal's report is this line.
-fn is_refused_as(alloc: Global, refusal: Refusal, line: &str) -> Result<bool, AllocError> {
-    let text = text(alloc, &Report::Refused(refusal))?;
-    Ok(text.as_slice() == line.as_bytes())
-}
-
-#[test]
-fn judged_reports(rt: HostRuntime) -> Result<(), Fail> {
-    let alloc = rt.alloc();
-    let ahead = Answer {
-        name: string(alloc, "ahead")?,
-        possibly: Possibly::Yes(vec![in alloc; 1, 0]?),
-        definitely: Definitely::No(vec![in alloc; string(alloc, "b")?, string(alloc, "a")?]?),
-    };
-    let both = Answer {
-        name: string(alloc, "both")?,
-        possibly: Possibly::No,
-        definitely: Definitely::No(Vec::new(alloc)),
-    };
-    let wide = Answer {
-        name: string(alloc, "wide")?,
-        possibly: Possibly::Unknown(12),
-        definitely: Definitely::Unknown(13),
-    };
-    let report = Report::Judged {
-        processes: 2,
-        events: 2,
-        messages: 0,
-        answers: vec![in alloc; ahead, both, wide]?,
-    };
-    let want =
-        "session 2 processes 2 events 0 messages\nahead possibly yes 1,0\nahead definitely no b,a\nboth possibly no\nboth definitely no -\nwide possibly unknown 12\nwide definitely unknown 13\n";
-    assert_eq!(rt; text(alloc, &report)?.as_slice(), want.as_bytes());
-    Ok(())
-}
-
-#[test]
-fn refused_reports(rt: HostRuntime) -> Result<(), Fail> {
-    let alloc = rt.alloc();
-    assert!(rt; is_refused_as(alloc, Refusal::Spec("json"), "refused spec json\n")?);
-    let predicate = Refusal::Predicate {
-        k: 1,
-        word: "expected",
-        at: 8,
-    };
-    assert!(rt; is_refused_as(alloc, predicate, "refused predicate 1 expected at 8\n")?);
-    assert!(rt; is_refused_as(alloc, Refusal::Streams, "refused streams\n")?);
-    let stream = Refusal::Stream {
-        stream: 2,
-        line: 1,
-        word: "taken",
-    };
-    assert!(rt; is_refused_as(alloc, stream, "refused stream 2 line 1 taken\n")?);
-    let absent = Refusal::Absent(string(alloc, "b")?);
-    assert!(rt; is_refused_as(alloc, absent, "refused absent b\n")?);
-    let orphan = Refusal::Match {
-        word: "orphan",
-        name: string(alloc, "b")?,
-        number: 2,
-    };
-    assert!(rt; is_refused_as(alloc, orphan, "refused orphan b#2\n")?);
-    let cycle = vec![in alloc; (string(alloc, "a")?, 1), (string(alloc, "b")?, 10)]?;
-    assert!(rt; is_refused_as(alloc, Refusal::Cycle(cycle), "refused cycle a#1,b#10\n")?);
-    Ok(())
-}
 
 /// The parts, each between angle brackets.
 fn bracketed(alloc: Global, bytes: &[u8]) -> Result<Vec<u8>, AllocError> {
@@ -132,7 +61,7 @@ fn reads_stop_at_the_limit(rt: HostRuntime) -> Result<(), Fail> {
     Ok(())
 }
 
-/// Gives or takes one byte at a time, and fails once none is left.
+/// Gives one byte at a time, and fails once none is left.
 #[derive(Drop)]
 struct Failing {
     left: u8,
@@ -149,37 +78,12 @@ impl Read for Failing {
     }
 }
 
-impl Write for Failing {
-    fn write(&mut self, buf: &[u8]) -> io::Result<usize> {
-        if self.left == 0 || buf.is_empty() {
-            return Err(Error::from(ErrorKind::BrokenPipe));
-        }
-        self.left -= 1;
-        Ok(1)
-    }
-
-    fn flush(&mut self) -> io::Result<()> {
-        if self.left == 0 {
-            return Err(Error::from(ErrorKind::BrokenPipe));
-        }
-        Ok(())
-    }
-}
-
 #[test]
 fn failures_are_told(rt: HostRuntime) -> Result<(), Fail> {
     let read = read_upto(rt.alloc(), Failing { left: 2 }, 2);
     assert!(rt; matches!(&read, Err(EngineFault::Read)));
     let full = read_upto(rt.alloc(), Failing { left: 2 }, 1)?;
     assert_eq!(rt; full.as_slice(), b"xx".as_slice());
-    for room in [0u8, 1] {
-        let written = write_text(b"ab", &mut Failing { left: room });
-        assert!(rt; matches!(&written, Err(EngineFault::Write)));
-    }
-    write_text(b"ab", &mut Failing { left: 2 })?;
-    let mut kept = Vec::from_slice(rt.alloc(), b"a")?;
-    write_text(b"bc", &mut kept)?;
-    assert_eq!(rt; kept.as_slice(), b"abc".as_slice());
     Ok(())
 }
 

@@ -21,7 +21,13 @@ struct Case {
     given_second: Given,
 }
 
-static CASES: [Case; 4] = [
+static CASES: [Case; 5] = [
+    Case {
+        first: "{\"process\":\"a\"}\r\n\r\n{\"set\":{\"x\":1}}\r\n\n{\"set\":{\"x\":0}}\r\n \t\r\n{\"end\":true}",
+        second: "{\"process\":\"b\"}\n{\"end\":true}\n{ x",
+        given_first: Ok((0, 1, 2)),
+        given_second: Ok((1, 1, 0)),
+    },
     Case {
         first: "{\"process\":\"a\"}\n{\"set\":{\"y\":2,\"x\":-1}}\n{}\n{\"end\":true}\n",
         second: "\n \t\r\n{\"process\":\"b\"}\r\n{\"end\":true}",
@@ -96,6 +102,20 @@ fn feed_in_turns(core: &mut Core<'_>, case: &Case) -> Result<(), AllocError>
     core.step(0, Input::End)
 }
 
+/// Hands over the first stream in two pieces, of which the second begins at this byte, with the second stream between them.
+fn feed_cut(core: &mut Core<'_>, case: &Case, cut: usize) -> Result<(), AllocError>
+    requires { length core.old ≡ 2 }
+    ensures { length core.new ≡ 2 }
+{
+    let first = case.first.as_bytes();
+    let (front, back) = first.split_at(cut.min(first.len()));
+    core.step(0, Input::Piece(front))?;
+    core.step(1, Input::Piece(case.second.as_bytes()))?;
+    core.step(0, Input::Piece(back))?;
+    core.step(0, Input::End)?;
+    core.step(1, Input::End)
+}
+
 fn given(reading: &Result<Trace, StreamFault>) -> Given {
     match reading {
         Ok(trace) => Ok((trace.process, trace.join_line, trace.events.len())),
@@ -121,6 +141,24 @@ fn turns_change_nothing(rt: HostRuntime) -> Result<(), Fail> {
         assert_eq!(rt; whole.readings.len(), 2);
         assert_eq!(rt; given(&whole.readings[0]), case.given_first);
         assert_eq!(rt; given(&whole.readings[1]), case.given_second);
+    }
+    Ok(())
+}
+
+#[test]
+fn every_cut_in_two_changes_nothing(rt: HostRuntime) -> Result<(), Fail> {
+    let alloc = rt.alloc();
+    let spec = Spec::read(alloc, DOCUMENT.as_bytes())?;
+    for case in &CASES {
+        for cut in 0..=case.first.len() {
+            let mut core = Core::new(alloc, 2, &spec)?;
+            feed_cut(&mut core, case, cut)?;
+            assert!(rt; core.closed());
+            let gathered = core.outcome();
+            assert_eq!(rt; gathered.readings.len(), 2);
+            assert_eq!(rt; given(&gathered.readings[0]), case.given_first);
+            assert_eq!(rt; given(&gathered.readings[1]), case.given_second);
+        }
     }
     Ok(())
 }

@@ -6,7 +6,7 @@ use Rattle.pd_format.specs.Judgements.{IsReportOfParts, ended_streams}
 use Rattle.pd_format.specs.Reports.{Refused}
 use Rattle.pd_gather.specs.Views.{outcomes_seen}
 use Rattle.pd_spec.specs.Views.{document_of}
-use Rattle.pd_engine.specs.Views.{refusal_of}
+use Rattle.pd_report.specs.Views.{refusal_of}
 use Rattle.pd_engine.proofs.Openings.{parts_split, read_judged, refused_judged}
 use Rattle.pd_engine.proofs.bundle_judge.open_parts.Goals as goal
 

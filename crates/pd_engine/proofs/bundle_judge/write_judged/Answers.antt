@@ -1,8 +1,9 @@
 -- The report of a bundle.
-use Rattle.std.proofs.Common.{◌≡◌, ◌∙◌, arith}
-use Rattle.pd_format.specs.Reports.{report_text}
-use Rattle.pd_engine.specs.Views.{report_of}
+use Rattle.std.proofs.Common.{arith, ap, sym, ◌∙◌, Err}
+use Rattle.std.proofs.lemmas.Result.{err_from_is_err_and}
+use Rattle.pd_report.specs.Views.{report_of}
 use Rattle.pd_engine.specs.Outcomes.{WritesFront, WritesReport}
+use Rattle.pd_engine.proofs.WriteFaults.{write_alone}
 use Rattle.pd_engine.proofs.WholeInputs.{short_input, long_input, of_input}
 use Rattle.pd_engine.proofs.bundle_judge.write_judged.Goals as goal
 
@@ -10,20 +11,19 @@ pub returns-then-len-gt-BUNDLE_LIMIT-clause-long : goal.returns-then-len-gt-BUND
 returns-then-len-gt-BUNDLE_LIMIT-clause-long g c told =
     long_input (g.R.Read.remaining c.args.reader) c.in_ok-bundle.bundle.items 67108864 c.in_ok-bundle.ensures.front (omega (arith, c.in_ok-bundle.bundle.ok.0, c.len.ensures, c.if-len-gt-BUNDLE_LIMIT.true))
 
-pub returns-in_err-write_text-clause-part : goal.returns-in_err-write_text-clause-part
-returns-in_err-write_text-clause-part g c told =
-    let text : c.deref.result.now ≡ report_text (report_of c.in_ok-report.report) = c.deref.ensures.value ∙ c.in_ok-text.ensures in
-    let part = rw text at c.in_err-write_text.ensures.part in
-    of_input (g.R.Read.remaining c.args.reader) c.in_ok-bundle.bundle.items 67108864 (λ input. WritesFront input (g.W.Write.contents c.args.writer.now) (g.W.Write.contents c.write_text.new.writer)) c.in_ok-bundle.ensures.front
+pub returns-in_err-write-clause-part : goal.returns-in_err-write-clause-part
+returns-in_err-write-clause-part g c told =
+    let failed = err_from_is_err_and c.from_residual-in_err-write.result c.from_residual-in_err-write.ensures.1 in
+    let part = c.in_err-write.ensures.part (ap Err (write_alone c.in_err-write.field-0.0 failed.0 failed.2 (sym failed.1 ∙ told))) in
+    of_input (g.R.Read.remaining c.args.reader) c.in_ok-bundle.bundle.items 67108864 (λ input. WritesFront input (g.W.Write.contents c.args.writer.now) (g.W.Write.contents c.write.new.writer)) c.in_ok-bundle.ensures.front
     (omega (arith, c.in_ok-bundle.bundle.ok.0, c.len.ensures, c.if-len-gt-BUNDLE_LIMIT.false))
     (record { report = report_of c.in_ok-report.report; right = c.in_ok-report.ensures.report; taken = part.0; not_all = part.1; written = part.2 })
 
 pub returns-clause-written : goal.returns-clause-written
 returns-clause-written g c =
-    let text : c.deref.result.now ≡ report_text (report_of c.in_ok-report.report) = c.deref.ensures.value ∙ c.in_ok-text.ensures in
-    of_input (g.R.Read.remaining c.args.reader) c.in_ok-bundle.bundle.items 67108864 (λ input. WritesReport input c.outcome_of_report.result (g.W.Write.contents c.args.writer.now) (g.W.Write.contents c.write_text.new.writer)) c.in_ok-bundle.ensures.front
+    of_input (g.R.Read.remaining c.args.reader) c.in_ok-bundle.bundle.items 67108864 (λ input. WritesReport input c.outcome_of_report.result (g.W.Write.contents c.args.writer.now) (g.W.Write.contents c.write.new.writer)) c.in_ok-bundle.ensures.front
     (omega (arith, c.in_ok-bundle.bundle.ok.0, c.len.ensures, c.if-len-gt-BUNDLE_LIMIT.false))
-    (record { report = report_of c.in_ok-report.report; right = c.in_ok-report.ensures.report; told = c.outcome_of_report.ensures; written = rw text at c.in_ok-write_text.ensures.written })
+    (record { report = report_of c.in_ok-report.report; right = c.in_ok-report.ensures.report; told = c.outcome_of_report.ensures; written = c.in_ok-write.ensures.written })
 
 pub returns-clause-short : goal.returns-clause-short
 returns-clause-short g c =

@@ -7,7 +7,7 @@ use Rattle.pd_format.specs.Names.{ProcessNames}
 use Rattle.pd_pred.specs.Views.{predicate_of}
 use Rattle.pd_possibly.specs.Answers.{answer_of}
 use Rattle.pd_definitely.specs.Answers as avoidances
-use Rattle.pd_engine.specs.Views as views
+use Rattle.pd_report.specs.Views as views
 use Rattle.pd_engine.proofs.PrintedPaths.{answer_told}
 use Rattle.pd_engine.proofs.judge.answer.Goals as goal
 
@@ -23,6 +23,6 @@ returns g c = record {
   possibly_told = c.in_ok-told.ensures;
   possibly_right = subst (λ (width : ℕ). IsPossiblyAnswer c.args.computation.now.events (test_of c.args.computation.now (predicate_of c.args.asked.now.pred)) width (answer_of c.in_ok-found.found)) c.width-width.ensures c.in_ok-found.ensures;
   definitely = avoidances.answer_of c.in_ok-avoided.avoided;
-  definitely_told = subst (λ (names : List ProcessNames). views.definitely_told c.in_ok-told_by_names.field-0 ≡ definitely_of names (avoidances.answer_of c.in_ok-avoided.avoided)) c.names.ensures c.in_ok-told_by_names.ensures;
+  definitely_told = subst (λ (names : List ProcessNames). views.definitely_of c.in_ok-told_by_names.field-0 ≡ definitely_of names (avoidances.answer_of c.in_ok-avoided.avoided)) c.names.ensures c.in_ok-told_by_names.ensures;
   definitely_right = subst (λ (width : ℕ). IsDefinitelyAnswer c.args.computation.now.events (test_of c.args.computation.now (predicate_of c.args.asked.now.pred)) width (avoidances.answer_of c.in_ok-avoided.avoided)) c.width-width.ensures c.in_ok-avoided.ensures;
 }

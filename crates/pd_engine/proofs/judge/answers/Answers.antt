@@ -2,7 +2,7 @@
 use Rattle.std.proofs.Common.{◌≡◌, ◌+◌, ◌<◌, List, [], ◌∷◌, ◌++◌, length, map, take, sym, ap, ◌∙◌, subst, arith}
 use Rattle.std.specs.List.{AllZip}
 use Rattle.std.proofs.lemmas.List.{take_all, take_more, map-append}
-use Rattle.pd_engine.specs.Views as views
+use Rattle.pd_report.specs.Views as views
 use Rattle.pd_format.specs.Documents.{NamedPredicate}
 use Rattle.pd_format.specs.Judgements.{IsAnswered}
 use Rattle.pd_spec.specs.Named.{named_of}
@@ -24,11 +24,11 @@ loop-predicate-preserved g c =
     take_more asked c.loop-predicate.predicate-index c.predicate-item.result lt ∙ ap (λ (p : NamedPred). take c.loop-predicate.predicate-index asked ++ p ∷ []) (sym c.predicate-item.is) in
     let named : map named_of (take (c.loop-predicate.predicate-index + 1) asked) ≡ map named_of (take c.loop-predicate.predicate-index asked) ++ named_of c.predicate-item.result ∷ [] =
     ap (map named_of) more ∙ map-append named_of (take c.loop-predicate.predicate-index asked) (c.predicate-item.result ∷ []) in
-    rw (named, c.in_ok-push.ensures.items, map-append views.answer_seen c.loop-predicate.answers.items (c.in_ok-answer.field-0 ∷ []))
-    (zip_push (IsAnswered (document_of c.args.spec.now).names c.args.computation.now (document_of c.args.spec.now).width) (map named_of (take c.loop-predicate.predicate-index asked)) (map views.answer_seen c.loop-predicate.answers.items) (named_of c.predicate-item.result) (views.answer_seen c.in_ok-answer.field-0) c.loop-predicate.invariant c.in_ok-answer.ensures)
+    rw (named, c.in_ok-push.ensures.items, map-append views.answer_of c.loop-predicate.answers.items (c.in_ok-answer.field-0 ∷ []))
+    (zip_push (IsAnswered (document_of c.args.spec.now).names c.args.computation.now (document_of c.args.spec.now).width) (map named_of (take c.loop-predicate.predicate-index asked)) (map views.answer_of c.loop-predicate.answers.items) (named_of c.predicate-item.result) (views.answer_of c.in_ok-answer.field-0) c.loop-predicate.invariant c.in_ok-answer.ensures)
 
 pub returns : goal.returns
 returns g c =
     let asked : List NamedPred = c.predicates-asked.result.now in
     let whole : take c.loop-predicate.predicate-index asked ≡ asked = take_all c.loop-predicate.predicate-index asked (omega arith) in
-    subst (λ (all : List NamedPredicate). AllZip (IsAnswered (document_of c.args.spec.now).names c.args.computation.now (document_of c.args.spec.now).width) all (map views.answer_seen c.loop-predicate.answers.items)) (ap (map named_of) whole ∙ c.predicates-asked.ensures) c.loop-predicate.invariant
+    subst (λ (all : List NamedPredicate). AllZip (IsAnswered (document_of c.args.spec.now).names c.args.computation.now (document_of c.args.spec.now).width) all (map views.answer_of c.loop-predicate.answers.items)) (ap (map named_of) whole ∙ c.predicates-asked.ensures) c.loop-predicate.invariant

@@ -1,7 +1,7 @@
 -- The report of a session's traces.
 use Rattle.pd_match.specs.Views.{fault_seen}
 use Rattle.pd_spec.specs.Views.{document_of}
-use Rattle.pd_engine.specs.Views as views
+use Rattle.pd_report.specs.Views as views
 use Rattle.pd_engine.proofs.FitTraces.{refused_report, traces_short}
 use Rattle.pd_engine.proofs.judge.judged.Goals as goal
 

@@ -15,7 +15,7 @@ use Rattle.pd_match.specs.Views.{place_seen}
 use Rattle.pd_clock.specs.Orders.{places_seen}
 use Rattle.pd_engine.specs.Judged.{IsJudged}
 use Rattle.pd_engine.specs.Refusals.{HasNames}
-use Rattle.pd_engine.specs.Views as views
+use Rattle.pd_report.specs.Views as views
 use Rattle.pd_engine.proofs.FitTraces.{answers_report, cycle_report, fits_initial, traces_length}
 use Rattle.pd_engine.proofs.RefusedPlaces.{cycle_named, cycle_told}
 use Rattle.pd_engine.proofs.judge.ordered.Goals as goal

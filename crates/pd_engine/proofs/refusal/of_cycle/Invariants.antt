@@ -1,5 +1,5 @@
 use Rattle.std.proofs.Common.{◌≡◌, map, take}
-use Rattle.pd_engine.specs.Views.{places_of}
+use Rattle.pd_report.specs.Views.{places_of}
 use Rattle.pd_format.specs.Judgements.{named_place}
 use Rattle.pd_match.specs.Views.{place_seen}
 use Rattle.pd_engine.proofs.refusal.of_cycle.Given as goal

@@ -1,7 +1,0 @@
-use Rattle.std.proofs.Common.{◌≡◌, ◌++◌, take}
-use Rattle.pd_engine.specs.Views.{answers_text}
-use Rattle.pd_engine.proofs.report.push_answers.Given as goal
-
-abbrev pub invariant-loop-answer : goal.invariant-loop-answer
-invariant-loop-answer l =
-    l.out.items ≡ l.initial.out.items ++ answers_text (take l.answer-index l.answers)

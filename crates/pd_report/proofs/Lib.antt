@@ -1,0 +1,9 @@
+pub mod Joins
+pub mod Texts
+pub mod Pieces
+pub mod Lists
+pub mod LineWords
+pub mod RefusalKinds
+pub mod Stops
+pub mod Whole
+pub mod Exits

@@ -1,0 +1,19 @@
+use Rattle.std.proofs.Common.{◌≡◌, ◌*◌, ◌-◌, ◌≤◌, ◌++◌, length, drop, map}
+use Rattle.std.specs.Prelude.{flat_map}
+use Rattle.std.specs.List.{AllByRecursion}
+use Rattle.pd_format.specs.Reports.{answer_lines, AnswerIsLawful}
+use Rattle.pd_report.specs.Reading.{seen}
+use Rattle.pd_report.specs.Views.{answer_of}
+use Rattle.pd_report.proofs.reader.answers.Given as goal
+
+abbrev pub invariant-loop-at : goal.invariant-loop-at
+invariant-loop-at l = record {
+  within : l.at ≤ length l.lines;
+  count : l.at ≡ 2 * length l.answers.items;
+  few : length l.answers.items ≤ 16;
+  lawful : AllByRecursion AnswerIsLawful (map answer_of l.answers.items);
+  told : seen l.lines ≡ flat_map answer_lines (map answer_of l.answers.items) ++ seen (drop l.at l.lines);
+}
+
+abbrev pub decreases-loop-at : goal.decreases-loop-at
+decreases-loop-at l = length l.lines - l.at

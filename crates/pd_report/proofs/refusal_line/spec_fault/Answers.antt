@@ -1,0 +1,6 @@
+use Rattle.std.proofs.Common.{◌∙◌, sym}
+use Rattle.pd_format.proofs.OneReport.{spec_word}
+use Rattle.pd_report.proofs.refusal_line.spec_fault.Goals as goal
+
+pub word_text-requires : goal.word_text-requires
+word_text-requires c = spec_word c.in-Some.word.now (sym c.is_spec_word.ensures ∙ c.if-not-is_spec_word.false)

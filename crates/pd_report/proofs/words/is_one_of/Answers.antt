@@ -1,0 +1,11 @@
+use Rattle.std.proofs.Common.{rules, tests, ◌∙◌}
+use Rattle.std.proofs.lemmas.Iterator.{YieldsList-from_slice}
+use Rattle.std.proofs.lemmas.Iterator.Search.{any_from_yields_List}
+use Rattle.std.specs.Str.{bytes_eq}
+use Rattle.pd_report.proofs.Pieces.{any_map}
+use Rattle.pd_report.proofs.words.is_one_of.Goals as goal
+
+pub returns : goal.returns
+returns c =
+    any_from_yields_List (λ text. bytes_eq c.args.word.now text.now) _ _ _ c.any.ensures.ran (YieldsList-from_slice c.args.texts.now c.iter.ensures.rest) (λ x b q k. search (rules, tests))
+    ∙ any_map (λ text. bytes_eq c.args.word.now text) (λ text. text.now) c.args.texts.now

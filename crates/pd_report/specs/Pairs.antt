@@ -1,0 +1,30 @@
+-- What reading lines gives.
+use Rattle.std.specs.Prelude.{◌≡◌, ℕ, ◌+◌, ◌≤◌, List, ◌∷◌, ◌++◌, drop, length, map}
+use Rattle.std.specs.List.{AllByRecursion}
+use Rattle.pd_format.specs.Reports as reports
+use Rattle.pd_format.specs.Reports.{answer_lines, AnswerIsLawful, DefinitelyIsLawful}
+use Rattle.pd_report.specs.Reading.{first_text, second_text, FirstIsLawful, StopsBehind}
+use Rattle.pd_report.specs.Views.{answer_of}
+use Rattle.pd_report.specs.declared.answer.Answer.{Answer}
+use Rattle.pd_report.specs.declared.reader.Pair.{Pair}
+use Rattle.pd_report.specs.declared.reader.Pair.TheVariants.{Told, First, Second}
+
+-- the lines stop being a report with this one, counted from 1
+abbrev pub StopsAt : List (List ℕ) → ℕ → Type 0
+StopsAt lines number = (before : ℕ) × (number ≡ before + 1) × StopsBehind lines before
+
+-- 1 to 16 lawful answers
+abbrev pub AnswersFit : List Answer → Type 0
+AnswersFit answers = (1 ≤ length answers) × (length answers ≤ 16) × AllByRecursion AnswerIsLawful (map answer_of answers)
+
+-- a first line with which the second, if it is there, doesn't go
+pub record StopsInPair (first : List ℕ) (others : List (List ℕ)) : Type 0 where
+  pub told : List ℕ × reports.Possibly
+  pub lawful : FirstIsLawful told
+  pub same : first ≡ first_text told
+  pub none : (second : List ℕ) (more : List (List ℕ)) → others ≡ second ∷ more → (definitely : reports.Definitely) → DefinitelyIsLawful definitely → ¬ (second ≡ second_text told.0 definitely)
+
+abbrev pub IsPair : List ℕ → List (List ℕ) → Pair → Type 0
+IsPair first others (Told answer) = AnswerIsLawful (answer_of answer) × (1 ≤ length others) × (first ∷ others ≡ answer_lines (answer_of answer) ++ drop 1 others)
+IsPair first others First = (line : List ℕ × reports.Possibly) → FirstIsLawful line → ¬ (first ≡ first_text line)
+IsPair first others Second = StopsInPair first others

@@ -1,0 +1,135 @@
+//! Reads the lines of an answer.
+ghost use Rattle.pd_format.specs.Reports.{definitely_words, path_text, possibly_words, with_commas, DefinitelyIsLawful, Fits, IsName, PossiblyIsLawful};
+ghost use Rattle.pd_report.specs.Reading.{first_of, first_text, second_text, seen, FirstIsLawful, Tells};
+ghost use Rattle.pd_report.specs.Views.{definitely_of, names_of, possibly_of};
+ghost use Rattle.std.specs.List.{AllByRecursion};
+ghost use Rattle.std.specs.Prelude.{◌≡◌, ◌<◌, ◌∷◌, [], decimal, length, map, IfOk};
+
+use super::definitely::Definitely;
+use super::listed::{numbers, path};
+use super::possibly::Possibly;
+use super::words::{after, is, name, number, pieces, single};
+use std::alloc::{AllocError, Global};
+
+/// A level, in the only word.
+fn level(words: &[&[u8]]) -> Option<u64>
+    ensures { Tells (λ level. level) (λ level. decimal level ∷ []) Fits (seen words.now) result }
+{
+    let Some(word) = single(words) else {
+        return None;
+    };
+    number(word)
+}
+
+/// The counts of a cut, in the only word.
+fn counts(alloc: Global, words: &[&[u8]]) -> Result<Option<Vec<u64>>, AllocError>
+    ensures { IfOk result (Tells (λ found. found.items) (λ ns. with_commas (map decimal ns) ∷ []) (λ ns. (0 < length ns) × AllByRecursion Fits ns) (seen words.now)) }
+{
+    let Some(word) = single(words) else {
+        return Ok(None);
+    };
+    numbers(alloc, word)
+}
+
+/// A path, in the only word.
+fn only_path(alloc: Global, words: &[&[u8]]) -> Result<Option<Vec<String>>, AllocError>
+    ensures { IfOk result (Tells (λ found. names_of found.items) (λ ns. path_text ns ∷ []) (λ ns. AllByRecursion IsName ns) (seen words.now)) }
+{
+    let Some(word) = single(words) else {
+        return Ok(None);
+    };
+    path(alloc, word)
+}
+
+/// Whether a predicate possibly holds.
+fn possibly(alloc: Global, words: &[&[u8]]) -> Result<Option<Possibly>, AllocError>
+    ensures { IfOk result (Tells possibly_of possibly_words PossiblyIsLawful (seen words.now)) }
+{
+    if let Some(rest) = after(words, "yes") {
+        let Some(counts) = counts(alloc, rest)? else {
+            return Ok(None);
+        };
+        return Ok(Some(Possibly::Yes(counts)));
+    }
+    if let Some(rest) = after(words, "unknown") {
+        let Some(level) = level(rest) else {
+            return Ok(None);
+        };
+        return Ok(Some(Possibly::Unknown(level)));
+    }
+    let Some(word) = single(words) else {
+        return Ok(None);
+    };
+    if is(word, "no") {
+        Ok(Some(Possibly::No))
+    } else {
+        Ok(None)
+    }
+}
+
+/// Whether a predicate definitely holds.
+fn definitely(alloc: Global, words: &[&[u8]]) -> Result<Option<Definitely>, AllocError>
+    ensures { IfOk result (Tells definitely_of definitely_words DefinitelyIsLawful (seen words.now)) }
+{
+    if let Some(rest) = after(words, "yes") {
+        let Some(level) = level(rest) else {
+            return Ok(None);
+        };
+        return Ok(Some(Definitely::Yes(level)));
+    }
+    if let Some(rest) = after(words, "unknown") {
+        let Some(level) = level(rest) else {
+            return Ok(None);
+        };
+        return Ok(Some(Definitely::Unknown(level)));
+    }
+    let Some(rest) = after(words, "no") else {
+        return Ok(None);
+    };
+    let Some(path) = only_path(alloc, rest)? else {
+        return Ok(None);
+    };
+    Ok(Some(Definitely::No(path)))
+}
+
+/// An answer's first line: the name, and whether the predicate possibly holds.
+pub(crate) fn first_line(
+    alloc: Global,
+    line: &[u8],
+) -> Result<Option<(String, Possibly)>, AllocError>
+    ensures { IfOk result (Tells first_of first_text FirstIsLawful line.now) }
+{
+    let words = pieces(alloc, line, b' ')?;
+    let Some((first, rest)) = words.split_first() else {
+        return Ok(None);
+    };
+    let Some(rest) = after(rest, "possibly") else {
+        return Ok(None);
+    };
+    let Some(possibly) = possibly(alloc, rest)? else {
+        return Ok(None);
+    };
+    let Some(name) = name(alloc, first)? else {
+        return Ok(None);
+    };
+    Ok(Some((name, possibly)))
+}
+
+/// An answer's second line, under this name.
+pub(crate) fn second_line(
+    alloc: Global,
+    name: &str,
+    line: &[u8],
+) -> Result<Option<Definitely>, AllocError>
+    requires { IsName name.now }
+    ensures { IfOk result (Tells definitely_of (second_text name.now) DefinitelyIsLawful line.now) }
+{
+    let words = pieces(alloc, line, b' ')?;
+    let Some(rest) = after(&words, name) else {
+        return Ok(None);
+    };
+    let Some(rest) = after(rest, "definitely") else {
+        return Ok(None);
+    };
+    definitely(alloc, rest)
+}

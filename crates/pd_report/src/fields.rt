@@ -1,0 +1,76 @@
+//! The fields of a line of text.
+ghost use Rattle.pd_format.specs.Reports.{place_text, with_commas};
+ghost use Rattle.pd_report.specs.Views.{names_of, places_of};
+ghost use Rattle.std.specs.Prelude.{◌≡◌, ◌++◌, decimal, map, OnOk};
+
+use itoa::Buffer;
+use std::alloc::AllocError;
+
+/// Appends bytes.
+pub(crate) fn push_bytes(out: &mut Vec<u8>, bytes: &[u8]) -> Result<(), AllocError>
+    ensures { OnOk result (out.new.items ≡ out.old.items ++ bytes.now) }
+{
+    out.extend_from_slice(bytes)
+}
+
+/// Appends a number in decimal digits.
+pub(crate) fn push_number(out: &mut Vec<u8>, number: u64) -> Result<(), AllocError>
+    ensures { OnOk result (out.new.items ≡ out.old.items ++ decimal number) }
+{
+    let mut buffer = Buffer::new();
+    out.extend_from_slice(buffer.format(number).as_bytes())
+}
+
+/// Appends numbers with a comma between each two.
+pub(crate) fn push_numbers(out: &mut Vec<u8>, numbers: &[u64]) -> Result<(), AllocError>
+    ensures { OnOk result (out.new.items ≡ out.old.items ++ with_commas (map decimal numbers.now)) }
+{
+    let Some((first, others)) = numbers.split_first() else {
+        return Ok(());
+    };
+    push_number(out, *first)?;
+    for number in others {
+        push_bytes(out, b",")?;
+        push_number(out, *number)?;
+    }
+    Ok(())
+}
+
+/// Appends names with a comma between each two.
+pub(crate) fn push_names(out: &mut Vec<u8>, names: &[String]) -> Result<(), AllocError>
+    ensures { OnOk result (out.new.items ≡ out.old.items ++ with_commas (names_of names.now)) }
+{
+    let Some((first, others)) = names.split_first() else {
+        return Ok(());
+    };
+    push_bytes(out, first.as_bytes())?;
+    for name in others {
+        push_bytes(out, b",")?;
+        push_bytes(out, name.as_bytes())?;
+    }
+    Ok(())
+}
+
+/// Appends an event: the name of its process, and its number.
+pub(crate) fn push_place(out: &mut Vec<u8>, name: &str, number: u64) -> Result<(), AllocError>
+    ensures { OnOk result (out.new.items ≡ out.old.items ++ place_text (record { name = name.now; number = number })) }
+{
+    push_bytes(out, name.as_bytes())?;
+    push_bytes(out, b"#")?;
+    push_number(out, number)
+}
+
+/// Appends events with a comma between each two.
+pub(crate) fn push_places(out: &mut Vec<u8>, places: &[(String, u64)]) -> Result<(), AllocError>
+    ensures { OnOk result (out.new.items ≡ out.old.items ++ with_commas (map place_text (places_of places.now))) }
+{
+    let Some(((name, number), others)) = places.split_first() else {
+        return Ok(());
+    };
+    push_place(out, name, *number)?;
+    for (name, number) in others {
+        push_bytes(out, b",")?;
+        push_place(out, name, *number)?;
+    }
+    Ok(())
+}

@@ -1,0 +1,58 @@
+//! The report of a session: as a value, as text, written, and read.
+//!
+//! A report's text is exactly the one that the definitions give; it reaches a writer whole, or the call fails. Bytes are read
+//! as a report exactly where they are its text, and otherwise the first line is told with which they stop being one.
+//!
+//! - `report`: what is told about a session
+//! - `answer`: the answer for one predicate
+//! - `possibly`: whether some consistent cut satisfies it
+//! - `definitely`: whether each observation has a cut that satisfies it
+//! - `refusal`: why a session is refused
+//! - `fields`: the fields of a line of text
+//! - `answer_text`: the lines of answers
+//! - `refusal_text`: the words of a refusal
+//! - `report_text`: a report's text
+//! - `output`: writes a report
+//! - `fault`: why a report is not written
+//! - `name`: what is a name
+//! - `words`: words, and what stands between others
+//! - `listed`: words with a comma between each two
+//! - `session_line`: reads the line that counts what a session has
+//! - `answer_line`: reads the lines of an answer
+//! - `refusal_line`: reads the line of a refusal
+//! - `reader`: reads a report
+//! - `read_fault`: why bytes are not read as a report
+#![tactic(auto)]
+
+mod answer;
+mod answer_line;
+mod answer_text;
+mod definitely;
+mod fault;
+mod fields;
+mod listed;
+mod name;
+mod output;
+mod possibly;
+mod read_fault;
+mod reader;
+mod refusal;
+mod refusal_line;
+mod refusal_text;
+mod report;
+mod report_text;
+mod session_line;
+#[cfg(test)]
+mod tests;
+mod words;
+
+pub use answer::Answer;
+pub use definitely::Definitely;
+pub use fault::WriteFault;
+pub use output::write;
+pub use possibly::Possibly;
+pub use read_fault::ReportFault;
+pub use reader::read;
+pub use refusal::Refusal;
+pub use report::Report;
+pub use report_text::text;

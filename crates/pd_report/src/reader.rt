@@ -1,0 +1,131 @@
+//! Reads a report.
+ghost use Rattle.pd_format.specs.Reports.{answer_lines, report_lines, AnswerIsLawful, IsLawful, IsNoReport, IsReport};
+ghost use Rattle.pd_report.specs.Reading.{counts_text, first_text, second_text, seen, CountsFit, FirstIsLawful, StopsBehind};
+ghost use Rattle.pd_report.specs.Pairs.{AnswersFit, IsPair, StopsAt};
+ghost use Rattle.pd_report.specs.Views.{answer_of, report_of};
+ghost use Rattle.pd_report.specs.declared.read_fault.ReportFault.TheVariants.{Line};
+ghost use Rattle.std.specs.List.{AllByRecursion};
+ghost use Rattle.std.specs.Prelude.{◌≡◌, ◌∷◌, ◌+◌, ◌<◌, ◌≤◌, ℕ, List, Err, Ok, flat_map, length, map, IfOk, drop};
+
+use super::answer::Answer;
+use super::answer_line::{first_line, second_line};
+use super::read_fault::ReportFault;
+use super::refusal_line::refused_line;
+use super::report::Report;
+use super::session_line::session_line;
+use super::words::pieces;
+use std::alloc::{AllocError, Global};
+
+/// The most answers of a report.
+const MAX_ANSWERS: usize = 16;
+
+/// What the first two of the lines tell.
+#[derive(Drop)]
+enum Pair {
+    /// An answer.
+    Told(Answer),
+    /// The first line is of no answer.
+    First,
+    /// The first line is, and the second isn't there or doesn't go with it.
+    Second,
+}
+
+/// Reads the first two of the lines.
+fn read_pair(alloc: Global, first: &[u8], others: &[&[u8]]) -> Result<Pair, AllocError>
+    ensures { IfOk result (IsPair first.now (seen others.now)) }
+{
+    let Some((name, possibly)) = first_line(alloc, first)? else {
+        return Ok(Pair::First);
+    };
+    let Some((second, _)) = others.split_first() else {
+        return Ok(Pair::Second);
+    };
+    let Some(definitely) = second_line(alloc, &name, second)? else {
+        return Ok(Pair::Second);
+    };
+    Ok(Pair::Told(Answer {
+        name,
+        possibly,
+        definitely,
+    }))
+}
+
+/// Reads the answers behind the line of these counts.
+fn answers(
+    alloc: Global,
+    counts: (u64, u64, u64),
+    lines: &[&[u8]],
+) -> Result<Vec<Answer>, ReportFault>
+    requires { CountsFit counts }
+    ensures told { IfOk result (λ answers. AnswersFit answers.items × (seen lines.now ≡ flat_map answer_lines (map answer_of answers.items))) }
+    ensures line { (k : ℕ) → result ≡ Err (Line k) → StopsAt (counts_text counts ∷ seen lines.now) k }
+{
+    let mut answers = Vec::new(alloc);
+    let mut at = 0;
+    while at < lines.len() {
+        if answers.len() == MAX_ANSWERS {
+            return Err(ReportFault::Line(at as u64 + 2));
+        }
+        match read_pair(alloc, lines[at], &lines[at + 1..])? {
+            Pair::Told(answer) => answers.push(answer)?,
+            Pair::First => return Err(ReportFault::Line(at as u64 + 2)),
+            Pair::Second => return Err(ReportFault::Line(at as u64 + 3)),
+        }
+        at += 2;
+    }
+    if answers.is_empty() {
+        Err(ReportFault::Line(2))
+    } else {
+        Ok(answers)
+    }
+}
+
+/// Reads the lines of a report.
+fn read_lines(alloc: Global, lines: &[&[u8]]) -> Result<Report, ReportFault>
+    ensures told { IfOk result (λ report. IsLawful (report_of report) × (seen lines.now ≡ report_lines (report_of report))) }
+    ensures line { (k : ℕ) → result ≡ Err (Line k) → StopsAt (seen lines.now) k }
+{
+    let Some((first, others)) = lines.split_first() else {
+        return Err(ReportFault::Line(1));
+    };
+    if let Some(counts) = session_line(alloc, first)? {
+        let (processes, events, messages) = counts;
+        let answers = answers(alloc, counts, others)?;
+        return Ok(Report::Judged {
+            processes,
+            events,
+            messages,
+            answers,
+        });
+    }
+    let Some(refusal) = refused_line(alloc, first)? else {
+        return Err(ReportFault::Line(1));
+    };
+    if others.is_empty() {
+        Ok(Report::Refused(refusal))
+    } else {
+        Err(ReportFault::Line(2))
+    }
+}
+
+/// Reads a report: the one whose text the bytes are.
+///
+/// # Errors
+/// `Line`, where they are no report, with the number of the first line, counted from 1 and with its LF, with which they stop
+/// being one. Where the text stops too early, it is the number behind the last line's. `Memory`, where an allocation is
+/// refused.
+pub fn read(alloc: Global, bytes: &[u8]) -> Result<Report, ReportFault>
+    ensures told { IfOk result (λ report. IsReport bytes.now (report_of report)) }
+    ensures line { (k : ℕ) → result ≡ Err (Line k) → IsNoReport bytes.now k }
+{
+    let pieces = pieces(alloc, bytes, b'\n')?;
+    let Some((last, lines)) = pieces.split_last() else {
+        return Err(ReportFault::Line(1));
+    };
+    let report = read_lines(alloc, lines)?;
+    if last.is_empty() {
+        Ok(report)
+    } else {
+        Err(ReportFault::Line(lines.len() as u64 + 1))
+    }
+}

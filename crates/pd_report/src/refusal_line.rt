@@ -1,0 +1,215 @@
+//! Reads the line of a refusal.
+ghost use Rattle.pd_format.specs.Lists.{is_one_of};
+ghost use Rattle.pd_format.specs.Reports.{match_words, place_text, predicate_words, refusal_words, spec_words, stream_words, with_commas, Fits, IsName, PlaceIsLawful, RefusalIsLawful};
+ghost use Rattle.pd_report.specs.Reading.{at_fault_of, at_fault_words, refused_text, seen, stream_fault_of, stream_fault_words, AtFaultIsLawful, IsOfKind, StreamFaultIsLawful, Tells};
+ghost use Rattle.pd_report.specs.Views.{places_of, refusal_of};
+ghost use Rattle.std.specs.List.{AllByRecursion};
+ghost use Rattle.std.specs.Prelude.{◌≡◌, ◌<◌, ◌∷◌, [], codes, length, map, string_bytes, IfOk, IsTrue};
+
+use super::listed::{place, places};
+use super::refusal::Refusal;
+use super::words::{
+    after, counted, is_match_word, is_predicate_word, is_spec_word, is_stream_word, name, number,
+    pieces, single, word_text,
+};
+use std::alloc::{AllocError, Global};
+
+/// The word of a document's fault, as the only word.
+fn spec_fault(alloc: Global, words: &[&[u8]]) -> Result<Option<String>, AllocError>
+    ensures { IfOk result (Tells string_bytes (λ word. word ∷ []) (λ word. IsTrue (is_one_of spec_words word)) (seen words.now)) }
+{
+    let Some(word) = single(words) else {
+        return Ok(None);
+    };
+    if !is_spec_word(word) {
+        return Ok(None);
+    }
+    Ok(Some(word_text(alloc, word)?))
+}
+
+/// A predicate's number, counted from 1, the word of its fault, and the byte at fault.
+fn predicate_fault(alloc: Global, words: &[&[u8]]) -> Result<Option<(u64, String, u64)>, AllocError>
+    ensures { IfOk result (Tells at_fault_of at_fault_words AtFaultIsLawful (seen words.now)) }
+{
+    let Some((k, rest)) = counted(words) else {
+        return Ok(None);
+    };
+    if k == 0 {
+        return Ok(None);
+    }
+    let Some((word, rest)) = rest.split_first() else {
+        return Ok(None);
+    };
+    if !is_predicate_word(word) {
+        return Ok(None);
+    }
+    let Some(rest) = after(rest, "at") else {
+        return Ok(None);
+    };
+    let Some(last) = single(rest) else {
+        return Ok(None);
+    };
+    let Some(at) = number(last) else {
+        return Ok(None);
+    };
+    Ok(Some((k, word_text(alloc, word)?, at)))
+}
+
+/// A stream's number, the number of its line at fault, and the word of its fault.
+fn stream_fault(alloc: Global, words: &[&[u8]]) -> Result<Option<(u64, u64, String)>, AllocError>
+    ensures { IfOk result (Tells stream_fault_of stream_fault_words StreamFaultIsLawful (seen words.now)) }
+{
+    let Some((stream, rest)) = counted(words) else {
+        return Ok(None);
+    };
+    let Some(rest) = after(rest, "line") else {
+        return Ok(None);
+    };
+    let Some((line, rest)) = counted(rest) else {
+        return Ok(None);
+    };
+    let Some(word) = single(rest) else {
+        return Ok(None);
+    };
+    if !is_stream_word(word) {
+        return Ok(None);
+    }
+    Ok(Some((stream, line, word_text(alloc, word)?)))
+}
+
+/// A name, as the only word.
+fn only_name(alloc: Global, words: &[&[u8]]) -> Result<Option<String>, AllocError>
+    ensures { IfOk result (Tells string_bytes (λ name. name ∷ []) IsName (seen words.now)) }
+{
+    let Some(word) = single(words) else {
+        return Ok(None);
+    };
+    name(alloc, word)
+}
+
+/// Events, at least one, as the only word.
+fn only_places(alloc: Global, words: &[&[u8]]) -> Result<Option<Vec<(String, u64)>>, AllocError>
+    ensures { IfOk result (Tells (λ found. places_of found.items) (λ ps. with_commas (map place_text ps) ∷ []) (λ ps. (0 < length ps) × AllByRecursion PlaceIsLawful ps) (seen words.now)) }
+{
+    let Some(word) = single(words) else {
+        return Ok(None);
+    };
+    places(alloc, word)
+}
+
+/// A refused document, of the words behind `spec`.
+fn spec_refusal(alloc: Global, rest: &[&[u8]]) -> Result<Option<Refusal>, AllocError>
+    ensures { IfOk result (Tells refusal_of refusal_words (IsOfKind 1) (codes "spec" ∷ seen rest.now)) }
+{
+    let Some(word) = spec_fault(alloc, rest)? else {
+        return Ok(None);
+    };
+    Ok(Some(Refusal::Spec(word)))
+}
+
+/// A refused predicate, of the words behind `predicate`.
+fn predicate_refusal(alloc: Global, rest: &[&[u8]]) -> Result<Option<Refusal>, AllocError>
+    ensures { IfOk result (Tells refusal_of refusal_words (IsOfKind 2) (codes "predicate" ∷ seen rest.now)) }
+{
+    let Some((k, word, at)) = predicate_fault(alloc, rest)? else {
+        return Ok(None);
+    };
+    Ok(Some(Refusal::Predicate { k, word, at }))
+}
+
+/// Too many streams, of the words behind `streams`.
+fn streams_refusal(rest: &[&[u8]]) -> Option<Refusal>
+    ensures { Tells refusal_of refusal_words (IsOfKind 3) (codes "streams" ∷ seen rest.now) result }
+{
+    if rest.is_empty() {
+        Some(Refusal::Streams)
+    } else {
+        None
+    }
+}
+
+/// A refused stream, of the words behind `stream`.
+fn stream_refusal(alloc: Global, rest: &[&[u8]]) -> Result<Option<Refusal>, AllocError>
+    ensures { IfOk result (Tells refusal_of refusal_words (IsOfKind 4) (codes "stream" ∷ seen rest.now)) }
+{
+    let Some((stream, line, word)) = stream_fault(alloc, rest)? else {
+        return Ok(None);
+    };
+    Ok(Some(Refusal::Stream { stream, line, word }))
+}
+
+/// A process without a stream, of the words behind `absent`.
+fn absent_refusal(alloc: Global, rest: &[&[u8]]) -> Result<Option<Refusal>, AllocError>
+    ensures { IfOk result (Tells refusal_of refusal_words (IsOfKind 5) (codes "absent" ∷ seen rest.now)) }
+{
+    let Some(name) = only_name(alloc, rest)? else {
+        return Ok(None);
+    };
+    Ok(Some(Refusal::Absent(name)))
+}
+
+/// A causal cycle, of the words behind `cycle`.
+fn cycle_refusal(alloc: Global, rest: &[&[u8]]) -> Result<Option<Refusal>, AllocError>
+    ensures { IfOk result (Tells refusal_of refusal_words (IsOfKind 7) (codes "cycle" ∷ seen rest.now)) }
+{
+    let Some(places) = only_places(alloc, rest)? else {
+        return Ok(None);
+    };
+    Ok(Some(Refusal::Cycle(places)))
+}
+
+/// A send or a receive that matches none.
+fn match_refusal(alloc: Global, words: &[&[u8]]) -> Result<Option<Refusal>, AllocError>
+    ensures { IfOk result (Tells refusal_of refusal_words (IsOfKind 6) (seen words.now)) }
+{
+    let Some((word, rest)) = words.split_first() else {
+        return Ok(None);
+    };
+    if !is_match_word(word) {
+        return Ok(None);
+    }
+    let Some(last) = single(rest) else {
+        return Ok(None);
+    };
+    let Some((name, number)) = place(alloc, last)? else {
+        return Ok(None);
+    };
+    let word = word_text(alloc, word)?;
+    Ok(Some(Refusal::Match { word, name, number }))
+}
+
+/// A refusal's words.
+fn refusal(alloc: Global, words: &[&[u8]]) -> Result<Option<Refusal>, AllocError>
+    ensures { IfOk result (Tells refusal_of refusal_words RefusalIsLawful (seen words.now)) }
+{
+    if let Some(rest) = after(words, "spec") {
+        return spec_refusal(alloc, rest);
+    }
+    if let Some(rest) = after(words, "predicate") {
+        return predicate_refusal(alloc, rest);
+    }
+    if let Some(rest) = after(words, "streams") {
+        return Ok(streams_refusal(rest));
+    }
+    if let Some(rest) = after(words, "stream") {
+        return stream_refusal(alloc, rest);
+    }
+    if let Some(rest) = after(words, "absent") {
+        return absent_refusal(alloc, rest);
+    }
+    if let Some(rest) = after(words, "cycle") {
+        return cycle_refusal(alloc, rest);
+    }
+    match_refusal(alloc, words)
+}
+
+/// The refusal, where the line tells one.
+pub(crate) fn refused_line(alloc: Global, line: &[u8]) -> Result<Option<Refusal>, AllocError>
+    ensures { IfOk result (Tells refusal_of refused_text RefusalIsLawful line.now) }
+{
+    let words = pieces(alloc, line, b' ')?;
+    let Some(rest) = after(&words, "refused") else {
+        return Ok(None);
+    };
+    refusal(alloc, rest)
+}

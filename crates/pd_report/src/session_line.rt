@@ -1,0 +1,55 @@
+//! Reads the line that counts what a session has.
+ghost use Rattle.pd_format.specs.Reports.{Fits};
+ghost use Rattle.pd_report.specs.Reading.{counts_text, counts_words, seen, CountsFit, Tells};
+ghost use Rattle.std.specs.Prelude.{◌≡◌, ◌∷◌, ℕ, List, MatchOption, decimal, IfOk};
+
+use super::words::{after, counted, pieces};
+use std::alloc::{AllocError, Global};
+
+/// The number that the words begin with and that this word follows, and the words behind both.
+fn labelled<'w, 'a>(words: &'w [&'a [u8]], label: &str) -> Option<(u64, &'w [&'a [u8]])>
+    ensures { MatchOption result ((n : ℕ) (rest : List (List ℕ)) → Fits n → ¬ (seen words.now ≡ decimal n ∷ label.now ∷ rest))
+        (λ found. Fits found.0 × (seen words.now ≡ decimal found.0 ∷ label.now ∷ seen found.1.now)) }
+{
+    let Some((number, rest)) = counted(words) else {
+        return None;
+    };
+    let Some(rest) = after(rest, label) else {
+        return None;
+    };
+    Some((number, rest))
+}
+
+/// The counts of processes, events and messages.
+fn session_counts(words: &[&[u8]]) -> Option<(u64, u64, u64)>
+    ensures { Tells (λ counts. counts) counts_words CountsFit (seen words.now) result }
+{
+    let Some(rest) = after(words, "session") else {
+        return None;
+    };
+    let Some((processes, rest)) = labelled(rest, "processes") else {
+        return None;
+    };
+    let Some((events, rest)) = labelled(rest, "events") else {
+        return None;
+    };
+    let Some((messages, rest)) = labelled(rest, "messages") else {
+        return None;
+    };
+    if rest.is_empty() {
+        Some((processes, events, messages))
+    } else {
+        None
+    }
+}
+
+/// The counts of processes, events and messages, where the line tells them.
+pub(crate) fn session_line(
+    alloc: Global,
+    line: &[u8],
+) -> Result<Option<(u64, u64, u64)>, AllocError>
+    ensures { IfOk result (Tells (λ counts. counts) counts_text CountsFit line.now) }
+{
+    let words = pieces(alloc, line, b' ')?;
+    Ok(session_counts(&words))
+}

@@ -1,0 +1,215 @@
+//! Texts that are known.
+use super::{
+    Answer, Definitely, Possibly, Refusal, Report, ReportFault, WriteFault, read, text, write,
+};
+use std::alloc::{AllocError, Global};
+use std::io;
+use std::io::{Error, ErrorKind, Write};
+use std::test::Fail;
+
+fn string(alloc: Global, name: &str) -> Result<String, AllocError> {
+    String::from_str(alloc, name)
+}
+
+/// Whether this line is the text of the refusal's report.
+fn is_refused_as(alloc: Global, refusal: Refusal, line: &str) -> Result<bool, AllocError> {
+    let text = text(alloc, &Report::Refused(refusal))?;
+    Ok(text.as_slice() == line.as_bytes())
+}
+
+/// A report with three answers.
+fn judged(alloc: Global) -> Result<Report, AllocError> {
+    let ahead = Answer {
+        name: string(alloc, "ahead")?,
+        possibly: Possibly::Yes(vec![in alloc; 1, 0]?),
+        definitely: Definitely::No(vec![in alloc; string(alloc, "b")?, string(alloc, "a")?]?),
+    };
+    let both = Answer {
+        name: string(alloc, "both")?,
+        possibly: Possibly::No,
+        definitely: Definitely::No(Vec::new(alloc)),
+    };
+    let wide = Answer {
+        name: string(alloc, "wide")?,
+        possibly: Possibly::Unknown(12),
+        definitely: Definitely::Unknown(0),
+    };
+    let all = Answer {
+        name: string(alloc, "all")?,
+        possibly: Possibly::Yes(vec![in alloc; 18_446_744_073_709_551_615]?),
+        definitely: Definitely::Yes(3),
+    };
+    Ok(Report::Judged {
+        processes: 2,
+        events: 2,
+        messages: 0,
+        answers: vec![in alloc; ahead, both, wide, all]?,
+    })
+}
+
+/// The text of that report.
+const JUDGED: &str =
+    "session 2 processes 2 events 0 messages\nahead possibly yes 1,0\nahead definitely no b,a\nboth possibly no\nboth definitely no -\nwide possibly unknown 12\nwide definitely unknown 0\nall possibly yes 18446744073709551615\nall definitely yes 3\n";
+
+#[test]
+fn judged_reports_have_texts(rt: HostRuntime) -> Result<(), Fail> {
+    let alloc = rt.alloc();
+    let report = judged(alloc)?;
+    assert_eq!(rt; text(alloc, &report)?.as_slice(), JUDGED.as_bytes());
+    Ok(())
+}
+
+#[test]
+fn refused_reports_have_texts(rt: HostRuntime) -> Result<(), Fail> {
+    let alloc = rt.alloc();
+    assert!(rt;
+        is_refused_as(
+            alloc,
+            Refusal::Spec(string(alloc, "json")?),
+            "refused spec json\n"
+        )?
+    );
+    let predicate = Refusal::Predicate {
+        k: 1,
+        word: string(alloc, "expected")?,
+        at: 8,
+    };
+    assert!(rt; is_refused_as(alloc, predicate, "refused predicate 1 expected at 8\n")?);
+    assert!(rt; is_refused_as(alloc, Refusal::Streams, "refused streams\n")?);
+    let stream = Refusal::Stream {
+        stream: 2,
+        line: 1,
+        word: string(alloc, "taken")?,
+    };
+    assert!(rt; is_refused_as(alloc, stream, "refused stream 2 line 1 taken\n")?);
+    assert!(rt;
+        is_refused_as(
+            alloc,
+            Refusal::Absent(string(alloc, "b")?),
+            "refused absent b\n"
+        )?
+    );
+    let orphan = Refusal::Match {
+        word: string(alloc, "orphan")?,
+        name: string(alloc, "b")?,
+        number: 2,
+    };
+    assert!(rt; is_refused_as(alloc, orphan, "refused orphan b#2\n")?);
+    let cycle = vec![in alloc; (string(alloc, "a")?, 1), (string(alloc, "b")?, 10)]?;
+    assert!(rt; is_refused_as(alloc, Refusal::Cycle(cycle), "refused cycle a#1,b#10\n")?);
+    Ok(())
+}
+
+/// A writer that takes at most 7 bytes at a time, and fails once it has this many.
+#[derive(Drop)]
+struct Limited {
+    left: usize,
+}
+
+impl Write for Limited {
+    fn write(&mut self, buf: &[u8]) -> io::Result<usize> {
+        if self.left == 0 {
+            return Err(Error::from(ErrorKind::Other));
+        }
+        let count = buf.len().min(self.left).min(7);
+        self.left -= count;
+        Ok(count)
+    }
+
+    fn flush(&mut self) -> io::Result<()> {
+        Ok(())
+    }
+}
+
+#[test]
+fn reports_are_written(rt: HostRuntime) -> Result<(), Fail> {
+    let alloc = rt.alloc();
+    let report = judged(alloc)?;
+    let mut out = Vec::new(alloc);
+    assert!(rt; write(alloc, &report, &mut out).is_ok());
+    assert_eq!(rt; out.as_slice(), JUDGED.as_bytes());
+    let mut short = Limited { left: 40 };
+    assert!(rt; matches!(&write(alloc, &report, &mut short), Err(WriteFault::Write)));
+    Ok(())
+}
+
+/// Whether the bytes are read as a report that has them for its text.
+fn is_read_back(alloc: Global, want: &str) -> Result<bool, AllocError> {
+    match read(alloc, want.as_bytes()) {
+        Ok(report) => Ok(text(alloc, &report)?.as_slice() == want.as_bytes()),
+        Err(_) => Ok(false),
+    }
+}
+
+#[test]
+fn texts_are_read(rt: HostRuntime) -> Result<(), Fail> {
+    let alloc = rt.alloc();
+    let texts = [
+        "refused spec nametwice\n",
+        "refused predicate 16 expected at 18446744073709551615\n",
+        "refused streams\n",
+        "refused stream 2 line 1 taken\n",
+        "refused absent b\n",
+        "refused orphan b#2\n",
+        "refused cycle a#1,b#10\n",
+        JUDGED,
+    ];
+    for want in texts {
+        assert!(rt; is_read_back(alloc, want)?);
+    }
+    Ok(())
+}
+
+/// The line at which the bytes stop being a report, or 0 where they are one.
+fn fault_line(alloc: Global, bytes: &str) -> Result<u64, AllocError> {
+    match read(alloc, bytes.as_bytes()) {
+        Ok(_) => Ok(0),
+        Err(ReportFault::Line(line)) => Ok(line),
+        Err(ReportFault::Memory) => Err(AllocError),
+    }
+}
+
+#[test]
+fn faults_have_lines(rt: HostRuntime) -> Result<(), Fail> {
+    let cases = [
+        ("", 1),
+        ("refused streams", 1),
+        ("refused  streams\n", 1),
+        ("refused streams\r\n", 1),
+        ("refused stream 02 line 1 taken\n", 1),
+        ("refused stream 18446744073709551616 line 1 taken\n", 1),
+        ("refused predicate 0 long at 1\n", 1),
+        ("refused streams\n\n", 2),
+        ("refused streams\nx", 2),
+        ("session 2 processes 2 events 0 messages\n", 2),
+        ("session 2 processes 2 events 0 messages\na possibly no", 2),
+        (
+            "session 2 processes 2 events 0 messages\nand possibly no\n",
+            2,
+        ),
+        (
+            "session 2 processes 2 events 0 messages\na possibly yes ,1\n",
+            2,
+        ),
+        (
+            "session 2 processes 2 events 0 messages\na possibly no\n",
+            3,
+        ),
+        (
+            "session 2 processes 2 events 0 messages\na possibly no\nb definitely no -\n",
+            3,
+        ),
+        (
+            "session 2 processes 2 events 0 messages\na possibly no\na definitely no\n",
+            3,
+        ),
+        (
+            "session 2 processes 2 events 0 messages\na possibly no\na definitely no -\na\n",
+            4,
+        ),
+    ];
+    for (bytes, want) in cases {
+        assert_eq!(rt; fault_line(rt.alloc(), bytes)?, want);
+    }
+    Ok(())
+}

@@ -1,0 +1,183 @@
+//! Words, and what stands between others.
+ghost use Rattle.pd_format.specs.Lists.{is_one_of as is_one_of_texts};
+ghost use Rattle.pd_format.specs.Names.{is_in_word};
+ghost use Rattle.pd_format.specs.Reports.{match_words, predicate_words, spec_words, stream_words, Fits, IsName};
+ghost use Rattle.pd_report.specs.Reading.{pieces as pieces_of, seen, Tells};
+ghost use Rattle.std.specs.List.{list_all};
+ghost use Rattle.std.specs.Prelude.{◌≡◌, ◌∷◌, [], ℕ, List, MatchOption, true, decimal, string_bytes, IfOk, ◌↔◌, IsTrue, false};
+
+use super::name::is_name;
+use itoa::Buffer;
+use std::alloc::{AllocError, Global};
+
+/// The pieces between these bytes.
+pub(crate) fn pieces(alloc: Global, bytes: &[u8], at: u8) -> Result<Vec<&[u8]>, AllocError>
+    ensures { IfOk result (λ found. seen found.items ≡ pieces_of at bytes.now) }
+{
+    bytes.split(|byte| *byte == at).collect(alloc)
+}
+
+/// Whether the bytes are this text.
+pub(crate) fn is(word: &[u8], text: &str) -> bool
+    ensures yes { result ≡ true → word.now ≡ text.now }
+    ensures no { result ≡ false → ¬ (word.now ≡ text.now) }
+{
+    word == text.as_bytes()
+}
+
+/// Whether the bytes are one of these texts.
+pub(crate) fn is_one_of(word: &[u8], texts: &[&str]) -> bool
+    ensures { result ≡ is_one_of_texts (seen texts.now) word.now }
+{
+    texts.iter().any(|text| word == text.as_bytes())
+}
+
+/// Whether the bytes are a word for a document's fault.
+pub(crate) fn is_spec_word(word: &[u8]) -> bool
+    ensures { result ≡ is_one_of_texts spec_words word.now }
+{
+    is_one_of(
+        word,
+        &[
+            "long",
+            "json",
+            "shape",
+            "processes",
+            "name",
+            "nametwice",
+            "vars",
+            "predicates",
+            "width",
+        ],
+    )
+}
+
+/// Whether the bytes are a word for a predicate's fault.
+pub(crate) fn is_predicate_word(word: &[u8]) -> bool
+    ensures { result ≡ is_one_of_texts predicate_words word.now }
+{
+    is_one_of(
+        word,
+        &[
+            "long",
+            "character",
+            "number",
+            "expected",
+            "unknownname",
+            "depth",
+        ],
+    )
+}
+
+/// Whether the bytes are a word for a stream's fault.
+pub(crate) fn is_stream_word(word: &[u8]) -> bool
+    ensures { result ≡ is_one_of_texts stream_words word.now }
+{
+    is_one_of(
+        word,
+        &[
+            "linetoolong",
+            "streamtoolong",
+            "json",
+            "shape",
+            "join",
+            "unknownprocess",
+            "unknownvar",
+            "value",
+            "messageid",
+            "events",
+            "unended",
+            "read",
+            "taken",
+        ],
+    )
+}
+
+/// Whether the bytes are a word for messages that don't match.
+pub(crate) fn is_match_word(word: &[u8]) -> bool
+    ensures { result ≡ is_one_of_texts match_words word.now }
+{
+    is_one_of(
+        word,
+        &["sendtwice", "orphan", "selfmessage", "receivedtwice"],
+    )
+}
+
+/// The text of letters and digits.
+pub(crate) fn word_text(alloc: Global, word: &[u8]) -> Result<String, AllocError>
+    requires { list_all is_in_word word.now ≡ true }
+    ensures { IfOk result (λ text. string_bytes text ≡ word.now) }
+{
+    match str::from_utf8(word) {
+        Ok(text) => String::from_str(alloc, text),
+        Err(_) => unreachable!(),
+    }
+}
+
+/// The name, if it is one.
+pub(crate) fn name(alloc: Global, word: &[u8]) -> Result<Option<String>, AllocError>
+    ensures { IfOk result (Tells string_bytes (λ name. name) IsName word.now) }
+{
+    if !is_name(word) {
+        return Ok(None);
+    }
+    Ok(Some(word_text(alloc, word)?))
+}
+
+/// The number of 64 bits, in digits with no zero before them.
+pub(crate) fn number(word: &[u8]) -> Option<u64>
+    ensures { Tells (λ n. n) decimal Fits word.now result }
+{
+    let Ok(text) = str::from_utf8(word) else {
+        return None;
+    };
+    let Ok(number) = text.parse::<u64>() else {
+        return None;
+    };
+    if is_decimal(word, number) {
+        Some(number)
+    } else {
+        None
+    }
+}
+
+/// Whether the word is this number.
+fn is_decimal(word: &[u8], number: u64) -> bool
+    ensures { IsTrue result ↔ (word.now ≡ decimal number) }
+{
+    let mut buffer = Buffer::new();
+    word == buffer.format(number).as_bytes()
+}
+
+/// The words behind this one.
+pub(crate) fn after<'w, 'a>(words: &'w [&'a [u8]], text: &str) -> Option<&'w [&'a [u8]]>
+    ensures { MatchOption result ((rest : List (List ℕ)) → ¬ (seen words.now ≡ text.now ∷ rest)) (λ rest. seen words.now ≡ text.now ∷ seen rest.now) }
+{
+    let Some((first, rest)) = words.split_first() else {
+        return None;
+    };
+    if is(first, text) { Some(rest) } else { None }
+}
+
+/// The word, if it is the only one.
+pub(crate) fn single<'a>(words: &[&'a [u8]]) -> Option<&'a [u8]>
+    ensures { MatchOption result ((word : List ℕ) → ¬ (seen words.now ≡ word ∷ [])) (λ word. seen words.now ≡ word.now ∷ []) }
+{
+    let Some((first, rest)) = words.split_first() else {
+        return None;
+    };
+    if rest.is_empty() { Some(*first) } else { None }
+}
+
+/// The number that the words begin with, and the words behind it.
+pub(crate) fn counted<'w, 'a>(words: &'w [&'a [u8]]) -> Option<(u64, &'w [&'a [u8]])>
+    ensures { MatchOption result ((n : ℕ) (rest : List (List ℕ)) → Fits n → ¬ (seen words.now ≡ decimal n ∷ rest)) (λ found. Fits found.0 × (seen words.now ≡ decimal found.0 ∷ seen found.1.now)) }
+{
+    let Some((first, rest)) = words.split_first() else {
+        return None;
+    };
+    let Some(number) = number(first) else {
+        return None;
+    };
+    Some((number, rest))
+}
