@@ -5,6 +5,8 @@ lattice   4 processes of 17 events each, with no messages: 104,976 cuts; 16 smal
 terms     the same cuts; 16 predicates of 4,096 bytes that no cut satisfies
 streams   8 processes of 10,000 events each, every event setting 16 variables; one predicate that the empty cut satisfies
 messages  8 processes of 10,000 events each, nearly all of them sends and receipts of a run without a cycle; the same predicate
+avoiding  2 processes of 2,000 events each, whose messages keep them within 499 events of each other: 4,001 levels of some 500 cuts,
+          and one predicate that no cut satisfies, so that all of them avoid it
 locals    the same lines with each send and receipt replaced by a local event of the same length, for comparison with messages
 """
 import json
@@ -66,6 +68,23 @@ def streams():
                                 for i in range(10000))) for name in names])
 
 
+def side(own, other, events, window):
+    """One of two processes: each odd event sends, and the even event that is so many later receives what the other sent then."""
+    for i in range(1, events + 1):
+        if i % 2 == 1 and i + window <= events:
+            yield {"send": f"{own}{i}"}
+        elif i % 2 == 0 and i > window:
+            yield {"recv": f"{other}{i - window}"}
+        else:
+            yield {"set": {"n": i}}
+
+
+def avoiding():
+    head = document([("a", ["n"]), ("b", ["n"])], [("never", "a.n + b.n < 0")], 65536)
+    bundle(head, [[json.dumps({"process": own}), *map(json.dumps, side(own, other, 2000, 499)), json.dumps({"end": True})]
+                  for own, other in (("a", "b"), ("b", "a"))])
+
+
 def talk(processes, events):
     """A run: while some process has room, one of them receives a message that has arrived, or sends one, or does neither.
 
@@ -122,4 +141,5 @@ def locals_alone():
     talkers(local)
 
 
-{"lattice": lattice, "terms": terms, "streams": streams, "messages": messages, "locals": locals_alone}[sys.argv[1]]()
+{"lattice": lattice, "terms": terms, "streams": streams, "messages": messages, "locals": locals_alone,
+ "avoiding": avoiding}[sys.argv[1]]()

@@ -1,8 +1,9 @@
 #!/usr/bin/env python3
-"""refuse_memory.py PROGRAM BUNDLE..: refuses each of the program's allocations in turn.
+"""refuse_memory.py PROGRAM INPUT..: refuses each of the program's allocations in turn.
 
-For each bundle and each N, counted upward until a run meets no refusal, the program runs with its Nth allocation refused. It must end
-with status 4, nothing on standard output and `monitor: memory` on standard error, or with the report of a run that is refused nothing.
+An input is a bundle, or a folder with `session.json`, `report` and files `NAME.stream`, of which the report is checked.
+For each input and each N, counted upward until a run meets no refusal, the program runs with its Nth allocation refused. It must end
+with status 4, nothing on standard output and `monitor: memory` on standard error, or as a run that is refused nothing.
 The first allocations are the C library's own. The status is 1 where a run does anything else. It needs gcc."""
 import os
 import subprocess
@@ -62,24 +63,32 @@ __attribute__((destructor)) static void tell(void) {
 """
 
 
-def run(program, bundle, folder, number):
-    """What a run gives, and how many allocations it asked for."""
+def run(words, bundle, folder, number):
+    """What a run of these words gives, and how many allocations it asked for."""
     asked = os.path.join(folder, "asked")
     shim = {"LD_PRELOAD": os.path.join(folder, "shim.so"), "REFUSED": str(number), "ASKED": asked}
-    run = subprocess.run([program], input=bundle, capture_output=True, env={**os.environ, **shim})
+    run = subprocess.run(words, input=bundle, capture_output=True, env={**os.environ, **shim})
     with open(asked) as told:
         return (run.returncode, run.stdout, run.stderr), int(told.read())
 
 
-def refuse_each(program, path, folder):
-    """Whether each run tells that memory ran out, or gives the report."""
+def asked_for(program, path):
+    """The words that the program is run with for an input, and what its standard input has."""
+    if os.path.isdir(path):
+        streams = sorted(name for name in os.listdir(path) if name.endswith(".stream"))
+        return [program, "check", *(os.path.join(path, name) for name in ["session.json", "report", *streams])], b""
     with open(path, "rb") as opened:
-        bundle = opened.read()
-    want, _ = run(program, bundle, folder, 0)
+        return [program], opened.read()
+
+
+def refuse_each(program, path, folder):
+    """Whether each run tells that memory ran out, or gives what a run with memory gives."""
+    words, bundle = asked_for(program, path)
+    want, _ = run(words, bundle, folder, 0)
     memory, same, number, asked = 0, 0, 0, 1
     while number <= asked:
         number += 1
-        given, asked = run(program, bundle, folder, number)
+        given, asked = run(words, bundle, folder, number)
         if given == (4, b"", b"monitor: memory\n"):
             memory += 1
         elif given == want:
@@ -87,7 +96,7 @@ def refuse_each(program, path, folder):
         else:
             print(f"{path}: allocation {number}: {given}")
             return False
-    print(f"{path}: {memory} refusals told, {same} runs with the report")
+    print(f"{path}: {memory} refusals told, {same} runs as with memory")
     return True
 
 

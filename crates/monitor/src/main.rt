@@ -1,4 +1,4 @@
-//! The program `monitor`: hands its words and its streams to `pd_cli`, which runs it.
+//! The program `monitor`: hands its words, its streams and the system's files to `pd_cli`, which runs it.
 #![tactic(auto)]
 
 use std::process::ExitCode;

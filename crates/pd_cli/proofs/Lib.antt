@@ -1,1 +1,3 @@
+mod DocumentFronts
+mod ReadersChecked
 mod TrueStatuses

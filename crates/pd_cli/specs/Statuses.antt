@@ -1,5 +1,5 @@
 -- The exit statuses, the lines that tell faults, and what a failed write leaves.
-use Rattle.std.specs.Prelude.{ℕ, List, codes, ◌⊎◌, Option}
+use Rattle.std.specs.Prelude.{ℕ, Bool, true, false, List, codes, ◌⊎◌, Option}
 use Rattle.std.specs.Io.KnownBytes.{Keeps}
 use Rattle.pd_engine.specs.Outcomes.{WritesFront, WritesReport}
 use Rattle.pd_engine.specs.declared.outcome.Outcome.{Outcome}
@@ -11,6 +11,11 @@ use Rattle.pd_engine.specs.declared.fault.EngineFault.TheVariants.{Memory, Write
 abbrev pub status_of_outcome : Outcome → ℕ
 status_of_outcome outcomes.Judged = 0
 status_of_outcome outcomes.Refused = 1
+
+-- the exit status of a check, by whether nothing that it found is bad
+abbrev pub status_of_check : Bool → ℕ
+status_of_check true = 0
+status_of_check false = 1
 
 -- the exit status of a fault
 abbrev pub status_of_fault : EngineFault → ℕ

@@ -1,20 +1,20 @@
 //! Exit statuses, and the lines that tell faults.
-ghost use Rattle.pd_cli.specs.Statuses.{line_of_fault, status_of_fault, status_of_outcome};
+ghost use Rattle.pd_cli.specs.Statuses.{line_of_fault, status_of_check, status_of_fault, status_of_outcome};
 ghost use Rattle.std.specs.Prelude.{◌≡◌};
 
 use pd_engine::{EngineFault, Outcome};
 use std::io::Write;
 
-/// Each predicate has its answer, or the help that was asked for is written.
+/// Each predicate has its answer, or nothing that a check found is bad, or the help that was asked for is written.
 pub const JUDGED: u8 = 0;
 
-/// The session is refused. Its report says why.
+/// The session is refused, and its report says why; or something that a check found is bad.
 pub const REFUSED: u8 = 1;
 
 /// The command line is refused.
 pub const MISUSED: u8 = 2;
 
-/// The input can't be read or is too long, or the output can't be written.
+/// The input or a file can't be read or is too long, or the output can't be written.
 pub const FAILED: u8 = 3;
 
 /// An allocation was refused.
@@ -28,6 +28,13 @@ pub(crate) fn outcome_status(outcome: Outcome) -> u8
         Outcome::Judged => JUDGED,
         Outcome::Refused => REFUSED,
     }
+}
+
+/// The exit status of a check, by whether nothing that it found is bad.
+pub(crate) fn check_status(good: bool) -> u8
+    ensures { result ≡ status_of_check good }
+{
+    if good { JUDGED } else { REFUSED }
 }
 
 /// The exit status of a fault.

@@ -1,7 +1,10 @@
 //! The program's statuses, and what it writes.
-use super::{JUDGED, MISUSED, NO_MEMORY, REFUSED, run, tell_unread_words};
+mod checks;
+
+use super::{FAILED, JUDGED, MISUSED, NO_MEMORY, REFUSED, run, tell_unread_words};
 use std::alloc::AllocError;
 use std::io;
+use std::io::{Error, ErrorKind, Write};
 use std::test::Fail;
 
 /// What a run on these words and this input gives: its status, its output and its errors.
@@ -36,14 +39,85 @@ fn statuses(rt: HostRuntime) -> Result<(), Fail> {
         b"session 2 processes 4 events 0 messages\nboth possibly yes 1,1\nboth definitely no b,b,a,a\n".as_slice()
     );
     assert!(rt; errors.is_empty());
+    Ok(())
+}
+
+#[test]
+fn help_is_written_to_the_output(rt: HostRuntime) -> Result<(), Fail> {
     let (status, output, errors) = run_on(&rt, &["monitor", "--help"], b"")?;
     assert_eq!(rt; status, JUDGED);
     assert!(rt; output.starts_with(b"Judges predicates"));
     assert!(rt; errors.is_empty());
-    let (status, output, errors) = run_on(&rt, &["monitor", "judge", "x"], b"")?;
-    assert_eq!(rt; status, MISUSED);
-    assert!(rt; output.is_empty());
-    assert!(rt; errors.starts_with(b"error: "));
+    let (status, output, errors) = run_on(&rt, &["monitor", "check", "--help"], b"")?;
+    assert_eq!(rt; status, JUDGED);
+    let help = b"Checks whether the cuts and paths in a report show what they are printed for\n\n\
+Usage: monitor check <SPEC> <REPORT> <STREAM>...\n\n\
+Arguments:\n  <SPEC>       The session document\n  <REPORT>     The report\n  <STREAM>...  The streams of events, one file for each\n\n\
+Options:\n  -h, --help  Print help\n\n\
+What is found is written to the standard output. The status is 0 where nothing in it is bad, and else 1.\n";
+    assert_eq!(rt; output.as_slice(), help.as_slice());
+    assert!(rt; errors.is_empty());
+    Ok(())
+}
+
+#[test]
+fn words_are_refused(rt: HostRuntime) -> Result<(), Fail> {
+    let cases: [&[&str]; 6] = [
+        &["monitor", "judge"],
+        &["monitor", "judge", "x"],
+        &["monitor", "check"],
+        &["monitor", "check", "x"],
+        &["monitor", "check", "x", "y"],
+        &["monitor", "check", "--x", "y", "z"],
+    ];
+    for words in cases {
+        let (status, output, errors) = run_on(&rt, words, b"")?;
+        assert_eq!(rt; status, MISUSED);
+        assert!(rt; output.is_empty());
+        assert!(rt; errors.starts_with(b"error: "));
+    }
+    Ok(())
+}
+
+/// Takes bytes until it is flushed, which fails; or fails at once.
+#[derive(Drop)]
+struct Failing {
+    takes: bool,
+}
+
+impl Write for Failing {
+    fn write(&mut self, bytes: &[u8]) -> io::Result<usize> {
+        if self.takes {
+            Ok(bytes.len())
+        } else {
+            Err(Error::from(ErrorKind::BrokenPipe))
+        }
+    }
+
+    fn flush(&mut self) -> io::Result<()> {
+        Err(Error::from(ErrorKind::BrokenPipe))
+    }
+}
+
+#[test]
+fn help_that_cannot_be_written(rt: HostRuntime) -> Result<(), Fail> {
+    let alloc = rt.alloc();
+    for takes in [false, true] {
+        let mut words = Vec::new(alloc);
+        words.push(String::from_str(alloc, "monitor")?)?;
+        words.push(String::from_str(alloc, "--help")?)?;
+        let mut errors = Vec::new(alloc);
+        let status = run(
+            &rt,
+            alloc,
+            words,
+            b"".as_slice(),
+            &mut Failing { takes },
+            &mut errors,
+        );
+        assert_eq!(rt; status, FAILED);
+        assert_eq!(rt; errors.as_slice(), b"monitor: write\n".as_slice());
+    }
     Ok(())
 }
 

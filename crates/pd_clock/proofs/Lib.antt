@@ -6,3 +6,5 @@ pub mod Cycles
 pub mod ClockSteps
 pub mod OrderSteps
 pub mod ClockRows
+pub mod Adding
+pub mod SenderRows

@@ -1,5 +1,5 @@
 -- What the clocks of all events tell: which counts are consistent, and what happened before what.
-use Rattle.std.proofs.Common.{◌≡◌, ◌≢◌, ℕ, ◌+◌, ◌-◌, ◌*◌, ◌<◌, ◌≤◌, List, [], length, get_or, cond, true, false, not, ◌&&◌, refl, sym, ap, ◌∙◌, subst, inl, inr, ◌⊎◌, ◌↔◌, arith}
+use Rattle.std.proofs.Common.{◌≡◌, ◌≢◌, ℕ, ◌+◌, ◌-◌, ◌*◌, ◌<◌, ◌≤◌, List, [], length, get_or, cond, true, false, not, ◌&&◌, refl, sym, ap, ◌∙◌, inl, inr, ◌⊎◌, ◌↔◌, arith}
 use Rattle.std.specs.Prelude.{nat_eq, nat_lt, Vec}
 use Rattle.std.specs.Global.{Global}
 use Rattle.std.proofs.lemmas.Bool.{cases_eq, cases_lt, lt-ltb, le-ltb, false≢true}
@@ -9,12 +9,11 @@ use Rattle.std.proofs.lemmas.Nat.{mul-add-lt}
 use Rattle.std.proofs.Math.Nat.{mul-le-mul_right}
 use Rattle.pd_model.specs.Events.{Computation, Place, place, IsEvent, event_count}
 use Rattle.pd_model.specs.Order.{HappenedBefore, HasNoCycle, IsUpTo, IsClock}
-use Rattle.pd_model.specs.Cuts.{FitsProcesses, IsConsistent, full_cut, one_more}
+use Rattle.pd_model.specs.Cuts.{FitsProcesses, IsConsistent, full_cut}
 use Rattle.pd_model.proofs.Chains.{same_place, happens_transitive, step_happens}
 use Rattle.pd_model.proofs.ClockLemmas.{clocks_decide}
 use Rattle.pd_model.proofs.Consistency.{process_in_range}
-use Rattle.pd_model.proofs.Counts.{more_same, more_other, full_at}
-use Rattle.pd_model.proofs.Steps.{fits_more}
+use Rattle.pd_model.proofs.Counts.{full_at}
 use Rattle.pd_model.proofs.Stuck.{none_stuck}
 use Rattle.pd_clock.specs.Orders.{HasClocks, LeavesStuck, clock_at, clocks_in, clocks_of}
 use Rattle.pd_clock.specs.Pasts.{HasPast, HasPasts, Reach}
@@ -169,66 +168,6 @@ module _ (c : Computation) (clocks : List (Vec ℕ Global)) (acyclic : HasNoCycl
 
       from : IsConsistent c counts → HasPasts clocks counts
       from ok p some = past_from_below counts p (get_or counts p 0) fits (λ q apart. law.0 ok p q some)
-
-  pub add_exactly : (counts : List ℕ) (p : ℕ) → IsConsistent c counts → p < length c → get_or counts p 0 < event_count c p → HasPast (clocks_of clocks p) (get_or counts p 0 + 1) counts p ↔ IsConsistent c (one_more counts p)
-  add_exactly counts p ok within room = (to, from)
-    where
-      there : p < length counts
-      there = omega (arith, ok.fits.one_each)
-
-      fits : FitsProcesses c (one_more counts p)
-      fits = fits_more c counts p ok.fits room there
-
-      same_p : get_or (one_more counts p) p 0 ≡ get_or counts p 0 + 1
-      same_p = more_same counts p there
-
-      next_is : IsEvent c (place p (get_or counts p 0 + 1))
-      next_is = (omega arith, omega arith)
-
-      old : IsConsistent c counts ↔ ((r q : ℕ) → 0 < get_or counts r 0 → known (place r (get_or counts r 0)) q ≤ get_or counts q 0)
-      old = clocks_decide c known known_right counts ok.fits
-
-      new : IsConsistent c (one_more counts p) ↔ ((r q : ℕ) → 0 < get_or (one_more counts p) r 0 → known (place r (get_or (one_more counts p) r 0)) q ≤ get_or (one_more counts p) q 0)
-      new = clocks_decide c known known_right (one_more counts p) fits
-
-      up : (q : ℕ) → get_or counts q 0 ≤ get_or (one_more counts p) q 0
-      up q = pick (cases_eq q p)
-        where
-          pick : (q ≡ p) ⊎ (q ≡ p → ⊥) → get_or counts q 0 ≤ get_or (one_more counts p) q 0
-          pick (inl e) = rw e (let s : get_or (one_more counts p) p 0 ≡ get_or counts p 0 + 1 = same_p in omega arith)
-          pick (inr apart) = let o : get_or (one_more counts p) q 0 ≡ get_or counts q 0 = more_other counts p q apart in omega arith
-
-      to : HasPast (clocks_of clocks p) (get_or counts p 0 + 1) counts p → IsConsistent c (one_more counts p)
-      to past = new.1 each
-        where
-          next : (q : ℕ) → (q ≡ p) ⊎ (q ≡ p → ⊥) → known (place p (get_or counts p 0 + 1)) q ≤ get_or (one_more counts p) q 0
-          next q (inl same) = rw same (rw (same_p, own p (get_or counts p 0 + 1) next_is) (omega arith))
-          next q (inr apart) =
-              let a : known (place p (get_or counts p 0 + 1)) q ≤ get_or counts q 0 = below_from_past counts p (get_or counts p 0 + 1) ok.fits past q apart in
-              let b : get_or counts q 0 ≤ get_or (one_more counts p) q 0 = up q in
-              omega arith
-
-          each : (r q : ℕ) → 0 < get_or (one_more counts p) r 0 → known (place r (get_or (one_more counts p) r 0)) q ≤ get_or (one_more counts p) q 0
-          each r q some = pick (cases_eq r p)
-            where
-              pick : (r ≡ p) ⊎ (r ≡ p → ⊥) → known (place r (get_or (one_more counts p) r 0)) q ≤ get_or (one_more counts p) q 0
-              pick (inl e) = rw e (rw same_p (next q (cases_eq q p)))
-              pick (inr apart) =
-                  let o : get_or (one_more counts p) r 0 ≡ get_or counts r 0 = more_other counts p r apart in
-                  let a : known (place r (get_or counts r 0)) q ≤ get_or counts q 0 = old.0 ok r q (omega arith) in
-                  let b : get_or counts q 0 ≤ get_or (one_more counts p) q 0 = up q in
-                  rw o (omega arith)
-
-      from : IsConsistent c (one_more counts p) → HasPast (clocks_of clocks p) (get_or counts p 0 + 1) counts p
-      from more = past_from_below counts p (get_or counts p 0 + 1) ok.fits below
-        where
-          below : (q : ℕ) → q ≢ p → known (place p (get_or counts p 0 + 1)) q ≤ get_or counts q 0
-          below q apart =
-              let o : get_or (one_more counts p) q 0 ≡ get_or counts q 0 = more_other counts p q apart in
-              let s : get_or (one_more counts p) p 0 ≡ get_or counts p 0 + 1 = same_p in
-              let a : known (place p (get_or (one_more counts p) p 0)) q ≤ get_or (one_more counts p) q 0 = new.0 more p q (omega arith) in
-              let b : known (place p (get_or counts p 0 + 1)) q ≤ get_or (one_more counts p) q 0 = subst (λ (n : ℕ). known (place p n) q ≤ get_or (one_more counts p) q 0) s a in
-              omega arith
 
   -- the clocks reach as far as counts that fit
   pub reaches : (counts : List ℕ) → FitsProcesses c counts → Reach clocks counts

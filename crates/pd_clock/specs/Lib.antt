@@ -4,3 +4,4 @@ pub mod States
 pub mod StateViews
 pub mod Orders
 pub mod Pasts
+pub mod Senders

@@ -10,10 +10,14 @@ values_in (Some row) = row.items
 abbrev pub values_at : List (Vec ℤ Global) → ℕ → List ℤ
 values_at rows p = values_in (slice_get rows p)
 
+-- the value of variable v behind so many events of a process, in the history that begins with these values; 0 for what isn't there
+abbrev pub value_in : List ℤ → List ℤ → ℕ → ℕ → ℤ
+value_in start history count v =
+    cond (nat_lt v (length start)) (slice_index_or history (count * length start + v) (pos 0)) (pos 0)
+
 -- the value of variable v of process p behind the events that are counted; 0 for what isn't there
 abbrev pub value_at : List (Vec ℤ Global) → List (Vec ℤ Global) → List ℕ → ℕ → ℕ → ℤ
-value_at initial histories counts p v =
-    cond (nat_lt v (length (values_at initial p))) (slice_index_or (values_at histories p) (slice_index counts p * length (values_at initial p) + v) (pos 0)) (pos 0)
+value_at initial histories counts p v = value_in (values_at initial p) (values_at histories p) (slice_index counts p) v
 
 -- each history has the rows up to the count
 pub record IsLookedUp (initial histories : List (Vec ℤ Global)) (counts : List ℕ) : Type 0 where

@@ -2,32 +2,36 @@
 ghost use Rattle.pd_clock.specs.Computations.{FitsInitial, Keeps, recorded_of};
 ghost use Rattle.pd_events.specs.Views.{computation_of};
 ghost use Rattle.pd_clock.specs.Orders.{cycle_seen};
+ghost use Rattle.pd_clock.specs.Senders.{IsSender};
 ghost use Rattle.pd_clock.specs.StateViews.{state_of};
-ghost use Rattle.pd_model.specs.Cuts.{FitsProcesses, IsConsistent, one_more, total};
+ghost use Rattle.pd_model.specs.Cuts.{FitsProcesses, IsConsistent, total};
 ghost use Rattle.pd_match.specs.Views.{place_seen};
 ghost use Rattle.pd_model.specs.Events.{IsEvent, event_count};
-ghost use Rattle.pd_model.specs.Messages.{HasLawfulMessages, IsMessageList};
+ghost use Rattle.pd_model.specs.Messages.{IsMessageList};
 ghost use Rattle.pd_model.specs.Order.{HappenedBefore, HasNoCycle, IsClock, IsReportedCycle};
 ghost use Rattle.pd_model.specs.Predicates.{state_at};
-ghost use Rattle.std.specs.Prelude.{◌≡◌, ◌<◌, ◌≤◌, ◌↔◌, ℕ, IfErr, IfOk, IfSome, IsTrue, length, slice_index};
+ghost use Rattle.std.specs.Prelude.{◌≡◌, ◌<◌, ◌≤◌, ◌↔◌, ℕ, List, IfErr, IfOk, IfSome, IsTrue, length, slice_index};
 
-use super::clocks::{has_past, has_pasts};
+use super::clocks::has_pasts;
 use super::cycle::reported_cycle;
 use super::history::history;
 use super::order::{Order, put_in_order};
+use super::senders::senders_of;
+use super::state::looked_up;
 use super::{BuildFault, Cut, State};
 use pd_events::Trace;
 use pd_match::{Matched, Place};
 use std::alloc::{AllocError, Global};
 use std::marker::Model;
 
-/// The events of each process, with the values of its variables behind each event, and its clock.
+/// The events of each process, with the values of its variables behind each event, its clock, and its send if it is a receipt.
 #[derive(Drop)]
 pub struct Computation<'a> {
     initial: &'a [Vec<i64>],
     traces: &'a [Trace],
     histories: Vec<Vec<i64>>,
     clocks: Vec<Vec<u64>>,
+    senders: Vec<Vec<Option<Place>>>,
 }
 
 impl<'a> Model for Computation<'a> {
@@ -35,14 +39,16 @@ impl<'a> Model for Computation<'a> {
     ghost use Rattle.pd_clock.specs.Computations.{recorded_of, Keeps};
     ghost use Rattle.pd_events.specs.Views.{computation_of};
     ghost use Rattle.pd_clock.specs.Orders.{HasClocks};
+    ghost use Rattle.pd_clock.specs.Senders.{KeepsSenders};
     ghost use Rattle.pd_model.specs.Cuts.{full_cut};
     ghost use Rattle.pd_model.specs.Order.{HasNoCycle};
+    ghost use Rattle.std.specs.Prelude.{length};
 
     ghost Value = { Recorded };
 
     ghost view = { λ c. recorded_of c.initial.now c.traces.now };
 
-    ghost invariant = { λ c. Keeps c.initial.now c.traces.now c.histories.items × HasClocks (computation_of c.traces.now) (full_cut (computation_of c.traces.now)) c.clocks.items × HasNoCycle (computation_of c.traces.now) };
+    ghost invariant = { λ c. Keeps c.initial.now c.traces.now c.histories.items × HasClocks (computation_of c.traces.now) (full_cut (computation_of c.traces.now)) c.clocks.items × HasNoCycle (computation_of c.traces.now) × KeepsSenders (computation_of c.traces.now) (length c.traces.now) c.senders.items };
 }
 
 /// The history of each process.
@@ -101,7 +107,6 @@ impl<'a> Computation<'a> {
         matched: &Matched,
     ) -> Result<Computation<'a>, BuildFault>
         requires fits { FitsInitial initial.now traces.now }
-        requires lawful { HasLawfulMessages (computation_of traces.now) }
         requires messages { IsMessageList (computation_of traces.now) matched.now }
         ensures recorded { IfOk result (λ computation. computation ≡ recorded_of initial.now traces.now) }
         ensures acyclic { IfOk result (λ computation. HasNoCycle (computation_of traces.now)) }
@@ -116,6 +121,7 @@ impl<'a> Computation<'a> {
             traces,
             histories: histories(alloc, initial, traces)?,
             clocks,
+            senders: senders_of(alloc, traces, matched)?,
         })
     }
 
@@ -169,15 +175,6 @@ impl<'a> Computation<'a> {
         self.fits(cut) && has_pasts(&self.clocks, cut.counts())
     }
 
-    /// Whether one more event of process `p`, counted from 0, leaves a cut.
-    pub fn can_add(&self, counts: &[u64], p: usize) -> bool
-        requires cut { IsConsistent self.now.events counts.now }
-        requires within { p < length self.now.events }
-        ensures { IsTrue result ↔ IsConsistent self.now.events (one_more counts.now p) }
-    {
-        counts[p] < self.events(p) && has_past(&self.clocks[p], counts[p] + 1, counts, p)
-    }
-
     /// Whether the place is that of an event.
     pub fn has(&self, place: Place) -> bool
         ensures { IsTrue result ↔ IsEvent self.now.events (place_seen place) }
@@ -196,6 +193,14 @@ impl<'a> Computation<'a> {
         self.clocks[place.process][(place.number as usize - 1) * self.processes() + q]
     }
 
+    /// The send of this event, if it is a receipt.
+    pub fn sender(&self, receipt: Place) -> Option<Place>
+        requires { IsEvent self.now.events (place_seen receipt) }
+        ensures { IsSender self.now.events (place_seen receipt) result }
+    {
+        self.senders[receipt.process][receipt.number as usize - 1]
+    }
+
     /// Whether event `e` happened before event `f`.
     pub fn before(&self, e: Place, f: Place) -> bool
         requires first { IsEvent self.now.events (place_seen e) }
@@ -204,6 +209,18 @@ impl<'a> Computation<'a> {
     {
         self.limits();
         e != f && e.number <= self.clock(f, e.process)
+    }
+
+    /// The value of variable `var` of process `process`, both counted from 0, behind the first `count` events of the process. It
+    /// is 0 where there is no such process or variable.
+    pub fn value(&self, process: usize, count: u64, var: usize) -> i64
+        requires { process < length self.now.events → count ≤ event_count self.now.events process }
+        ensures { (counts : List ℕ) → slice_index counts process ≡ count → result ≡ state_at self.now.initial self.now.events counts process var }
+    {
+        if process >= self.initial.len() {
+            return 0;
+        }
+        looked_up(&self.initial[process], &self.histories[process], count, var)
     }
 
     /// The state at a cut that fits.

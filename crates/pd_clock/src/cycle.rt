@@ -3,10 +3,10 @@ ghost use Rattle.pd_clock.specs.Orders.{LeavesStuck, places_seen};
 ghost use Rattle.pd_events.specs.Views.{computation_of};
 ghost use Rattle.pd_match.specs.Views.{place_seen};
 ghost use Rattle.pd_model.specs.Events as events;
-ghost use Rattle.pd_model.specs.Events.{event_count, place};
-ghost use Rattle.pd_model.specs.Messages.{HasLawfulMessages, IsMessageList};
+ghost use Rattle.pd_model.specs.Events.{place};
+ghost use Rattle.pd_model.specs.Messages.{IsMessageList};
 ghost use Rattle.pd_model.specs.Order.{GoesBackTo, HasNoCycle, IsFirstStuck, IsLeastStuck, IsReportedCycle, IsStuck};
-ghost use Rattle.std.specs.Prelude.{◌≡◌, ◌==◌, ◌≤◌, ◌<◌, ℕ, IfOk, IfNone, IfSome, drop, length, position};
+ghost use Rattle.std.specs.Prelude.{◌≡◌, ◌==◌, ◌<◌, ℕ, IfOk, IfNone, IfSome, drop, length, position};
 
 use pd_events::Trace;
 use pd_match::{Matched, Place};
@@ -20,9 +20,6 @@ pub(crate) fn reported_cycle(
     matched: &Matched,
     done: &[u64],
 ) -> Result<Option<Vec<Place>>, AllocError>
-    requires few { length traces.now ≤ 8 }
-    requires short { (p : ℕ) → event_count (computation_of traces.now) p ≤ 10000 }
-    requires lawful { HasLawfulMessages (computation_of traces.now) }
     requires messages { IsMessageList (computation_of traces.now) matched.now }
     requires stuck { LeavesStuck (computation_of traces.now) done.now }
     ensures none { IfOk result (λ cycle. IfNone cycle (HasNoCycle (computation_of traces.now))) }

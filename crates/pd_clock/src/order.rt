@@ -4,7 +4,7 @@ ghost use Rattle.pd_events.specs.Views.{computation_of};
 ghost use Rattle.pd_match.specs.Views.{place_seen};
 ghost use Rattle.pd_model.specs.Cuts.{Includes, one_more};
 ghost use Rattle.pd_model.specs.Events.{event_count};
-ghost use Rattle.pd_model.specs.Messages.{HasLawfulMessages, IsMessageList};
+ghost use Rattle.pd_model.specs.Messages.{IsMessageList};
 ghost use Rattle.pd_model.specs.Order.{IsClock};
 ghost use Rattle.std.specs.Prelude.{◌≡◌, ◌<◌, ◌≤◌, ℕ, IfNone, IfOk, IfSome, IsTrue, false, length, option_map, slice_index};
 
@@ -161,7 +161,6 @@ pub(crate) fn put_in_order(
 ) -> Result<Order, AllocError>
     requires few { length traces.now ≤ 8 }
     requires short { (p : ℕ) → event_count (computation_of traces.now) p ≤ 10000 }
-    requires lawful { HasLawfulMessages (computation_of traces.now) }
     requires messages { IsMessageList (computation_of traces.now) matched.now }
     ensures stuck { IfOk result (λ order. LeavesStuck (computation_of traces.now) order.done.items) }
     ensures clocks { IfOk result (λ order. HasClocks (computation_of traces.now) order.done.items order.clocks.items) }

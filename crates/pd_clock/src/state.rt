@@ -1,6 +1,6 @@
 //! The values at a cut.
-ghost use Rattle.pd_clock.specs.States.{IsLookedUp, value_at};
-ghost use Rattle.std.specs.Prelude.{◌≡◌};
+ghost use Rattle.pd_clock.specs.States.{IsLookedUp, value_at, value_in};
+ghost use Rattle.std.specs.Prelude.{◌≡◌, ◌+◌, ◌*◌, ◌≤◌, length};
 
 use pd_pred::Values;
 
@@ -40,10 +40,24 @@ impl Values for State<'_> {
         if process >= self.initial.len() {
             return 0;
         }
-        let vars = self.initial[process].len();
-        if var >= vars {
-            return 0;
-        }
-        self.histories[process][self.counts[process] as usize * vars + var]
+        looked_up(
+            &self.initial[process],
+            &self.histories[process],
+            self.counts[process],
+            var,
+        )
     }
+}
+
+/// The value of variable `var`, counted from 0, behind the first `count` events of a process: what stands in its history, whose
+/// first row is `start`. It is 0 where there is no such variable.
+pub(crate) fn looked_up(start: &[i64], history: &[i64], count: u64, var: usize) -> i64
+    requires { count * length start.now + length start.now ≤ length history.now }
+    ensures { result ≡ value_in start.now history.now count var }
+{
+    let vars = start.len();
+    if var >= vars {
+        return 0;
+    }
+    history[count as usize * vars + var]
 }

@@ -6,7 +6,7 @@ ghost use Rattle.pd_model.specs.Predicates.{test_of};
 ghost use Rattle.pd_pred.specs.Views.{predicate_of};
 ghost use Rattle.std.specs.Prelude.{◌≡◌, ◌+◌, ◌≤◌, ℕ, All, IfOk, filter, length, map, not};
 
-use pd_clock::{Computation, Cut};
+use pd_clock::Computation;
 use pd_level::{Level, LevelFault};
 use pd_pred::Pred;
 use std::alloc::{AllocError, Global};
@@ -78,17 +78,7 @@ fn marks(
 {
     let mut marks = Vec::with_capacity(alloc, level.len())?;
     for i in 0..level.len() {
-        let cut = level.cut(alloc, i);
-        marks.push(satisfies(computation, pred, &cut))?;
+        marks.push(level.holds(computation, pred, i))?;
     }
     Ok(marks)
-}
-
-/// Whether the cut satisfies.
-fn satisfies(computation: &Computation<'_>, pred: &Pred, cut: &Cut) -> bool
-    requires { IsConsistent computation.now.events cut.now }
-    ensures { result ≡ test_of computation.now (predicate_of pred.now) cut.now }
-{
-    let state = computation.at(cut);
-    pred.holds(&state)
 }

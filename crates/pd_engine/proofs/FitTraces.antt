@@ -8,13 +8,14 @@ use Rattle.std.proofs.Math.ListN.{get_or-map}
 use Rattle.pd_model.specs.Events.{Computation, Event, Place, events_of, event_count}
 use Rattle.pd_model.specs.Cuts.{total}
 use Rattle.pd_model.specs.Messages.{Fault, HasLawfulMessages, IsMessageList, IsReported}
-use Rattle.pd_model.specs.Order.{HasNoCycle, IsReportedCycle, IsWellFormed}
+use Rattle.pd_model.specs.Order.{HasNoCycle, IsReportedCycle}
 use Rattle.pd_model.specs.Predicates.{Recorded}
 use Rattle.pd_format.specs.Documents.{Document}
 use Rattle.pd_format.specs.Judgements.{IsAnswered, IsTracesReport, of_answers, of_cycle, of_messages, events_of_traces, match_refusal, named_place}
 use Rattle.pd_format.specs.Judgements as judgements
 use Rattle.pd_format.specs.Names.{ProcessNames, vars_of}
 use Rattle.pd_format.specs.ReadingLaws.{FitsProcess}
+use Rattle.pd_format.specs.Readings as readings
 use Rattle.pd_format.specs.Reports as reports
 use Rattle.pd_format.specs.Reports.{Refusal, Refused, Report}
 use Rattle.pd_spec.specs.Sound.{IsSound, lengths, vars_of_each}
@@ -25,6 +26,7 @@ use Rattle.pd_gather.specs.Views.{AreTraces, traces_seen}
 use Rattle.pd_clock.specs.Histories.{AreVars}
 use Rattle.pd_clock.specs.Computations.{FitsInitial, recorded_of}
 use Rattle.pd_clock.specs.States.{values_at}
+use Rattle.pd_engine.specs.Formings.{AreWellFormed}
 use Rattle.pd_engine.specs.Judged.{IsJudged}
 
 abbrev items_of : List (Vec ℤ Global) → List (List ℤ)
@@ -112,11 +114,24 @@ pub cycle_report : (document : Document) (traces : List Trace) (cycle : List Pla
 cycle_report document traces cycle lawful r =
     of_cycle cycle (subst HasLawfulMessages (same_events traces) lawful) (subst (λ (c : Computation). IsReportedCycle c cycle) (same_events traces) r)
 
--- the report with these answers
-pub answers_report : (document : Document) (rows : List (Vec ℤ Global)) (traces : List Trace) (messages : List (Place × Place)) (report : Report) → items_of rows ≡ document.initial → HasLawfulMessages (computation_of traces) → HasNoCycle (computation_of traces) → IsMessageList (computation_of traces) messages → IsJudged document (recorded_of rows traces) (length messages) report → IsTracesReport document (traces_seen traces) report
-answers_report document rows traces messages report initial lawful acyclic list judged =
+-- the computation of traces whose messages are lawful
+pub well_formed : (document : Document) (rows : List (Vec ℤ Global)) (traces : List Trace) (messages : List (Place × Place)) → items_of rows ≡ document.initial → length (computation_of traces) ≡ length document.names → HasLawfulMessages (computation_of traces) → HasNoCycle (computation_of traces) → IsMessageList (computation_of traces) messages → AreWellFormed document (traces_seen traces) (recorded_of rows traces) (length messages)
+well_formed document rows traces messages initial one_each lawful acyclic list =
     let same : computation_of traces ≡ events_of_traces (traces_seen traces) = same_events traces in
-    let recorded : recorded_of rows traces ≡ judgements.recorded_of document (traces_seen traces) = same_recorded document rows traces initial in
-    let well : IsWellFormed (events_of_traces (traces_seen traces)) = record { messages = subst HasLawfulMessages same lawful; no_cycle = subst HasNoCycle same acyclic } in
-    let zip : AllZip (IsAnswered document.names (judgements.recorded_of document (traces_seen traces)) document.width) document.predicates judged.answers = subst (λ (r : Recorded). AllZip (IsAnswered document.names r document.width) document.predicates judged.answers) recorded judged.answered in
-    rw (judged.told, ap total same) (of_answers messages judged.answers well (subst (λ (c : Computation). IsMessageList c messages) same list) zip)
+    record {
+      same = same_recorded document rows traces initial;
+      one_each = one_each;
+      formed = record { messages = subst HasLawfulMessages same lawful; no_cycle = subst HasNoCycle same acyclic };
+      messages = messages;
+      are_messages = subst (λ (c : Computation). IsMessageList c messages) same list;
+      counted = refl;
+    }
+
+pub no_cycle_in : (document : Document) (traces : List readings.Trace) (recorded : Recorded) (count : ℕ) → AreWellFormed document traces recorded count → HasNoCycle recorded.events
+no_cycle_in document traces recorded count well = subst (λ (r : Recorded). HasNoCycle r.events) (sym well.same) well.formed.no_cycle
+
+-- the report with these answers
+pub answers_report : (document : Document) (traces : List readings.Trace) (recorded : Recorded) (count : ℕ) (report : Report) → AreWellFormed document traces recorded count → IsJudged document recorded count report → IsTracesReport document traces report
+answers_report document traces recorded count report well judged =
+    let zip : AllZip (IsAnswered document.names (judgements.recorded_of document traces) document.width) document.predicates judged.answers = subst (λ (r : Recorded). AllZip (IsAnswered document.names r document.width) document.predicates judged.answers) well.same judged.answered in
+    rw (judged.told, ap (λ (r : Recorded). total r.events) well.same, well.counted) (of_answers well.messages judged.answers well.formed well.are_messages zip)

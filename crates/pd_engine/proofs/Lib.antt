@@ -9,3 +9,9 @@ pub mod RefusedPlaces
 pub mod PrintedPaths
 pub mod TruthFacts
 pub mod WriteFaults
+pub mod FindingTexts
+pub mod PathNames
+pub mod Zips
+pub mod CheckedAnswers
+pub mod ClaimFacts
+pub mod ToldStreams

@@ -1,14 +1,16 @@
 -- The report of a bundle's parts.
 use Rattle.std.proofs.Common.{◌≡◌, ℕ, ◌<◌, ◌≤◌, true, List, [], ◌∷◌, length, get_or, drop, map, refl, sym, ap, ◌∙◌, subst, arith, Some, None, Option, Err, inl, inr, ◌⊎◌}
-use Rattle.std.specs.Prelude.{nat_lt}
+use Rattle.std.specs.Prelude.{nat_lt, Result}
 use Rattle.std.specs.Borrow.{Bor}
 use Rattle.std.proofs.lemmas.Bool.{cases_lt, lt-ltb}
 use Rattle.std.proofs.lemmas.List.{length-map}
 use Rattle.pd_format.specs.Documents.{Document, InPredicate, IsDocument, IsRefusedDocument}
 use Rattle.pd_format.specs.Documents as documents
 use Rattle.pd_format.specs.Judgements.{IsJudgement, of_read, of_refused, IsReportOfOutcomes, IsReportOfSession, outcomes_of, ended_streams, Told}
+use Rattle.pd_format.specs.Names.{ProcessNames}
+use Rattle.pd_format.specs.Readings.{Trace}
 use Rattle.pd_format.specs.Reports.{Refusal, Refused, Report}
-use Rattle.pd_format.specs.Sessions.{Outcome, session, TooManyStreams, stream_limit}
+use Rattle.pd_format.specs.Sessions.{Outcome, SessionFault, session, TooManyStreams, stream_limit}
 use Rattle.pd_spec.specs.Views.{IsFaultOf}
 use Rattle.pd_spec.specs.declared.fault.SpecFault.{SpecFault}
 use Rattle.pd_spec.specs.declared.fault.SpecFault.TheVariants as faults
@@ -21,22 +23,26 @@ parts_split [] d lt = absurd (omega arith)
 parts_split (first ∷ others) d lt = refl
 
 -- with too many streams it doesn't matter what they give
-same_session : (document : Document) (streams : ℕ) (given told : List Outcome) (report : Report) → (streams ≤ 16 → given ≡ told) → IsReportOfOutcomes document streams given report → IsReportOfOutcomes document streams told report
-same_session document streams given told report same judged = go (cases_lt 16 streams)
+pub same_session : (names : List ProcessNames) (streams : ℕ) (given told : List Outcome) → (streams ≤ 16 → given ≡ told) → session names streams given ≡ session names streams told
+same_session names streams given told same = go (cases_lt 16 streams)
   where
-    go : (16 < streams) ⊎ (streams ≤ 16) → IsReportOfOutcomes document streams told report
-    go (inr few) = subst (λ (outcomes : List Outcome). IsReportOfOutcomes document streams outcomes report) (same few) judged
+    go : (16 < streams) ⊎ (streams ≤ 16) → session names streams given ≡ session names streams told
+    go (inr few) = ap (session names streams) (same few)
     go (inl many) =
         let test : nat_lt stream_limit streams ≡ true = lt-ltb stream_limit streams many in
-        let first : session document.names streams given ≡ Err TooManyStreams = rw test refl in
-        let second : session document.names streams told ≡ Err TooManyStreams = rw test refl in
-        subst (λ r. IsReportOfSession document r report) (first ∙ sym second) judged
+        let first : session names streams given ≡ Err TooManyStreams = rw test refl in
+        let second : session names streams told ≡ Err TooManyStreams = rw test refl in
+        first ∙ sym second
+
+pub same_report : (document : Document) (streams : ℕ) (given told : List Outcome) (report : Report) → (streams ≤ 16 → given ≡ told) → IsReportOfOutcomes document streams given report → IsReportOfOutcomes document streams told report
+same_report document streams given told report same judged =
+    subst (λ (r : Result (List Trace) SessionFault). IsReportOfSession document r report) (same_session document.names streams given told same) judged
 
 pub read_judged : (bytes : List ℕ) (parts : List (List ℕ)) (document : Document) (streams : ℕ) (given : List Outcome) → IsDocument bytes document → streams ≡ length parts → (length parts ≤ 16 → given ≡ outcomes_of document.names (ended_streams parts)) → (report : Report) → IsReportOfOutcomes document streams given report → IsJudgement bytes (ended_streams parts) report
 read_judged bytes parts document streams given is count same report judged =
     let many : length (ended_streams parts) ≡ length parts = length-map parts _ in
     of_read document is
-    (rw many (same_session document (length parts) given (outcomes_of document.names (ended_streams parts)) report same
+    (rw many (same_report document (length parts) given (outcomes_of document.names (ended_streams parts)) report same
     (subst (λ (n : ℕ). IsReportOfOutcomes document n given report) count judged)))
 
 pub refused_judged : (bytes : List ℕ) (streams : List Told) (fault : SpecFault) (refusal : Refusal) → IsFaultOf bytes fault → IsDocumentRefusal fault refusal → IsJudgement bytes streams (Refused refusal)

@@ -5,3 +5,8 @@ pub mod Judged
 pub mod Paths
 pub mod Truths
 pub mod Faults
+pub mod Checks
+pub mod Formings
+pub mod FindingViews
+pub mod Verdicts
+pub mod Claims

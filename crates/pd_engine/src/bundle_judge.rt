@@ -30,7 +30,7 @@ use std::random::RandomSource;
 const BUNDLE_LIMIT: usize = 67_108_864;
 
 /// The most streams that are read.
-const MAX_STREAMS: usize = 16;
+pub(crate) const MAX_STREAMS: usize = 16;
 
 /// The most bytes that are handed to a stream's reader at a time.
 const PIECE: usize = 4_096;

@@ -17,13 +17,12 @@ ghost use Rattle.std.specs.List.{AllZip};
 ghost use Rattle.std.specs.Prelude.{◌≡◌, ◌<◌, ◌≤◌, All, IfOk, IsOkUnless, length, map, string_bytes};
 
 use super::EngineFault;
-use super::refusal::{of_cycle, of_messages, of_streams};
-use pd_clock::{BuildFault, Computation};
+use super::formed::{Formed, Joined, form, join};
+use pd_clock::Computation;
 use pd_definitely::{DefinitelyAnswer, definitely};
 use pd_events::Trace;
-use pd_gather::{Gathered, session};
+use pd_gather::Gathered;
 use pd_level::Gate;
-use pd_match::{Matched, match_messages};
 use pd_possibly::{PossiblyAnswer, possibly};
 use pd_pred::Names;
 use pd_report::{Answer, Definitely, Possibly, Report};
@@ -68,12 +67,9 @@ fn gathered_report<S: RandomSource, G: Gate + Sync>(
     ensures report { IfOk result (λ report. IsReportOfOutcomes (document_of spec.now) gathered.streams (outcomes_seen gathered.readings.items) (views.report_of report)) }
     ensures err { IsOkUnless result EngineFault.Memory }
 {
-    match session(alloc, spec, gathered) {
-        Ok(traces) => judged(rt, alloc, spec, &traces, workers, gate),
-        Err(fault) => {
-            let refusal = of_streams(alloc, spec.names(), fault)?;
-            Ok(Report::Refused(refusal))
-        }
+    match join(alloc, spec, gathered)? {
+        Joined::Traces(traces) => judged(rt, alloc, spec, &traces, workers, gate),
+        Joined::Unjoined(refusal) => Ok(Report::Refused(refusal)),
     }
 }
 
@@ -90,37 +86,11 @@ fn judged<S: RandomSource, G: Gate + Sync>(
     ensures report { IfOk result (λ report. IsTracesReport (document_of spec.now) (traces_seen traces.now) (views.report_of report)) }
     ensures err { IsOkUnless result EngineFault.Memory }
 {
-    match match_messages(rt, alloc, traces) {
-        Ok(matched) => ordered(alloc, spec, traces, &matched, workers, gate),
-        Err(fault) => {
-            let refusal = of_messages(alloc, spec.names(), fault)?;
-            Ok(Report::Refused(refusal))
+    match form(rt, alloc, spec, traces)? {
+        Formed::WellFormed(computation, messages) => {
+            answered(alloc, spec, &computation, messages, workers, gate)
         }
-    }
-}
-
-/// The report of a session's traces, whose messages are lawful.
-fn ordered<G: Gate + Sync>(
-    alloc: Global,
-    spec: &Spec,
-    traces: &[Trace],
-    matched: &Matched,
-    workers: u64,
-    gate: &G,
-) -> Result<Report, EngineFault>
-    requires traces { AreTraces (document_of spec.now).names traces.now }
-    requires lawful { HasLawfulMessages (computation_of traces.now) }
-    requires messages { IsMessageList (computation_of traces.now) matched.now }
-    ensures report { IfOk result (λ report. IsTracesReport (document_of spec.now) (traces_seen traces.now) (views.report_of report)) }
-    ensures err { IsOkUnless result EngineFault.Memory }
-{
-    match Computation::build(alloc, spec.initial_rows(), traces, matched) {
-        Ok(computation) => answered(alloc, spec, &computation, matched.messages(), workers, gate),
-        Err(BuildFault::Cycle(cycle)) => {
-            let refusal = of_cycle(alloc, spec.names(), &cycle)?;
-            Ok(Report::Refused(refusal))
-        }
-        Err(BuildFault::Memory) => Err(EngineFault::Memory),
+        Formed::Unformed(refusal) => Ok(Report::Refused(refusal)),
     }
 }
 

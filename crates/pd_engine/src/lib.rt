@@ -4,10 +4,16 @@
 //! the one that the definitions give; a text reaches a writer whole, or the call fails. Only a refused allocation is told
 //! as want of memory.
 //!
+//! - `formed`: what a session comes to, before any predicate is judged
 //! - `judge`: the report of a session's streams
 //! - `refusal`: refusals in the words of a report
 //! - `bundle`: the parts of a bundle
 //! - `bundle_judge`: the report of a bundle
+//! - `checks`: checks a report's evidence
+//! - `claims`: how a report stands to what a session comes to
+//! - `verdicts`: the verdicts on the evidence of a report's answers
+//! - `finding`: what a check of a report finds
+//! - `finding_text`: its text
 //! - `outcome`: how a session was judged
 //! - `input`: reads a reader up to a limit
 //! - `fault`: why the engine gives no report
@@ -15,15 +21,22 @@
 
 mod bundle;
 mod bundle_judge;
+mod checks;
+mod claims;
 mod fault;
+mod finding;
+mod finding_text;
+mod formed;
 mod input;
 mod judge;
 mod outcome;
 mod refusal;
 #[cfg(test)]
 mod tests;
+mod verdicts;
 
 pub use bundle_judge::judge_bundle;
+pub use checks::check;
 pub use fault::EngineFault;
 pub use input::read_upto;
 pub use judge::report_of;

@@ -1,6 +1,6 @@
-//! Parts and reads that are known.
+//! Parts, reads and checks that are known.
 use super::bundle::parts;
-use super::{EngineFault, read_upto};
+use super::{EngineFault, check, read_upto};
 use std::alloc::{AllocError, Global};
 use std::io;
 use std::io::{Error, ErrorKind, Read};
@@ -97,5 +97,89 @@ fn faults_have_words(rt: HostRuntime) -> Result<(), Fail> {
         EngineFault::BundleLong.to_string(alloc)?.as_str(),
         "bundle too long"
     );
+    Ok(())
+}
+
+const DOCUMENT: &[u8] =
+    br#"{"processes":[{"name":"a","vars":{"x":0}},{"name":"b","vars":{"y":0}}],"predicates":[{"name":"both","text":"a.x == 1 and b.y == 1"}]}"#;
+
+const STREAM_A: &[u8] =
+    b"{\"process\":\"a\"}\n{\"set\":{\"x\":1}}\n{\"set\":{\"x\":0}}\n{\"end\":true}\n";
+
+const STREAM_B: &[u8] =
+    b"{\"process\":\"b\"}\n{\"set\":{\"y\":1}}\n{\"set\":{\"y\":0}}\n{\"end\":true}\n";
+
+/// Whether a check of this report writes this text, and tells that nothing is bad exactly where it is so.
+fn is_found(
+    rt: &HostRuntime,
+    document: &[u8],
+    report: &str,
+    clean: bool,
+    text: &str,
+) -> Result<bool, Fail> {
+    let alloc = rt.alloc();
+    let mut streams = Vec::new(alloc);
+    streams.push(STREAM_A)?;
+    streams.push(STREAM_B)?;
+    let mut written = Vec::new(alloc);
+    let told = check(
+        rt,
+        alloc,
+        document,
+        report.as_bytes(),
+        streams,
+        &mut written,
+    )?;
+    Ok(told == clean && written.as_slice() == text.as_bytes())
+}
+
+#[test]
+fn evidence_is_checked(rt: HostRuntime) -> Result<(), Fail> {
+    let cases = [
+        (
+            "session 2 processes 4 events 0 messages\nboth possibly yes 1,1\nboth definitely no b,b,a,a\n",
+            true,
+            "session good\nboth possibly good\nboth definitely good\n",
+        ),
+        (
+            "session 2 processes 4 events 1 messages\nboth possibly yes 1,0\nboth definitely no a,b,b,a\n",
+            false,
+            "session bad\nboth possibly bad\nboth definitely bad\n",
+        ),
+        (
+            "session 2 processes 4 events 0 messages\nboth possibly unknown 1\nboth definitely yes 3\n",
+            true,
+            "session good\nboth possibly unchecked\nboth definitely unchecked\n",
+        ),
+        (
+            "session 2 processes 4 events 0 messages\nboth possibly no\nboth definitely no b,b,c,a\n",
+            false,
+            "session good\nboth possibly unchecked\nboth definitely bad\n",
+        ),
+        (
+            "session 2 processes 4 events 0 messages\nother possibly no\nother definitely yes 3\n",
+            false,
+            "session good\nnames bad\n",
+        ),
+        ("refused streams\n", false, "refused bad\n"),
+    ];
+    for (report, clean, text) in cases {
+        assert!(rt; is_found(&rt, DOCUMENT, report, clean, text)?);
+    }
+    Ok(())
+}
+
+#[test]
+fn refusals_are_checked(rt: HostRuntime) -> Result<(), Fail> {
+    let cases = [
+        ("refused spec json\n", true, "refused good\n"),
+        ("refused spec long\n", false, "refused bad\n"),
+        ("refused streams\n", false, "refused bad\n"),
+        ("refused spec json", false, "report line 1\n"),
+        ("refused spec json\nx\n", false, "report line 2\n"),
+    ];
+    for (report, clean, text) in cases {
+        assert!(rt; is_found(&rt, b"", report, clean, text)?);
+    }
     Ok(())
 }

@@ -50,7 +50,7 @@ closed_at_end Open bytes None differ = absurd (differ refl)
 closed_at_end Ended bytes None differ = by_fault
 closed_at_end Failed bytes None differ = by_fault
 
-ended_closed : (names : List ProcessNames) (ending : Ending) (bytes : List ℕ) → (ending ≡ Open → ⊥) → IsClosed (reading names ending bytes).stop
+pub ended_closed : (names : List ProcessNames) (ending : Ending) (bytes : List ℕ) → (ending ≡ Open → ⊥) → IsClosed (reading names ending bytes).stop
 ended_closed names ending bytes differ =
     closed_or (reading_of_lines names (lines_of ending bytes)).stop (stop_at_end ending bytes (frame_fault bytes)) (closed_at_end ending bytes (frame_fault bytes) differ)
 

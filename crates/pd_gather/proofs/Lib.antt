@@ -1,3 +1,4 @@
 pub mod Inputs
 pub mod Outcomes
 pub mod Places
+pub mod Turns

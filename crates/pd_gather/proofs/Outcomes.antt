@@ -40,7 +40,7 @@ head_from : (names : List ProcessNames) (steps : Interleaving) (first : ℕ) (x 
 head_from names steps first x xs has = at names steps x (first + 0) first (omega arith) (has 0 x refl)
 
 -- the outcome of a reader is that of the reading it stands for
-told_outcome : (names : List ProcessNames) (ending : Ending) (bytes : List ℕ) (reader : ReaderState) (given : Result Trace StreamFault) → Reads reader names ending bytes → Gives reader given → Some (outcome_seen given) ≡ outcome (reading names ending bytes)
+pub told_outcome : (names : List ProcessNames) (ending : Ending) (bytes : List ℕ) (reader : ReaderState) (given : Result Trace StreamFault) → Reads reader names ending bytes → Gives reader given → Some (outcome_seen given) ≡ outcome (reading names ending bytes)
 told_outcome names ending bytes reader given r gives = gives.value ∙ ap (λ (x : Reading). outcome x) r.same_reading
 
 told_all : (names : List ProcessNames) (steps : Interleaving) (first : ℕ) (core : List ReaderState) (room : List (Result Trace StreamFault)) → HasFrom names steps first core → AllZip Gives core room → outcomes_seen room ≡ outcomes_of names (told_from steps first (length core))
@@ -51,7 +51,7 @@ told_all names steps first (x ∷ xs) (y ∷ ys) has all =
     ap (λ (rest : List Outcome). outcome_seen y ∷ rest) (told_all names steps (suc first) xs ys (later_from names steps first x xs has) all.1)
     ∙ ap (λ (o : Option Outcome). cons_option o (outcomes_of names (told_from steps (suc first) (length xs)))) (told_outcome names (ending_of first steps) (bytes_of first steps) x y (head_from names steps first x xs has) all.0)
 
-one_fits : (names : List ProcessNames) (ending : Ending) (bytes : List ℕ) (reader : ReaderState) (given : Result Trace StreamFault) → Reads reader names ending bytes → Gives reader given → ReadingFits names given
+pub one_fits : (names : List ProcessNames) (ending : Ending) (bytes : List ℕ) (reader : ReaderState) (given : Result Trace StreamFault) → Reads reader names ending bytes → Gives reader given → ReadingFits names given
 one_fits names ending bytes reader (Ok trace) r gives = gives.fits names ending bytes r
 one_fits names ending bytes reader (Err fault) r gives = tt
 

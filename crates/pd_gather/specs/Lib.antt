@@ -1,2 +1,4 @@
 pub mod Views
 pub mod Taken
+pub mod ReadersTold
+pub mod ReadSoFar

@@ -7,6 +7,7 @@
 //! - `input`: what can come of a stream
 //! - `gathered`: the readings of all streams
 //! - `streams`: the streams while they are read
+//! - `readers`: streams that are read from readers
 //! - `fault`: why streams are no session
 //! - `traces`: the traces of a session
 #![tactic(auto)]
@@ -14,6 +15,7 @@
 mod fault;
 mod gathered;
 mod input;
+mod readers;
 mod streams;
 #[cfg(test)]
 mod tests;
@@ -22,5 +24,6 @@ mod traces;
 pub use fault::SessionFault;
 pub use gathered::Gathered;
 pub use input::Input;
+pub use readers::{gather, read_stream};
 pub use streams::{Core, order_is_nothing};
 pub use traces::session;

@@ -42,7 +42,7 @@ pub fn order_is_nothing()
 {}
 
 /// Takes one input of the reader's stream.
-fn take_input(reader: &mut TraceReader<'_>, input: Input<'_>) -> Result<(), AllocError>
+pub(super) fn take_input(reader: &mut TraceReader<'_>, input: Input<'_>) -> Result<(), AllocError>
     ensures takes { OnOk result (Takes reader.old reader.new (input_seen input.entry)) }
     ensures err { OnErr result (reader.new ≡ reader.old) }
 {

@@ -5,3 +5,5 @@ pub mod DocumentNames
 pub mod DocumentsAreSingle
 pub mod MessageLists
 pub mod ReportsAreSingle
+pub mod CleanFindings
+pub mod FindingsAreSingle

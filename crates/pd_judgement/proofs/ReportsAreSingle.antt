@@ -21,13 +21,13 @@ use Rattle.pd_judgement.proofs.MessageLists.{one_message_list}
 
 -- ---- what can't stand together
 
-not_lawful : (c : Computation) (fault : Fault) → HasLawfulMessages c → IsReported c fault → ⊥
+pub not_lawful : (c : Computation) (fault : Fault) → HasLawfulMessages c → IsReported c fault → ⊥
 not_lawful c (SendTwice e) lawful h = lawful.sent_once e h.0
 not_lawful c (Orphan e) lawful h = lawful.received_well e h.1.0
 not_lawful c (SelfMessage e) lawful h = lawful.received_well e h.1.0
 not_lawful c (ReceivedTwice e) lawful h = lawful.received_well e h.1.0
 
-not_cycle : (c : Computation) (cycle : List Place) → HasNoCycle c → IsReportedCycle c cycle → ⊥
+pub not_cycle : (c : Computation) (cycle : List Place) → HasNoCycle c → IsReportedCycle c cycle → ⊥
 not_cycle c cycle none h = let stuck = h.least.0.0 in none stuck.0 stuck.1
 
 -- ---- answers
@@ -77,7 +77,7 @@ one_report_of_outcomes_lem document streams outcomes a b = go (session document.
     go (Err fault) p q = p ∙ sym q
     go (Ok traces) p q = one_traces_report document traces a b p q
 
-one_judgement : (bytes : List ℕ) (streams : List Told) (a b : Report) → IsJudgement bytes streams a → IsJudgement bytes streams b → a ≡ b
+pub one_judgement : (bytes : List ℕ) (streams : List Told) (a b : Report) → IsJudgement bytes streams a → IsJudgement bytes streams b → a ≡ b
 one_judgement bytes streams a b (of_refused f p e) (of_refused g q e') = e ∙ (ap (λ fault. Refused (document_refusal fault)) (one_document_fault_lem bytes f g p q) ∙ sym e')
 one_judgement bytes streams a b (of_refused f p e) (of_read document q r) = absurd (document_not_refused_lem bytes document f q p)
 one_judgement bytes streams a b (of_read document p r) (of_refused g q e) = absurd (document_not_refused_lem bytes document g p q)

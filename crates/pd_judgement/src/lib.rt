@@ -1,10 +1,12 @@
 //! Laws of the judgement. A bundle has at most one report: bytes are at most one document, or are refused with one fault,
 //! and never both; a document and what its streams tell have at most one report. And a report of a computation of which no
-//! level is over the width says the truth of each predicate.
+//! level is over the width says the truth of each predicate. A check finds at most one thing, which is clean exactly
+//! where its text tells of nothing bad and of no report that isn't read.
 //! The definitions stand in `pd_format`, and the statements in `specs/`. Each function here has no code: its contract is a
 //! law, which is proved for all bytes.
 #![tactic(auto)]
 
+ghost use Rattle.pd_judgement.specs.Findings.{CleanIsClean, OneFinding};
 ghost use Rattle.pd_judgement.specs.Headline.{Headline, HeadlineOfBundle};
 ghost use Rattle.pd_judgement.specs.OneReport.{
   OneDocument,
@@ -42,4 +44,14 @@ pub fn headline()
 /// The same of the report of a bundle's bytes.
 pub fn headline_of_bundle()
     ensures { HeadlineOfBundle }
+{}
+
+/// A finding is clean exactly where no line of its text ends with the word `bad`, and none tells that the report isn't read.
+pub fn clean_is_clean()
+    ensures { CleanIsClean }
+{}
+
+/// A check finds one thing: a document's bytes, a report's bytes and streams have at most one finding.
+pub fn one_finding()
+    ensures { OneFinding }
 {}

@@ -1,9 +1,9 @@
 -- Counts as the digits of one number.
 use Rattle.std.proofs.Common.{◌≡◌, ℕ, zero, suc, ◌+◌, ◌-◌, ◌*◌, ◌/◌, ◌%◌, ◌^◌, ◌<◌, ◌≤◌, List, [], ◌∷◌, ◌++◌, length, length-append, append_assoc, get_or, set, drop, take, refl, sym, ap, ◌∙◌, subst, inl, inr, ◌⊎◌, arith}
 use Rattle.std.proofs.Math.Nat.{pow-suc, pow-zero, mul-le-mul_right, pow-le-pow_right}
-use Rattle.std.proofs.lemmas.Bool.{cases_order}
-use Rattle.std.proofs.lemmas.List.{length-set, length-take-le, take_more}
-use Rattle.std.proofs.lemmas.Nat.{div-add-mod', div-mul-add, mod-mul-add, mod_below, div_below}
+use Rattle.std.proofs.lemmas.Bool.{cases_lt, cases_order}
+use Rattle.std.proofs.lemmas.List.{get_or_append_left, get_or-append_right, length-set, length-take-le, take_more}
+use Rattle.std.proofs.lemmas.Nat.{pow-add, shr-shr, div-add-mod', div-mul-add, mod-mul-add, mod_below, div_below}
 use Rattle.pd_model.specs.Events.{Computation}
 use Rattle.pd_model.specs.Cuts.{one_more, empty_cut}
 use Rattle.pd_model.specs.Answers.{LexBelow}
@@ -169,3 +169,32 @@ more_is n key p within below =
     let many : length (digits n key) ≡ n = length-digits n key in
     let step : key_of (one_more (digits n key) p) ≡ key_of (digits n key) + 65536 ^ (length (digits n key) - 1 - p) = key_one_more (digits n key) p (omega arith) in
     step ∙ rw (many, key-digits n key below) refl
+
+-- 65536 is 2 ^ 16
+weight_two : (i : ℕ) → 65536 ^ i ≡ 2 ^ (16 * i)
+weight_two zero = refl
+weight_two (suc i) =
+    let next : 16 * suc i ≡ 16 * i + 16 = omega arith in
+    rw (next, pow-suc 65536 i, pow-add 2 (16 * i) 16, weight_two i) (omega arith)
+
+-- a digit is read by a shift
+pub digit_at : (n key p : ℕ) → p < n → key < 65536 ^ n → get_or (digits n key) p 0 ≡ key / 2 ^ (16 * (n - 1 - p)) % 65536
+digit_at zero key p within below = absurd (omega arith)
+digit_at (suc n) key p within below =
+    ap (λ (counts : List ℕ). get_or counts p 0) (low_digit n key below) ∙ go (digit_at n (key / 65536) p) (cases_lt p n)
+  where
+    many : length (digits n (key / 65536)) ≡ n
+    many = length-digits n (key / 65536)
+
+    go : (p < n → key / 65536 < 65536 ^ n → get_or (digits n (key / 65536)) p 0 ≡ key / 65536 / 2 ^ (16 * (n - 1 - p)) % 65536) → (p < n) ⊎ (n ≤ p) → get_or (digits n (key / 65536) ++ (key % 65536) ∷ []) p 0 ≡ key / 2 ^ (16 * (suc n - 1 - p)) % 65536
+    go higher (inl lt) =
+        let lt' : key < 65536 ^ n * 65536 = rw (pow-suc) at below in
+        let rest : get_or (digits n (key / 65536)) p 0 ≡ key / 65536 / 2 ^ (16 * (n - 1 - p)) % 65536 = higher lt (div_below key 65536 (65536 ^ n) (omega arith) lt') in
+        let shifts : 16 + 16 * (n - 1 - p) ≡ 16 * (suc n - 1 - p) = omega arith in
+        let both : key / 65536 / 2 ^ (16 * (n - 1 - p)) ≡ key / 2 ^ (16 + 16 * (n - 1 - p)) = shr-shr key 16 (16 * (n - 1 - p)) in
+        get_or_append_left (digits n (key / 65536)) ((key % 65536) ∷ []) 0 p (rw many lt) ∙ (rest ∙ (ap (λ (m : ℕ). m % 65536) both ∙ ap (λ (k : ℕ). key / 2 ^ k % 65536) shifts))
+    go higher (inr le) =
+        let none : p - n ≡ 0 = omega arith in
+        let shift : 16 * (suc n - 1 - p) ≡ 0 = omega arith in
+        let whole : key / 2 ^ 0 ≡ key = omega arith in
+        rw shift (get_or-append_right (digits n (key / 65536)) ((key % 65536) ∷ []) n p 0 many le ∙ (ap (λ (k : ℕ). get_or ((key % 65536) ∷ []) k 0) none ∙ ap (λ (m : ℕ). m % 65536) (sym whole)))

@@ -1,6 +1,6 @@
 -- The cuts of a level's keys.
-use Rattle.std.proofs.Common.{◌≡◌, ℕ, zero, suc, ◌^◌, ◌<◌, ◌≤◌, List, [], ◌∷◌, length, get_or, Contains, refl, sym, ap, ◌∙◌, subst, inl, inr, ◌⊎◌, ◌↔◌, Ok, Err, Result, arith}
-use Rattle.std.specs.Prelude.{All, IsTrue, MatchResult}
+use Rattle.std.proofs.Common.{◌≡◌, ℕ, zero, suc, ◌^◌, ◌<◌, ◌≤◌, List, [], ◌∷◌, length, get_or, Contains, refl, sym, ap, ◌∙◌, subst, inl, inr, ◌⊎◌, ◌↔◌, Ok, Err, Result, Some, arith}
+use Rattle.std.specs.Prelude.{All, IsTrue, MatchResult, slice_get}
 use Rattle.std.specs.Result.{is_ok}
 use Rattle.std.specs.Ordering.{nat_cmp}
 use Rattle.std.specs.List.Sorted.{IsBinarySearchResult}
@@ -35,6 +35,17 @@ length-cuts n keys = length-map keys (digits n)
 
 pub cut_at : (n : ℕ) (keys : List ℕ) (i : ℕ) (d : List ℕ) → i < length keys → get_or (cuts_of n keys) i d ≡ digits n (get_or keys i 0)
 cut_at n keys i d lt = get_or-map (digits n) keys i 0 d lt
+
+-- a key that is read is that of the cut there
+pub cut_read : (n : ℕ) (keys : List ℕ) (i key : ℕ) → i < length keys → key ≡ get_or keys i key → slice_get (cuts_of n keys) i ≡ Some (digits n key)
+cut_read n [] i key lt is = absurd (omega arith)
+cut_read n (other ∷ keys) zero key lt is = ap (λ (k : ℕ). Some (digits n k)) (sym is)
+cut_read n (other ∷ keys) (suc i) key lt is = cut_read n keys i key (omega arith) is
+
+pub consistent_read : (c : Computation) (n : ℕ) (keys : List ℕ) (i key : ℕ) → All (IsConsistent c) (cuts_of n keys) → i < length keys → key ≡ get_or keys i key → IsConsistent c (digits n key)
+consistent_read c n keys i key all lt is =
+    let at : get_or (cuts_of n keys) i [] ≡ digits n key = cut_at n keys i [] lt ∙ ap (digits n) (get_or_same keys i 0 key lt ∙ sym is) in
+    subst (λ (cut : List ℕ). IsConsistent c cut) at (all i [] (omega (arith, length-cuts n keys)))
 
 -- the cuts of ascending keys ascend
 pub cuts_ascend : (n : ℕ) (keys : List ℕ) → AreKeys n keys → Linked LexBelow (cuts_of n keys)

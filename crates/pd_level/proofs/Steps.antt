@@ -90,11 +90,15 @@ pub record IsMoreUpTo (c : Computation) (keys : List ℕ) (p : ℕ) (more : List
   pub ascending : Ascending more
   pub just : (x : ℕ) → Contains more x ↔ ((q : ℕ) × (q < p) × IsMoreBy c keys q x)
 
-pub none_yet : (c : Computation) (keys : List ℕ) → IsMoreUpTo c keys 0 []
-none_yet c keys = record {
-  ascending = λ i j lt in_. absurd (omega arith);
-  just = λ x. (λ has. absurd (let lt : has.0 < 0 = has.1 in omega arith), λ w. absurd (let lt : w.0 < 0 = w.1 in omega arith));
+-- process 0 alone
+pub first_one : (c : Computation) (keys more : List ℕ) → Ascending more → ((x : ℕ) → Contains more x ↔ IsMoreBy c keys 0 x) → IsMoreUpTo c keys 1 more
+first_one c keys more asc just = record {
+  ascending = asc;
+  just = λ x. (λ has. (0, omega arith, (just x).0 has), λ w. (just x).1 (subst (λ (q : ℕ). IsMoreBy c keys q x) (zero_is w.0 w.1) w.2));
 }
+  where
+    zero_is : (q : ℕ) → q < 1 → q ≡ 0
+    zero_is q lt = omega arith
 
 pub up_to_more : (c : Computation) (keys : List ℕ) (p : ℕ) (more by_one both : List ℕ) → IsMoreUpTo c keys p more → ((x : ℕ) → Contains by_one x ↔ IsMoreBy c keys p x) → Ascending both → ((x : ℕ) → Contains both x ↔ (Contains more x ⊎ Contains by_one x)) → IsMoreUpTo c keys (p + 1) both
 up_to_more c keys p more by_one both old one asc just = record {

@@ -1,5 +1,5 @@
 -- Counts below 65536, one for each process, as the digits of one number: the count of process 0 is the highest digit.
-use Rattle.std.specs.Prelude.{◌≡◌, ℕ, zero, suc, ◌+◌, ◌*◌, ◌/◌, ◌%◌, ◌^◌, ◌<◌, List, [], ◌∷◌, length, slice_index, slice_index_or, All, Contains, Bool, false, IsTrue, ◌↔◌, Option, Some, None}
+use Rattle.std.specs.Prelude.{◌≡◌, ℕ, zero, suc, ◌+◌, ◌*◌, ◌/◌, ◌%◌, ◌^◌, ◌<◌, List, [], ◌∷◌, length, slice_index, All, Contains, Option, Some, None}
 use Rattle.pd_model.specs.Events.{Computation}
 use Rattle.pd_model.specs.Cuts.{IsConsistent, one_more}
 
@@ -40,13 +40,3 @@ pub record AreCuts (c : Computation) (keys : List ℕ) : Type 0 where
 abbrev pub IsMoreBy : Computation → List ℕ → ℕ → ℕ → Type 0
 IsMoreBy c keys p x =
     (key : ℕ) × Contains keys key × IsConsistent c (one_more (digits (length c) key) p) × (x ≡ key_of (one_more (digits (length c) key) p))
-
--- whether one more event of each process leaves a cut
-pub record CanAdd (c : Computation) (key : ℕ) (can : List Bool) : Type 0 where
-  pub eight : length can ≡ 8
-  pub each : (p : ℕ) → p < length c → IsTrue (slice_index_or can p false) ↔ IsConsistent c (one_more (digits (length c) key) p)
-
--- the same of each cut
-pub record CanAddAll (c : Computation) (keys : List ℕ) (can : List (List Bool)) : Type 0 where
-  pub one_each : length can ≡ length keys
-  pub each : (i : ℕ) (d : List Bool) → i < length keys → CanAdd c (slice_index keys i) (slice_index_or can i d)

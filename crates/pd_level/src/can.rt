@@ -1,40 +1,30 @@
-//! Of which processes one more event leaves a cut.
-ghost use Rattle.pd_level.specs.Keys.{AreCuts, CanAdd, CanAddAll, digits};
-ghost use Rattle.pd_model.specs.Cuts.{IsConsistent};
-ghost use Rattle.std.specs.Prelude.{◌^◌, ◌<◌, IfOk, length};
+//! Whether one more event leaves a cut.
+ghost use Rattle.pd_level.specs.Keys.{digits};
+ghost use Rattle.pd_model.specs.Cuts.{IsConsistent, one_more};
+ghost use Rattle.std.specs.Prelude.{◌^◌, ◌<◌, ◌↔◌, IsTrue, length};
 
-use super::key::unpack;
-use pd_clock::Computation;
-use std::alloc::{AllocError, Global};
+use super::key::digit;
+use pd_clock::{Computation, Place};
 
-/// Of which processes one more event leaves a cut, process 0 first.
-fn can_add_each(computation: &Computation<'_>, key: u128) -> [bool; 8]
+/// Whether one more event of process `p` leaves a cut: where there is one, and it is no receipt or its send is in the cut.
+pub(crate) fn can_add(computation: &Computation<'_>, key: u128, p: usize) -> bool
+    requires within { p < length computation.now.events }
     requires below { key < 65536 ^ length computation.now.events }
     requires cut { IsConsistent computation.now.events (digits (length computation.now.events) key) }
-    ensures { CanAdd computation.now.events key result }
+    ensures { IsTrue result ↔ IsConsistent computation.now.events (one_more (digits (length computation.now.events) key) p) }
 {
     computation.limits();
     let processes = computation.processes();
-    let counts = unpack(key, processes);
-    let mut can = [false; 8];
-    for p in 0..processes {
-        can[p] = computation.can_add(&counts[..processes], p);
+    let count = digit(key, processes, p);
+    if count >= computation.events(p) {
+        return false;
     }
-    can
-}
-
-/// The same of each cut, so that its counts are unpacked once.
-pub(crate) fn can_add_all(
-    alloc: Global,
-    computation: &Computation<'_>,
-    keys: &[u128],
-) -> Result<Vec<[bool; 8]>, AllocError>
-    requires { AreCuts computation.now.events keys.now }
-    ensures { IfOk result (λ can. CanAddAll computation.now.events keys.now can.items) }
-{
-    let mut can = Vec::with_capacity(alloc, keys.len())?;
-    for &key in keys {
-        can.push(can_add_each(computation, key))?;
+    let next = Place {
+        process: p,
+        number: count + 1,
+    };
+    match computation.sender(next) {
+        Some(send) => send.number <= digit(key, processes, send.process),
+        None => true,
     }
-    Ok(can)
 }

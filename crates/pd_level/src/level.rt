@@ -1,14 +1,18 @@
 //! A level: the consistent cuts with one number of events.
 ghost use Rattle.pd_model.specs.Answers.{IsListOf, MoreThan};
 ghost use Rattle.pd_model.specs.Cuts.{IsConsistent, IsNextOf, empty_cut};
+ghost use Rattle.pd_model.specs.Predicates.{test_of};
 ghost use Rattle.pd_level.specs.Levels.{kept_by};
-ghost use Rattle.std.specs.Prelude.{◌≡◌, ◌+◌, ◌<◌, ◌≤◌, ◌==◌, ◌↔◌, All, Contains, IfOk, IsTrue, List, [], ◌∷◌, Some, length, min, slice_get};
+ghost use Rattle.pd_pred.specs.Views.{predicate_of};
+ghost use Rattle.std.specs.Prelude.{◌≡◌, ◌+◌, ◌<◌, ◌≤◌, ◌==◌, ◌↔◌, All, Contains, IfOk, IfSome, IsTrue, List, [], ◌∷◌, Some, length, min, slice_get};
 
 use super::LevelFault;
 use super::keep::keep_marked;
 use super::key::{pack, unpack};
+use super::state::KeyState;
 use super::step::more_by_any;
 use pd_clock::{Computation, Cut};
+use pd_pred::Pred;
 use std::alloc::{AllocError, Global};
 use std::marker::Model;
 
@@ -103,6 +107,16 @@ impl Level {
     {
         let counts = unpack(self.keys[i], self.processes);
         Cut::new(alloc, &counts[..self.processes]).unwrap()
+    }
+
+    /// Whether the predicate is true at the state of the cut with this index, from 0. It takes no memory.
+    pub fn holds(&self, computation: &Computation<'_>, pred: &Pred, i: usize) -> bool
+        requires within { i < length self.now.cuts }
+        requires cuts { All (IsConsistent computation.now.events) self.now.cuts }
+        ensures { IfSome (slice_get self.now.cuts i) (λ cut. result ≡ test_of computation.now (predicate_of pred.now) cut) }
+    {
+        let state = KeyState::new(computation, self.keys[i], self.processes);
+        pred.holds(&state)
     }
 
     /// Whether the cut is one of the level's. It takes no memory.

@@ -11,10 +11,11 @@
 //! - `fault`: why there is no next level
 //! - `gate`: what a worker passes before it expands a block of cuts
 //! - `key`: a cut as one number
-//! - `can`: of which processes one more event leaves a cut
+//! - `can`: whether one more event leaves a cut
 //! - `step`: the cuts that have one event more
 //! - `merge`: two ascending lists as one
 //! - `keep`: some of the cuts, by their marks
+//! - `state`: the state at a cut that is one number
 #![tactic(auto)]
 
 mod can;
@@ -24,6 +25,7 @@ mod keep;
 mod key;
 mod level;
 mod merge;
+mod state;
 mod step;
 
 pub use fault::LevelFault;

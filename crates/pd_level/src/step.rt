@@ -1,27 +1,24 @@
 //! The cuts that have one event more than those of a list.
-ghost use Rattle.pd_level.specs.Keys.{AreCuts, Ascending, CanAddAll, IsMoreBy};
+ghost use Rattle.pd_level.specs.Keys.{AreCuts, Ascending, IsMoreBy};
 ghost use Rattle.pd_model.specs.Events.{event_count};
 ghost use Rattle.std.specs.Prelude.{◌≡◌, ◌<◌, ◌≤◌, ◌↔◌, ℕ, Contains, IfOk, length};
 
-use super::can::can_add_all;
+use super::can::can_add;
 use super::key::weight;
 use super::merge::merge;
 use pd_clock::Computation;
 use std::alloc::{AllocError, Global};
 
-/// The cuts that one more event of process `p` makes of these, ascending as they do. `can` says for each of them and each
-/// process whether there is such a cut.
+/// The cuts that one more event of process `p` makes of these, ascending as they do.
 fn more_by(
     alloc: Global,
     computation: &Computation<'_>,
     keys: &[u128],
-    can: &[[bool; 8]],
     p: usize,
 ) -> Result<Vec<u128>, AllocError>
     requires within { p < length computation.now.events }
     requires small { (q : ℕ) → event_count computation.now.events q ≤ 10000 }
     requires cuts { AreCuts computation.now.events keys.now }
-    requires can { CanAddAll computation.now.events keys.now can.now }
     ensures ascending { IfOk result (λ more. Ascending more.items) }
     ensures just { IfOk result (λ more. (x : ℕ) → Contains more.items x ↔ IsMoreBy computation.now.events keys.now p x) }
 {
@@ -29,7 +26,7 @@ fn more_by(
     let added = weight(computation.processes(), p);
     let mut more = Vec::with_capacity(alloc, keys.len())?;
     for i in 0..keys.len() {
-        if can[i][p] {
+        if can_add(computation, keys[i], p) {
             more.push(keys[i] + added)?;
         }
     }
@@ -47,10 +44,10 @@ pub(crate) fn more_by_any(
     ensures ascending { IfOk result (λ more. Ascending more.items) }
     ensures just { IfOk result (λ more. (x : ℕ) → Contains more.items x ↔ ((p : ℕ) × (p < length computation.now.events) × IsMoreBy computation.now.events keys.now p x)) }
 {
-    let can = can_add_all(alloc, computation, keys)?;
-    let mut more = Vec::new(alloc);
-    for p in 0..computation.processes() {
-        let by_one = more_by(alloc, computation, keys, &can, p)?;
+    computation.limits();
+    let mut more = more_by(alloc, computation, keys, 0)?;
+    for p in 1..computation.processes() {
+        let by_one = more_by(alloc, computation, keys, p)?;
         more = merge(alloc, &more, &by_one)?;
     }
     Ok(more)

@@ -1,9 +1,8 @@
 //! Matches sends and receipts.
 ghost use Rattle.pd_events.specs.Views.{computation_of};
 ghost use Rattle.pd_match.specs.Views.{fault_seen};
-ghost use Rattle.pd_model.specs.Events.{event_count};
 ghost use Rattle.pd_model.specs.Messages.{HasLawfulMessages, IsMessageList, IsReported};
-ghost use Rattle.std.specs.Prelude.{◌≤◌, ℕ, IfErr, IfOk, IfSome};
+ghost use Rattle.std.specs.Prelude.{IfErr, IfOk, IfSome};
 
 use super::receiving::senders_in;
 use super::sending::sends_of;
@@ -44,7 +43,6 @@ pub fn match_messages<R: RandomSource>(
     alloc: Global,
     traces: &[Trace],
 ) -> Result<Matched, MatchFault>
-    requires short { (p : ℕ) → event_count (computation_of traces.now) p ≤ 10000 }
     ensures lawful { IfOk result (λ matched. HasLawfulMessages (computation_of traces.now)) }
     ensures messages { IfOk result (λ matched. IsMessageList (computation_of traces.now) matched) }
     ensures fault { IfErr result (λ told. IfSome (fault_seen told) (λ fault. IsReported (computation_of traces.now) fault)) }

@@ -1,8 +1,4 @@
 //! Small sessions whose messages and faults are known.
-ghost use Rattle.pd_events.specs.Views.{computation_of};
-ghost use Rattle.pd_model.specs.Events.{event_count};
-ghost use Rattle.std.specs.Prelude.{◌≤◌, ℕ, IsTrue};
-
 use super::{MatchFault, Matched, Place, match_messages};
 use Said::{Local, Recv, Send};
 use pd_events::{Event, EventKind, Trace};
@@ -36,18 +32,6 @@ fn trace_of(alloc: Global, process: usize, said: &[Said]) -> Result<Trace, Alloc
     })
 }
 
-/// Whether no trace is too long to be matched.
-fn are_short(traces: &[Trace]) -> bool
-    ensures { IsTrue result → (p : ℕ) → event_count (computation_of traces.now) p ≤ 10000 }
-{
-    for i in 0..traces.len() {
-        if traces[i].events.len() > 10000 {
-            return false;
-        }
-    }
-    true
-}
-
 /// The messages of processes that do this.
 fn matched<R: RandomSource>(
     rt: &R,
@@ -58,11 +42,7 @@ fn matched<R: RandomSource>(
     for p in 0..processes.len() {
         traces.push(trace_of(alloc, p, processes[p])?)?;
     }
-    if are_short(&traces) {
-        Ok(match_messages(rt, alloc, &traces))
-    } else {
-        Err(Fail::from("too long"))
-    }
+    Ok(match_messages(rt, alloc, &traces))
 }
 
 fn fault_of(

@@ -60,19 +60,9 @@ fn first_satisfying(
     ensures none { IfNone result (All (λ cut. test_of computation.now (predicate_of pred.now) cut ≡ false) level.now.cuts) }
 {
     for i in 0..level.len() {
-        let cut = level.cut(alloc, i);
-        if satisfies(computation, pred, &cut) {
-            return Some(cut);
+        if level.holds(computation, pred, i) {
+            return Some(level.cut(alloc, i));
         }
     }
     None
-}
-
-/// Whether the cut satisfies.
-fn satisfies(computation: &Computation<'_>, pred: &Pred, cut: &Cut) -> bool
-    requires { IsConsistent computation.now.events cut.now }
-    ensures { result ≡ test_of computation.now (predicate_of pred.now) cut.now }
-{
-    let state = computation.at(cut);
-    pred.holds(&state)
 }

@@ -57,6 +57,14 @@ impl Names {
         Names { processes }
     }
 
+    /// What holds of all names: no two processes have one name, and no two variables of a process. It has no code: a
+    /// caller's proof has the fact by calling it.
+    pub fn differ(&self)
+        ensures { AreDistinct self.now }
+    {
+        let _processes = &self.processes;
+    }
+
     /// The number of the process of this name, from 0.
     pub fn find(&self, name: &str) -> Option<usize>
         ensures { result ≡ process_named self.now name.now }

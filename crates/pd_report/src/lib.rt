@@ -12,7 +12,8 @@
 //! - `answer_text`: the lines of answers
 //! - `refusal_text`: the words of a refusal
 //! - `report_text`: a report's text
-//! - `output`: writes a report
+//! - `same`: compares refusals
+//! - `output`: writes a text, and a report
 //! - `fault`: why a report is not written
 //! - `name`: what is a name
 //! - `words`: words, and what stands between others
@@ -41,6 +42,7 @@ mod refusal_line;
 mod refusal_text;
 mod report;
 mod report_text;
+mod same;
 mod session_line;
 #[cfg(test)]
 mod tests;
@@ -49,10 +51,12 @@ mod words;
 pub use answer::Answer;
 pub use definitely::Definitely;
 pub use fault::WriteFault;
-pub use output::write;
+pub use fields::{push_bytes, push_number};
+pub use output::{write, write_all};
 pub use possibly::Possibly;
 pub use read_fault::ReportFault;
 pub use reader::read;
 pub use refusal::Refusal;
 pub use report::Report;
 pub use report_text::text;
+pub use same::same_refusal;

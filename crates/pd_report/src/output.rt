@@ -1,4 +1,4 @@
-//! Writes a report.
+//! Writes a text, and a report.
 ghost use Rattle.pd_format.specs.Reports.{report_text};
 ghost use Rattle.pd_report.specs.Views.{report_of};
 ghost use Rattle.std.specs.Io.KnownBytes.{Appends, Keeps};
@@ -15,7 +15,7 @@ use std::io::Write;
 /// # Errors
 /// `Write`, where the writer fails, in whatever way, or takes nothing. A front of the text was written then, and not all of
 /// it.
-fn write_text<W: Write>(text: &[u8], writer: &mut W) -> Result<(), WriteFault>
+pub fn write_all<W: Write>(text: &[u8], writer: &mut W) -> Result<(), WriteFault>
     ensures written { OnOk result (Appends (W.contents writer.old) (W.contents writer.new) text.now) }
     ensures part { OnErr result ((taken : ℕ) × (taken < length text.now) × Appends (W.contents writer.old) (W.contents writer.new) (take taken text.now)) }
     ensures err { IsOkUnless result WriteFault.Write }
@@ -42,5 +42,5 @@ pub fn write<W: Write>(alloc: Global, report: &Report, writer: &mut W) -> Result
     ensures memory { result ≡ Err WriteFault.Memory → Keeps (W.contents writer.old) (W.contents writer.new) }
 {
     let text = text(alloc, report)?;
-    write_text(&text, writer)
+    write_all(&text, writer)
 }

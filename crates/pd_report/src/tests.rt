@@ -1,6 +1,7 @@
 //! Texts that are known.
 use super::{
-    Answer, Definitely, Possibly, Refusal, Report, ReportFault, WriteFault, read, text, write,
+    Answer, Definitely, Possibly, Refusal, Report, ReportFault, WriteFault, push_bytes,
+    push_number, read, same_refusal, text, write, write_all,
 };
 use std::alloc::{AllocError, Global};
 use std::io;
@@ -211,5 +212,70 @@ fn faults_have_lines(rt: HostRuntime) -> Result<(), Fail> {
     for (bytes, want) in cases {
         assert_eq!(rt; fault_line(rt.alloc(), bytes)?, want);
     }
+    Ok(())
+}
+
+/// Whether the bytes are no report, or are read as one that has them for its text.
+fn is_own_text_if_read(alloc: Global, bytes: &[u8]) -> Result<bool, AllocError> {
+    match read(alloc, bytes) {
+        Ok(report) => Ok(text(alloc, &report)?.as_slice() == bytes),
+        Err(ReportFault::Line(_)) => Ok(true),
+        Err(ReportFault::Memory) => Err(AllocError),
+    }
+}
+
+/// Whether that holds with each other byte in the place of each of these, and with each of these left out.
+fn is_own_text_if_damaged(alloc: Global, whole: &str) -> Result<bool, AllocError> {
+    let mut good = true;
+    for at in 0..whole.len() {
+        let mut bytes = whole.as_bytes().to_vec(alloc)?;
+        for byte in 0..=255 {
+            bytes[at] = byte;
+            good = good && is_own_text_if_read(alloc, &bytes)?;
+        }
+        bytes.remove(at);
+        good = good && is_own_text_if_read(alloc, &bytes)?;
+    }
+    Ok(good)
+}
+
+#[test]
+fn damaged_texts_are_no_other_report(rt: HostRuntime) -> Result<(), Fail> {
+    let texts = [
+        "session 2 processes 4 events 0 messages\nboth possibly yes 1,1\nboth definitely no b,a\n",
+        "session 1 processes 0 events 0 messages\np possibly no\np definitely no -\n",
+        "session 3 processes 9 events 4 messages\na possibly yes 0,0\na definitely yes 10\nb possibly unknown 5\nb definitely unknown 5\n",
+        "refused predicate 1 expected at 10\n",
+        "refused stream 2 line 10 unended\n",
+        "refused cycle a#1,b#10\n",
+        "refused absent no_one\n",
+    ];
+    for whole in texts {
+        assert!(rt; is_own_text_if_damaged(rt.alloc(), whole)?);
+    }
+    Ok(())
+}
+
+#[test]
+fn refusals_are_compared(rt: HostRuntime) -> Result<(), Fail> {
+    let alloc = rt.alloc();
+    let cycle = Refusal::Cycle(vec![in alloc; (string(alloc, "a")?, 2)]?);
+    let same = Refusal::Cycle(vec![in alloc; (string(alloc, "a")?, 2)]?);
+    let later = Refusal::Cycle(vec![in alloc; (string(alloc, "a")?, 3)]?);
+    assert!(rt; same_refusal(&cycle, &same));
+    assert!(rt; !same_refusal(&cycle, &later));
+    assert!(rt; !same_refusal(&cycle, &Refusal::Streams));
+    Ok(())
+}
+
+#[test]
+fn lines_are_put_together_and_written(rt: HostRuntime) -> Result<(), Fail> {
+    let alloc = rt.alloc();
+    let mut line = Vec::new(alloc);
+    push_bytes(&mut line, b"line ")?;
+    push_number(&mut line, 18_446_744_073_709_551_615)?;
+    let mut written = Vec::new(alloc);
+    write_all(&line, &mut written)?;
+    assert_eq!(rt; written.as_slice(), b"line 18446744073709551615".as_slice());
     Ok(())
 }

@@ -50,7 +50,7 @@ const TEN: &str =
 
 pub(crate) const END: &str = "{\"end\":true}\n";
 
-static JUDGED: [Row; 9] = [
+pub(crate) static JUDGED: [Row; 9] = [
     Row {
         lines: &[TWO, BOTH, CLOSE, A, X1, X0, END, B, Y1, Y0, END],
         report: "session 2 processes 4 events 0 messages\nboth possibly yes 1,1\nboth definitely no b,b,a,a\n",
@@ -122,7 +122,7 @@ static JUDGED: [Row; 9] = [
     },
 ];
 
-static REFUSED: [Row; 16] = [
+pub(crate) static REFUSED: [Row; 16] = [
     Row {
         lines: &[],
         report: "refused spec json\n",

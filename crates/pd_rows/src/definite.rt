@@ -32,7 +32,7 @@ const N1: &str = "{\"set\":{\"n\":1}}\n";
 /// - The empty cut satisfies, and so does the full one.
 /// - A satisfying cut isn't counted for the width of avoiding cuts, nor is one that can't be reached without one.
 /// - A cut that doesn't satisfy and isn't avoiding, `1,2`, is no step of the observation.
-static ANSWERED: [Row; 11] = [
+pub(crate) static ANSWERED: [Row; 11] = [
     Row {
         lines: &[TWO, BOTH, CLOSE, A, END, B, END],
         report: "session 2 processes 0 events 0 messages\nboth possibly no\nboth definitely no -\n",

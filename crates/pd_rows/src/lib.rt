@@ -5,6 +5,7 @@
 //! - `definite`: bundles whose avoiding cuts are worth a look
 //! - `messages`: bundles whose processes send each other messages
 //! - `unlawful`: bundles whose messages are refused, and bundles with a causal cycle
+//! - `checked`: checks of reports, good and forged
 //! - `faults`: reads and writes that fail
 //! - `relation`: happened-before as a table of places, and what can be wrong with messages
 //! - `sessions`: small sessions, drawn at random
@@ -20,6 +21,8 @@
 mod avoiding;
 #[cfg(test)]
 mod bundles;
+#[cfg(test)]
+mod checked;
 #[cfg(test)]
 mod cuts;
 #[cfg(test)]

@@ -5,7 +5,7 @@ use pd_engine::Outcome;
 use std::str;
 use std::test::Fail;
 
-const SKEW: &str = r#""predicates":[{"name":"skew","text":"a.x == 0 and b.y == 1"}]"#;
+pub(crate) const SKEW: &str = r#""predicates":[{"name":"skew","text":"a.x == 0 and b.y == 1"}]"#;
 
 pub(crate) const GAP: &str = r#""predicates":[{"name":"gap","text":"c.n == 0 and b.n == 1"}]"#;
 
@@ -17,9 +17,9 @@ pub(crate) const RECV_M: &str = "{\"recv\":\"m\"}\n";
 
 pub(crate) const SEND_K: &str = "{\"send\":\"k\"}\n";
 
-const SEND_M_X1: &str = "{\"send\":\"m\",\"set\":{\"x\":1}}\n";
+pub(crate) const SEND_M_X1: &str = "{\"send\":\"m\",\"set\":{\"x\":1}}\n";
 
-const RECV_M_Y1: &str = "{\"recv\":\"m\",\"set\":{\"y\":1}}\n";
+pub(crate) const RECV_M_Y1: &str = "{\"recv\":\"m\",\"set\":{\"y\":1}}\n";
 
 const RECV_K_X0: &str = "{\"recv\":\"k\",\"set\":{\"x\":0}}\n";
 
@@ -39,7 +39,7 @@ const LONGEST: &str = "0123456789abcdef0123456789abcdef0123456789abcdef012345678
 /// 32 characters of two bytes each.
 const WIDEST: &str = "éééééééééééééééééééééééééééééééé";
 
-static JUDGED: [Row; 13] = [
+pub(crate) static JUDGED: [Row; 13] = [
     Row {
         lines: &[
             TWO, BOTH, CLOSE, A, SEND_M_X1, RECV_K_X0, END, B, SEND_K_Y1, RECV_M_Y0, END,
@@ -177,7 +177,7 @@ static JUDGED: [Row; 13] = [
 ];
 
 /// Sessions that are refused before their messages are looked at.
-static REFUSED: [Row; 13] = [
+pub(crate) static REFUSED: [Row; 13] = [
     Row {
         lines: &[
             TWO,

@@ -6,7 +6,7 @@ use pd_engine::Outcome;
 use std::str;
 use std::test::Fail;
 
-const RECV_K: &str = "{\"recv\":\"k\"}\n";
+pub(crate) const RECV_K: &str = "{\"recv\":\"k\"}\n";
 
 const SEND_X: &str = "{\"send\":\"x\"}\n";
 
@@ -17,7 +17,7 @@ const SEND_H: &str = "{\"send\":\"h\"}\n";
 const RECV_H: &str = "{\"recv\":\"h\"}\n";
 
 /// Messages that are refused.
-static FAULTS: [Row; 15] = [
+pub(crate) static FAULTS: [Row; 15] = [
     Row {
         lines: &[TWO, BOTH, CLOSE, A, END, B, RECV_M, END],
         report: "refused orphan b#1\n",
@@ -103,7 +103,7 @@ static FAULTS: [Row; 15] = [
 ];
 
 /// Causal cycles.
-static CYCLES: [Row; 7] = [
+pub(crate) static CYCLES: [Row; 7] = [
     Row {
         lines: &[
             TWO, BOTH, CLOSE, A, RECV_K, SEND_M, END, B, RECV_M, SEND_K, END,

@@ -8,13 +8,8 @@ use Rattle.pd_format.specs.Judgements.{IsAnswered}
 use Rattle.pd_spec.specs.Named.{named_of}
 use Rattle.pd_spec.specs.Views.{document_of}
 use Rattle.pd_spec.specs.declared.named.NamedPred.{NamedPred}
+use Rattle.pd_engine.proofs.Zips.{all_zip_push}
 use Rattle.pd_engine.proofs.judge.answers.Goals as goal
-
-zip_push : {A B : Type 0} (R : A → B → Type 0) (xs : List A) (ys : List B) (x : A) (y : B) → AllZip R xs ys → R x y → AllZip R (xs ++ x ∷ []) (ys ++ y ∷ [])
-zip_push R [] [] x y all here = (here, tt)
-zip_push R [] (b ∷ ys) x y all here = absurd all
-zip_push R (a ∷ xs) [] x y all here = absurd all
-zip_push R (a ∷ xs) (b ∷ ys) x y all here = (all.0, zip_push R xs ys x y all.1 here)
 
 pub loop-predicate-preserved : goal.loop-predicate-preserved
 loop-predicate-preserved g c =
@@ -25,7 +20,7 @@ loop-predicate-preserved g c =
     let named : map named_of (take (c.loop-predicate.predicate-index + 1) asked) ≡ map named_of (take c.loop-predicate.predicate-index asked) ++ named_of c.predicate-item.result ∷ [] =
     ap (map named_of) more ∙ map-append named_of (take c.loop-predicate.predicate-index asked) (c.predicate-item.result ∷ []) in
     rw (named, c.in_ok-push.ensures.items, map-append views.answer_of c.loop-predicate.answers.items (c.in_ok-answer.field-0 ∷ []))
-    (zip_push (IsAnswered (document_of c.args.spec.now).names c.args.computation.now (document_of c.args.spec.now).width) (map named_of (take c.loop-predicate.predicate-index asked)) (map views.answer_of c.loop-predicate.answers.items) (named_of c.predicate-item.result) (views.answer_of c.in_ok-answer.field-0) c.loop-predicate.invariant c.in_ok-answer.ensures)
+    (all_zip_push (IsAnswered (document_of c.args.spec.now).names c.args.computation.now (document_of c.args.spec.now).width) (map named_of (take c.loop-predicate.predicate-index asked)) (map views.answer_of c.loop-predicate.answers.items) (named_of c.predicate-item.result) (views.answer_of c.in_ok-answer.field-0) c.loop-predicate.invariant c.in_ok-answer.ensures)
 
 pub returns : goal.returns
 returns g c =

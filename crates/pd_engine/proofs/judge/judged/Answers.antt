@@ -1,14 +1,19 @@
 -- The report of a session's traces.
-use Rattle.pd_match.specs.Views.{fault_seen}
+use Rattle.std.proofs.lemmas.Result.{IfOk-weaker}
+use Rattle.pd_format.specs.Judgements.{IsTracesReport}
+use Rattle.pd_gather.specs.Views.{traces_seen}
 use Rattle.pd_spec.specs.Views.{document_of}
+use Rattle.pd_engine.specs.Judged.{IsJudged}
 use Rattle.pd_report.specs.Views as views
-use Rattle.pd_engine.proofs.FitTraces.{refused_report, traces_short}
+use Rattle.pd_engine.proofs.FitTraces.{answers_report, no_cycle_in}
 use Rattle.pd_engine.proofs.judge.judged.Goals as goal
 
-pub match_messages-requires : goal.match_messages-requires
-match_messages-requires g c =
-    record { short = traces_short (document_of c.args.spec.now).names c.args.traces.now c.requires }
+pub answered-requires-clause-acyclic : goal.answered-requires-clause-acyclic
+answered-requires-clause-acyclic g c κs within =
+    no_cycle_in (document_of c.args.spec.now) (traces_seen c.args.traces.now) c.in-WellFormed.computation c.in-WellFormed.messages (rw c.in-WellFormed.is at c.in_ok-computation.ensures.formed)
 
-pub returns-in_ok-refusal-in-Err-clause-report : goal.returns-in_ok-refusal-in-Err-clause-report
-returns-in_ok-refusal-in-Err-clause-report g c =
-    refused_report (document_of c.args.spec.now) c.names.result.now c.args.traces.now (fault_seen c.in-Err.fault) (views.refusal_of c.in_ok-refusal-in-Err.refusal) c.names.ensures c.in-Err.ensures.fault c.in_ok-refusal-in-Err.ensures.tells
+pub returns-in-WellFormed-clause-report : goal.returns-in-WellFormed-clause-report
+returns-in-WellFormed-clause-report g c =
+    IfOk-weaker c.answered.result (λ report. IsJudged (document_of c.args.spec.now) c.in-WellFormed.computation c.in-WellFormed.messages (views.report_of report)) (λ report. IsTracesReport (document_of c.args.spec.now) (traces_seen c.args.traces.now) (views.report_of report))
+    (λ report judged. answers_report (document_of c.args.spec.now) (traces_seen c.args.traces.now) c.in-WellFormed.computation c.in-WellFormed.messages (views.report_of report) (rw c.in-WellFormed.is at c.in_ok-computation.ensures.formed) judged)
+    c.answered.ensures.report

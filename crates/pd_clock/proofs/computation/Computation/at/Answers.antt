@@ -18,5 +18,5 @@ returns c =
     let each : (p v : ℕ) → state_of c.new.result p v ≡ state_at c.args.self.now.initial c.args.self.now.events c.args.cut.now p v = λ p v.
     subst (λ (r : Recorded). state_of c.new.result p v ≡ state_at r.initial r.events c.args.cut.now p v) c.self.view_is
     (rw (c.new.ensures.initial, c.new.ensures.histories, c.new.ensures.counts, c.deref.ensures.value, c.counts.ensures)
-    (value_is_state c.self.inside.initial.now c.self.inside.traces.now c.self.inside.histories.items c.self.invariant.0 c.args.cut.now fits p v)) in
+    (value_is_state c.self.inside.initial.now c.self.inside.traces.now c.self.inside.histories.items c.self.invariant.0 c.args.cut.now p v (fits.within p))) in
     λ i p v. each p v i

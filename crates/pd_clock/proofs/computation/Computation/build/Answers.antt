@@ -13,4 +13,4 @@ none_told (Some x) P no_place holds = absurd (no_place x refl)
 pub invariant_of-result : goal.invariant_of-result
 invariant_of-result c =
     let acyclic : HasNoCycle (computation_of c.args.traces.now) = none_told c.in_ok-places.field-0 (HasNoCycle (computation_of c.args.traces.now)) c.in_default.not-Some c.in_ok-places.ensures.none in
-    (c.in_ok-histories.ensures, all_clocks (computation_of c.args.traces.now) c.in_ok-done.field-0.done.items c.in_ok-done.field-0.clocks.items acyclic c.in_ok-done.ensures.stuck c.in_ok-done.ensures.clocks, acyclic)
+    (c.in_ok-histories.ensures, all_clocks (computation_of c.args.traces.now) c.in_ok-done.field-0.done.items c.in_ok-done.field-0.clocks.items acyclic c.in_ok-done.ensures.stuck c.in_ok-done.ensures.clocks, acyclic, c.in_ok-senders_of.ensures)

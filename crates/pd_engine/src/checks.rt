@@ -1,0 +1,115 @@
+//! Checks a report's evidence.
+ghost use Rattle.pd_engine.specs.Checks.{Finds, WritesFinding, WritesFindingFront};
+ghost use Rattle.pd_engine.specs.Claims.{FindsClaim};
+ghost use Rattle.pd_engine.specs.FindingViews.{finding_of};
+ghost use Rattle.pd_gather.specs.ReadersTold.{AreReadOf};
+ghost use Rattle.pd_gather.specs.Views.{ReadingFits, outcomes_seen};
+ghost use Rattle.pd_report.specs.Views as views;
+ghost use Rattle.pd_spec.specs.Views.{document_of};
+ghost use Rattle.std.specs.Io.KnownBytes.{Keeps};
+ghost use Rattle.std.specs.Prelude.{◌≡◌, ◌≤◌, ◌⊎◌, All, Err, IfErr, IfOk, IsOkUnless, map, vec_len};
+
+use super::EngineFault;
+use super::bundle_judge::MAX_STREAMS;
+use super::claims::{find_gathered, is_refusal};
+use super::finding::Finding;
+use super::finding_text::text;
+use super::refusal::of_document;
+use pd_gather::{Gathered, gather};
+use pd_report::{Report, ReportFault, write_all};
+use pd_spec::Spec;
+use std::alloc::{AllocError, Global};
+use std::io::{Read, Write};
+use std::random::RandomSource;
+
+/// What the streams give. Where they are too many, they aren't read.
+fn gather_few<R: Read + Drop>(
+    alloc: Global,
+    spec: &Spec,
+    streams: Vec<R>,
+) -> Result<Gathered, AllocError>
+    ensures streams { IfOk result (λ gathered. gathered.streams ≡ vec_len streams) }
+    ensures read { IfOk result (λ gathered. vec_len streams ≤ 16 → AreReadOf (document_of spec.now).names (map R.remaining streams.items) (outcomes_seen gathered.readings.items)) }
+    ensures fit { IfOk result (λ gathered. All (ReadingFits (document_of spec.now).names) gathered.readings.items) }
+{
+    if streams.len() > MAX_STREAMS {
+        return Ok(Gathered {
+            streams: streams.len() as u64,
+            readings: Vec::new(alloc),
+        });
+    }
+    gather(alloc, spec, streams)
+}
+
+/// What is found of a report that is read.
+fn find_claim<S: RandomSource, R: Read + Drop>(
+    rt: &S,
+    alloc: Global,
+    spec: &[u8],
+    claimed: &Report,
+    streams: Vec<R>,
+) -> Result<Finding, EngineFault>
+    ensures found { IfOk result (λ finding. FindsClaim spec.now (views.report_of claimed.now) (map R.remaining streams.items) (finding_of finding)) }
+    ensures err { IsOkUnless result EngineFault.Memory }
+{
+    match Spec::read(alloc, spec) {
+        Ok(spec) => {
+            let gathered = gather_few(alloc, &spec, streams)?;
+            find_gathered(rt, alloc, &spec, claimed, gathered)
+        }
+        Err(fault) => {
+            let refusal = of_document(alloc, fault)?;
+            Ok(Finding::OfRefusal(is_refusal(claimed, &refusal)))
+        }
+    }
+}
+
+/// What is found of a report's bytes.
+fn find<S: RandomSource, R: Read + Drop>(
+    rt: &S,
+    alloc: Global,
+    spec: &[u8],
+    report: &[u8],
+    streams: Vec<R>,
+) -> Result<Finding, EngineFault>
+    ensures found { IfOk result (λ finding. Finds spec.now report.now (map R.remaining streams.items) (finding_of finding)) }
+    ensures err { IsOkUnless result EngineFault.Memory }
+{
+    match pd_report::read(alloc, report) {
+        Ok(claimed) => find_claim(rt, alloc, spec, &claimed, streams),
+        Err(ReportFault::Line(line)) => Ok(Finding::NotRead(line)),
+        Err(ReportFault::Memory) => Err(EngineFault::Memory),
+    }
+}
+
+/// Checks a report against the session that it is said to be of, and writes what it finds: that the report's bytes are no
+/// report, and from which line on; or whether the session is refused as the report says; or whether the report's counts and
+/// names are the session's and, for each predicate, whether the cut that is printed is consistent and satisfies, and the
+/// path that is printed is that of an observation with no satisfying cut. The streams are read one after another, and only
+/// where the report is read and the document isn't refused. It tells whether nothing that it found is bad.
+///
+/// # Errors
+/// `Memory` leaves nothing written. `Write` leaves a front of the text written, and not all of it. A read that fails is a
+/// fault of its stream.
+pub fn check<S: RandomSource, R: Read + Drop, W: Write>(
+    rt: &S,
+    alloc: Global,
+    spec: &[u8],
+    report: &[u8],
+    streams: Vec<R>,
+    writer: &mut W,
+) -> Result<bool, EngineFault>
+    // What is written is the text of what the check finds; true is told exactly where no line of it ends with the word `bad`,
+    // and none tells that the report isn't read.
+    ensures written { IfOk result (λ good. WritesFinding spec.now report.now (map R.remaining streams.items) good (W.contents writer.old) (W.contents writer.new)) }
+    // A write that fails leaves a front of that text, and want of memory leaves nothing.
+    ensures part { result ≡ Err EngineFault.Write → WritesFindingFront spec.now report.now (map R.remaining streams.items) (W.contents writer.old) (W.contents writer.new) }
+    ensures memory { result ≡ Err EngineFault.Memory → Keeps (W.contents writer.old) (W.contents writer.new) }
+    ensures err { IfErr result (λ fault. (fault ≡ EngineFault.Memory) ⊎ (fault ≡ EngineFault.Write)) }
+{
+    pd_judgement::clean_is_clean();
+    let finding = find(rt, alloc, spec, report, streams)?;
+    let text = text(alloc, &finding)?;
+    write_all(&text, writer)?;
+    Ok(finding.is_clean())
+}

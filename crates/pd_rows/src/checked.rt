@@ -1,0 +1,289 @@
+//! Checks of reports: good ones, forged ones, and ones of other sessions.
+use super::bundles::{A, B, BOTH, CLOSE, END, Row, TWO, X0, X1, Y0, Y1, bundle_of};
+use super::messages::{RECV_M, RECV_M_Y1, SEND_K, SEND_M, SEND_M_X1, SKEW};
+use super::slow::{Full, ROOM, SlowReader, SlowWriter};
+use super::unlawful::RECV_K;
+use super::{bundles, definite, messages, unlawful};
+use pd_engine::{EngineFault, check};
+use std::io::ErrorKind;
+use std::test::Fail;
+
+/// A bundle line by line, the text of a report that is said to be its own, and what a check of it writes.
+struct Checked {
+    lines: &'static [&'static str],
+    report: &'static str,
+    finding: &'static str,
+}
+
+const STEPS: &[&str] = &[TWO, BOTH, CLOSE, A, X1, X0, END, B, Y1, Y0, END];
+
+const NO_STEPS: &[&str] = &[TWO, BOTH, CLOSE, A, END, B, END];
+
+const SKEWED: &[&str] = &[TWO, SKEW, CLOSE, A, SEND_M_X1, END, B, RECV_M_Y1, END];
+
+const CYCLE: &[&str] = &[
+    TWO, BOTH, CLOSE, A, RECV_K, SEND_M, END, B, RECV_M, SEND_K, END,
+];
+
+static CHECKED: [Checked; 31] = [
+    Checked {
+        lines: STEPS,
+        report: "session 2 processes 4 events 0 messages\nboth possibly yes 1,1\nboth definitely no b,b,a,a\n",
+        finding: "session good\nboth possibly good\nboth definitely good\n",
+    },
+    Checked {
+        lines: STEPS,
+        report: "session 2 processes 4 events 0 messages\nboth possibly yes 2,2\nboth definitely no b,b,a,a\n",
+        finding: "session good\nboth possibly bad\nboth definitely good\n",
+    },
+    Checked {
+        lines: NO_STEPS,
+        report: "session 2 processes 0 events 0 messages\nboth possibly no\nboth definitely no -\n",
+        finding: "session good\nboth possibly unchecked\nboth definitely good\n",
+    },
+    Checked {
+        lines: CYCLE,
+        report: "refused cycle a#1,b#1\n",
+        finding: "refused good\n",
+    },
+    Checked {
+        lines: CYCLE,
+        report: "refused cycle b#1,a#1\n",
+        finding: "refused bad\n",
+    },
+    Checked {
+        lines: CYCLE,
+        report: "session 2 processes 4 events 2 messages\nboth possibly no\nboth definitely yes 0\n",
+        finding: "refused bad\n",
+    },
+    Checked {
+        lines: STEPS,
+        report: "refused streams\n",
+        finding: "refused bad\n",
+    },
+    Checked {
+        lines: STEPS,
+        report: "",
+        finding: "report line 1\n",
+    },
+    Checked {
+        lines: STEPS,
+        report: "session 2 processes 4 events 0 messages\nboth possibly yes 1,1\nboth definitely no b,b,a,a",
+        finding: "report line 3\n",
+    },
+    Checked {
+        lines: &["{"],
+        report: "session 02 processes 4 events 0 messages\n",
+        finding: "report line 1\n",
+    },
+    Checked {
+        lines: &["{"],
+        report: "refused spec json\n",
+        finding: "refused good\n",
+    },
+    Checked {
+        lines: &["{"],
+        report: "refused spec shape\n",
+        finding: "refused bad\n",
+    },
+    Checked {
+        lines: STEPS,
+        report: "session 3 processes 4 events 0 messages\nboth possibly yes 1,1\nboth definitely no b,b,a,a\n",
+        finding: "session bad\nboth possibly good\nboth definitely good\n",
+    },
+    Checked {
+        lines: STEPS,
+        report: "session 2 processes 5 events 0 messages\nboth possibly yes 1,1\nboth definitely no b,b,a,a\n",
+        finding: "session bad\nboth possibly good\nboth definitely good\n",
+    },
+    Checked {
+        lines: STEPS,
+        report: "session 2 processes 4 events 1 messages\nboth possibly yes 1,1\nboth definitely no b,b,a,a\n",
+        finding: "session bad\nboth possibly good\nboth definitely good\n",
+    },
+    Checked {
+        lines: STEPS,
+        report: "session 2 processes 4 events 0 messages\nall possibly yes 1,1\nall definitely no b,b,a,a\n",
+        finding: "session good\nnames bad\n",
+    },
+    Checked {
+        lines: STEPS,
+        report: "session 2 processes 4 events 0 messages\nboth possibly no\nboth definitely no -\nboth possibly no\nboth definitely no -\n",
+        finding: "session good\nnames bad\n",
+    },
+    Checked {
+        lines: STEPS,
+        report: "session 2 processes 4 events 0 messages\nboth possibly unknown 1\nboth definitely unknown 0\n",
+        finding: "session good\nboth possibly unchecked\nboth definitely unchecked\n",
+    },
+    Checked {
+        lines: STEPS,
+        report: "session 2 processes 4 events 0 messages\nboth possibly no\nboth definitely yes 1\n",
+        finding: "session good\nboth possibly unchecked\nboth definitely unchecked\n",
+    },
+    Checked {
+        lines: STEPS,
+        report: "session 2 processes 4 events 0 messages\nboth possibly yes 1\nboth definitely no a,a,b,b\n",
+        finding: "session good\nboth possibly bad\nboth definitely good\n",
+    },
+    Checked {
+        lines: STEPS,
+        report: "session 2 processes 4 events 0 messages\nboth possibly yes 1,1,0\nboth definitely no a,b,a,b\n",
+        finding: "session good\nboth possibly bad\nboth definitely bad\n",
+    },
+    Checked {
+        lines: STEPS,
+        report: "session 2 processes 4 events 0 messages\nboth possibly yes 18446744073709551615,1\nboth definitely no b,b,a,c\n",
+        finding: "session good\nboth possibly bad\nboth definitely bad\n",
+    },
+    Checked {
+        lines: STEPS,
+        report: "session 2 processes 4 events 0 messages\nboth possibly yes 1,3\nboth definitely no b,b,a\n",
+        finding: "session good\nboth possibly bad\nboth definitely bad\n",
+    },
+    Checked {
+        lines: STEPS,
+        report: "session 2 processes 4 events 0 messages\nboth possibly yes 0,0,0,0,0,0,0,0,0\nboth definitely no b,b,a,a,a\n",
+        finding: "session good\nboth possibly bad\nboth definitely bad\n",
+    },
+    Checked {
+        lines: STEPS,
+        report: "session 2 processes 4 events 0 messages\nboth possibly yes 1,1\nboth definitely no -\n",
+        finding: "session good\nboth possibly good\nboth definitely bad\n",
+    },
+    Checked {
+        lines: NO_STEPS,
+        report: "session 2 processes 0 events 0 messages\nboth possibly yes 0,0\nboth definitely no a\n",
+        finding: "session good\nboth possibly bad\nboth definitely bad\n",
+    },
+    Checked {
+        lines: SKEWED,
+        report: "session 2 processes 2 events 1 messages\nskew possibly yes 0,1\nskew definitely no b,a\n",
+        finding: "session good\nskew possibly bad\nskew definitely bad\n",
+    },
+    Checked {
+        lines: SKEWED,
+        report: "session 2 processes 2 events 1 messages\nskew possibly yes 0,0\nskew definitely no a,b\n",
+        finding: "session good\nskew possibly bad\nskew definitely good\n",
+    },
+    Checked {
+        lines: &[TWO, BOTH, CLOSE, A, END],
+        report: "refused absent b\n",
+        finding: "refused good\n",
+    },
+    Checked {
+        lines: &[TWO, BOTH, CLOSE, A, END, A, END],
+        report: "refused stream 1 line 1 taken\n",
+        finding: "refused bad\n",
+    },
+    Checked {
+        lines: &[
+            TWO, BOTH, CLOSE, A, A, A, A, A, A, A, A, A, A, A, A, A, A, A, A, A,
+        ],
+        report: "refused streams\n",
+        finding: "refused good\n",
+    },
+];
+
+/// A reader of a stream that fails after so many calls.
+fn reader_of(stream: &str, calls: usize) -> SlowReader<'_> {
+    SlowReader {
+        bytes: stream.as_bytes(),
+        calls,
+        failure: ErrorKind::Interrupted,
+    }
+}
+
+/// What a check of a report writes to a writer with so much room, and whether it tells that nothing is bad. The streams are
+/// read a byte a call.
+fn found(
+    rt: &HostRuntime,
+    lines: &[&str],
+    report: &[u8],
+    writer: &mut SlowWriter,
+) -> Result<Result<bool, EngineFault>, Fail> {
+    let alloc = rt.alloc();
+    let bundle = bundle_of(alloc, lines, "\n")?;
+    let mut parts = str::from_utf8(&bundle)?.split("---\n");
+    let document = parts.next().unwrap_or("");
+    let mut streams = Vec::new(alloc);
+    for part in parts {
+        streams.push(reader_of(part, usize::MAX))?;
+    }
+    Ok(check(rt, alloc, document.as_bytes(), report, streams, writer))
+}
+
+#[test]
+fn findings(rt: HostRuntime) -> Result<(), Fail> {
+    for row in &CHECKED {
+        let mut writer = SlowWriter::new(rt.alloc(), ROOM, Full::Fails)?;
+        let good = found(&rt, row.lines, row.report.as_bytes(), &mut writer)??;
+        assert_eq!(rt; str::from_utf8(&writer.taken)?, row.finding);
+        let clean = !row.finding.contains(" bad\n") && !row.finding.starts_with("report line");
+        assert_eq!(rt; good, clean);
+    }
+    Ok(())
+}
+
+/// Whether the report of each row is good for the row's session, with all the evidence that it prints.
+fn are_good(rt: &HostRuntime, rows: &[Row]) -> Result<bool, Fail> {
+    let mut all_good = true;
+    for row in rows {
+        let mut writer = SlowWriter::new(rt.alloc(), ROOM, Full::Fails)?;
+        let good = found(rt, row.lines, row.report.as_bytes(), &mut writer)??;
+        let text = str::from_utf8(&writer.taken)?;
+        all_good = all_good && good && !text.contains("bad") && !text.starts_with("report line");
+    }
+    Ok(all_good)
+}
+
+#[test]
+fn reports_are_good_for_their_sessions(rt: HostRuntime) -> Result<(), Fail> {
+    assert!(rt; are_good(&rt, &bundles::JUDGED)?);
+    assert!(rt; are_good(&rt, &bundles::REFUSED)?);
+    assert!(rt; are_good(&rt, &messages::JUDGED)?);
+    assert!(rt; are_good(&rt, &messages::REFUSED)?);
+    assert!(rt; are_good(&rt, &definite::ANSWERED)?);
+    assert!(rt; are_good(&rt, &unlawful::FAULTS)?);
+    assert!(rt; are_good(&rt, &unlawful::CYCLES)?);
+    Ok(())
+}
+
+/// The writer is full behind each byte of the finding in turn, and then fails or takes nothing.
+#[test]
+fn findings_that_cannot_be_written(rt: HostRuntime) -> Result<(), Fail> {
+    for row in CHECKED.iter().take(8) {
+        let finding = row.finding.as_bytes();
+        for full in [Full::Fails, Full::Idles] {
+            for room in 0..finding.len() {
+                let mut writer = SlowWriter::new(rt.alloc(), room, full)?;
+                let told = found(&rt, row.lines, row.report.as_bytes(), &mut writer)?;
+                assert!(rt; matches!(&told, Err(EngineFault::Write)));
+                assert_eq!(rt; writer.taken.as_slice(), &finding[..room]);
+            }
+        }
+    }
+    Ok(())
+}
+
+/// The reader of the second stream fails behind each of its bytes in turn.
+#[test]
+fn streams_that_cannot_be_read(rt: HostRuntime) -> Result<(), Fail> {
+    let alloc = rt.alloc();
+    let document = bundle_of(alloc, &[TWO, BOTH, CLOSE], "\n")?;
+    let first = "{\"process\":\"a\"}\n{\"end\":true}\n";
+    let second = "\n{\"process\":\"b\"}\n{\"end\":true}\n";
+    let mut lines = 0;
+    for calls in 0..second.len() {
+        let line = format!(in alloc; "refused stream 2 line {} read\n", lines + 1)?;
+        let streams = vec![in alloc; reader_of(first, usize::MAX), reader_of(second, calls)]?;
+        let mut writer = SlowWriter::new(alloc, ROOM, Full::Fails)?;
+        let good = check(&rt, alloc, &document, line.as_bytes(), streams, &mut writer)?;
+        assert!(rt; good);
+        assert_eq!(rt; writer.taken.as_slice(), b"refused good\n".as_slice());
+        if second.as_bytes()[calls] == b'\n' {
+            lines += 1;
+        }
+    }
+    Ok(())
+}
