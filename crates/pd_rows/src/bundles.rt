@@ -23,7 +23,7 @@ const ONE: &str = r#"{"processes":[{"name":"a","vars":{"x":0}}],"#;
 pub(crate) const THREE: &str =
     r#"{"processes":[{"name":"a","vars":{"n":0}},{"name":"b","vars":{"n":0}},{"name":"c","vars":{"n":0}}],"#;
 
-const TOP: &str =
+pub(crate) const TOP: &str =
     r#""predicates":[{"name":"top","text":"a.n + b.n + c.n == 30"},{"name":"never","text":"a.n == 99"}]"#;
 
 const FOUND: &str =

@@ -1,5 +1,5 @@
 //! Checks of reports: good ones, forged ones, and ones of other sessions.
-use super::bundles::{A, B, BOTH, CLOSE, END, Row, TWO, X0, X1, Y0, Y1, bundle_of};
+use super::bundles::{A, B, BOTH, C, CLOSE, END, Row, THREE, TOP, TWO, X0, X1, Y0, Y1, bundle_of};
 use super::messages::{RECV_M, RECV_M_Y1, SEND_K, SEND_M, SEND_M_X1, SKEW};
 use super::slow::{Full, ROOM, SlowReader, SlowWriter};
 use super::unlawful::RECV_K;
@@ -25,7 +25,7 @@ const CYCLE: &[&str] = &[
     TWO, BOTH, CLOSE, A, RECV_K, SEND_M, END, B, RECV_M, SEND_K, END,
 ];
 
-static CHECKED: [Checked; 31] = [
+static CHECKED: [Checked; 33] = [
     Checked {
         lines: STEPS,
         report: "session 2 processes 4 events 0 messages\nboth possibly yes 1,1\nboth definitely no b,b,a,a\n",
@@ -109,6 +109,16 @@ static CHECKED: [Checked; 31] = [
     Checked {
         lines: STEPS,
         report: "session 2 processes 4 events 0 messages\nboth possibly no\nboth definitely no -\nboth possibly no\nboth definitely no -\n",
+        finding: "session good\nnames bad\n",
+    },
+    Checked {
+        lines: &[THREE, TOP, CLOSE, A, END, B, END, C, END],
+        report: "session 3 processes 0 events 0 messages\ntop possibly no\ntop definitely no -\nnever possibly no\nnever definitely no -\n",
+        finding: "session good\ntop possibly unchecked\ntop definitely good\nnever possibly unchecked\nnever definitely good\n",
+    },
+    Checked {
+        lines: &[THREE, TOP, CLOSE, A, END, B, END, C, END],
+        report: "session 3 processes 0 events 0 messages\nnever possibly no\nnever definitely no -\ntop possibly no\ntop definitely no -\n",
         finding: "session good\nnames bad\n",
     },
     Checked {
@@ -273,16 +283,23 @@ fn streams_that_cannot_be_read(rt: HostRuntime) -> Result<(), Fail> {
     let document = bundle_of(alloc, &[TWO, BOTH, CLOSE], "\n")?;
     let first = "{\"process\":\"a\"}\n{\"end\":true}\n";
     let second = "\n{\"process\":\"b\"}\n{\"end\":true}\n";
-    let mut lines = 0;
+    let mut line = 1u64;
     for calls in 0..second.len() {
-        let line = format!(in alloc; "refused stream 2 line {} read\n", lines + 1)?;
+        let report = format!(in alloc; "refused stream 2 line {line} read\n")?;
         let streams = vec![in alloc; reader_of(first, usize::MAX), reader_of(second, calls)]?;
         let mut writer = SlowWriter::new(alloc, ROOM, Full::Fails)?;
-        let good = check(&rt, alloc, &document, line.as_bytes(), streams, &mut writer)?;
+        let good = check(
+            &rt,
+            alloc,
+            &document,
+            report.as_bytes(),
+            streams,
+            &mut writer,
+        )?;
         assert!(rt; good);
         assert_eq!(rt; writer.taken.as_slice(), b"refused good\n".as_slice());
         if second.as_bytes()[calls] == b'\n' {
-            lines += 1;
+            line = line.saturating_add(1);
         }
     }
     Ok(())
