@@ -1,3 +1,3 @@
-mod DocumentFronts
+mod DocumentPrefixes
 mod ReadersChecked
 mod TrueStatuses

@@ -1,7 +1,7 @@
 -- The exit statuses, the lines that tell faults, and what a failed write leaves.
 use Rattle.std.specs.Prelude.{ℕ, Bool, true, false, List, codes, ◌⊎◌, Option}
 use Rattle.std.specs.Io.KnownBytes.{Keeps}
-use Rattle.pd_engine.specs.Outcomes.{WritesFront, WritesReport}
+use Rattle.pd_engine.specs.Outcomes.{WritesPrefix, WritesReport}
 use Rattle.pd_engine.specs.declared.outcome.Outcome.{Outcome}
 use Rattle.pd_engine.specs.declared.outcome.Outcome.TheVariants as outcomes
 use Rattle.pd_engine.specs.declared.fault.EngineFault.{EngineFault}
@@ -31,9 +31,9 @@ line_of_fault Write = codes "monitor: write\n"
 line_of_fault Read = codes "monitor: read\n"
 line_of_fault BundleLong = codes "monitor: bundle too long\n"
 
--- a front of the text of the bundle's report is written, or all of it where only the flush failed
+-- a prefix of the text of the bundle's report is written, or all of it where only the flush failed
 abbrev pub WritesPart : List ℕ → Option (List ℕ) → Option (List ℕ) → Type 0
-WritesPart bundle old new = WritesFront bundle old new ⊎ (outcome : Outcome) × WritesReport bundle outcome old new
+WritesPart bundle old new = WritesPrefix bundle old new ⊎ (outcome : Outcome) × WritesReport bundle outcome old new
 
 -- nothing is written, or a part of the text of the bundle's report
 abbrev pub WritesAtMostReport : List ℕ → Option (List ℕ) → Option (List ℕ) → Type 0

@@ -1,7 +1,7 @@
 //! Judges the bundle on the input.
 ghost use Rattle.pd_cli.specs.Statuses.{WritesPart};
 ghost use Rattle.pd_engine.specs.Outcomes.{WritesReport};
-ghost use Rattle.pd_format.specs.Bundles.{bundle_limit};
+ghost use Rattle.pd_format.specs.Limits.{bundle_byte_limit};
 ghost use Rattle.std.specs.Io.KnownBytes.{Keeps};
 ghost use Rattle.std.specs.Prelude.{◌≡◌, ◌<◌, ◌≤◌, Err, IfOk, IfSome, length};
 
@@ -25,8 +25,9 @@ pub(crate) fn judge_input<S: RandomSource, I: Read + Drop, O: Write>(
 ) -> Result<Outcome, EngineFault>
     ensures written { IfOk result (λ outcome. IfSome (I.remaining input) (λ bytes.
         WritesReport bytes outcome (O.contents output.old) (O.contents output.new))) }
-    ensures short { IfOk result (λ outcome. IfSome (I.remaining input) (λ bytes. length bytes ≤ bundle_limit)) }
-    ensures long { result ≡ Err EngineFault.BundleLong → IfSome (I.remaining input) (λ bytes. bundle_limit < length bytes) }
+    ensures short { IfOk result (λ outcome. IfSome (I.remaining input) (λ bytes. length bytes ≤ bundle_byte_limit)) }
+    ensures long { result ≡ Err EngineFault.BundleLong
+        → IfSome (I.remaining input) (λ bytes. bundle_byte_limit < length bytes) }
     ensures part { result ≡ Err EngineFault.Write → IfSome (I.remaining input) (λ bytes.
         WritesPart bytes (O.contents output.old) (O.contents output.new)) }
     ensures read { result ≡ Err EngineFault.Read → Keeps (O.contents output.old) (O.contents output.new) }

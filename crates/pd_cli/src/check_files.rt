@@ -1,5 +1,6 @@
 //! Checks a report against files.
-ghost use Rattle.pd_cli.specs.FileChecks.{WritesCheck, WritesCheckPart, WritesSomeFinding, report_limit};
+ghost use Rattle.pd_cli.specs.FileChecks.{WritesCheck, WritesCheckPart, WritesSomeFinding};
+ghost use Rattle.pd_format.specs.Limits.{report_byte_limit};
 ghost use Rattle.std.specs.Io.KnownBytes.{Keeps};
 ghost use Rattle.std.specs.Prelude.{◌≡◌, ◌≢◌, ◌≤◌, ◌⊎◌, Err, IfErr, IfOk, IfSome, IsOkUnless, map, vec_len};
 
@@ -80,7 +81,7 @@ fn open_all<R: Files>(
 /// `Read`, where there are more or a read fails, and `Memory`.
 fn read_report<R: Read + Drop>(alloc: Global, reader: R) -> Result<Vec<u8>, EngineFault>
     ensures whole { IfOk result (λ bytes. IfSome (R.remaining reader) (λ input. bytes.items ≡ input)) }
-    ensures short { IfOk result (λ bytes. vec_len bytes ≤ report_limit) }
+    ensures short { IfOk result (λ bytes. vec_len bytes ≤ report_byte_limit) }
     ensures err { IfErr result (λ fault. (fault ≡ EngineFault.Memory) ⊎ (fault ≡ EngineFault.Read)) }
 {
     let bytes = read_upto(alloc, reader, REPORT_LIMIT)?;
@@ -94,8 +95,8 @@ fn read_report<R: Read + Drop>(alloc: Global, reader: R) -> Result<Vec<u8>, Engi
 /// nothing that it found is bad.
 ///
 /// # Errors
-/// `Read`, where the document or the report can't be read or the report is too long, and `Memory` leave nothing written.
-/// `Write` leaves a part of the text written, or all of it where only the flush failed.
+/// `Read`, where the document or the report can't be read or the report is too long, and `Memory` leave nothing
+/// written. `Write` leaves a part of the text written, or all of it where only the flush failed.
 fn check_opened<S: RandomSource, R: Read + Drop, O: Write>(
     rt: &S,
     alloc: Global,
@@ -104,7 +105,8 @@ fn check_opened<S: RandomSource, R: Read + Drop, O: Write>(
 ) -> Result<bool, EngineFault>
     ensures written { IfOk result (λ good. WritesCheck (R.remaining opened.spec) (R.remaining opened.report)
         (map R.remaining opened.streams.items) good (O.contents output.old) (O.contents output.new)) }
-    ensures part { result ≡ Err EngineFault.Write → WritesCheckPart (R.remaining opened.spec) (R.remaining opened.report)
+    ensures part { result ≡ Err EngineFault.Write
+        → WritesCheckPart (R.remaining opened.spec) (R.remaining opened.report)
         (map R.remaining opened.streams.items) (O.contents output.old) (O.contents output.new) }
     ensures read { result ≡ Err EngineFault.Read → Keeps (O.contents output.old) (O.contents output.new) }
     ensures memory { result ≡ Err EngineFault.Memory → Keeps (O.contents output.old) (O.contents output.new) }
@@ -119,13 +121,13 @@ fn check_opened<S: RandomSource, R: Read + Drop, O: Write>(
     Ok(good)
 }
 
-/// Opens the files of a check, reads the document and the report, checks the report by them and the streams, and flushes
-/// the output. It tells whether nothing that it found is bad. All files are opened before one is read.
+/// Opens the files of a check, reads the document and the report, checks the report by them and the streams, and
+/// flushes the output. It tells whether nothing that it found is bad. All files are opened before one is read.
 ///
 /// # Errors
 /// `Read`, where a file can't be opened, or the document or the report can't be read, or the report has more than
-/// 268,435,456 bytes, and `Memory` leave nothing written. `Write` leaves a part of the text written, or all of it where only
-/// the flush failed.
+/// 268,435,456 bytes, and `Memory` leave nothing written. `Write` leaves a part of the text written, or all of it where
+/// only the flush failed.
 pub(crate) fn check_files<S: RandomSource + Files, O: Write>(
     rt: &S,
     alloc: Global,

@@ -4,7 +4,7 @@ ghost use Rattle.pd_cli.specs.Statuses.{WritesAtMostReport};
 ghost use Rattle.pd_engine.specs.Outcomes.{WritesReport};
 ghost use Rattle.pd_engine.specs.Truths.{WritesTruth};
 ghost use Rattle.pd_engine.specs.declared.outcome.Outcome.TheVariants as outcomes;
-ghost use Rattle.pd_format.specs.Bundles.{bundle_limit};
+ghost use Rattle.pd_format.specs.Limits.{bundle_byte_limit};
 ghost use Rattle.std.specs.Io.KnownBytes.{Keeps};
 ghost use Rattle.std.specs.Prelude.{◌≡◌, ◌≢◌, ◌≤◌, ◌⊎◌, IfSome, false, length, true, vec_len};
 
@@ -50,7 +50,7 @@ fn run_words<S: RandomSource + Files, I: Read + Drop, O: Write, E: Write>(
         WritesReport bytes outcomes.Judged (O.contents output.old) (O.contents output.new)) }
     ensures refused { vec_len words ≤ 1 → result ≡ 1 → IfSome (I.remaining input) (λ bytes.
         WritesReport bytes outcomes.Refused (O.contents output.old) (O.contents output.new)) }
-    ensures short { vec_len words ≤ 1 → result ≤ 1 → IfSome (I.remaining input) (λ bytes. length bytes ≤ bundle_limit) }
+    ensures short { vec_len words ≤ 1 → result ≤ 1 → IfSome (I.remaining input) (λ bytes. length bytes ≤ bundle_byte_limit) }
     ensures failed { vec_len words ≤ 1 → result ≡ 3 → IfSome (I.remaining input) (λ bytes.
         WritesAtMostReport bytes (O.contents output.old) (O.contents output.new)) }
     ensures memory { result ≡ 4 → Keeps (O.contents output.old) (O.contents output.new) }
@@ -94,21 +94,22 @@ pub fn run<S: RandomSource + Files, I: Read + Drop, O: Write, E: Write>(
         WritesReport bytes outcomes.Judged (O.contents output.old) (O.contents output.new)) }
     ensures refused { vec_len words ≤ 1 → result ≡ 1 → IfSome (I.remaining input) (λ bytes.
         WritesReport bytes outcomes.Refused (O.contents output.old) (O.contents output.new)) }
-    // Where the input holds a well-formed session with no level over the width, that report tells the truth of each predicate.
+    // Where the input holds a well-formed session with no level over the width, that report tells the truth of each
+    // predicate.
     ensures headline { vec_len words ≤ 1 → result ≤ 1 → IfSome (I.remaining input) (λ bytes.
         WritesTruth bytes (O.contents output.old) (O.contents output.new)) }
-    ensures short { vec_len words ≤ 1 → result ≤ 1 → IfSome (I.remaining input) (λ bytes. length bytes ≤ bundle_limit) }
+    ensures short { vec_len words ≤ 1 → result ≤ 1 → IfSome (I.remaining input) (λ bytes. length bytes ≤ bundle_byte_limit) }
     // A failure leaves at most a part of that text, and a refused allocation or refused words leave nothing.
     ensures failed { vec_len words ≤ 1 → result ≡ 3 → IfSome (I.remaining input) (λ bytes.
         WritesAtMostReport bytes (O.contents output.old) (O.contents output.new)) }
     ensures memory { result ≡ 4 → Keeps (O.contents output.old) (O.contents output.new) }
     ensures misused { result ≡ 2 → Keeps (O.contents output.old) (O.contents output.new) }
-    // Status 1 tells, whatever the words are, that what is written is a refused session's report, or a finding with something
-    // bad in it.
+    // Status 1 tells, whatever the words are, that what is written is a refused session's report, or a finding with
+    // something bad in it.
     ensures found { result ≡ 1 → IfSome (I.remaining input) (λ bytes.
         WritesReport bytes outcomes.Refused (O.contents output.old) (O.contents output.new))
         ⊎ WritesSomeFinding false (O.contents output.old) (O.contents output.new) }
-    // Nothing is told on the errors of what succeeds, and no other status comes.
+    // Nothing is reported on the errors of what succeeds, and no other status comes.
     ensures silent { result ≤ 1 → Keeps (E.contents errors.old) (E.contents errors.new) }
     ensures used { vec_len words ≤ 1 → result ≢ 2 }
     ensures known { result ≤ 4 }

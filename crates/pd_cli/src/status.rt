@@ -59,7 +59,8 @@ fn fault_line(fault: &EngineFault) -> &'static str
     }
 }
 
-/// Writes the line that tells a fault, and gives the fault's exit status. Where the line can't be written, it is left off.
+/// Writes the line that tells a fault, and gives the fault's exit status. Where the line can't be written, it is left
+/// off.
 pub(crate) fn tell_fault<E: Write>(fault: &EngineFault, errors: &mut E) -> u8
     ensures { result ≡ status_of_fault fault.now }
 {

@@ -52,7 +52,8 @@ fn help_is_written_to_the_output(rt: HostRuntime) -> Result<(), Fail> {
     assert_eq!(rt; status, JUDGED);
     let help = b"Checks whether the cuts and paths in a report show what they are printed for\n\n\
 Usage: monitor check <SPEC> <REPORT> <STREAM>...\n\n\
-Arguments:\n  <SPEC>       The session document\n  <REPORT>     The report\n  <STREAM>...  The streams of events, one file for each\n\n\
+Arguments:\n  <SPEC>       The session document\n  <REPORT>     The report\n  <STREAM>...  The streams of events,
+    one file for each\n\n\
 Options:\n  -h, --help  Print help\n\n\
 What is found is written to the standard output. The status is 0 where nothing in it is bad, and else 1.\n";
     assert_eq!(rt; output.as_slice(), help.as_slice());

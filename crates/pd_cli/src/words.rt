@@ -89,10 +89,11 @@ fn check_names<'a>(
     }))
 }
 
-/// Parses the words behind the program's name.
+/// Parses the words after the program's name.
 ///
 /// # Errors
-/// What the parser has to say: the help that was asked for, what is wrong with the words, or that an allocation was refused.
+/// What the parser has to say: the help that was asked for, what is wrong with the words, or that an allocation was
+/// refused.
 pub(crate) fn parse<'a>(alloc: Global, words: &'a [String]) -> Result<Request<'a>, Error> {
     let mut command = program_command(alloc)?;
     let matches = command.try_get_matches_from_mut(words)?;
@@ -138,8 +139,8 @@ pub(crate) fn tell_parser<O: Write, E: Write>(error: &Error, output: &mut O, err
     }
 }
 
-/// Tells that the program's words can't be had, and gives the exit status: `NO_MEMORY` where an allocation was refused, and
-/// `MISUSED` where a word isn't text.
+/// Tells that the program's words can't be had, and gives the exit status: `NO_MEMORY` where an allocation was refused,
+/// and `MISUSED` where a word isn't text.
 pub fn tell_unread_words<E: Write>(error: &io::Error, errors: &mut E) -> u8
     ensures memory { error_kind error.now ≡ IoErrorKind.OutOfMemory → result ≡ 4 }
     ensures misused { error_kind error.now ≢ IoErrorKind.OutOfMemory → result ≡ 2 }

@@ -27,8 +27,11 @@ up_to_then c d x e (inl same) step =
 up_to_then c d x e (inr h) step = happens_transitive c d x e h (step_happens c x e step)
 
 -- of another process: the greater of the two counts
-pub clock_step : (c : Computation) (p n q a b : ℕ) → IsEvent c (place p (n + 1)) → q ≢ p → CountsWhere c (IsUpToOwn c p n) q a → CountsWhere c (IsUpToSend c (place p (n + 1))) q b → IsClock c (place p (n + 1)) q (max a b)
-clock_step c p n q a b is other own sent = record { within = within; past = λ m low high. (to m low high, from m low high) }
+pub clock_step : (c : Computation) (p n q a b : ℕ) → IsEvent c (place p (n + 1)) → q ≢ p
+    → CountsWhere c (IsUpToOwn c p n) q a → CountsWhere c (IsUpToSend c (place p (n + 1))) q b
+    → IsClock c (place p (n + 1)) q (max a b)
+clock_step c p n q a b is other own sent =
+    record { within = within; past = λ m low high. (to m low high, from m low high) }
   where
     within : max a b ≤ event_count c q
     within = let x : a ≤ event_count c q = own.within in let y : b ≤ event_count c q = sent.within in omega arith
@@ -58,19 +61,24 @@ clock_step c p n q a b is other own sent = record { within = within; past = λ m
         turned x (inl same) = inl (sym same)
         turned x (inr before) = inr before
 
-        go : (x : Place) × LeadsTo c x (place p (n + 1)) × ((x ≡ place q m) ⊎ HappenedBefore c (place q m) x) → m ≤ max a b
+        go : (x : Place) × LeadsTo c x (place p (n + 1)) × ((x ≡ place q m) ⊎ HappenedBefore c (place q m) x)
+            → m ≤ max a b
         go (x, inr message, up) = by_send ((sent.first m low high).1 (x, message, turned x up))
         go (x, inl (was, at, same, less), inl here) =
             absurd (other (sym (ap (λ (y : Place). y.process) here) ∙ same))
         go (x, inl (was, at, same, less), inr before) =
             let some : 1 ≤ x.number = was.0 in
             let most : n + 1 ≤ event_count c p = is.1 in
-            let event : IsEvent c (place x.process n) = subst (λ (r : ℕ). IsEvent c (place r n)) (sym same) (omega arith, omega arith) in
-            let later : HappenedBefore c (place q m) (place p n) = subst (λ (r : ℕ). HappenedBefore c (place q m) (place r n)) same (happens_before_later c (place q m) x n before (omega arith) event) in
+            let event : IsEvent c (place x.process n) =
+            subst (λ (r : ℕ). IsEvent c (place r n)) (sym same) (omega arith, omega arith) in
+            let later : HappenedBefore c (place q m) (place p n) =
+            subst (λ (r : ℕ). HappenedBefore c (place q m) (place r n)) same
+            (happens_before_later c (place q m) x n before (omega arith) event) in
             by_own ((own.first m low high).1 ((events_of_happens c (place q m) (place p n) later).1, inr later))
 
 -- of its own process: its number, where it isn't on a cycle
-pub own_clock : (c : Computation) (e : Place) → IsEvent c e → (HappenedBefore c e e → ⊥) → IsClock c e e.process e.number
+pub own_clock : (c : Computation) (e : Place) → IsEvent c e → (HappenedBefore c e e → ⊥)
+    → IsClock c e e.process e.number
 own_clock c e is acyclic = record { within = is.1; past = λ m low high. (to m low high, from m low high) }
   where
     to : (m : ℕ) → 1 ≤ m → m ≤ event_count c e.process → m ≤ e.number → IsUpTo c (place e.process m) e
@@ -87,10 +95,12 @@ own_clock c e is acyclic = record { within = is.1; past = λ m low high. (to m l
         go : (e.number < m) ⊎ (m ≤ e.number) → m ≤ e.number
         go (inr le) = le
         go (inl lt) =
-            absurd (acyclic (happens_transitive c e (place e.process m) e (step_happens c e (place e.process m) (inl (is, (low, high), refl, lt))) h))
+            absurd (acyclic (happens_transitive c e (place e.process m) e
+            (step_happens c e (place e.process m) (inl (is, (low, high), refl, lt))) h))
 
 -- what is counted up to an event is counted by its clock, and nothing up to no event
-pub own_counted : (c : Computation) (p n q a : ℕ) → IsEvent c (place p n) → IsClock c (place p n) q a → CountsWhere c (IsUpToOwn c p n) q a
+pub own_counted : (c : Computation) (p n q a : ℕ) → IsEvent c (place p n) → IsClock c (place p n) q a
+    → CountsWhere c (IsUpToOwn c p n) q a
 own_counted c p n q a is clock = record {
   within = clock.within;
   first = λ m low high. (λ le. (is, (clock.past m low high).0 le), λ w. (clock.past m low high).1 w.1);
@@ -103,7 +113,8 @@ none_own c p n q none = record {
 }
 
 -- likewise of the one send of a receipt, and of no send
-pub send_counted : (c : Computation) (e send : Place) (q b : ℕ) → IsMessage c send e → ((other : Place) → IsMessage c other e → send ≡ other) → IsClock c send q b → CountsWhere c (IsUpToSend c e) q b
+pub send_counted : (c : Computation) (e send : Place) (q b : ℕ) → IsMessage c send e
+    → ((other : Place) → IsMessage c other e → send ≡ other) → IsClock c send q b → CountsWhere c (IsUpToSend c e) q b
 send_counted c e send q b message one clock = record {
   within = clock.within;
   first = λ m low high. (
@@ -112,7 +123,8 @@ send_counted c e send q b message one clock = record {
   );
 }
 
-pub none_sent : (c : Computation) (e : Place) (q : ℕ) → ((send : Place) → IsMessage c send e → ⊥) → CountsWhere c (IsUpToSend c e) q 0
+pub none_sent : (c : Computation) (e : Place) (q : ℕ) → ((send : Place) → IsMessage c send e → ⊥)
+    → CountsWhere c (IsUpToSend c e) q 0
 none_sent c e q none = record {
   within = omega arith;
   first = λ m low high. (λ le. absurd (omega arith), λ w. absurd (none w.0 w.1));

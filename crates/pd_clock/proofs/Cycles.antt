@@ -15,8 +15,8 @@ use Rattle.pd_model.proofs.Chains.{same_place, events_of_happens}
 use Rattle.pd_model.proofs.Consistency.{process_in_range}
 use Rattle.pd_model.proofs.Lists.{linked_push, last_of_push, first_of_push}
 use Rattle.pd_model.proofs.Pigeonhole.{two_equal}
-use Rattle.pd_clock.specs.Orders.{LeavesStuck, places_seen}
-use Rattle.pd_match.specs.Views.{place_seen}
+use Rattle.pd_clock.specs.Orders.{LeavesStuck, places_view}
+use Rattle.pd_match.specs.Views.{place_view}
 use Rattle.pd_match.specs.declared.place.Place.{Place}
 
 -- ---- the first stuck event of a process
@@ -24,23 +24,28 @@ use Rattle.pd_match.specs.declared.place.Place.{Place}
 pub stuck_event : (c : Computation) (e : events.Place) → IsStuck c e → IsEvent c e
 stuck_event c e (f, cycle, h) = (events_of_happens c f e h).1
 
-pub first_left : (c : Computation) (done : List ℕ) → LeavesStuck c done → (p : ℕ) → get_or done p 0 < event_count c p → IsFirstStuck c (place p (get_or done p 0 + 1))
-first_left c done left p lt =
-    ((left.left (place p (get_or done p 0 + 1)) (omega arith, omega arith)).0 (omega arith), λ n less stuck. before n less stuck)
+pub first_left : (c : Computation) (done : List ℕ) → LeavesStuck c done → (p : ℕ) → get_or done p 0 < event_count c p
+    → IsFirstStuck c (place p (get_or done p 0 + 1))
+first_left c done left p lt = (
+  (left.left (place p (get_or done p 0 + 1)) (omega arith, omega arith)).0 (omega arith),
+  λ n less stuck. before n less stuck,
+)
   where
     before : (n : ℕ) → n < get_or done p 0 + 1 → ¬ IsStuck c (place p n)
     before n less stuck =
-        let behind : get_or done p 0 < n = (left.left (place p n) (stuck_event c (place p n) stuck)).1 stuck in
+        let following : get_or done p 0 < n = (left.left (place p n) (stuck_event c (place p n) stuck)).1 stuck in
         omega arith
 
-pub none_left : (c : Computation) (done : List ℕ) → LeavesStuck c done → (p : ℕ) → event_count c p ≤ get_or done p 0 → (n : ℕ) → ¬ IsStuck c (place p n)
+pub none_left : (c : Computation) (done : List ℕ) → LeavesStuck c done → (p : ℕ) → event_count c p ≤ get_or done p 0
+    → (n : ℕ) → ¬ IsStuck c (place p n)
 none_left c done left p le n stuck =
     let is : IsEvent c (place p n) = stuck_event c (place p n) stuck in
     let within : n ≤ event_count c p = is.1 in
-    let behind : get_or done p 0 < n = (left.left (place p n) is).1 stuck in
+    let following : get_or done p 0 < n = (left.left (place p n) is).1 stuck in
     omega arith
 
-one_first_stuck : (c : Computation) (e f : events.Place) → e.process ≡ f.process → IsFirstStuck c e → IsFirstStuck c f → e ≡ f
+one_first_stuck : (c : Computation) (e f : events.Place) → e.process ≡ f.process → IsFirstStuck c e → IsFirstStuck c f
+    → e ≡ f
 one_first_stuck c e f same (se, le) (sf, lf) = go (cases_order e.number f.number)
   where
     go : (e.number ≡ f.number) ⊎ ((e.number < f.number) ⊎ (f.number < e.number)) → e ≡ f
@@ -51,7 +56,8 @@ one_first_stuck c e f same (se, le) (sf, lf) = go (cases_order e.number f.number
 -- ---- the places taken
 
 -- from the first place one has gone back over those that are taken, and stands here
-pub record IsWay (c : Computation) (first : events.Place) (taken : List events.Place) (here : events.Place) : Type 0 where
+pub record IsWay (c : Computation) (first : events.Place) (taken : List events.Place) (here : events.Place) :
+    Type 0 where
   pub stuck : IsFirstStuck c here
   pub each : All (IsFirstStuck c) taken
   pub begins : first_of (taken ++ here ∷ []) ≡ Some first
@@ -70,11 +76,13 @@ way_start c first stuck = record {
   once = λ i j d lt within. absurd (omega arith);
 }
 
-once_more : (taken : List events.Place) (here : events.Place) → HasEachProcessOnce taken → IsNew taken here → HasEachProcessOnce (taken ++ here ∷ [])
+once_more : (taken : List events.Place) (here : events.Place) → HasEachProcessOnce taken → IsNew taken here
+    → HasEachProcessOnce (taken ++ here ∷ [])
 once_more taken here once new =
     all_pairs_push (λ (e f : events.Place). e.process ≢ f.process) taken here once new
 
-pub way_more : (c : Computation) (first : events.Place) (taken : List events.Place) (here next : events.Place) → IsWay c first taken here → IsNew taken here → GoesBackTo c here next → IsWay c first (taken ++ here ∷ []) next
+pub way_more : (c : Computation) (first : events.Place) (taken : List events.Place) (here next : events.Place)
+    → IsWay c first taken here → IsNew taken here → GoesBackTo c here next → IsWay c first (taken ++ here ∷ []) next
 way_more c first taken here next way new back = record {
   stuck = back.0;
   each = All-push (IsFirstStuck c) taken here way.each way.stuck;
@@ -84,7 +92,8 @@ way_more c first taken here next way new back = record {
 }
 
 -- there are no more places on the way than processes
-pub way_short : (c : Computation) (first : events.Place) (taken : List events.Place) (here : events.Place) → IsWay c first taken here → IsNew taken here → length taken < length c
+pub way_short : (c : Computation) (first : events.Place) (taken : List events.Place) (here : events.Place)
+    → IsWay c first taken here → IsNew taken here → length taken < length c
 way_short c first taken here way new = go (cases_lt (length taken) (length c))
   where
     all : All (IsFirstStuck c) (taken ++ here ∷ [])
@@ -95,7 +104,11 @@ way_short c first taken here way new = go (cases_lt (length taken) (length c))
 
     clash : length c ≤ length taken → ⊥
     clash le =
-        let w : (i : ℕ) × (j : ℕ) × (i < j) × (j ≤ length c) × ((get_or (taken ++ here ∷ []) i here).process ≡ (get_or (taken ++ here ∷ []) j here).process) = two_equal (length c) (λ i. (get_or (taken ++ here ∷ []) i here).process) (λ i few. process_in_range c (get_or (taken ++ here ∷ []) i here) (stuck_event c (get_or (taken ++ here ∷ []) i here) (all i here (omega (arith, count))).0)) in
+        let w : (i : ℕ) × (j : ℕ) × (i < j) × (j ≤ length c)
+        × ((get_or (taken ++ here ∷ []) i here).process ≡ (get_or (taken ++ here ∷ []) j here).process) =
+        two_equal (length c) (λ i. (get_or (taken ++ here ∷ []) i here).process) (λ i few.
+        process_in_range c (get_or (taken ++ here ∷ []) i here)
+        (stuck_event c (get_or (taken ++ here ∷ []) i here) (all i here (omega (arith, count))).0)) in
         let less : w.0 < w.1 = w.2 in
         let few : w.1 ≤ length c = w.3 in
         once_more taken here way.once new w.0 w.1 here less (omega (arith, count)) w.4
@@ -106,17 +119,20 @@ way_short c first taken here way new = go (cases_lt (length taken) (length c))
 
 -- ---- the cycle
 
-first_of_front : (xs : List events.Place) (x y : events.Place) → 0 < length xs → first_of (xs ++ y ∷ []) ≡ Some x → first_of xs ≡ Some x
-first_of_front [] x y some e = absurd (omega arith)
-first_of_front (z ∷ xs) x y some e = e
+first_of_prefix : (xs : List events.Place) (x y : events.Place) → 0 < length xs → first_of (xs ++ y ∷ []) ≡ Some x
+    → first_of xs ≡ Some x
+first_of_prefix [] x y some e = absurd (omega arith)
+first_of_prefix (z ∷ xs) x y some e = e
 
-pub way_back : (c : Computation) (first : events.Place) (taken : List events.Place) (here : events.Place) (k : ℕ) → IsLeastStuck c first → IsWay c first taken here → k < length taken → (get_or taken k here).process ≡ here.process → IsReportedCycle c (drop k taken)
+pub way_back : (c : Computation) (first : events.Place) (taken : List events.Place) (here : events.Place) (k : ℕ)
+    → IsLeastStuck c first → IsWay c first taken here → k < length taken → (get_or taken k here).process ≡ here.process
+    → IsReportedCycle c (drop k taken)
 way_back c first taken here k least way lt process = record {
   before = take k taken;
   start = here;
   starts = ap first_of (drop-cons taken k here lt) ∙ ap (λ (e : events.Place). Some e) same;
   first = first;
-  begins = ap first_of whole ∙ first_of_front taken first here (omega arith) way.begins;
+  begins = ap first_of whole ∙ first_of_prefix taken first here (omega arith) way.begins;
   least = least;
   steps = subst (λ (xs : List events.Place). Linked (GoesBackTo c) (xs ++ here ∷ [])) (sym whole) way.steps;
   once = subst HasEachProcessOnce (sym whole) way.once;
@@ -142,24 +158,31 @@ other m n e same = grind (arith, nat_tests)
 equal : (m n : ℕ) → eqb m n ≡ true → m ≡ n
 equal m n e = grind (arith, nat_tests)
 
-pub new_from_none : (xs : List Place) (here : Place) → position (is_of here.process) xs ≡ None → IsNew (places_seen xs) (place_seen here)
+pub new_from_none : (xs : List Place) (here : Place) → position (is_of here.process) xs ≡ None
+    → IsNew (places_view xs) (place_view here)
 new_from_none xs here e k d within = rw (seen) (other (get_or xs k here).process here.process fails)
   where
-    count : length (places_seen xs) ≡ length xs
-    count = length-map xs place_seen
+    count : length (places_view xs) ≡ length xs
+    count = length-map xs place_view
 
     past : length xs ≤ position_or_len (is_of here.process) xs
     past = past_last (position_or_len (is_of here.process) xs) (length xs) e
 
-    seen : get_or (places_seen xs) k d ≡ place_seen (get_or xs k here)
-    seen = get_or-map place_seen xs k here d (omega (arith, count))
+    seen : get_or (places_view xs) k d ≡ place_view (get_or xs k here)
+    seen = get_or-map place_view xs k here d (omega (arith, count))
 
     fails : is_of here.process (get_or xs k here) ≡ false
     fails = fails_before_first (is_of here.process) xs k here (omega (arith, count, past))
 
-pub taken_from_some : (xs : List Place) (here : Place) (k : ℕ) → position (is_of here.process) xs ≡ Some k → (k < length (places_seen xs)) × ((get_or (places_seen xs) k (place_seen here)).process ≡ here.process)
+pub taken_from_some : (xs : List Place) (here : Place) (k : ℕ) → position (is_of here.process) xs ≡ Some k
+    → (k < length (places_view xs)) × ((get_or (places_view xs) k (place_view here)).process ≡ here.process)
 taken_from_some xs here k e =
-    let found : (k < length xs) × (is_of here.process (get_or xs k here) ≡ true) × ((j : ℕ) → j < k → is_of here.process (get_or xs j here) ≡ false) = position-Some (is_of here.process) xs k here e in
-    let count : length (places_seen xs) ≡ length xs = length-map xs place_seen in
-    let lt : k < length xs = found.0 in
-    (omega arith, rw (get_or-map place_seen xs k here (place_seen here) lt) (equal (get_or xs k here).process here.process found.1))
+    let found : (k < length xs) × (is_of here.process (get_or xs k here) ≡ true)
+    × ((j : ℕ) → j < k → is_of here.process (get_or xs j here) ≡ false) =
+    position-Some (is_of here.process) xs k here e in
+    let count : length (places_view xs) ≡ length xs = length-map xs place_view in
+    let lt : k < length xs = found.0 in (
+      omega arith,
+      rw (get_or-map place_view xs k here (place_view here) lt)
+          (equal (get_or xs k here).process here.process found.1),
+    )

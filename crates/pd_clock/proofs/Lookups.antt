@@ -10,34 +10,57 @@ use Rattle.pd_model.specs.Cuts.{FitsProcesses}
 use Rattle.pd_model.specs.Predicates.{last_set_if_there, state_at}
 use Rattle.pd_clock.specs.Histories.{rows_after}
 use Rattle.pd_events.specs.declared.event.Trace.{Trace}
-use Rattle.pd_events.specs.Views.{events_seen}
-use Rattle.pd_clock.specs.Computations.{Keeps, recorded_of}
-use Rattle.pd_events.specs.Views.{computation_of}
+use Rattle.pd_events.specs.Views.{events_view}
+use Rattle.pd_clock.specs.Computations.{Keeps, recorded_view}
+use Rattle.pd_events.specs.Views.{computation_view}
 use Rattle.std.proofs.lemmas.List.{length-map}
 use Rattle.pd_clock.specs.States.{IsLookedUp, values_at, value_at}
 use Rattle.pd_clock.proofs.Rows.{history-at, length-rows_after}
 use Rattle.pd_clock.proofs.Parts.{initial_read}
 
-pub value_is_state : (initial : List (Vec ℤ Global)) (traces : List Trace) (histories : List (Vec ℤ Global)) → Keeps initial traces histories → (counts : List ℕ) (p v : ℕ) → get_or counts p 0 ≤ event_count (computation_of traces) p → value_at initial histories counts p v ≡ state_at (recorded_of initial traces).initial (computation_of traces) counts p v
-value_is_state initial traces histories keeps counts p v le = rw (initial_read initial p) (go (cases_lt v (length (values_at initial p))))
+pub value_is_state : (initial : List (Vec ℤ Global)) (traces : List Trace) (histories : List (Vec ℤ Global))
+    → Keeps initial traces histories → (counts : List ℕ) (p v : ℕ)
+    → get_or counts p 0 ≤ event_count (computation_view traces) p → value_at initial histories counts p v
+    ≡ state_at (recorded_view initial traces).initial (computation_view traces) counts p v
+value_is_state initial traces histories keeps counts p v le =
+    rw (initial_read initial p) (go (cases_lt v (length (values_at initial p))))
   where
-    go : (v < length (values_at initial p)) ⊎ (length (values_at initial p) ≤ v) → value_at initial histories counts p v ≡ last_set_if_there v (slice_get (values_at initial p) v) (take (get_or counts p 0) (events_of (computation_of traces) p))
+    go : (v < length (values_at initial p)) ⊎ (length (values_at initial p) ≤ v) → value_at initial histories counts p v
+        ≡ last_set_if_there v (slice_get (values_at initial p) v)
+        (take (get_or counts p 0) (events_of (computation_view traces) p))
     go (inl lt) =
-        rw (lt-ltb v (length (values_at initial p)) lt, slice_get-get_or (values_at initial p) v (pos 0) lt, keeps.rows p)
-        (history-at (values_at initial p) (events_of (computation_of traces) p) (get_or counts p 0) v le lt)
+        rw (
+          lt-ltb v (length (values_at initial p)) lt,
+          slice_get-get_or (values_at initial p) v (pos 0) lt,
+          keeps.rows p,
+        )
+        (history-at (values_at initial p) (events_of (computation_view traces) p) (get_or counts p 0) v le lt)
     go (inr past) = rw (le-ltb v (length (values_at initial p)) past, slice_get_past (values_at initial p) v past) refl
 
--- there is a row behind each event
-pub row_there : (initial : List (Vec ℤ Global)) (traces : List Trace) (histories : List (Vec ℤ Global)) → Keeps initial traces histories → (p count : ℕ) → count ≤ event_count (computation_of traces) p → count * length (values_at initial p) + length (values_at initial p) ≤ length (values_at histories p)
+-- there is a row after each event
+pub row_there : (initial : List (Vec ℤ Global)) (traces : List Trace) (histories : List (Vec ℤ Global))
+    → Keeps initial traces histories → (p count : ℕ) → count ≤ event_count (computation_view traces) p
+    → count * length (values_at initial p) + length (values_at initial p) ≤ length (values_at histories p)
 row_there initial traces histories keeps p count le =
-    let row : length (rows_after (values_at initial p) (events_of (computation_of traces) p)) ≡ event_count (computation_of traces) p * length (values_at initial p) = length-rows_after (values_at initial p) (events_of (computation_of traces) p) in
-    let few : count * length (values_at initial p) ≤ event_count (computation_of traces) p * length (values_at initial p) = mul-le-mul_right (length (values_at initial p)) le in
-    rw (keeps.rows p, length-append (values_at initial p) (rows_after (values_at initial p) (events_of (computation_of traces) p)), row) (omega arith)
+    let row : length (rows_after (values_at initial p) (events_of (computation_view traces) p))
+    ≡ event_count (computation_view traces) p * length (values_at initial p) =
+    length-rows_after (values_at initial p) (events_of (computation_view traces) p) in
+    let few : count * length (values_at initial p)
+    ≤ event_count (computation_view traces) p * length (values_at initial p) =
+    mul-le-mul_right (length (values_at initial p)) le in
+    rw (
+      keeps.rows p,
+      length-append (values_at initial p)
+          (rows_after (values_at initial p) (events_of (computation_view traces) p)),
+      row,
+    ) (omega arith)
 
-trace_count : (traces : List Trace) → length (computation_of traces) ≡ length traces
-trace_count traces = length-map traces (λ (process : Trace). events_seen process.events.items)
+trace_count : (traces : List Trace) → length (computation_view traces) ≡ length traces
+trace_count traces = length-map traces (λ (process : Trace). events_view process.events.items)
 
-pub is_looked_up : (initial : List (Vec ℤ Global)) (traces : List Trace) (histories : List (Vec ℤ Global)) → Keeps initial traces histories → (counts : List ℕ) → FitsProcesses (computation_of traces) counts → IsLookedUp initial histories counts
+pub is_looked_up : (initial : List (Vec ℤ Global)) (traces : List Trace) (histories : List (Vec ℤ Global))
+    → Keeps initial traces histories → (counts : List ℕ) → FitsProcesses (computation_view traces) counts
+    → IsLookedUp initial histories counts
 is_looked_up initial traces histories keeps counts fits = record {
   histories_there = keeps.one_each;
   counts_there = fits.one_each ∙ (trace_count traces ∙ sym keeps.fits.same);
@@ -45,7 +68,10 @@ is_looked_up initial traces histories keeps counts fits = record {
 }
 
 -- what is asked of one process that is there
-pub count_there : (initial : List (Vec ℤ Global)) (traces : List Trace) (histories : List (Vec ℤ Global)) → Keeps initial traces histories → (p count : ℕ) → p < length initial → (p < length (computation_of traces) → count ≤ event_count (computation_of traces) p) → count ≤ event_count (computation_of traces) p
+pub count_there : (initial : List (Vec ℤ Global)) (traces : List Trace) (histories : List (Vec ℤ Global))
+    → Keeps initial traces histories → (p count : ℕ) → p < length initial
+    → (p < length (computation_view traces) → count ≤ event_count (computation_view traces) p)
+    → count ≤ event_count (computation_view traces) p
 count_there initial traces histories keeps p count lt within =
     let same : length initial ≡ length traces = keeps.fits.same in
     within (omega (arith, trace_count traces))

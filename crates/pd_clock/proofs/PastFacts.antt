@@ -20,7 +20,8 @@ use Rattle.pd_clock.specs.Pasts.{HasPast, HasPasts, Reach}
 use Rattle.pd_clock.proofs.Parts.{got}
 
 -- an event is in its own clock, as the last of its process
-pub own_clock : (c : Computation) (e : Place) (n : ℕ) → HasNoCycle c → IsEvent c e → IsClock c e e.process n → n ≡ e.number
+pub own_clock : (c : Computation) (e : Place) (n : ℕ) → HasNoCycle c → IsEvent c e → IsClock c e e.process n
+    → n ≡ e.number
 own_clock c e n acyclic is clock = go (cases_lt e.number n)
   where
     low : e.number ≤ n
@@ -34,11 +35,14 @@ own_clock c e n acyclic is clock = go (cases_lt e.number n)
         past (inl same) = ap (λ (f : Place). f.number) same
         past (inr h) =
             let later : IsEvent c (place e.process n) = (omega arith, clock.within) in
-            absurd (acyclic e (happens_transitive c e (place e.process n) e (step_happens c e (place e.process n) (inl (is, later, refl, lt))) h))
+            absurd (acyclic e (happens_transitive c e (place e.process n) e
+            (step_happens c e (place e.process n) (inl (is, later, refl, lt))) h))
 
 -- an event is in the clock of another exactly where it happened before it
-pub in_clock : (c : Computation) (e f : Place) (n : ℕ) → IsEvent c e → IsClock c f e.process n → e ≢ f → (e.number ≤ n) ↔ HappenedBefore c e f
-in_clock c e f n is clock apart = (λ le. up_to ((clock.past e.number is.0 is.1).0 le), λ h. (clock.past e.number is.0 is.1).1 (inr h))
+pub in_clock : (c : Computation) (e f : Place) (n : ℕ) → IsEvent c e → IsClock c f e.process n → e ≢ f → (e.number ≤ n)
+    ↔ HappenedBefore c e f
+in_clock c e f n is clock apart =
+    (λ le. up_to ((clock.past e.number is.0 is.1).0 le), λ h. (clock.past e.number is.0 is.1).1 (inr h))
   where
     up_to : IsUpTo c e f → HappenedBefore c e f
     up_to (inl same) = absurd (apart same)
@@ -48,7 +52,10 @@ in_clock c e f n is clock apart = (λ le. up_to ((clock.past e.number is.0 is.1)
 pub apart_from_test : (e f : Place) → not (nat_eq e.process f.process && nat_eq e.number f.number) ≡ true → e ≢ f
 apart_from_test e f test same = go (eqb_tells e.process f.process) (eqb_tells e.number f.number)
   where
-    go : ((nat_eq e.process f.process ≡ true) × (e.process ≡ f.process)) ⊎ ((nat_eq e.process f.process ≡ false) × (e.process ≢ f.process)) → ((nat_eq e.number f.number ≡ true) × (e.number ≡ f.number)) ⊎ ((nat_eq e.number f.number ≡ false) × (e.number ≢ f.number)) → ⊥
+    go : ((nat_eq e.process f.process ≡ true) × (e.process ≡ f.process))
+        ⊎ ((nat_eq e.process f.process ≡ false) × (e.process ≢ f.process))
+        → ((nat_eq e.number f.number ≡ true) × (e.number ≡ f.number))
+        ⊎ ((nat_eq e.number f.number ≡ false) × (e.number ≢ f.number)) → ⊥
     go (inr (fails, apart)) b = apart (ap (λ (x : Place). x.process) same)
     go (inl a) (inr (fails, apart)) = apart (ap (λ (x : Place). x.number) same)
     go (inl (passes, is)) (inl (too, also)) = false≢true (rw (passes, too) at test)
@@ -56,23 +63,29 @@ apart_from_test e f test same = go (eqb_tells e.process f.process) (eqb_tells e.
 pub same_from_test : (e f : Place) → not (nat_eq e.process f.process && nat_eq e.number f.number) ≡ false → e ≡ f
 same_from_test e f test = go (eqb_tells e.process f.process) (eqb_tells e.number f.number)
   where
-    go : ((nat_eq e.process f.process ≡ true) × (e.process ≡ f.process)) ⊎ ((nat_eq e.process f.process ≡ false) × (e.process ≢ f.process)) → ((nat_eq e.number f.number ≡ true) × (e.number ≡ f.number)) ⊎ ((nat_eq e.number f.number ≡ false) × (e.number ≢ f.number)) → e ≡ f
+    go : ((nat_eq e.process f.process ≡ true) × (e.process ≡ f.process))
+        ⊎ ((nat_eq e.process f.process ≡ false) × (e.process ≢ f.process))
+        → ((nat_eq e.number f.number ≡ true) × (e.number ≡ f.number))
+        ⊎ ((nat_eq e.number f.number ≡ false) × (e.number ≢ f.number)) → e ≡ f
     go (inr (fails, apart)) b = absurd (false≢true (sym (rw fails at test)))
     go (inl (passes, is)) (inr (fails, apart)) = absurd (false≢true (sym (rw (passes, fails) at test)))
     go (inl (passes, is)) (inl (too, also)) = same_place e f is also
 
 -- where no event is stuck all are in the order
-pub all_done : (c : Computation) (done : List ℕ) → HasNoCycle c → LeavesStuck c done → (p : ℕ) → get_or done p 0 ≡ event_count c p
+pub all_done : (c : Computation) (done : List ℕ) → HasNoCycle c → LeavesStuck c done → (p : ℕ)
+    → get_or done p 0 ≡ event_count c p
 all_done c done acyclic leaves p = go (cases_lt (get_or done p 0) (event_count c p))
   where
     go : (get_or done p 0 < event_count c p) ⊎ (event_count c p ≤ get_or done p 0) → get_or done p 0 ≡ event_count c p
     go (inr le) = let within : get_or done p 0 ≤ event_count c p = leaves.within p in omega arith
     go (inl lt) =
         let last : IsEvent c (place p (event_count c p)) = (omega arith, omega arith) in
-        absurd ((none_stuck c).0 acyclic (place p (event_count c p)) ((leaves.left (place p (event_count c p)) last).0 lt))
+        absurd ((none_stuck c).0 acyclic (place p (event_count c p))
+        ((leaves.left (place p (event_count c p)) last).0 lt))
 
 -- so the clocks are those of all events
-pub all_clocks : (c : Computation) (done : List ℕ) (clocks : List (Vec ℕ Global)) → HasNoCycle c → LeavesStuck c done → HasClocks c done clocks → HasClocks c (full_cut c) clocks
+pub all_clocks : (c : Computation) (done : List ℕ) (clocks : List (Vec ℕ Global)) → HasNoCycle c → LeavesStuck c done
+    → HasClocks c done clocks → HasClocks c (full_cut c) clocks
 all_clocks c done clocks acyclic leaves has =
     record {
       one_each = has.one_each;
@@ -80,7 +93,8 @@ all_clocks c done clocks acyclic leaves has =
       right = λ e q is le lt. has.right e q is (rw (all_done c done acyclic leaves e.process) is.1) lt;
     }
 
-module _ (c : Computation) (clocks : List (Vec ℕ Global)) (acyclic : HasNoCycle c) (has : HasClocks c (full_cut c) clocks) where
+module _ (c : Computation) (clocks : List (Vec ℕ Global)) (acyclic : HasNoCycle c)
+    (has : HasClocks c (full_cut c) clocks) where
   -- how long a row is
   pub row_length : (p : ℕ) → p < length c → length (clocks_of clocks p) ≡ event_count c p * length c
   row_length p lt = has.rows p lt ∙ ap (λ (n : ℕ). n * length c) (full_at c p)
@@ -89,22 +103,29 @@ module _ (c : Computation) (clocks : List (Vec ℕ Global)) (acyclic : HasNoCycl
   is_clock e q is lt = has.right e q is (rw (full_at c e.process) is.1) lt
 
   -- the row of a process, and the number that is read there
-  pub row_read : (p : ℕ) (row : Vec ℕ Global) → p < length c → row ≡ get_or clocks p row → clocks_of clocks p ≡ row.items
+  pub row_read : (p : ℕ) (row : Vec ℕ Global) → p < length c → row ≡ get_or clocks p row
+      → clocks_of clocks p ≡ row.items
   row_read p row lt is = ap clocks_in (got clocks p row (omega (arith, has.one_each)) is)
 
-  pub place_in_row : (e : Place) (q : ℕ) (row : Vec ℕ Global) → IsEvent c e → q < length c → row ≡ get_or clocks e.process row → (e.number - 1) * length c + q < length row.items
+  pub place_in_row : (e : Place) (q : ℕ) (row : Vec ℕ Global) → IsEvent c e → q < length c
+      → row ≡ get_or clocks e.process row → (e.number - 1) * length c + q < length row.items
   place_in_row e q row is lt read =
       let p : e.process < length c = process_in_range c e is in
-      let l : length row.items ≡ event_count c e.process * length c = ap length (sym (row_read e.process row p read)) ∙ row_length e.process p in
+      let l : length row.items ≡ event_count c e.process * length c = ap length (sym (row_read e.process row p read))
+      ∙ row_length e.process p in
       rw l (let k : (e.number - 1) < event_count c e.process = omega (arith, is.0, is.1) in
-      let m : (e.number - 1) * length c + q < length c * event_count c e.process = mul-add-lt (e.number - 1) (length c) q (event_count c e.process) k lt in
+      let m : (e.number - 1) * length c + q < length c * event_count c e.process =
+      mul-add-lt (e.number - 1) (length c) q (event_count c e.process) k lt in
       omega arith)
 
-  pub clock_read : (e : Place) (q : ℕ) (row : Vec ℕ Global) (n : ℕ) → IsEvent c e → q < length c → row ≡ get_or clocks e.process row → n ≡ get_or row.items ((e.number - 1) * length c + q) n → IsClock c e q n
+  pub clock_read : (e : Place) (q : ℕ) (row : Vec ℕ Global) (n : ℕ) → IsEvent c e → q < length c
+      → row ≡ get_or clocks e.process row → n ≡ get_or row.items ((e.number - 1) * length c + q) n → IsClock c e q n
   clock_read e q row n is lt read at =
       let p : e.process < length c = process_in_range c e is in
       let there : (e.number - 1) * length c + q < length row.items = place_in_row e q row is lt read in
-      let known : n ≡ clock_at (length c) clocks e q = get_or_read row.items ((e.number - 1) * length c + q) n there at 0 ∙ ap (λ (all : List ℕ). get_or all ((e.number - 1) * length c + q) 0) (sym (row_read e.process row p read)) in
+      let known : n ≡ clock_at (length c) clocks e q =
+      get_or_read row.items ((e.number - 1) * length c + q) n there at 0
+      ∙ ap (λ (all : List ℕ). get_or all ((e.number - 1) * length c + q) 0) (sym (row_read e.process row p read)) in
       rw known (is_clock e q is lt)
 
   -- the clock that is looked up, and 0 where there is no such process
@@ -132,11 +153,13 @@ module _ (c : Computation) (clocks : List (Vec ℕ Global)) (acyclic : HasNoCycl
   own : (p n : ℕ) → IsEvent c (place p n) → known (place p n) p ≡ n
   own p n is = own_clock c (place p n) (known (place p n) p) acyclic is (known_right (place p n) p is)
 
-  last_is : (counts : List ℕ) (p : ℕ) → FitsProcesses c counts → 0 < get_or counts p 0 → IsEvent c (place p (get_or counts p 0))
+  last_is : (counts : List ℕ) (p : ℕ) → FitsProcesses c counts → 0 < get_or counts p 0
+      → IsEvent c (place p (get_or counts p 0))
   last_is counts p fits some = let w : get_or counts p 0 ≤ event_count c p = fits.within p in (omega arith, w)
 
   -- what the test on a row says in the words of the law
-  below_from_past : (counts : List ℕ) (p n : ℕ) → FitsProcesses c counts → HasPast (clocks_of clocks p) n counts p → (q : ℕ) → q ≢ p → known (place p n) q ≤ get_or counts q 0
+  below_from_past : (counts : List ℕ) (p n : ℕ) → FitsProcesses c counts → HasPast (clocks_of clocks p) n counts p
+      → (q : ℕ) → q ≢ p → known (place p n) q ≤ get_or counts q 0
   below_from_past counts p n fits past q apart = go (cases_lt q (length c))
     where
       go : (q < length c) ⊎ (length c ≤ q) → known (place p n) q ≤ get_or counts q 0
@@ -145,7 +168,8 @@ module _ (c : Computation) (clocks : List (Vec ℕ Global)) (acyclic : HasNoCycl
           let at : known (place p n) q ≡ clock_at (length c) clocks (place p n) q = known_within (place p n) q lt in
           rw at (rw fits.one_each at (past q (omega (arith, fits.one_each)) apart))
 
-  past_from_below : (counts : List ℕ) (p n : ℕ) → FitsProcesses c counts → ((q : ℕ) → q ≢ p → known (place p n) q ≤ get_or counts q 0) → HasPast (clocks_of clocks p) n counts p
+  past_from_below : (counts : List ℕ) (p n : ℕ) → FitsProcesses c counts
+      → ((q : ℕ) → q ≢ p → known (place p n) q ≤ get_or counts q 0) → HasPast (clocks_of clocks p) n counts p
   past_from_below counts p n fits below q lt apart =
       let within : q < length c = omega (arith, fits.one_each) in
       rw fits.one_each (rw (known_within (place p n) q within) at (below q apart))
@@ -153,7 +177,8 @@ module _ (c : Computation) (clocks : List (Vec ℕ Global)) (acyclic : HasNoCycl
   pub consistent_exactly : (counts : List ℕ) → FitsProcesses c counts → HasPasts clocks counts ↔ IsConsistent c counts
   consistent_exactly counts fits = (to, from)
     where
-      law : IsConsistent c counts ↔ ((p q : ℕ) → 0 < get_or counts p 0 → known (place p (get_or counts p 0)) q ≤ get_or counts q 0)
+      law : IsConsistent c counts ↔ ((p q : ℕ) → 0 < get_or counts p 0
+          → known (place p (get_or counts p 0)) q ≤ get_or counts q 0)
       law = clocks_decide c known known_right counts fits
 
       to : HasPasts clocks counts → IsConsistent c counts
@@ -164,7 +189,8 @@ module _ (c : Computation) (clocks : List (Vec ℕ Global)) (acyclic : HasNoCycl
             where
               go : (q ≡ p) ⊎ (q ≡ p → ⊥) → known (place p (get_or counts p 0)) q ≤ get_or counts q 0
               go (inr apart) = below_from_past counts p (get_or counts p 0) fits (pasts p some) q apart
-              go (inl same) = rw same (let k : known (place p (get_or counts p 0)) p ≡ get_or counts p 0 = own p (get_or counts p 0) (last_is counts p fits some) in omega arith)
+              go (inl same) = rw same (let k : known (place p (get_or counts p 0)) p ≡ get_or counts p 0 =
+                  own p (get_or counts p 0) (last_is counts p fits some) in omega arith)
 
       from : IsConsistent c counts → HasPasts clocks counts
       from ok p some = past_from_below counts p (get_or counts p 0) fits (λ q apart. law.0 ok p q some)
@@ -175,4 +201,5 @@ module _ (c : Computation) (clocks : List (Vec ℕ Global)) (acyclic : HasNoCycl
     where
       go : (p : ℕ) → (p < length c) ⊎ (length c ≤ p) → get_or counts p 0 * length counts ≤ length (clocks_of clocks p)
       go p (inl lt) = rw (row_length p lt, fits.one_each) (mul-le-mul_right (length c) (fits.within p))
-      go p (inr le) = let z : get_or counts p 0 ≡ 0 = get_or_past counts p 0 (omega (arith, fits.one_each)) in rw z (omega arith)
+      go p (inr le) = let z : get_or counts p 0 ≡ 0 = get_or_past counts p 0 (omega (arith, fits.one_each)) in
+          rw z (omega arith)

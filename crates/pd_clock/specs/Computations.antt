@@ -5,14 +5,14 @@ use Rattle.pd_model.specs.Events.{events_of, event_count}
 use Rattle.pd_model.specs.Predicates.{Recorded}
 use Rattle.pd_clock.specs.States.{values_at}
 use Rattle.pd_clock.specs.Histories.{AreVars, rows_after}
-use Rattle.pd_events.specs.Views.{computation_of}
+use Rattle.pd_events.specs.Views.{computation_view}
 use Rattle.pd_events.specs.declared.event.Trace.{Trace}
 use Rattle.pd_events.specs.declared.event.Event.{Event as Happened}
 
-abbrev pub recorded_of : List (Vec ℤ Global) → List Trace → Recorded
-recorded_of initial traces = record {
+abbrev pub recorded_view : List (Vec ℤ Global) → List Trace → Recorded
+recorded_view initial traces = record {
   initial = map (λ (row : Vec ℤ Global). row.items) initial;
-  events = computation_of traces;
+  events = computation_view traces;
 }
 
 -- one to eight processes, each with its variables and at most 10,000 events, which set variables that are there
@@ -20,11 +20,13 @@ pub record FitsInitial (initial : List (Vec ℤ Global)) (traces : List Trace) :
   pub same : length initial ≡ length traces
   pub some : 1 ≤ length traces
   pub few : length traces ≤ 8
-  pub short : (p : ℕ) → event_count (computation_of traces) p ≤ 10000
-  pub vars : (p : ℕ) (process : Trace) → slice_get traces p ≡ Some process → All (λ (event : Happened). AreVars (length (values_at initial p)) event.sets.items) process.events.items
+  pub short : (p : ℕ) → event_count (computation_view traces) p ≤ 10000
+  pub vars : (p : ℕ) (process : Trace) → slice_get traces p ≡ Some process
+      → All (λ (event : Happened). AreVars (length (values_at initial p)) event.sets.items) process.events.items
 
--- the history of each process: its initial values and the row behind each event
+-- the history of each process: its initial values and the row after each event
 pub record Keeps (initial : List (Vec ℤ Global)) (traces : List Trace) (histories : List (Vec ℤ Global)) : Type 0 where
   pub fits : FitsInitial initial traces
   pub one_each : length histories ≡ length initial
-  pub rows : (p : ℕ) → values_at histories p ≡ values_at initial p ++ rows_after (values_at initial p) (events_of (computation_of traces) p)
+  pub rows : (p : ℕ) → values_at histories p ≡ values_at initial p
+      ++ rows_after (values_at initial p) (events_of (computation_view traces) p)

@@ -1,4 +1,4 @@
--- The values of a process's variables behind each of its events.
+-- The values of a process's variables after each of its events.
 use Rattle.std.specs.Prelude.{ℕ, ◌<◌, List, [], ◌∷◌, ◌++◌, slice_set, All, ℤ}
 use Rattle.pd_model.specs.Events.{Event}
 
@@ -7,7 +7,7 @@ abbrev pub row_after : List ℤ → List (ℕ × ℤ) → List ℤ
 row_after row [] = row
 row_after row ((v, value) ∷ rest) = row_after (slice_set row v value) rest
 
--- the rows of values behind each event, one after another
+-- the rows of values after each event, one after another
 abbrev pub rows_after : List ℤ → List Event → List ℤ
 rows_after row [] = []
 rows_after row (event ∷ later) = row_after row event.sets ++ rows_after (row_after row event.sets) later

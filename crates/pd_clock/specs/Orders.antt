@@ -1,4 +1,5 @@
--- How far the events stand in an order in which each comes after those that happened before it, and what is told of the others.
+-- How far the events stand in an order in which each comes after those that happened before it, and what is reported of
+-- the others.
 use Rattle.std.specs.Prelude.{◌≡◌, ◌↔◌, ◌⊎◌, ℕ, ◌+◌, ◌-◌, ◌*◌, ◌<◌, ◌≤◌, List, length, map, Option, Some, None, Vec, [], replicate, slice_get, slice_index}
 use Rattle.std.specs.Global.{Global}
 use Rattle.pd_model.specs.Events as events
@@ -7,7 +8,7 @@ use Rattle.pd_model.specs.Messages.{IsMessage}
 use Rattle.pd_model.specs.Order.{IsClock, IsStuck, LeadsTo}
 use Rattle.pd_clock.specs.declared.fault.BuildFault.{BuildFault}
 use Rattle.pd_clock.specs.declared.fault.BuildFault.TheVariants.{Cycle, Memory}
-use Rattle.pd_match.specs.Views.{place_seen}
+use Rattle.pd_match.specs.Views.{place_view}
 use Rattle.pd_match.specs.declared.place.Place.{Place}
 
 -- The order has so many of the first events of each process, and those that it leaves out are the stuck ones.
@@ -16,7 +17,7 @@ pub record LeavesStuck (c : Computation) (done : List ℕ) : Type 0 where
   pub within : (p : ℕ) → slice_index done p ≤ event_count c p
   pub left : (e : events.Place) → IsEvent c e → (slice_index done e.process < e.number) ↔ IsStuck c e
 
--- the clocks of a process's events, one behind another
+-- the clocks of a process's events, one after another
 abbrev pub clocks_in : Option (Vec ℕ Global) → List ℕ
 clocks_in None = []
 clocks_in (Some row) = row.items
@@ -32,15 +33,16 @@ clock_at processes clocks e q = slice_index (clocks_of clocks e.process) ((e.num
 pub record HasClocks (c : Computation) (done : List ℕ) (clocks : List (Vec ℕ Global)) : Type 0 where
   pub one_each : length clocks ≡ length c
   pub rows : (p : ℕ) → p < length c → length (clocks_of clocks p) ≡ slice_index done p * length c
-  pub right : (e : events.Place) (q : ℕ) → IsEvent c e → e.number ≤ slice_index done e.process → q < length c → IsClock c e q (clock_at (length c) clocks e q)
+  pub right : (e : events.Place) (q : ℕ) → IsEvent c e → e.number ≤ slice_index done e.process → q < length c
+      → IsClock c e q (clock_at (length c) clocks e q)
 
-abbrev pub places_seen : List Place → List events.Place
-places_seen places = map place_seen places
+abbrev pub places_view : List Place → List events.Place
+places_view places = map place_view places
 
--- the cycle that is told, if it isn't want of memory
-abbrev pub cycle_seen : BuildFault → Option (List events.Place)
-cycle_seen (Cycle places) = Some (places_seen places.items)
-cycle_seen Memory = None
+-- the cycle that is reported, if it isn't out of memory
+abbrev pub cycle_view : BuildFault → Option (List events.Place)
+cycle_view (Cycle places) = Some (places_view places.items)
+cycle_view Memory = None
 
 -- the event is among the first so many of its process, which stand in the order
 abbrev pub IsDone : List ℕ → events.Place → Type 0
@@ -67,7 +69,8 @@ pub record CanGo (c : Computation) (done : List ℕ) (p : ℕ) : Type 0 where
 -- process p has no next event, or it is a receipt whose send isn't in the order
 abbrev pub Waits : Computation → List ℕ → ℕ → Type 0
 Waits c done p =
-    (event_count c p ≤ slice_index done p) ⊎ ((send : events.Place) × IsMessage c send (next_of done p) × (slice_index done send.process < send.number))
+    (event_count c p ≤ slice_index done p)
+    ⊎ ((send : events.Place) × IsMessage c send (next_of done p) × (slice_index done send.process < send.number))
 
 -- the order of no event
 pub record IsEmptyOrder (processes : ℕ) (done : List ℕ) (clocks : List (Vec ℕ Global)) : Type 0 where

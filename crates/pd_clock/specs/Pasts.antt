@@ -3,8 +3,8 @@ use Rattle.std.specs.Prelude.{◌≢◌, ℕ, ◌+◌, ◌-◌, ◌*◌, ◌<◌
 use Rattle.std.specs.Global.{Global}
 use Rattle.pd_clock.specs.Orders.{clocks_of}
 
--- Of each process but p the counts have the events that are in the clock of event `number` of p. The clocks of p's events stand
--- one behind another, each with a number for each count.
+-- Of each process but p the counts have the events that are in the clock of event `number` of p. The clocks of p's
+-- events stand one after another, each with a number for each count.
 abbrev pub HasPast : List ℕ → ℕ → List ℕ → ℕ → Type 0
 HasPast clocks number counts p =
     (q : ℕ) → q < length counts → q ≢ p → slice_index clocks ((number - 1) * length counts + q) ≤ slice_index counts q

@@ -4,5 +4,5 @@ use Rattle.pd_clock.specs.States.{value_at}
 use Rattle.pd_clock.specs.declared.state.State.{State}
 
 -- the value by the numbers of process and variable
-abbrev pub state_of : State → ℕ → ℕ → ℤ
-state_of s = value_at s.initial.now s.histories.now s.counts.now
+abbrev pub state_view : State → ℕ → ℕ → ℤ
+state_view s = value_at s.initial.now s.histories.now s.counts.now

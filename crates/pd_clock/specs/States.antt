@@ -10,12 +10,13 @@ values_in (Some row) = row.items
 abbrev pub values_at : List (Vec ℤ Global) → ℕ → List ℤ
 values_at rows p = values_in (slice_get rows p)
 
--- the value of variable v behind so many events of a process, in the history that begins with these values; 0 for what isn't there
+-- the value of variable v after so many events of a process, in the history that begins with these values; 0 for what
+-- isn't there
 abbrev pub value_in : List ℤ → List ℤ → ℕ → ℕ → ℤ
 value_in start history count v =
     cond (nat_lt v (length start)) (slice_index_or history (count * length start + v) (pos 0)) (pos 0)
 
--- the value of variable v of process p behind the events that are counted; 0 for what isn't there
+-- the value of variable v of process p after the events that are counted; 0 for what isn't there
 abbrev pub value_at : List (Vec ℤ Global) → List (Vec ℤ Global) → List ℕ → ℕ → ℕ → ℤ
 value_at initial histories counts p v = value_in (values_at initial p) (values_at histories p) (slice_index counts p) v
 
@@ -23,4 +24,5 @@ value_at initial histories counts p v = value_in (values_at initial p) (values_a
 pub record IsLookedUp (initial histories : List (Vec ℤ Global)) (counts : List ℕ) : Type 0 where
   pub histories_there : length histories ≡ length initial
   pub counts_there : length counts ≡ length initial
-  pub rows_there : (p : ℕ) → slice_index counts p * length (values_at initial p) + length (values_at initial p) ≤ length (values_at histories p)
+  pub rows_there : (p : ℕ) → slice_index counts p * length (values_at initial p) + length (values_at initial p)
+      ≤ length (values_at histories p)

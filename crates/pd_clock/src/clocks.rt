@@ -2,8 +2,8 @@
 ghost use Rattle.pd_clock.specs.Pasts.{HasPast, HasPasts, Reach};
 ghost use Rattle.std.specs.Prelude.{◌*◌, ◌≤◌, ◌↔◌, IsTrue, length};
 
-/// Whether the counts have each event of another process that happened before event `number` of process `p`. The clocks are
-/// those of `p`, one behind another, each with a number for each count.
+/// Whether the counts have each event of another process that happened before event `number` of process `p`. The clocks
+/// are those of `p`, one after another, each with a number for each count.
 pub(crate) fn has_past(clocks: &[u64], number: u64, counts: &[u64], p: usize) -> bool
     requires some { 1 ≤ number }
     requires there { number * length counts.now ≤ length clocks.now }

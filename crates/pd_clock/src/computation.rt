@@ -1,11 +1,11 @@
 //! A finished computation.
-ghost use Rattle.pd_clock.specs.Computations.{FitsInitial, Keeps, recorded_of};
-ghost use Rattle.pd_events.specs.Views.{computation_of};
-ghost use Rattle.pd_clock.specs.Orders.{cycle_seen};
+ghost use Rattle.pd_clock.specs.Computations.{FitsInitial, Keeps, recorded_view};
+ghost use Rattle.pd_events.specs.Views.{computation_view};
+ghost use Rattle.pd_clock.specs.Orders.{cycle_view};
 ghost use Rattle.pd_clock.specs.Senders.{IsSender};
-ghost use Rattle.pd_clock.specs.StateViews.{state_of};
+ghost use Rattle.pd_clock.specs.StateViews.{state_view};
 ghost use Rattle.pd_model.specs.Cuts.{FitsProcesses, IsConsistent, total};
-ghost use Rattle.pd_match.specs.Views.{place_seen};
+ghost use Rattle.pd_match.specs.Views.{place_view};
 ghost use Rattle.pd_model.specs.Events.{IsEvent, event_count};
 ghost use Rattle.pd_model.specs.Messages.{IsMessageList};
 ghost use Rattle.pd_model.specs.Order.{HappenedBefore, HasNoCycle, IsClock, IsReportedCycle};
@@ -24,7 +24,8 @@ use pd_match::{Matched, Place};
 use std::alloc::{AllocError, Global};
 use std::marker::Model;
 
-/// The events of each process, with the values of its variables behind each event, its clock, and its send if it is a receipt.
+/// The events of each process, with the values of its variables after each event, its clock, and its send if it is a
+/// receipt.
 #[derive(Drop)]
 pub struct Computation<'a> {
     initial: &'a [Vec<i64>],
@@ -36,8 +37,8 @@ pub struct Computation<'a> {
 
 impl<'a> Model for Computation<'a> {
     ghost use Rattle.pd_model.specs.Predicates.{Recorded};
-    ghost use Rattle.pd_clock.specs.Computations.{recorded_of, Keeps};
-    ghost use Rattle.pd_events.specs.Views.{computation_of};
+    ghost use Rattle.pd_clock.specs.Computations.{recorded_view, Keeps};
+    ghost use Rattle.pd_events.specs.Views.{computation_view};
     ghost use Rattle.pd_clock.specs.Orders.{HasClocks};
     ghost use Rattle.pd_clock.specs.Senders.{KeepsSenders};
     ghost use Rattle.pd_model.specs.Cuts.{full_cut};
@@ -46,9 +47,12 @@ impl<'a> Model for Computation<'a> {
 
     ghost Value = { Recorded };
 
-    ghost view = { λ c. recorded_of c.initial.now c.traces.now };
+    ghost view = { λ c. recorded_view c.initial.now c.traces.now };
 
-    ghost invariant = { λ c. Keeps c.initial.now c.traces.now c.histories.items × HasClocks (computation_of c.traces.now) (full_cut (computation_of c.traces.now)) c.clocks.items × HasNoCycle (computation_of c.traces.now) × KeepsSenders (computation_of c.traces.now) (length c.traces.now) c.senders.items };
+    ghost invariant = { λ c. Keeps c.initial.now c.traces.now c.histories.items
+        × HasClocks (computation_view c.traces.now) (full_cut (computation_view c.traces.now)) c.clocks.items
+        × HasNoCycle (computation_view c.traces.now)
+        × KeepsSenders (computation_view c.traces.now) (length c.traces.now) c.senders.items };
 }
 
 /// The history of each process.
@@ -70,8 +74,8 @@ fn histories(
 /// How many events there are.
 fn total_of(traces: &[Trace]) -> u64
     requires few { length traces.now ≤ 8 }
-    requires short { (p : ℕ) → event_count (computation_of traces.now) p ≤ 10000 }
-    ensures sum { result ≡ total (computation_of traces.now) }
+    requires short { (p : ℕ) → event_count (computation_view traces.now) p ≤ 10000 }
+    ensures sum { result ≡ total (computation_view traces.now) }
     ensures small { result ≤ 80000 }
 {
     let mut total = 0;
@@ -84,7 +88,7 @@ fn total_of(traces: &[Trace]) -> u64
 /// Whether no count is above the number of its process's events.
 fn none_above(counts: &[u64], traces: &[Trace]) -> bool
     requires { length counts.now ≡ length traces.now }
-    ensures { IsTrue result ↔ ((p : ℕ) → slice_index counts.now p ≤ event_count (computation_of traces.now) p) }
+    ensures { IsTrue result ↔ ((p : ℕ) → slice_index counts.now p ≤ event_count (computation_view traces.now) p) }
 {
     for i in 0..counts.len() {
         if counts[i] > traces[i].events.len() as u64 {
@@ -95,8 +99,8 @@ fn none_above(counts: &[u64], traces: &[Trace]) -> bool
 }
 
 impl<'a> Computation<'a> {
-    /// The computation of these traces, which stand in the order of the processes: for each process the initial values of its
-    /// variables, and its trace. The messages are those of the traces.
+    /// The computation of these traces, which stand in the order of the processes: for each process the initial values
+    /// of its variables, and its trace. The messages are those of the traces.
     ///
     /// # Errors
     /// `Cycle` exactly where some event happened before itself, or `Memory`.
@@ -107,10 +111,11 @@ impl<'a> Computation<'a> {
         matched: &Matched,
     ) -> Result<Computation<'a>, BuildFault>
         requires fits { FitsInitial initial.now traces.now }
-        requires messages { IsMessageList (computation_of traces.now) matched.now }
-        ensures recorded { IfOk result (λ computation. computation ≡ recorded_of initial.now traces.now) }
-        ensures acyclic { IfOk result (λ computation. HasNoCycle (computation_of traces.now)) }
-        ensures cycle { IfErr result (λ fault. IfSome (cycle_seen fault) (IsReportedCycle (computation_of traces.now))) }
+        requires messages { IsMessageList (computation_view traces.now) matched.now }
+        ensures recorded { IfOk result (λ computation. computation ≡ recorded_view initial.now traces.now) }
+        ensures acyclic { IfOk result (λ computation. HasNoCycle (computation_view traces.now)) }
+        ensures cycle { IfErr result (λ fault.
+            IfSome (cycle_view fault) (IsReportedCycle (computation_view traces.now))) }
     {
         let Order { done, clocks } = put_in_order(alloc, traces, matched)?;
         if let Some(places) = reported_cycle(alloc, traces, matched, &done)? {
@@ -132,8 +137,8 @@ impl<'a> Computation<'a> {
         self.traces.len()
     }
 
-    /// What holds of every computation: it has 1 to 8 processes, each with at most 10,000 events, and no event happened before
-    /// itself. It has no code: a caller's proof has these facts by calling it.
+    /// What holds of every computation: it has 1 to 8 processes, each with at most 10,000 events, and no event happened
+    /// before itself. It has no code: a caller's proof has these facts by calling it.
     pub fn limits(&self)
         ensures some { 1 ≤ length self.now.events }
         ensures few { length self.now.events ≤ 8 }
@@ -177,45 +182,47 @@ impl<'a> Computation<'a> {
 
     /// Whether the place is that of an event.
     pub fn has(&self, place: Place) -> bool
-        ensures { IsTrue result ↔ IsEvent self.now.events (place_seen place) }
+        ensures { IsTrue result ↔ IsEvent self.now.events (place_view place) }
     {
         place.process < self.processes()
             && 1 <= place.number
             && place.number <= self.events(place.process)
     }
 
-    /// How many events of process `q`, counted from 0, are this event or happened before it. They are the first so many.
+    /// How many events of process `q`, counted from 0, are this event or happened before it. They are the first so
+    /// many.
     pub fn clock(&self, place: Place, q: usize) -> u64
-        requires event { IsEvent self.now.events (place_seen place) }
+        requires event { IsEvent self.now.events (place_view place) }
         requires within { q < length self.now.events }
-        ensures { IsClock self.now.events (place_seen place) q result }
+        ensures { IsClock self.now.events (place_view place) q result }
     {
         self.clocks[place.process][(place.number as usize - 1) * self.processes() + q]
     }
 
     /// The send of this event, if it is a receipt.
     pub fn sender(&self, receipt: Place) -> Option<Place>
-        requires { IsEvent self.now.events (place_seen receipt) }
-        ensures { IsSender self.now.events (place_seen receipt) result }
+        requires { IsEvent self.now.events (place_view receipt) }
+        ensures { IsSender self.now.events (place_view receipt) result }
     {
         self.senders[receipt.process][receipt.number as usize - 1]
     }
 
     /// Whether event `e` happened before event `f`.
     pub fn before(&self, e: Place, f: Place) -> bool
-        requires first { IsEvent self.now.events (place_seen e) }
-        requires second { IsEvent self.now.events (place_seen f) }
-        ensures { IsTrue result ↔ HappenedBefore self.now.events (place_seen e) (place_seen f) }
+        requires first { IsEvent self.now.events (place_view e) }
+        requires second { IsEvent self.now.events (place_view f) }
+        ensures { IsTrue result ↔ HappenedBefore self.now.events (place_view e) (place_view f) }
     {
         self.limits();
         e != f && e.number <= self.clock(f, e.process)
     }
 
-    /// The value of variable `var` of process `process`, both counted from 0, behind the first `count` events of the process. It
-    /// is 0 where there is no such process or variable.
+    /// The value of variable `var` of process `process`, both counted from 0, after the first `count` events of the
+    /// process. It is 0 where there is no such process or variable.
     pub fn value(&self, process: usize, count: u64, var: usize) -> i64
         requires { process < length self.now.events → count ≤ event_count self.now.events process }
-        ensures { (counts : List ℕ) → slice_index counts process ≡ count → result ≡ state_at self.now.initial self.now.events counts process var }
+        ensures { (counts : List ℕ) → slice_index counts process ≡ count
+            → result ≡ state_at self.now.initial self.now.events counts process var }
     {
         if process >= self.initial.len() {
             return 0;
@@ -226,7 +233,7 @@ impl<'a> Computation<'a> {
     /// The state at a cut that fits.
     pub fn at<'b>(&'b self, cut: &'b Cut) -> State<'b>
         requires { FitsProcesses self.now.events cut.now }
-        ensures { state_of result ≡ state_at self.now.initial self.now.events cut.now }
+        ensures { state_view result ≡ state_at self.now.initial self.now.events cut.now }
     {
         State::new(self.initial, &self.histories, cut.counts())
     }

@@ -1,7 +1,7 @@
 //! The causal cycle that is reported.
-ghost use Rattle.pd_clock.specs.Orders.{LeavesStuck, places_seen};
-ghost use Rattle.pd_events.specs.Views.{computation_of};
-ghost use Rattle.pd_match.specs.Views.{place_seen};
+ghost use Rattle.pd_clock.specs.Orders.{LeavesStuck, places_view};
+ghost use Rattle.pd_events.specs.Views.{computation_view};
+ghost use Rattle.pd_match.specs.Views.{place_view};
 ghost use Rattle.pd_model.specs.Events as events;
 ghost use Rattle.pd_model.specs.Events.{place};
 ghost use Rattle.pd_model.specs.Messages.{IsMessageList};
@@ -12,18 +12,19 @@ use pd_events::Trace;
 use pd_match::{Matched, Place};
 use std::alloc::{AllocError, Global};
 
-/// The cycle that is reported, if there is one: `done` tells how many of the first events of each process are not stuck on a
-/// causal cycle or behind one.
+/// The cycle that is reported, if there is one: `done` tells how many of the first events of each process are not stuck
+/// on a causal cycle or after one.
 pub(crate) fn reported_cycle(
     alloc: Global,
     traces: &[Trace],
     matched: &Matched,
     done: &[u64],
 ) -> Result<Option<Vec<Place>>, AllocError>
-    requires messages { IsMessageList (computation_of traces.now) matched.now }
-    requires stuck { LeavesStuck (computation_of traces.now) done.now }
-    ensures none { IfOk result (λ cycle. IfNone cycle (HasNoCycle (computation_of traces.now))) }
-    ensures some { IfOk result (λ cycle. IfSome cycle (λ places. IsReportedCycle (computation_of traces.now) (places_seen places.items))) }
+    requires messages { IsMessageList (computation_view traces.now) matched.now }
+    requires stuck { LeavesStuck (computation_view traces.now) done.now }
+    ensures none { IfOk result (λ cycle. IfNone cycle (HasNoCycle (computation_view traces.now))) }
+    ensures some { IfOk result (λ cycle.
+        IfSome cycle (λ places. IsReportedCycle (computation_view traces.now) (places_view places.items))) }
 {
     match least_stuck(traces, done) {
         Some(first) => Ok(Some(cycle_from(alloc, traces, matched, done, first)?)),
@@ -33,9 +34,9 @@ pub(crate) fn reported_cycle(
 
 /// The first stuck event of the least process that has one, if any has.
 fn least_stuck(traces: &[Trace], done: &[u64]) -> Option<Place>
-    requires { LeavesStuck (computation_of traces.now) done.now }
-    ensures some { IfSome result (λ first. IsLeastStuck (computation_of traces.now) (place_seen first)) }
-    ensures none { IfNone result ((e : events.Place) → ¬ IsStuck (computation_of traces.now) e) }
+    requires { LeavesStuck (computation_view traces.now) done.now }
+    ensures some { IfSome result (λ first. IsLeastStuck (computation_view traces.now) (place_view first)) }
+    ensures none { IfNone result ((e : events.Place) → ¬ IsStuck (computation_view traces.now) e) }
 {
     for p in 0..traces.len() {
         if let Some(first) = first_stuck(traces, done, p) {
@@ -48,10 +49,10 @@ fn least_stuck(traces: &[Trace], done: &[u64]) -> Option<Place>
 /// The first stuck event of process `p`, if it has one.
 fn first_stuck(traces: &[Trace], done: &[u64], p: usize) -> Option<Place>
     requires within { p < length traces.now }
-    requires stuck { LeavesStuck (computation_of traces.now) done.now }
+    requires stuck { LeavesStuck (computation_view traces.now) done.now }
     ensures process { IfSome result (λ first. first.process ≡ p) }
-    ensures some { IfSome result (λ first. IsFirstStuck (computation_of traces.now) (place_seen first)) }
-    ensures none { IfNone result ((n : ℕ) → ¬ IsStuck (computation_of traces.now) (place p n)) }
+    ensures some { IfSome result (λ first. IsFirstStuck (computation_view traces.now) (place_view first)) }
+    ensures none { IfNone result ((n : ℕ) → ¬ IsStuck (computation_view traces.now) (place p n)) }
 {
     if done[p] < traces[p].events.len() as u64 {
         return Some(Place {
@@ -62,7 +63,8 @@ fn first_stuck(traces: &[Trace], done: &[u64], p: usize) -> Option<Place>
     None
 }
 
-/// Goes back from `first`, the least stuck event, until a process comes again, and gives the places from that process on.
+/// Goes back from `first`, the least stuck event, until a process comes again, and gives the places from that process
+/// on.
 fn cycle_from(
     alloc: Global,
     traces: &[Trace],
@@ -70,10 +72,10 @@ fn cycle_from(
     done: &[u64],
     first: Place,
 ) -> Result<Vec<Place>, AllocError>
-    requires messages { IsMessageList (computation_of traces.now) matched.now }
-    requires stuck { LeavesStuck (computation_of traces.now) done.now }
-    requires least { IsLeastStuck (computation_of traces.now) (place_seen first) }
-    ensures { IfOk result (λ cycle. IsReportedCycle (computation_of traces.now) (places_seen cycle.items)) }
+    requires messages { IsMessageList (computation_view traces.now) matched.now }
+    requires stuck { LeavesStuck (computation_view traces.now) done.now }
+    requires least { IsLeastStuck (computation_view traces.now) (place_view first) }
+    ensures { IfOk result (λ cycle. IsReportedCycle (computation_view traces.now) (places_view cycle.items)) }
 {
     let mut taken = Vec::with_capacity(alloc, traces.len())?;
     let mut here = first;
@@ -86,12 +88,13 @@ fn cycle_from(
     }
 }
 
-/// From a receipt that is the first stuck event of its process to the first stuck event of the process that sent its message.
+/// From a receipt that is the first stuck event of its process to the first stuck event of the process that sent its
+/// message.
 fn gone_back(traces: &[Trace], matched: &Matched, done: &[u64], receipt: Place) -> Place
-    requires messages { IsMessageList (computation_of traces.now) matched.now }
-    requires stuck { LeavesStuck (computation_of traces.now) done.now }
-    requires receipt { IsFirstStuck (computation_of traces.now) (place_seen receipt) }
-    ensures { GoesBackTo (computation_of traces.now) (place_seen receipt) (place_seen result) }
+    requires messages { IsMessageList (computation_view traces.now) matched.now }
+    requires stuck { LeavesStuck (computation_view traces.now) done.now }
+    requires receipt { IsFirstStuck (computation_view traces.now) (place_view receipt) }
+    ensures { GoesBackTo (computation_view traces.now) (place_view receipt) (place_view result) }
 {
     let send = matched.sender(receipt).unwrap();
     first_stuck(traces, done, send.process).unwrap()

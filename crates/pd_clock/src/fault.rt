@@ -5,9 +5,9 @@ use std::alloc::AllocError;
 /// Why there is no computation.
 #[derive(Debug, Drop)]
 pub enum BuildFault {
-    /// Some event happened before itself. The places are those of receipts, each in another process, on one causal cycle: from
-    /// each place the next is the first event on such a cycle or after one, of the process that sent its message, and from the
-    /// last it is the first again.
+    /// Some event happened before itself. The places are those of receipts, each in another process, on one causal
+    /// cycle: from each place the next is the first event on such a cycle or after one, of the process that sent its
+    /// message, and from the last it is the first again.
     Cycle(Vec<Place>),
     /// Memory ran out.
     Memory,

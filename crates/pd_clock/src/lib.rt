@@ -1,13 +1,13 @@
 //! A finished computation: its events, its consistent cuts and the state at each of them.
 //!
 //! A computation is seen by contracts as what was recorded: the initial values and the events of each process. A cut is
-//! seen as its counts. `build` refuses events of which one happened before itself, and tells the causal cycle. `before` and
-//! `clock` tell happened-before, `sender` tells the send of a receipt, `consistent` whether counts are those of a cut that is
-//! closed under happened-before, and `at` gives the state there, whose values are looked up by index and computed once for each
-//! event. `value` gives one value by the count of its process alone.
+//! seen as its counts. `build` refuses events of which one happened before itself, and tells the causal cycle. `before`
+//! and `clock` tell happened-before, `sender` tells the send of a receipt, `consistent` whether counts are those of a
+//! cut that is closed under happened-before, and `at` gives the state there, whose values are looked up by index and
+//! computed once for each event. `value` gives one value by the count of its process alone.
 //!
 //! - `cut`: counts of events, one for each process
-//! - `history`: the values of one process's variables behind each of its events
+//! - `history`: the values of one process's variables after each of its events
 //! - `order`: an order of the events by which each has its clock
 //! - `cycle`: the cycle that is reported where there is no such order
 //! - `clocks`: what clocks tell of counts

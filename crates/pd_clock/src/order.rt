@@ -1,7 +1,7 @@
 //! An order of the events in which each comes after those that happened before it.
 ghost use Rattle.pd_clock.specs.Orders.{CanGo, HasClocks, HasRows, IsEmptyOrder, IsOrdered, LeavesStuck, Waits, count_of, next_of};
-ghost use Rattle.pd_events.specs.Views.{computation_of};
-ghost use Rattle.pd_match.specs.Views.{place_seen};
+ghost use Rattle.pd_events.specs.Views.{computation_view};
+ghost use Rattle.pd_match.specs.Views.{place_view};
 ghost use Rattle.pd_model.specs.Cuts.{Includes, one_more};
 ghost use Rattle.pd_model.specs.Events.{event_count};
 ghost use Rattle.pd_model.specs.Messages.{IsMessageList};
@@ -34,10 +34,10 @@ fn no_events(alloc: Global, processes: usize) -> Result<Order, AllocError>
 /// Whether process `p` has a next event that can stand in the order: where it is a receipt, its send stands there.
 fn can_go(traces: &[Trace], matched: &Matched, done: &[u64], p: usize) -> bool
     requires within { p < length traces.now }
-    requires ordered { IsOrdered (computation_of traces.now) done.now }
-    requires messages { IsMessageList (computation_of traces.now) matched.now }
-    ensures goes { IsTrue result → CanGo (computation_of traces.now) done.now p }
-    ensures waits { result ≡ false → Waits (computation_of traces.now) done.now p }
+    requires ordered { IsOrdered (computation_view traces.now) done.now }
+    requires messages { IsMessageList (computation_view traces.now) matched.now }
+    ensures goes { IsTrue result → CanGo (computation_view traces.now) done.now p }
+    ensures waits { result ≡ false → Waits (computation_view traces.now) done.now p }
 {
     if done[p] >= traces[p].events.len() as u64 {
         return false;
@@ -61,10 +61,10 @@ fn first_that_can_go(
     end: usize,
 ) -> Option<usize>
     requires within { end ≤ length traces.now }
-    requires ordered { IsOrdered (computation_of traces.now) done.now }
-    requires messages { IsMessageList (computation_of traces.now) matched.now }
-    ensures found { IfSome result (λ p. CanGo (computation_of traces.now) done.now p) }
-    ensures none { IfNone result ((p : ℕ) → start ≤ p → p < end → Waits (computation_of traces.now) done.now p) }
+    requires ordered { IsOrdered (computation_view traces.now) done.now }
+    requires messages { IsMessageList (computation_view traces.now) matched.now }
+    ensures found { IfSome result (λ p. CanGo (computation_view traces.now) done.now p) }
+    ensures none { IfNone result ((p : ℕ) → start ≤ p → p < end → Waits (computation_view traces.now) done.now p) }
 {
     for p in start..end {
         if can_go(traces, matched, done, p) {
@@ -78,10 +78,10 @@ fn first_that_can_go(
 /// process is short work.
 fn next_that_can_go(traces: &[Trace], matched: &Matched, done: &[u64], last: usize) -> Option<usize>
     requires within { last ≤ length traces.now }
-    requires ordered { IsOrdered (computation_of traces.now) done.now }
-    requires messages { IsMessageList (computation_of traces.now) matched.now }
-    ensures found { IfSome result (λ p. CanGo (computation_of traces.now) done.now p) }
-    ensures none { IfNone result ((p : ℕ) → Waits (computation_of traces.now) done.now p) }
+    requires ordered { IsOrdered (computation_view traces.now) done.now }
+    requires messages { IsMessageList (computation_view traces.now) matched.now }
+    ensures found { IfSome result (λ p. CanGo (computation_view traces.now) done.now p) }
+    ensures none { IfNone result ((p : ℕ) → Waits (computation_view traces.now) done.now p) }
 {
     match first_that_can_go(traces, matched, done, last, traces.len()) {
         Some(p) => Some(p),
@@ -93,8 +93,8 @@ fn next_that_can_go(traces: &[Trace], matched: &Matched, done: &[u64], last: usi
 fn count_in(order: &Order, event: Option<Place>, q: usize) -> u64
     requires rows { HasRows order.now.done.items order.now.clocks.items }
     requires within { q < length order.now.done.items }
-    requires there { IfSome event (λ e. Includes order.now.done.items (place_seen e)) }
-    ensures { result ≡ count_of (length order.now.done.items) order.now.clocks.items (option_map place_seen event) q }
+    requires there { IfSome event (λ e. Includes order.now.done.items (place_view e)) }
+    ensures { result ≡ count_of (length order.now.done.items) order.now.clocks.items (option_map place_view event) q }
 {
     match event {
         Some(e) => order.clocks[e.process][(e.number - 1) as usize * order.done.len() + q],
@@ -105,13 +105,14 @@ fn count_in(order: &Order, event: Option<Place>, q: usize) -> u64
 /// The clock of the next event of process `p`, which can stand in the order. Up to 8 counts take no memory.
 fn next_row(traces: &[Trace], matched: &Matched, order: &Order, p: usize) -> [u64; 8]
     requires few { length traces.now ≤ 8 }
-    requires short { (p : ℕ) → event_count (computation_of traces.now) p ≤ 10000 }
-    requires messages { IsMessageList (computation_of traces.now) matched.now }
-    requires ordered { IsOrdered (computation_of traces.now) order.now.done.items }
-    requires clocks { HasClocks (computation_of traces.now) order.now.done.items order.now.clocks.items }
-    requires goes { CanGo (computation_of traces.now) order.now.done.items p }
+    requires short { (p : ℕ) → event_count (computation_view traces.now) p ≤ 10000 }
+    requires messages { IsMessageList (computation_view traces.now) matched.now }
+    requires ordered { IsOrdered (computation_view traces.now) order.now.done.items }
+    requires clocks { HasClocks (computation_view traces.now) order.now.done.items order.now.clocks.items }
+    requires goes { CanGo (computation_view traces.now) order.now.done.items p }
     ensures eight { length result ≡ 8 }
-    ensures clock { (q : ℕ) → q < length traces.now → IsClock (computation_of traces.now) (next_of order.now.done.items p) q (slice_index result q) }
+    ensures clock { (q : ℕ) → q < length traces.now
+        → IsClock (computation_view traces.now) (next_of order.now.done.items p) q (slice_index result q) }
 {
     let number = order.done[p];
     let previous = if number == 0 {
@@ -133,16 +134,17 @@ fn next_row(traces: &[Trace], matched: &Matched, order: &Order, p: usize) -> [u6
     row
 }
 
-/// Puts the next event of process `p`, which can go, behind the others.
+/// Puts the next event of process `p`, which can go, after the others.
 fn add(traces: &[Trace], matched: &Matched, order: &mut Order, p: usize) -> Result<(), AllocError>
     requires few { length traces.now ≤ 8 }
-    requires short { (p : ℕ) → event_count (computation_of traces.now) p ≤ 10000 }
-    requires messages { IsMessageList (computation_of traces.now) matched.now }
-    requires ordered { IsOrdered (computation_of traces.now) order.old.done.items }
-    requires clocks { HasClocks (computation_of traces.now) order.old.done.items order.old.clocks.items }
-    requires goes { CanGo (computation_of traces.now) order.old.done.items p }
+    requires short { (p : ℕ) → event_count (computation_view traces.now) p ≤ 10000 }
+    requires messages { IsMessageList (computation_view traces.now) matched.now }
+    requires ordered { IsOrdered (computation_view traces.now) order.old.done.items }
+    requires clocks { HasClocks (computation_view traces.now) order.old.done.items order.old.clocks.items }
+    requires goes { CanGo (computation_view traces.now) order.old.done.items p }
     ensures done { IfOk result (λ _. order.new.done.items ≡ one_more order.old.done.items p) }
-    ensures clocks { IfOk result (λ _. HasClocks (computation_of traces.now) order.new.done.items order.new.clocks.items) }
+    ensures clocks { IfOk result (λ _. HasClocks (computation_view traces.now) order.new.done.items
+        order.new.clocks.items) }
 {
     let row = next_row(traces, matched, order, p);
     order.clocks[p].extend_from_slice(&row[..traces.len()])?;
@@ -150,8 +152,8 @@ fn add(traces: &[Trace], matched: &Matched, order: &mut Order, p: usize) -> Resu
     Ok(())
 }
 
-/// Puts as many events as can be into an order in which each comes after those that happened before it. Those that are left are
-/// on a causal cycle or after one.
+/// Puts as many events as can be into an order in which each comes after those that happened before it. Those that are
+/// left are on a causal cycle or after one.
 ///
 /// Source: Lamport, Time, Clocks, and the Ordering of Events in a Distributed System, 1978.
 pub(crate) fn put_in_order(
@@ -160,10 +162,11 @@ pub(crate) fn put_in_order(
     matched: &Matched,
 ) -> Result<Order, AllocError>
     requires few { length traces.now ≤ 8 }
-    requires short { (p : ℕ) → event_count (computation_of traces.now) p ≤ 10000 }
-    requires messages { IsMessageList (computation_of traces.now) matched.now }
-    ensures stuck { IfOk result (λ order. LeavesStuck (computation_of traces.now) order.done.items) }
-    ensures clocks { IfOk result (λ order. HasClocks (computation_of traces.now) order.done.items order.clocks.items) }
+    requires short { (p : ℕ) → event_count (computation_view traces.now) p ≤ 10000 }
+    requires messages { IsMessageList (computation_view traces.now) matched.now }
+    ensures stuck { IfOk result (λ order. LeavesStuck (computation_view traces.now) order.done.items) }
+    ensures clocks { IfOk result (λ order. HasClocks (computation_view traces.now) order.done.items order.clocks.items)
+        }
 {
     let mut order = no_events(alloc, traces.len())?;
     let mut last = 0;

@@ -1,6 +1,6 @@
 //! The sends of the receipts, by their places.
 ghost use Rattle.pd_clock.specs.Senders.{HasSenders, KeepsSenders};
-ghost use Rattle.pd_events.specs.Views.{computation_of};
+ghost use Rattle.pd_events.specs.Views.{computation_view};
 ghost use Rattle.pd_model.specs.Events.{event_count};
 ghost use Rattle.pd_model.specs.Messages.{IsMessageList};
 ghost use Rattle.std.specs.Prelude.{◌<◌, IfOk, length};
@@ -17,8 +17,9 @@ fn senders_in(
     p: usize,
 ) -> Result<Vec<Option<Place>>, AllocError>
     requires within { p < length traces.now }
-    requires messages { IsMessageList (computation_of traces.now) matched.now }
-    ensures { IfOk result (λ row. HasSenders (computation_of traces.now) p (event_count (computation_of traces.now) p) row.items) }
+    requires messages { IsMessageList (computation_view traces.now) matched.now }
+    ensures { IfOk result (λ row. HasSenders (computation_view traces.now) p
+        (event_count (computation_view traces.now) p) row.items) }
 {
     let mut row = Vec::with_capacity(alloc, traces[p].events.len())?;
     for n in 0..traces[p].events.len() {
@@ -37,8 +38,8 @@ pub(crate) fn senders_of(
     traces: &[Trace],
     matched: &Matched,
 ) -> Result<Vec<Vec<Option<Place>>>, AllocError>
-    requires { IsMessageList (computation_of traces.now) matched.now }
-    ensures { IfOk result (λ rows. KeepsSenders (computation_of traces.now) (length traces.now) rows.items) }
+    requires { IsMessageList (computation_view traces.now) matched.now }
+    ensures { IfOk result (λ rows. KeepsSenders (computation_view traces.now) (length traces.now) rows.items) }
 {
     let mut rows = Vec::with_capacity(alloc, traces.len())?;
     for p in 0..traces.len() {

@@ -4,8 +4,8 @@ ghost use Rattle.std.specs.Prelude.{◌≡◌, ◌+◌, ◌*◌, ◌≤◌, leng
 
 use pd_pred::Values;
 
-/// The state at a cut: each variable has the value last set by an event of its process in the cut, else its initial one.
-/// The value of a variable that isn't there is 0.
+/// The state at a cut: each variable has the value last set by an event of its process in the cut, else its initial
+/// one. The value of a variable that isn't there is 0.
 #[derive(Clone, Copy)]
 pub struct State<'a> {
     initial: &'a [Vec<i64>],
@@ -49,8 +49,8 @@ impl Values for State<'_> {
     }
 }
 
-/// The value of variable `var`, counted from 0, behind the first `count` events of a process: what stands in its history, whose
-/// first row is `start`. It is 0 where there is no such variable.
+/// The value of variable `var`, counted from 0, after the first `count` events of a process: what stands in its
+/// history, whose first row is `start`. It is 0 where there is no such variable.
 pub(crate) fn looked_up(start: &[i64], history: &[i64], count: u64, var: usize) -> i64
     requires { count * length start.now + length start.now ≤ length history.now }
     ensures { result ≡ value_in start.now history.now count var }

@@ -14,56 +14,75 @@ use Rattle.pd_level.specs.Levels.{Levelled, kept_by}
 use Rattle.pd_definitely.specs.Answers.{AreAvoidingLevels}
 
 -- what has the property makes the list longer than nothing, and each element has it
-pub some_listed : (P : List ℕ → Type 0) (cuts : List (List ℕ)) (cut : List ℕ) → IsListOf P cuts → P cut → 0 < length cuts
+pub some_listed : (P : List ℕ → Type 0) (cuts : List (List ℕ)) (cut : List ℕ) → IsListOf P cuts → P cut
+    → 0 < length cuts
 some_listed P cuts cut list has =
     let w : Contains cuts cut = (list.just cut).1 has in
     let lt : w.0 < length cuts = w.1 in
     omega arith
 
-pub listed_at : (P : List ℕ → Type 0) (cuts : List (List ℕ)) (i : ℕ) (d : List ℕ) → IsListOf P cuts → i < length cuts → P (get_or cuts i d)
+pub listed_at : (P : List ℕ → Type 0) (cuts : List (List ℕ)) (i : ℕ) (d : List ℕ) → IsListOf P cuts → i < length cuts
+    → P (get_or cuts i d)
 listed_at P cuts i d list lt = (list.just (get_or cuts i d)).0 (i, lt, get_or_default cuts i (get_or cuts i d) d lt)
 
-pub listed_got : (P : List ℕ → Type 0) (cuts : List (List ℕ)) (i : ℕ) (cut : List ℕ) → IsListOf P cuts → slice_get cuts i ≡ Some cut → P cut
+pub listed_got : (P : List ℕ → Type 0) (cuts : List (List ℕ)) (i : ℕ) (cut : List ℕ) → IsListOf P cuts
+    → slice_get cuts i ≡ Some cut → P cut
 listed_got P cuts i cut list is =
     (list.just cut).0 (i, slice_get_within cuts i cut is, get_or_from_slice_get cuts i cut cut is)
 
-pub consistent_cuts : AvoidingLevel → (c : Computation) (test : List ℕ → Bool) (k : ℕ) (cuts : List (List ℕ)) → IsListOf (IsAvoiding c test k) cuts → All (IsConsistent c) cuts
+pub consistent_cuts : AvoidingLevel → (c : Computation) (test : List ℕ → Bool) (k : ℕ) (cuts : List (List ℕ))
+    → IsListOf (IsAvoiding c test k) cuts → All (IsConsistent c) cuts
 consistent_cuts law c test k cuts list i d lt =
     (law c test k (get_or cuts i d) (listed_at (IsAvoiding c test k) cuts i d list lt)).0
 
-pub level_consistent : (c : Computation) (k : ℕ) (cuts : List (List ℕ)) → IsListOf (IsOfLevel c k) cuts → All (IsConsistent c) cuts
+pub level_consistent : (c : Computation) (k : ℕ) (cuts : List (List ℕ)) → IsListOf (IsOfLevel c k) cuts
+    → All (IsConsistent c) cuts
 level_consistent c k cuts list i d lt = (listed_at (IsOfLevel c k) cuts i d list lt).0
 
-pub next_consistent : (c : Computation) (cuts next : List (List ℕ)) → IsListOf (IsNextOf c cuts) next → All (IsConsistent c) next
+pub next_consistent : (c : Computation) (cuts next : List (List ℕ)) → IsListOf (IsNextOf c cuts) next
+    → All (IsConsistent c) next
 next_consistent c cuts next list i d lt = (listed_at (IsNextOf c cuts) next i d list lt).0
 
 -- a level that was read is the list of its avoiding cuts
-pub level_read : (c : Computation) (test : List ℕ → Bool) (levels : List Levelled) (i : ℕ) (level : Levelled) → AreAvoidingLevels c test levels → i < length levels → level ≡ get_or levels i level → IsListOf (IsAvoiding c test i) level.cuts
+pub level_read : (c : Computation) (test : List ℕ → Bool) (levels : List Levelled) (i : ℕ) (level : Levelled)
+    → AreAvoidingLevels c test levels → i < length levels → level ≡ get_or levels i level
+    → IsListOf (IsAvoiding c test i) level.cuts
 level_read c test levels i level lists lt is =
     subst (λ (l : Levelled). IsListOf (IsAvoiding c test i) l.cuts) (sym is) (lists i level lt)
 
-pub last_read : (c : Computation) (test : List ℕ → Bool) (levels : List Levelled) (level : Levelled) → AreAvoidingLevels c test levels → length levels ≡ total c + 1 → level ≡ get_or levels (length levels - 1) level → IsListOf (IsAvoiding c test (total c)) level.cuts
+pub last_read : (c : Computation) (test : List ℕ → Bool) (levels : List Levelled) (level : Levelled)
+    → AreAvoidingLevels c test levels → length levels ≡ total c + 1 → level ≡ get_or levels (length levels - 1) level
+    → IsListOf (IsAvoiding c test (total c)) level.cuts
 last_read c test levels level lists count is =
     let last : length levels - 1 ≡ total c = omega arith in
-    level_read c test levels (total c) level lists (omega arith) (subst (λ (n : ℕ). level ≡ get_or levels n level) last is)
+    level_read c test levels (total c) level lists (omega arith)
+    (subst (λ (n : ℕ). level ≡ get_or levels n level) last is)
 
 -- one level more
-pub levels_push : (c : Computation) (test : List ℕ → Bool) (levels : List Levelled) (level : Levelled) → AreAvoidingLevels c test levels → IsListOf (IsAvoiding c test (length levels)) level.cuts → AreAvoidingLevels c test (levels ++ level ∷ [])
+pub levels_push : (c : Computation) (test : List ℕ → Bool) (levels : List Levelled) (level : Levelled)
+    → AreAvoidingLevels c test levels → IsListOf (IsAvoiding c test (length levels)) level.cuts
+    → AreAvoidingLevels c test (levels ++ level ∷ [])
 levels_push c test levels level lists list k d lt = go (cases_lt k (length levels))
   where
-    go : (k < length levels) ⊎ (length levels ≤ k) → IsListOf (IsAvoiding c test k) (get_or (levels ++ level ∷ []) k d).cuts
+    go : (k < length levels) ⊎ (length levels ≤ k)
+        → IsListOf (IsAvoiding c test k) (get_or (levels ++ level ∷ []) k d).cuts
     go (inl low) = rw (get_or_append_left levels (level ∷ []) d k low) (lists k d low)
     go (inr high) =
         let last : k ≡ length levels = omega (arith, length-append levels (level ∷ [])) in
         let none : k - length levels ≡ 0 = omega arith in
-        let read : get_or (levels ++ level ∷ []) k d ≡ level = get_or-append_right levels (level ∷ []) (length levels) k d refl high ∙ ap (λ (n : ℕ). get_or (level ∷ []) n d) none in
+        let read : get_or (levels ++ level ∷ []) k d ≡ level =
+        get_or-append_right levels (level ∷ []) (length levels) k d refl high
+        ∙ ap (λ (n : ℕ). get_or (level ∷ []) n d) none in
         rw read (subst (λ (n : ℕ). IsListOf (IsAvoiding c test n) level.cuts) (sym last) list)
 
 -- what is kept by the marks of a test that it fails
-pub kept_filter : {A : Type 0} (test : A → Bool) (xs : List A) → kept_by false (map test xs) xs ≡ filter (λ x. not (test x)) xs
+pub kept_filter : {A : Type 0} (test : A → Bool) (xs : List A)
+    → kept_by false (map test xs) xs ≡ filter (λ x. not (test x)) xs
 kept_filter test [] = refl
 kept_filter {A} test (x ∷ xs) = go (kept_filter test xs) (test x)
   where
-    go : kept_by false (map test xs) xs ≡ filter (λ y. not (test y)) xs → (b : Bool) → cond (beq b false) (x ∷ kept_by false (map test xs) xs) (kept_by false (map test xs) xs) ≡ cond (not b) (x ∷ filter (λ y. not (test y)) xs) (filter (λ y. not (test y)) xs)
+    go : kept_by false (map test xs) xs ≡ filter (λ y. not (test y)) xs → (b : Bool)
+        → cond (beq b false) (x ∷ kept_by false (map test xs) xs) (kept_by false (map test xs) xs)
+        ≡ cond (not b) (x ∷ filter (λ y. not (test y)) xs) (filter (λ y. not (test y)) xs)
     go rest true = rest
     go rest false = ap (λ (ys : List A). x ∷ ys) rest

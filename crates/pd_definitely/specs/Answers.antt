@@ -9,10 +9,10 @@ use Rattle.pd_level.specs.Levels.{Levelled}
 use Rattle.pd_definitely.specs.declared.answer.DefinitelyAnswer.{DefinitelyAnswer}
 use Rattle.pd_definitely.specs.declared.answer.DefinitelyAnswer.TheVariants.{Yes, No, Unknown}
 
-abbrev pub answer_of : DefinitelyAnswer → model.DefinitelyAnswer
-answer_of (Yes level) = model.DefinitelyYes level
-answer_of (No path) = model.DefinitelyNo path.items
-answer_of (Unknown level) = model.DefinitelyUnknown level
+abbrev pub definitely_answer_view : DefinitelyAnswer → model.DefinitelyAnswer
+definitely_answer_view (Yes level) = model.DefinitelyYes level
+definitely_answer_view (No path) = model.DefinitelyNo path.items
+definitely_answer_view (Unknown level) = model.DefinitelyUnknown level
 
 -- each level has just the avoiding cuts with as many events as levels stand before it
 abbrev pub AreAvoidingLevels : Computation → (List ℕ → Bool) → List Levelled → Type 0

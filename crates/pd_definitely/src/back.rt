@@ -4,7 +4,7 @@ ghost use Rattle.pd_model.specs.Answers.{IsPrintedPath};
 ghost use Rattle.pd_model.specs.Cuts.{full_cut, one_less, total};
 ghost use Rattle.pd_model.specs.Observations.{IsAvoiding};
 ghost use Rattle.pd_model.specs.Predicates.{test_of};
-ghost use Rattle.pd_pred.specs.Views.{predicate_of};
+ghost use Rattle.pd_pred.specs.Views.{predicate_view};
 ghost use Rattle.std.specs.Prelude.{◌≡◌, ◌+◌, ◌<◌, ◌≤◌, ◌↔◌, ℕ, IfOk, IsTrue, length, slice_index};
 
 use pd_clock::{Computation, Cut};
@@ -13,9 +13,9 @@ use pd_pred::Pred;
 use smallvec::SmallVec;
 use std::alloc::{AllocError, Global};
 
-/// The processes, counted from 0, in the order in which their events happen. From the full cut backward each step undoes the
-/// event of the least process that leaves a cut of the level below. The levels are those of the cuts that avoid the predicate,
-/// which is there for the contract alone.
+/// The processes, counted from 0, in the order in which their events happen. From the full cut backward each step
+/// undoes the event of the least process that leaves a cut of the level below. The levels are those of the cuts that
+/// avoid the predicate, which is there for the contract alone.
 pub(crate) fn path_back(
     alloc: Global,
     computation: &Computation<'_>,
@@ -23,9 +23,12 @@ pub(crate) fn path_back(
     levels: &[Level],
 ) -> Result<Vec<usize>, AllocError>
     requires count { length levels.now ≡ total computation.now.events + 1 }
-    requires lists { AreAvoidingLevels computation.now.events (test_of computation.now (predicate_of _pred.now)) levels.now }
-    requires full { IsAvoiding computation.now.events (test_of computation.now (predicate_of _pred.now)) (total computation.now.events) (full_cut computation.now.events) }
-    ensures { IfOk result (λ path. IsPrintedPath computation.now.events (test_of computation.now (predicate_of _pred.now)) path.items) }
+    requires lists { AreAvoidingLevels computation.now.events (test_of computation.now (predicate_view _pred.now))
+        levels.now }
+    requires full { IsAvoiding computation.now.events (test_of computation.now (predicate_view _pred.now))
+        (total computation.now.events) (full_cut computation.now.events) }
+    ensures { IfOk result (λ path. IsPrintedPath computation.now.events
+        (test_of computation.now (predicate_view _pred.now)) path.items) }
 {
     // the laws that the proof uses
     pd_model::definitely_walk();

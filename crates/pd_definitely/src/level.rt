@@ -3,7 +3,7 @@ ghost use Rattle.pd_model.specs.Answers.{IsListOf};
 ghost use Rattle.pd_model.specs.Cuts.{IsConsistent};
 ghost use Rattle.pd_model.specs.Observations.{IsAvoiding};
 ghost use Rattle.pd_model.specs.Predicates.{test_of};
-ghost use Rattle.pd_pred.specs.Views.{predicate_of};
+ghost use Rattle.pd_pred.specs.Views.{predicate_view};
 ghost use Rattle.std.specs.Prelude.{◌≡◌, ◌+◌, ◌≤◌, ℕ, All, IfOk, filter, length, map, not};
 
 use pd_clock::Computation;
@@ -17,7 +17,8 @@ pub(crate) fn first_avoiding(
     computation: &Computation<'_>,
     pred: &Pred,
 ) -> Result<Level, AllocError>
-    ensures { IfOk result (λ level. IsListOf (IsAvoiding computation.now.events (test_of computation.now (predicate_of pred.now)) 0) level.cuts) }
+    ensures { IfOk result (λ level. IsListOf
+        (IsAvoiding computation.now.events (test_of computation.now (predicate_view pred.now)) 0) level.cuts) }
 {
     // the laws that the proof uses
     pd_model::levels();
@@ -38,7 +39,10 @@ pub(crate) fn next_avoiding(
     requires short { length level.now.cuts ≤ width }
     requires wide { 1 ≤ width }
     requires narrow { width ≤ 65536 }
-    ensures { IfOk result (λ next. (k : ℕ) → IsListOf (IsAvoiding computation.now.events (test_of computation.now (predicate_of pred.now)) k) level.now.cuts → IsListOf (IsAvoiding computation.now.events (test_of computation.now (predicate_of pred.now)) (k + 1)) next.cuts) }
+    ensures { IfOk result (λ next. (k : ℕ)
+        → IsListOf (IsAvoiding computation.now.events (test_of computation.now (predicate_view pred.now)) k)
+        level.now.cuts → IsListOf (IsAvoiding computation.now.events (test_of computation.now (predicate_view pred.now))
+        (k + 1)) next.cuts) }
 {
     // the laws that the proof uses
     pd_model::avoiding_levels();
@@ -59,7 +63,8 @@ fn without_satisfying(
     mut level: Level,
 ) -> Result<Level, AllocError>
     requires { All (IsConsistent computation.now.events) level.cuts }
-    ensures { IfOk result (λ left. left.cuts ≡ filter (λ cut. not (test_of computation.now (predicate_of pred.now) cut)) level.cuts) }
+    ensures { IfOk result (λ left. left.cuts
+        ≡ filter (λ cut. not (test_of computation.now (predicate_view pred.now) cut)) level.cuts) }
 {
     let marks = marks(alloc, computation, pred, &level)?;
     level.keep(&marks, false);
@@ -74,7 +79,8 @@ fn marks(
     level: &Level,
 ) -> Result<Vec<bool>, AllocError>
     requires { All (IsConsistent computation.now.events) level.now.cuts }
-    ensures { IfOk result (λ marks. marks.items ≡ map (test_of computation.now (predicate_of pred.now)) level.now.cuts) }
+    ensures { IfOk result (λ marks. marks.items
+        ≡ map (test_of computation.now (predicate_view pred.now)) level.now.cuts) }
 {
     let mut marks = Vec::with_capacity(alloc, level.len())?;
     for i in 0..level.len() {

@@ -1,10 +1,10 @@
-//! Whether every observation of a computation passes through a cut that satisfies a predicate, under a bound on the number of
-//! the avoiding cuts of a level.
+//! Whether every observation of a computation passes through a cut that satisfies a predicate, under a bound on the
+//! number of the avoiding cuts of a level.
 //!
-//! An avoiding cut is one that is reached from the empty cut through cuts that don't satisfy, and doesn't satisfy itself. The
-//! levels of the avoiding cuts are walked from the empty cut on. The answer is yes at the first level that has none; unknown,
-//! where a level has more than the bound; or no, where the full cut is avoiding, with an observation that is found from the
-//! full cut backward.
+//! An avoiding cut is one that is reached from the empty cut through cuts that don't satisfy, and doesn't satisfy
+//! itself. The levels of the avoiding cuts are walked from the empty cut on. The answer is yes at the first level that
+//! has none; unknown, where a level has more than the bound; or no, where the full cut is avoiding, with an observation
+//! that is found from the full cut backward.
 //!
 //! - `answer`: the answer
 //! - `walk`: the walk

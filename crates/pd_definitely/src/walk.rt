@@ -1,9 +1,9 @@
 //! The walk up the levels of the avoiding cuts.
-ghost use Rattle.pd_definitely.specs.Answers.{answer_of};
+ghost use Rattle.pd_definitely.specs.Answers.{definitely_answer_view};
 ghost use Rattle.pd_model.specs.Answers.{IsDefinitelyAnswer};
 ghost use Rattle.pd_model.specs.Cuts.{total};
 ghost use Rattle.pd_model.specs.Predicates.{test_of};
-ghost use Rattle.pd_pred.specs.Views.{predicate_of};
+ghost use Rattle.pd_pred.specs.Views.{predicate_view};
 ghost use Rattle.std.specs.Prelude.{◌≡◌, ◌+◌, ◌<◌, ◌≤◌, IfOk, length};
 
 use super::DefinitelyAnswer;
@@ -14,8 +14,8 @@ use pd_level::{Gate, Level};
 use pd_pred::Pred;
 use std::alloc::{AllocError, Global};
 
-/// The answer for a predicate over a computation, under a bound on the number of the avoiding cuts of a level. `_workers`, from
-/// 1 to 16, and the gate change nothing yet.
+/// The answer for a predicate over a computation, under a bound on the number of the avoiding cuts of a level.
+/// `_workers`, from 1 to 16, and the gate change nothing yet.
 ///
 /// Source: Cooper and Marzullo, Consistent Detection of Global Predicates, 1991.
 pub fn definitely<G: Gate + Sync>(
@@ -28,7 +28,8 @@ pub fn definitely<G: Gate + Sync>(
 ) -> Result<DefinitelyAnswer, AllocError>
     requires wide { 1 ≤ width }
     requires narrow { width ≤ 65536 }
-    ensures { IfOk result (λ answer. IsDefinitelyAnswer computation.now.events (test_of computation.now (predicate_of pred.now)) width (answer_of answer)) }
+    ensures { IfOk result (λ answer. IsDefinitelyAnswer computation.now.events
+        (test_of computation.now (predicate_view pred.now)) width (definitely_answer_view answer)) }
 {
     // the laws that the proof uses
     pd_model::levels();

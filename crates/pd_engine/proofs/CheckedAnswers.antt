@@ -10,32 +10,42 @@ use Rattle.pd_format.specs.OtherTexts.{Checked}
 use Rattle.pd_format.specs.Readings.{Trace}
 use Rattle.pd_format.specs.Reports as reports
 use Rattle.pd_judgement.specs.Findings.{IsAnswersFinding, of_other_names, of_verdicts, names_answered, names_asked}
-use Rattle.pd_report.specs.Views.{answer_of}
+use Rattle.pd_report.specs.Views.{answer_view}
 use Rattle.pd_report.specs.declared.answer.Answer.{Answer}
 use Rattle.pd_spec.specs.Named.{named_of}
 use Rattle.pd_spec.specs.declared.named.NamedPred.{NamedPred}
 use Rattle.pd_engine.specs.Verdicts.{IsCheckedBy}
 
-abbrev told_names : List Answer → List (List ℕ)
-told_names answers = map (λ (answer : Answer). string_bytes answer.name) answers
+abbrev reported_names : List Answer → List (List ℕ)
+reported_names answers = map (λ (answer : Answer). string_bytes answer.name) answers
 
 abbrev asked_names : List NamedPred → List (List ℕ)
 asked_names asked = map (λ (predicate : NamedPred). string_bytes predicate.name) asked
 
-names_told : (answers : List Answer) → names_answered (map answer_of answers) ≡ told_names answers
-names_told answers = map-map (λ (answer : reports.Answer). answer.name) answer_of answers
+names_reported : (answers : List Answer) → names_answered (map answer_view answers) ≡ reported_names answers
+names_reported answers = map-map (λ (answer : reports.Answer). answer.name) answer_view answers
 
-names_for : (document : Document) (asked : List NamedPred) → map named_of asked ≡ document.predicates → names_asked document ≡ asked_names asked
+names_for : (document : Document) (asked : List NamedPred) → map named_of asked ≡ document.predicates
+    → names_asked document ≡ asked_names asked
 names_for document asked same =
-    ap (map (λ (predicate : NamedPredicate). predicate.name)) (sym same) ∙ map-map (λ (predicate : NamedPredicate). predicate.name) named_of asked
+    ap (map (λ (predicate : NamedPredicate). predicate.name)) (sym same)
+    ∙ map-map (λ (predicate : NamedPredicate). predicate.name) named_of asked
 
-pub other_names : (document : Document) (traces : List Trace) (asked : List NamedPred) (answers : List Answer) → map named_of asked ≡ document.predicates → ¬ (told_names answers ≡ asked_names asked) → IsAnswersFinding document traces (map answer_of answers) None
+pub other_names : (document : Document) (traces : List Trace) (asked : List NamedPred) (answers : List Answer)
+    → map named_of asked ≡ document.predicates → ¬ (reported_names answers ≡ asked_names asked)
+    → IsAnswersFinding document traces (map answer_view answers) None
 other_names document traces asked answers same differ =
-    of_other_names (λ e. differ (sym (names_told answers) ∙ (e ∙ names_for document asked same)))
+    of_other_names (λ e. differ (sym (names_reported answers) ∙ (e ∙ names_for document asked same)))
 
-pub all_checked : (document : Document) (traces : List Trace) (recorded : Recorded) (asked : List NamedPred) (answers : List Answer) (verdicts : List Checked) → map named_of asked ≡ document.predicates → told_names answers ≡ asked_names asked → recorded ≡ recorded_of document traces
-    → AllZip (IsCheckedBy document.names recorded) (zip (map named_of asked) (map answer_of answers)) verdicts → IsAnswersFinding document traces (map answer_of answers) (Some verdicts)
+pub all_checked : (document : Document) (traces : List Trace) (recorded : Recorded) (asked : List NamedPred)
+    (answers : List Answer) (verdicts : List Checked) → map named_of asked ≡ document.predicates
+    → reported_names answers ≡ asked_names asked → recorded ≡ recorded_of document traces
+    → AllZip (IsCheckedBy document.names recorded) (zip (map named_of asked) (map answer_view answers)) verdicts
+    → IsAnswersFinding document traces (map answer_view answers) (Some verdicts)
 all_checked document traces recorded asked answers verdicts same names seen all =
-    let those : AllZip (IsCheckedBy document.names recorded) (zip document.predicates (map answer_of answers)) verdicts = subst (λ (predicates : List NamedPredicate). AllZip (IsCheckedBy document.names recorded) (zip predicates (map answer_of answers)) verdicts) same all in
-    of_verdicts verdicts (names_told answers ∙ (names ∙ sym (names_for document asked same)))
-    (subst (λ (r : Recorded). AllZip (IsCheckedBy document.names r) (zip document.predicates (map answer_of answers)) verdicts) seen those)
+    let those : AllZip (IsCheckedBy document.names recorded) (zip document.predicates (map answer_view answers))
+    verdicts = subst (λ (predicates : List NamedPredicate).
+    AllZip (IsCheckedBy document.names recorded) (zip predicates (map answer_view answers)) verdicts) same all in
+    of_verdicts verdicts (names_reported answers ∙ (names ∙ sym (names_for document asked same)))
+    (subst (λ (r : Recorded). AllZip (IsCheckedBy document.names r) (zip document.predicates (map answer_view answers))
+    verdicts) seen those)

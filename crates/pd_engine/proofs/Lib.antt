@@ -14,4 +14,4 @@ pub mod PathNames
 pub mod Zips
 pub mod CheckedAnswers
 pub mod ClaimFacts
-pub mod ToldStreams
+pub mod GivenStreams

@@ -6,46 +6,57 @@ use Rattle.std.proofs.lemmas.Bool.{cases_lt, lt-ltb}
 use Rattle.std.proofs.lemmas.List.{length-map}
 use Rattle.pd_format.specs.Documents.{Document, InPredicate, IsDocument, IsRefusedDocument}
 use Rattle.pd_format.specs.Documents as documents
-use Rattle.pd_format.specs.Judgements.{IsJudgement, of_read, of_refused, IsReportOfOutcomes, IsReportOfSession, outcomes_of, ended_streams, Told}
+use Rattle.pd_format.specs.Judgements.{IsJudgement, of_read, of_refused, IsReportOfResults, IsReportOfSession, results_of, ended_streams, RawStream}
 use Rattle.pd_format.specs.Names.{ProcessNames}
 use Rattle.pd_format.specs.Readings.{Trace}
 use Rattle.pd_format.specs.Reports.{Refusal, Refused, Report}
-use Rattle.pd_format.specs.Sessions.{Outcome, SessionFault, session, TooManyStreams, stream_limit}
+use Rattle.pd_format.specs.Sessions.{StreamResult, SessionFault, session, TooManyStreams}
+use Rattle.pd_format.specs.Limits.{stream_count_limit}
 use Rattle.pd_spec.specs.Views.{IsFaultOf}
 use Rattle.pd_spec.specs.declared.fault.SpecFault.{SpecFault}
 use Rattle.pd_spec.specs.declared.fault.SpecFault.TheVariants as faults
-use Rattle.pd_pred.specs.Views.{fault_of}
+use Rattle.pd_pred.specs.Views.{predicate_fault_view}
 use Rattle.pd_format.specs.PredicateTexts.{PredicateFault}
 use Rattle.pd_engine.specs.Refusals.{IsDocumentRefusal}
 
-pub parts_split : (parts : List (Bor (List ℕ))) (d : Bor (List ℕ)) → 0 < length parts → map (λ (part : Bor (List ℕ)). part.now) parts ≡ (get_or parts 0 d).now ∷ map (λ (part : Bor (List ℕ)). part.now) (drop 1 parts)
+pub parts_split : (parts : List (Bor (List ℕ))) (d : Bor (List ℕ)) → 0 < length parts
+    → map (λ (part : Bor (List ℕ)). part.now) parts ≡ (get_or parts 0 d).now
+    ∷ map (λ (part : Bor (List ℕ)). part.now) (drop 1 parts)
 parts_split [] d lt = absurd (omega arith)
 parts_split (first ∷ others) d lt = refl
 
 -- with too many streams it doesn't matter what they give
-pub same_session : (names : List ProcessNames) (streams : ℕ) (given told : List Outcome) → (streams ≤ 16 → given ≡ told) → session names streams given ≡ session names streams told
-same_session names streams given told same = go (cases_lt 16 streams)
+pub same_session : (names : List ProcessNames) (streams : ℕ) (given reported : List StreamResult)
+    → (streams ≤ 16 → given ≡ reported) → session names streams given ≡ session names streams reported
+same_session names streams given reported same = go (cases_lt 16 streams)
   where
-    go : (16 < streams) ⊎ (streams ≤ 16) → session names streams given ≡ session names streams told
+    go : (16 < streams) ⊎ (streams ≤ 16) → session names streams given ≡ session names streams reported
     go (inr few) = ap (session names streams) (same few)
     go (inl many) =
-        let test : nat_lt stream_limit streams ≡ true = lt-ltb stream_limit streams many in
+        let test : nat_lt stream_count_limit streams ≡ true = lt-ltb stream_count_limit streams many in
         let first : session names streams given ≡ Err TooManyStreams = rw test refl in
-        let second : session names streams told ≡ Err TooManyStreams = rw test refl in
+        let second : session names streams reported ≡ Err TooManyStreams = rw test refl in
         first ∙ sym second
 
-pub same_report : (document : Document) (streams : ℕ) (given told : List Outcome) (report : Report) → (streams ≤ 16 → given ≡ told) → IsReportOfOutcomes document streams given report → IsReportOfOutcomes document streams told report
-same_report document streams given told report same judged =
-    subst (λ (r : Result (List Trace) SessionFault). IsReportOfSession document r report) (same_session document.names streams given told same) judged
+pub same_report : (document : Document) (streams : ℕ) (given reported : List StreamResult) (report : Report)
+    → (streams ≤ 16 → given ≡ reported) → IsReportOfResults document streams given report
+    → IsReportOfResults document streams reported report
+same_report document streams given reported report same judged =
+    subst (λ (r : Result (List Trace) SessionFault). IsReportOfSession document r report)
+    (same_session document.names streams given reported same) judged
 
-pub read_judged : (bytes : List ℕ) (parts : List (List ℕ)) (document : Document) (streams : ℕ) (given : List Outcome) → IsDocument bytes document → streams ≡ length parts → (length parts ≤ 16 → given ≡ outcomes_of document.names (ended_streams parts)) → (report : Report) → IsReportOfOutcomes document streams given report → IsJudgement bytes (ended_streams parts) report
+pub read_judged : (bytes : List ℕ) (parts : List (List ℕ)) (document : Document) (streams : ℕ)
+    (given : List StreamResult) → IsDocument bytes document → streams ≡ length parts
+    → (length parts ≤ 16 → given ≡ results_of document.names (ended_streams parts)) → (report : Report)
+    → IsReportOfResults document streams given report → IsJudgement bytes (ended_streams parts) report
 read_judged bytes parts document streams given is count same report judged =
     let many : length (ended_streams parts) ≡ length parts = length-map parts _ in
     of_read document is
-    (rw many (same_report document (length parts) given (outcomes_of document.names (ended_streams parts)) report same
-    (subst (λ (n : ℕ). IsReportOfOutcomes document n given report) count judged)))
+    (rw many (same_report document (length parts) given (results_of document.names (ended_streams parts)) report same
+    (subst (λ (n : ℕ). IsReportOfResults document n given report) count judged)))
 
-pub refused_judged : (bytes : List ℕ) (streams : List Told) (fault : SpecFault) (refusal : Refusal) → IsFaultOf bytes fault → IsDocumentRefusal fault refusal → IsJudgement bytes streams (Refused refusal)
+pub refused_judged : (bytes : List ℕ) (streams : List RawStream) (fault : SpecFault) (refusal : Refusal)
+    → IsFaultOf bytes fault → IsDocumentRefusal fault refusal → IsJudgement bytes streams (Refused refusal)
 refused_judged bytes streams faults.Long refusal is tells = of_refused documents.Long is (ap Refused tells)
 refused_judged bytes streams faults.Json refusal is tells = of_refused documents.Json is (ap Refused tells)
 refused_judged bytes streams faults.Shape refusal is tells = of_refused documents.Shape is (ap Refused tells)
@@ -55,9 +66,9 @@ refused_judged bytes streams faults.NameTwice refusal is tells = of_refused docu
 refused_judged bytes streams faults.Vars refusal is tells = of_refused documents.Vars is (ap Refused tells)
 refused_judged bytes streams faults.Predicates refusal is tells = of_refused documents.Predicates is (ap Refused tells)
 refused_judged bytes streams faults.Width refusal is tells = of_refused documents.Width is (ap Refused tells)
-refused_judged bytes streams (faults.Predicate k error) refusal is tells = go (fault_of error.kind) refl
+refused_judged bytes streams (faults.Predicate k error) refusal is tells = go (predicate_fault_view error.kind) refl
   where
-    go : (o : Option PredicateFault) → fault_of error.kind ≡ o → IsJudgement bytes streams (Refused refusal)
+    go : (o : Option PredicateFault) → predicate_fault_view error.kind ≡ o → IsJudgement bytes streams (Refused refusal)
     go None at = absurd (rw at at is)
     go (Some fault) at = of_refused (InPredicate k fault error.at) (rw at at is) (ap Refused (rw at at tells))
 refused_judged bytes streams faults.Memory refusal is tells = absurd tells

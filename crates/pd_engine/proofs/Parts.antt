@@ -11,7 +11,8 @@ not_true false h = refl
 
 -- ---- the first line
 
-pub ended_line : (xs : List ℕ) (k : ℕ) → k < length xs → ((j : ℕ) → j < k → (get_or xs j 0 == 10) ≡ true → ⊥) → (get_or xs k 0 == 10) ≡ true
+pub ended_line : (xs : List ℕ) (k : ℕ) → k < length xs → ((j : ℕ) → j < k → (get_or xs j 0 == 10) ≡ true → ⊥)
+    → (get_or xs k 0 == 10) ≡ true
     → whole_lines xs ≡ take (suc k) xs ∷ whole_lines (drop (suc k) xs)
 ended_line [] k within none here = absurd (omega arith)
 ended_line (x ∷ xs) zero within none here = rw here refl
@@ -20,7 +21,8 @@ ended_line (x ∷ xs) (suc k) within none here =
     let rest = ended_line xs k (omega arith) (λ j below e. none (suc j) (omega arith) e) here in
     rw (other, rest) refl
 
-unended : (x : ℕ) (xs : List ℕ) → ((j : ℕ) → j < suc (length xs) → (get_or (x ∷ xs) j 0 == 10) ≡ true → ⊥) → whole_lines (x ∷ xs) ≡ (x ∷ xs) ∷ []
+unended : (x : ℕ) (xs : List ℕ) → ((j : ℕ) → j < suc (length xs) → (get_or (x ∷ xs) j 0 == 10) ≡ true → ⊥)
+    → whole_lines (x ∷ xs) ≡ (x ∷ xs) ∷ []
 unended x [] none = let other = not_true (x == 10) (λ e. none 0 (omega arith) e) in rw other refl
 unended x (y ∷ ys) none =
     let other = not_true (x == 10) (λ e. none 0 (omega arith) e) in
@@ -33,7 +35,8 @@ unended_line [] some none = absurd (omega arith)
 unended_line (x ∷ xs) some none =
     let all = take_all (length (x ∷ xs)) (x ∷ xs) (omega arith) in
     let left = drop_all (length (x ∷ xs)) (x ∷ xs) (omega arith) in
-    unended x xs none ∙ sym (ap (λ line. line ∷ whole_lines (drop (length (x ∷ xs)) (x ∷ xs))) all ∙ ap (λ rest. (x ∷ xs) ∷ whole_lines rest) left)
+    unended x xs none ∙ sym (ap (λ line. line ∷ whole_lines (drop (length (x ∷ xs)) (x ∷ xs))) all
+    ∙ ap (λ rest. (x ∷ xs) ∷ whole_lines rest) left)
 
 -- ---- the parts
 
@@ -41,7 +44,8 @@ onto_nothing : (line : List ℕ) (parts : List (List ℕ)) → onto_part [] (ont
 onto_nothing line [] = refl
 onto_nothing line (part ∷ parts) = refl
 
-onto_twice : (part line : List ℕ) (parts : List (List ℕ)) → onto_part (part ++ line) parts ≡ onto_part part (onto_part line parts)
+onto_twice : (part line : List ℕ) (parts : List (List ℕ))
+    → onto_part (part ++ line) parts ≡ onto_part part (onto_part line parts)
 onto_twice part line [] = refl
 onto_twice part line (next ∷ parts) = ap (λ first. first ∷ parts) (append_assoc part line next)
 
@@ -54,7 +58,8 @@ onto_none (line ∷ lines) = go (is_separator line) refl where
   go false e = rw e (onto_nothing line (parts_of_lines lines))
 
 -- a separator ends the part
-pub part_ends : (done : List (List ℕ)) (part line tail rest : List ℕ) → whole_lines rest ≡ line ∷ whole_lines tail → is_separator line ≡ true
+pub part_ends : (done : List (List ℕ)) (part line tail rest : List ℕ) → whole_lines rest ≡ line ∷ whole_lines tail
+    → is_separator line ≡ true
     → (done ++ part ∷ []) ++ onto_part [] (parts_of tail) ≡ done ++ onto_part part (parts_of rest)
 part_ends done part line tail rest first e =
     ap (λ parts. (done ++ part ∷ []) ++ parts) (onto_none (whole_lines tail))
@@ -68,24 +73,35 @@ part_grows part line tail rest first e = rw (first, e) (onto_twice part line (pa
 
 -- ---- the parts up to a place, and those of the rest
 
-pub cut_ends : (bytes : List ℕ) (done : List (List ℕ)) (part : List ℕ) (at n : ℕ) → whole_lines (drop at bytes) ≡ take n (drop at bytes) ∷ whole_lines (drop n (drop at bytes))
+pub cut_ends : (bytes : List ℕ) (done : List (List ℕ)) (part : List ℕ) (at n : ℕ)
+    → whole_lines (drop at bytes) ≡ take n (drop at bytes) ∷ whole_lines (drop n (drop at bytes))
     → is_separator (take n (drop at bytes)) ≡ true
-    → (done ++ part ∷ []) ++ onto_part (take (at + n - (at + n)) (drop (at + n) bytes)) (parts_of (drop (at + n) bytes)) ≡ done ++ onto_part part (parts_of (drop at bytes))
+    → (done ++ part ∷ []) ++ onto_part (take (at + n - (at + n)) (drop (at + n) bytes)) (parts_of (drop (at + n) bytes))
+    ≡ done ++ onto_part part (parts_of (drop at bytes))
 cut_ends bytes done part at n first e =
     let none : at + n - (at + n) ≡ 0 = omega arith in
     let rest = drop-drop n at bytes in
     rw (none, ← rest) (part_ends done part (take n (drop at bytes)) (drop n (drop at bytes)) (drop at bytes) first e)
 
-pub cut_grows : (bytes : List ℕ) (start at n : ℕ) → start ≤ at → whole_lines (drop at bytes) ≡ take n (drop at bytes) ∷ whole_lines (drop n (drop at bytes))
+pub cut_grows : (bytes : List ℕ) (start at n : ℕ) → start ≤ at → whole_lines (drop at bytes) ≡ take n (drop at bytes)
+    ∷ whole_lines (drop n (drop at bytes))
     → is_separator (take n (drop at bytes)) ≡ false
-    → onto_part (take (at + n - start) (drop start bytes)) (parts_of (drop (at + n) bytes)) ≡ onto_part (take (at - start) (drop start bytes)) (parts_of (drop at bytes))
+    → onto_part (take (at + n - start) (drop start bytes)) (parts_of (drop (at + n) bytes))
+    ≡ onto_part (take (at - start) (drop start bytes)) (parts_of (drop at bytes))
 cut_grows bytes start at n order first e =
     let sum : at + n - start ≡ (at - start) + n = omega arith in
     let place : start + (at - start) ≡ at = omega arith in
-    let behind : drop (at - start) (drop start bytes) ≡ drop at bytes = drop-drop (at - start) start bytes ∙ ap (λ k. drop k bytes) place in
+    let following : drop (at - start) (drop start bytes) ≡ drop at bytes = drop-drop (at - start) start bytes
+    ∙ ap (λ k. drop k bytes) place in
     let rest = drop-drop n at bytes in
-    rw (sum, take-add (at - start) n (drop start bytes), behind, ← rest) (part_grows (take (at - start) (drop start bytes)) (take n (drop at bytes)) (drop n (drop at bytes)) (drop at bytes) first e)
+    rw (
+      sum,
+      take-add (at - start) n (drop start bytes),
+      following,
+      ← rest,
+    ) (part_grows (take (at - start) (drop start bytes)) (take n (drop at bytes)) (drop n (drop at bytes))
+    (drop at bytes) first e)
 
--- behind the last byte there is nothing
+-- after the last byte there is nothing
 pub cut_whole : (part : List ℕ) (rest : List ℕ) → rest ≡ [] → onto_part part (parts_of rest) ≡ part ∷ []
 cut_whole part rest e = rw (e, append-nil part) refl

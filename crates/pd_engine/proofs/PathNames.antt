@@ -25,14 +25,16 @@ use Rattle.pd_engine.proofs.Zips.{same_at, taken_more}
 nowhere : ProcessNames
 nowhere = record { name = []; vars = [] }
 
-name_at : (names : List ProcessNames) (p : ℕ) (d : ProcessNames) → p < length names → name_of_process names p ≡ (get_or names p d).name
+name_at : (names : List ProcessNames) (p : ℕ) (d : ProcessNames) → p < length names
+    → name_of_process names p ≡ (get_or names p d).name
 name_at [] p d lt = absurd (omega arith)
 name_at (process ∷ names) zero d lt = refl
 name_at (process ∷ names) (suc p) d lt = name_at names p d (omega arith)
 
 -- ---- a name is found
 
-none_found : {X : Type 0} (test : X → Bool) (xs : List X) (k : ℕ) (d : X) → position test xs ≡ None → k < length xs → test (get_or xs k d) ≡ false
+none_found : {X : Type 0} (test : X → Bool) (xs : List X) (k : ℕ) (d : X) → position test xs ≡ None → k < length xs
+    → test (get_or xs k d) ≡ false
 none_found test xs k d none lt = go (cases_lt (position_or_len test xs) (length xs))
   where
     go : (position_or_len test xs < length xs) ⊎ (length xs ≤ position_or_len test xs) → test (get_or xs k d) ≡ false
@@ -42,14 +44,17 @@ none_found test xs k d none lt = go (cases_lt (position_or_len test xs) (length 
 abbrev has_name : List ℕ → ProcessNames → Bool
 has_name name process = bytes_eq process.name name
 
-name_unknown : (names : List ProcessNames) (name : List ℕ) (p : ℕ) → process_named names name ≡ None → p < length names → ¬ (name ≡ name_of_process names p)
+name_unknown : (names : List ProcessNames) (name : List ℕ) (p : ℕ) → process_named names name ≡ None → p < length names
+    → ¬ (name ≡ name_of_process names p)
 name_unknown names name p none lt same =
     let fails : has_name name (get_or names p nowhere) ≡ false = none_found (has_name name) names p nowhere none lt in
     let is : (get_or names p nowhere).name ≡ name = sym (same ∙ name_at names p nowhere lt) in
-    let passes : has_name name (get_or names p nowhere) ≡ true = (bytes_eq-Decides (get_or names p nowhere).name name).1 is in
+    let passes : has_name name (get_or names p nowhere) ≡ true =
+    (bytes_eq-Decides (get_or names p nowhere).name name).1 is in
     false≢true (sym fails ∙ passes)
 
-name_known : (names : List ProcessNames) (name : List ℕ) (p : ℕ) → process_named names name ≡ Some p → (p < length names) × (name ≡ name_of_process names p)
+name_known : (names : List ProcessNames) (name : List ℕ) (p : ℕ) → process_named names name ≡ Some p
+    → (p < length names) × (name ≡ name_of_process names p)
 name_known names name p found =
     let at = position-Some (has_name name) names p nowhere found in
     let is : (get_or names p nowhere).name ≡ name = (bytes_eq-Decides (get_or names p nowhere).name name).0 at.1 in
@@ -57,12 +62,14 @@ name_known names name p found =
 
 -- ---- no two processes have one name
 
-apart : (names : List ProcessNames) (p q : ℕ) → AreDistinct names → p < q → q < length names → ¬ (name_of_process names p ≡ name_of_process names q)
+apart : (names : List ProcessNames) (p q : ℕ) → AreDistinct names → p < q → q < length names
+    → ¬ (name_of_process names p ≡ name_of_process names q)
 apart names p q distinct below lt same =
     let first : p < length names = omega arith in
     distinct.processes p q nowhere below lt (sym (name_at names p nowhere first) ∙ (same ∙ name_at names q nowhere lt))
 
-same_process : (names : List ProcessNames) (p q : ℕ) → AreDistinct names → p < length names → q < length names → name_of_process names p ≡ name_of_process names q → p ≡ q
+same_process : (names : List ProcessNames) (p q : ℕ) → AreDistinct names → p < length names → q < length names
+    → name_of_process names p ≡ name_of_process names q → p ≡ q
 same_process names p q distinct there here same = go (cases_lt p q) (cases_lt q p)
   where
     go : (p < q) ⊎ (q ≤ p) → (q < p) ⊎ (p ≤ q) → p ≡ q
@@ -79,32 +86,41 @@ rest_of_all P x xs all = λ i d lt. all (suc i) d (omega arith)
 abbrev IsThere : List ProcessNames → ℕ → Type 0
 IsThere names p = p < length names
 
-same_path : (names : List ProcessNames) (a b : List ℕ) → AreDistinct names → All (IsThere names) a → All (IsThere names) b → map (name_of_process names) a ≡ map (name_of_process names) b → a ≡ b
+same_path : (names : List ProcessNames) (a b : List ℕ) → AreDistinct names → All (IsThere names) a
+    → All (IsThere names) b → map (name_of_process names) a ≡ map (name_of_process names) b → a ≡ b
 same_path names [] [] distinct in_a in_b same = refl
 same_path names [] (q ∷ b) distinct in_a in_b same = absurd (cc)
 same_path names (p ∷ a) [] distinct in_a in_b same = absurd (cc)
 same_path names (p ∷ a) (q ∷ b) distinct in_a in_b same =
-    let first : p ≡ q = same_process names p q distinct (first_of_all (IsThere names) p a in_a) (first_of_all (IsThere names) q b in_b) (let e : name_of_process names p ≡ name_of_process names q = cc in e) in
-    let rest : a ≡ b = same_path names a b distinct (rest_of_all (IsThere names) p a in_a) (rest_of_all (IsThere names) q b in_b) (let e : map (name_of_process names) a ≡ map (name_of_process names) b = cc in e) in
+    let first : p ≡ q =
+    same_process names p q distinct (first_of_all (IsThere names) p a in_a) (first_of_all (IsThere names) q b in_b)
+    (let e : name_of_process names p ≡ name_of_process names q = cc in e) in
+    let rest : a ≡ b =
+    same_path names a b distinct (rest_of_all (IsThere names) p a in_a) (rest_of_all (IsThere names) q b in_b)
+    (let e : map (name_of_process names) a ≡ map (name_of_process names) b = cc in e) in
     cc
 
 -- ---- the path of names
 
 -- one name that isn't found
-pub no_path : (names : List ProcessNames) (told : List (String Global)) (i : ℕ) (name : String Global) → i < length told → name ≡ get_or told i name → process_named names (string_bytes name) ≡ None → (path : List ℕ) → ¬ AreNamed names (map string_bytes told) path
-no_path names told i name lt is none path named =
-    let at = same_at string_bytes (name_of_process names) told path i name 0 named.1 lt in
+pub no_path : (names : List ProcessNames) (reported : List (String Global)) (i : ℕ) (name : String Global)
+    → i < length reported → name ≡ get_or reported i name → process_named names (string_bytes name) ≡ None
+    → (path : List ℕ) → ¬ AreNamed names (map string_bytes reported) path
+no_path names reported i name lt is none path named =
+    let at = same_at string_bytes (name_of_process names) reported path i name 0 named.1 lt in
     name_unknown names (string_bytes name) (get_or path i 0) none (named.0 i 0 at.0) (ap string_bytes is ∙ at.1)
 
 pub nothing_named : (names : List ProcessNames) → AreNamed names [] []
 nothing_named names = ((λ i d lt. absurd (omega arith)), refl)
 
-pub one_more_named : (names : List ProcessNames) (told : List (String Global)) (i : ℕ) (name : String Global) (path : List ℕ) (p : ℕ) → i < length told → name ≡ get_or told i name → process_named names (string_bytes name) ≡ Some p → AreNamed names (map string_bytes (take i told)) path
-    → AreNamed names (map string_bytes (take (i + 1) told)) (path ++ p ∷ [])
-one_more_named names told i name path p lt is found named =
+pub one_more_named : (names : List ProcessNames) (reported : List (String Global)) (i : ℕ) (name : String Global)
+    (path : List ℕ) (p : ℕ) → i < length reported → name ≡ get_or reported i name
+    → process_named names (string_bytes name) ≡ Some p → AreNamed names (map string_bytes (take i reported)) path
+    → AreNamed names (map string_bytes (take (i + 1) reported)) (path ++ p ∷ [])
+one_more_named names reported i name path p lt is found named =
     let known = name_known names (string_bytes name) p found in (
       All-push (IsThere names) path p named.0 known.0,
-      taken_more string_bytes told i name lt is
+      taken_more string_bytes reported i name lt is
           ∙ (ap (λ (before : List (List ℕ)). before ++ string_bytes name ∷ []) named.1
           ∙ (ap (λ (n : List ℕ). map (name_of_process names) path ++ n ∷ []) known.1
           ∙ sym (map-append (name_of_process names) path (p ∷ [])))),
@@ -112,28 +128,41 @@ one_more_named names told i name path p lt is found named =
 
 -- ---- paths that avoid
 
-walked_there : (c : Computation) (test : List ℕ → Bool) (n : ℕ) (cut path : List ℕ) → length cut ≡ n → AvoidsFrom c test cut path → All (λ p. p < n) path
+walked_there : (c : Computation) (test : List ℕ → Bool) (n : ℕ) (cut path : List ℕ) → length cut ≡ n
+    → AvoidsFrom c test cut path → All (λ p. p < n) path
 walked_there c test n cut [] count avoids = λ i d lt. absurd (omega arith)
 walked_there c test n cut (p ∷ path) count avoids =
     let on = (avoids_on c test cut p path (avoids_here c test cut (p ∷ path) avoids)).0 avoids in
     let there : p < length cut = on.0 in
-    All-cons (λ p. p < n) p path (omega arith) (walked_there c test n (one_more cut p) path (length-set cut p _ ∙ count) on.1)
+    All-cons (λ p. p < n) p path (omega arith) (walked_there c test n (one_more cut p) path (length-set cut p _ ∙ count)
+    on.1)
 
-path_there : (c : Computation) (test : List ℕ → Bool) (n : ℕ) (path : List ℕ) → length c ≡ n → IsAvoidingObservation c test path → All (λ p. p < n) path
-path_there c test n path count avoids = walked_there c test n (empty_cut c) path (length-map c (λ (events : List Event). 0) ∙ count) avoids
+path_there : (c : Computation) (test : List ℕ → Bool) (n : ℕ) (path : List ℕ) → length c ≡ n
+    → IsAvoidingObservation c test path → All (λ p. p < n) path
+path_there c test n path count avoids =
+    walked_there c test n (empty_cut c) path (length-map c (λ (events : List Event). 0) ∙ count) avoids
 
 -- the names found are those of the only path
-pub only_path : (names : List ProcessNames) (c : Computation) (test : List ℕ → Bool) (told : List (List ℕ)) (path : List ℕ) (good : Bool) → AreDistinct names → length c ≡ length names → AreNamed names told path → IsTrue good ↔ IsAvoidingObservation c test path → IsTrue good ↔ IsGoodPath names c test told
-only_path names c test told path good distinct count named exact = (to, from)
+pub only_path : (names : List ProcessNames) (c : Computation) (test : List ℕ → Bool) (reported : List (List ℕ))
+    (path : List ℕ) (good : Bool) → AreDistinct names → length c ≡ length names → AreNamed names reported path
+    → IsTrue good ↔ IsAvoidingObservation c test path → IsTrue good ↔ IsGoodPath names c test reported
+only_path names c test reported path good distinct count named exact = (to, from)
   where
-    to : IsTrue good → IsGoodPath names c test told
+    to : IsTrue good → IsGoodPath names c test reported
     to yes' = record { path = path; named = named.1; avoids = exact.0 yes' }
 
-    from : IsGoodPath names c test told → IsTrue good
+    from : IsGoodPath names c test reported → IsTrue good
     from shown =
-        let same : shown.path ≡ path = same_path names shown.path path distinct (path_there c test (length names) shown.path count shown.avoids) named.0 (sym shown.named ∙ named.1) in
+        let same : shown.path ≡ path =
+        same_path names shown.path path distinct (path_there c test (length names) shown.path count shown.avoids)
+        named.0 (sym shown.named ∙ named.1) in
         exact.1 (subst (IsAvoidingObservation c test) same shown.avoids)
 
-pub without_path : (names : List ProcessNames) (c : Computation) (test : List ℕ → Bool) (told : List (List ℕ)) → length c ≡ length names → ((path : List ℕ) → ¬ AreNamed names told path) → IsTrue false ↔ IsGoodPath names c test told
-without_path names c test told count none =
-    (λ no'. absurd (false≢true no'), λ shown. absurd (none shown.path (path_there c test (length names) shown.path count shown.avoids, shown.named)))
+pub without_path : (names : List ProcessNames) (c : Computation) (test : List ℕ → Bool) (reported : List (List ℕ))
+    → length c ≡ length names → ((path : List ℕ) → ¬ AreNamed names reported path) → IsTrue false
+    ↔ IsGoodPath names c test reported
+without_path names c test reported count none = (
+  λ no'. absurd (false≢true no'),
+  λ shown.
+      absurd (none shown.path (path_there c test (length names) shown.path count shown.avoids, shown.named)),
+)

@@ -6,11 +6,11 @@ use Rattle.std.proofs.lemmas.List.Elements.{All-cons}
 use Rattle.pd_model.specs.Events.{Computation, Event}
 use Rattle.pd_model.specs.Cuts.{full_cut, one_less}
 use Rattle.pd_model.specs.Answers.{IsUndoing, IsPrintedPath, IsDefinitelyAnswer}
-use Rattle.pd_definitely.specs.Answers.{answer_of}
+use Rattle.pd_definitely.specs.Answers.{definitely_answer_view}
 use Rattle.pd_definitely.specs.declared.answer.DefinitelyAnswer.{DefinitelyAnswer}
 use Rattle.pd_definitely.specs.declared.answer.DefinitelyAnswer.TheVariants.{Yes, No, Unknown}
-use Rattle.pd_engine.specs.Paths.{IsTold}
-use Rattle.pd_engine.proofs.RefusedPlaces.{all_ahead, all_behind}
+use Rattle.pd_engine.specs.Paths.{HasProcessesBelow}
+use Rattle.pd_engine.proofs.RefusedPlaces.{all_ahead, all_after}
 
 -- a process with a count is there
 counted_process : (cut : List ℕ) (p : ℕ) → 0 < get_or cut p 0 → p < length cut
@@ -20,23 +20,31 @@ counted_process cut p some = go (cases_lt p (length cut))
     go (inl lt) = lt
     go (inr le) = let none : get_or cut p 0 ≡ 0 = get_or_past cut p 0 le in absurd (omega (arith, some, none))
 
-undone_processes : (c : Computation) (test : List ℕ → Bool) (n : ℕ) (cut path : List ℕ) → length cut ≡ n → IsUndoing c test cut path → All (λ p. p < n) path
+undone_processes : (c : Computation) (test : List ℕ → Bool) (n : ℕ) (cut path : List ℕ) → length cut ≡ n
+    → IsUndoing c test cut path → All (λ p. p < n) path
 undone_processes c test n cut [] e undone = λ k d below. absurd (omega arith)
 undone_processes c test n cut (p ∷ rest) e undone =
     let lt : p < length cut = counted_process cut p undone.0.0 in
-    All-cons (λ p. p < n) p rest (omega (arith, lt, e)) (undone_processes c test n (one_less cut p) rest (length-set cut p _ ∙ e) undone.2)
+    All-cons (λ p. p < n) p rest (omega (arith, lt, e))
+    (undone_processes c test n (one_less cut p) rest (length-set cut p _ ∙ e) undone.2)
 
 all_reversed : (P : ℕ → Type 0) (xs : List ℕ) → All P (reverse xs) → All P xs
 all_reversed P [] all = all
 all_reversed P (x ∷ xs) all =
     let turned : All P (reverse xs ++ x ∷ []) = subst (All P) (reverse-append (x ∷ []) xs) all in
-    All-cons P x xs (all_behind P (reverse xs) (x ∷ []) turned 0 x (omega arith)) (all_reversed P xs (all_ahead P (reverse xs) (x ∷ []) turned))
+    All-cons P x xs (all_after P (reverse xs) (x ∷ []) turned 0 x (omega arith))
+    (all_reversed P xs (all_ahead P (reverse xs) (x ∷ []) turned))
 
-path_processes : (c : Computation) (test : List ℕ → Bool) (path : List ℕ) → IsPrintedPath c test path → All (λ p. p < length c) path
+path_processes : (c : Computation) (test : List ℕ → Bool) (path : List ℕ) → IsPrintedPath c test path
+    → All (λ p. p < length c) path
 path_processes c test path printed =
-    all_reversed (λ p. p < length c) path (undone_processes c test (length c) (full_cut c) (reverse path) (length-map c (λ (events : List Event). length events)) printed.1)
+    all_reversed (λ p. p < length c) path
+    (undone_processes c test (length c) (full_cut c) (reverse path)
+    (length-map c (λ (events : List Event). length events)) printed.1)
 
-pub answer_told : (c : Computation) (test : List ℕ → Bool) (width n : ℕ) (answer : DefinitelyAnswer) → length c ≡ n → IsDefinitelyAnswer c test width (answer_of answer) → IsTold n answer
-answer_told c test width n (Yes level) e right = tt
-answer_told c test width n (No path) e right = subst (λ m. All (λ p. p < m) path.items) e (path_processes c test path.items right.2)
-answer_told c test width n (Unknown level) e right = tt
+pub answer_reported : (c : Computation) (test : List ℕ → Bool) (width n : ℕ) (answer : DefinitelyAnswer) → length c ≡ n
+    → IsDefinitelyAnswer c test width (definitely_answer_view answer) → HasProcessesBelow n answer
+answer_reported c test width n (Yes level) e right = tt
+answer_reported c test width n (No path) e right =
+    subst (λ m. All (λ p. p < m) path.items) e (path_processes c test path.items right.2)
+answer_reported c test width n (Unknown level) e right = tt

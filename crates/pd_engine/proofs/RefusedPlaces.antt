@@ -11,10 +11,10 @@ use Rattle.pd_model.specs.Messages.{IsReported}
 use Rattle.pd_model.specs.Order.{IsStuck, GoesBackTo, IsReportedCycle}
 use Rattle.pd_model.proofs.Chains.{event_from_kind, events_of_happens}
 use Rattle.pd_format.specs.Names.{ProcessNames}
-use Rattle.pd_clock.specs.Orders.{cycle_seen, places_seen}
+use Rattle.pd_clock.specs.Orders.{cycle_view, places_view}
 use Rattle.pd_clock.specs.declared.fault.BuildFault.{BuildFault}
 use Rattle.pd_clock.specs.declared.fault.BuildFault.TheVariants.{Cycle}
-use Rattle.pd_match.specs.Views.{fault_seen, place_seen}
+use Rattle.pd_match.specs.Views.{match_fault_view, place_view}
 use Rattle.pd_match.specs.declared.place.Place.{Place as Stands}
 use Rattle.pd_match.specs.declared.fault.MatchFault.{MatchFault}
 use Rattle.pd_match.specs.declared.fault.MatchFault.TheVariants as faults
@@ -32,15 +32,20 @@ event_process c e is = go (cases_lt e.process (length c))
         absurd (omega (arith, is.0, is.1, count))
 
 -- the place that a fault of messages tells
-pub place_named : (names : List ProcessNames) (c : Computation) (fault : MatchFault) → length c ≡ length names → IfSome (fault_seen fault) (IsReported c) → NamesPlace names fault
+pub place_named : (names : List ProcessNames) (c : Computation) (fault : MatchFault) → length c ≡ length names
+    → IfSome (match_fault_view fault) (IsReported c) → NamesPlace names fault
 place_named names c (faults.SendTwice place) same r =
-    let lt : place.process < length c = event_process c (place_seen place) (event_from_kind c (place_seen place) _ r.0.2) in omega (arith, same, lt)
+    let lt : place.process < length c =
+    event_process c (place_view place) (event_from_kind c (place_view place) _ r.0.2) in omega (arith, same, lt)
 place_named names c (faults.Orphan place) same r =
-    let lt : place.process < length c = event_process c (place_seen place) (event_from_kind c (place_seen place) _ r.2.1) in omega (arith, same, lt)
+    let lt : place.process < length c =
+    event_process c (place_view place) (event_from_kind c (place_view place) _ r.2.1) in omega (arith, same, lt)
 place_named names c (faults.SelfMessage place) same r =
-    let lt : place.process < length c = event_process c (place_seen place) (event_from_kind c (place_seen place) _ r.3.2) in omega (arith, same, lt)
+    let lt : place.process < length c =
+    event_process c (place_view place) (event_from_kind c (place_view place) _ r.3.2) in omega (arith, same, lt)
 place_named names c (faults.ReceivedTwice place) same r =
-    let lt : place.process < length c = event_process c (place_seen place) (event_from_kind c (place_seen place) _ r.4.2) in omega (arith, same, lt)
+    let lt : place.process < length c =
+    event_process c (place_view place) (event_from_kind c (place_view place) _ r.4.2) in omega (arith, same, lt)
 place_named names c faults.Memory same r = tt
 
 -- ---- cycles
@@ -49,43 +54,54 @@ stuck_is_event : (c : Computation) (e : Place) → IsStuck c e → IsEvent c e
 stuck_is_event c e stuck = (events_of_happens c stuck.0 e stuck.2).1
 
 -- what each place goes back to is an event
-linked_events : (c : Computation) (places : List Place) (first : Place) → first_of places ≡ Some first → IsEvent c first → Linked (GoesBackTo c) places → All (IsEvent c) places
+linked_events : (c : Computation) (places : List Place) (first : Place) → first_of places ≡ Some first → IsEvent c first
+    → Linked (GoesBackTo c) places → All (IsEvent c) places
 linked_events c [] first e is linked = absurd (cc)
 linked_events c (x ∷ []) first e is linked =
     let same : x ≡ first = cc in
     All-cons (IsEvent c) x [] (subst (IsEvent c) (sym same) is) (λ k d below. absurd (omega arith))
 linked_events c (x ∷ y ∷ rest) first e is linked =
     let same : x ≡ first = cc in
-    All-cons (IsEvent c) x (y ∷ rest) (subst (IsEvent c) (sym same) is) (linked_events c (y ∷ rest) y refl (stuck_is_event c y linked.0.0.0) linked.1)
+    All-cons (IsEvent c) x (y ∷ rest) (subst (IsEvent c) (sym same) is)
+    (linked_events c (y ∷ rest) y refl (stuck_is_event c y linked.0.0.0) linked.1)
 
-first_longer : (xs ys zs : List Place) (first : Place) → first_of (xs ++ ys) ≡ Some first → first_of (xs ++ (ys ++ zs)) ≡ Some first
+first_longer : (xs ys zs : List Place) (first : Place) → first_of (xs ++ ys) ≡ Some first
+    → first_of (xs ++ (ys ++ zs)) ≡ Some first
 first_longer [] [] zs first e = absurd (cc)
 first_longer [] (y ∷ ys) zs first e = e
 first_longer (x ∷ xs) ys zs first e = e
 
-pub all_behind : {A : Type 0} (P : A → Type 0) (xs ys : List A) → All P (xs ++ ys) → All P ys
-all_behind P [] ys all = all
-all_behind P (x ∷ xs) ys all = all_behind P xs ys (λ k d below. all (suc k) d (omega (arith, below)))
+pub all_after : {A : Type 0} (P : A → Type 0) (xs ys : List A) → All P (xs ++ ys) → All P ys
+all_after P [] ys all = all
+all_after P (x ∷ xs) ys all = all_after P xs ys (λ k d below. all (suc k) d (omega (arith, below)))
 
 pub all_ahead : {A : Type 0} (P : A → Type 0) (xs ys : List A) → All P (xs ++ ys) → All P xs
 all_ahead P [] ys all = λ k d below. absurd (omega arith)
-all_ahead P (x ∷ xs) ys all = All-cons P x xs (all 0 x (omega arith)) (all_ahead P xs ys (λ k d below. all (suc k) d (omega (arith, below))))
+all_ahead P (x ∷ xs) ys all =
+    All-cons P x xs (all 0 x (omega arith)) (all_ahead P xs ys (λ k d below. all (suc k) d (omega (arith, below))))
 
 cycle_events : (c : Computation) (cycle : List Place) → IsReportedCycle c cycle → All (IsEvent c) cycle
 cycle_events c cycle r =
-    let first : first_of (r.before ++ (cycle ++ r.start ∷ [])) ≡ Some r.first = first_longer r.before cycle (r.start ∷ []) r.first r.begins in
-    let all : All (IsEvent c) (r.before ++ (cycle ++ r.start ∷ [])) = linked_events c (r.before ++ (cycle ++ r.start ∷ [])) r.first first (stuck_is_event c r.first r.least.0.0) (subst (Linked (GoesBackTo c)) (append_assoc r.before cycle (r.start ∷ [])) r.steps) in
-    all_ahead (IsEvent c) cycle (r.start ∷ []) (all_behind (IsEvent c) r.before (cycle ++ r.start ∷ []) all)
+    let first : first_of (r.before ++ (cycle ++ r.start ∷ [])) ≡ Some r.first =
+    first_longer r.before cycle (r.start ∷ []) r.first r.begins in
+    let all : All (IsEvent c) (r.before ++ (cycle ++ r.start ∷ [])) =
+    linked_events c (r.before ++ (cycle ++ r.start ∷ [])) r.first first (stuck_is_event c r.first r.least.0.0)
+    (subst (Linked (GoesBackTo c)) (append_assoc r.before cycle (r.start ∷ [])) r.steps) in
+    all_ahead (IsEvent c) cycle (r.start ∷ []) (all_after (IsEvent c) r.before (cycle ++ r.start ∷ []) all)
 
 -- the places of a cycle
-pub cycle_named : (names : List ProcessNames) (c : Computation) (cycle : List Stands) → length c ≡ length names → IsReportedCycle c (places_seen cycle) → All (HasNames names) cycle
+pub cycle_named : (names : List ProcessNames) (c : Computation) (cycle : List Stands) → length c ≡ length names
+    → IsReportedCycle c (places_view cycle) → All (HasNames names) cycle
 cycle_named names c cycle same r k d below =
-    let within : k < length (places_seen cycle) = rw (length-map cycle place_seen) below in
-    let at : get_or (places_seen cycle) k (place_seen d) ≡ place_seen (get_or cycle k d) = get_or-map place_seen cycle k d in
-    let is : IsEvent c (place_seen (get_or cycle k d)) = subst (IsEvent c) at (cycle_events c (places_seen cycle) r k (place_seen d) within) in
-    let lt : (get_or cycle k d).process < length c = event_process c (place_seen (get_or cycle k d)) is in
+    let within : k < length (places_view cycle) = rw (length-map cycle place_view) below in
+    let at : get_or (places_view cycle) k (place_view d) ≡ place_view (get_or cycle k d) =
+    get_or-map place_view cycle k d in
+    let is : IsEvent c (place_view (get_or cycle k d)) =
+    subst (IsEvent c) at (cycle_events c (places_view cycle) r k (place_view d) within) in
+    let lt : (get_or cycle k d).process < length c = event_process c (place_view (get_or cycle k d)) is in
     omega (arith, same, lt)
 
 -- the cycle that a fault tells
-pub cycle_told : (P : List Place → Type 0) (fault : BuildFault) (cycle : Vec Stands Global) → fault ≡ Cycle cycle → IfSome (cycle_seen fault) P → P (places_seen cycle.items)
-cycle_told P fault cycle is told = subst (λ (f : BuildFault). IfSome (cycle_seen f) P) is told
+pub cycle_reported : (P : List Place → Type 0) (fault : BuildFault) (cycle : Vec Stands Global) → fault ≡ Cycle cycle
+    → IfSome (cycle_view fault) P → P (places_view cycle.items)
+cycle_reported P fault cycle is reported = subst (λ (f : BuildFault). IfSome (cycle_view f) P) is reported

@@ -14,17 +14,21 @@ whole_input input bytes n e le = e ∙ go (cases_lt n (length input))
         absurd (omega (arith, length-take (n + 1) input))
     go (inr short) = take_all (n + 1) input (omega arith)
 
-pub short_input : (known : Option (List ℕ)) (bytes : List ℕ) (n : ℕ) → IfSome known (λ input. bytes ≡ take (n + 1) input) → length bytes ≤ n → IfSome known (λ input. length input ≤ n)
+pub short_input : (known : Option (List ℕ)) (bytes : List ℕ) (n : ℕ)
+    → IfSome known (λ input. bytes ≡ take (n + 1) input) → length bytes ≤ n → IfSome known (λ input. length input ≤ n)
 short_input None bytes n e le = tt
-short_input (Some input) bytes n e le = let same : length bytes ≡ length input = rw (whole_input input bytes n e le) refl in omega arith
+short_input (Some input) bytes n e le = let same : length bytes ≡ length input =
+    rw (whole_input input bytes n e le) refl in omega arith
 
-pub long_input : (known : Option (List ℕ)) (bytes : List ℕ) (n : ℕ) → IfSome known (λ input. bytes ≡ take (n + 1) input) → n < length bytes → IfSome known (λ input. n < length input)
+pub long_input : (known : Option (List ℕ)) (bytes : List ℕ) (n : ℕ) → IfSome known (λ input. bytes ≡ take (n + 1) input)
+    → n < length bytes → IfSome known (λ input. n < length input)
 long_input None bytes n e lt = tt
 long_input (Some input) bytes n e lt =
     let count : length bytes ≡ length (take (n + 1) input) = rw e refl in
     omega (arith, length-take (n + 1) input)
 
 -- what holds of the bytes read within the limit holds of the input
-pub of_input : (known : Option (List ℕ)) (bytes : List ℕ) (n : ℕ) (P : List ℕ → Type 0) → IfSome known (λ input. bytes ≡ take (n + 1) input) → length bytes ≤ n → P bytes → IfSome known P
+pub of_input : (known : Option (List ℕ)) (bytes : List ℕ) (n : ℕ) (P : List ℕ → Type 0)
+    → IfSome known (λ input. bytes ≡ take (n + 1) input) → length bytes ≤ n → P bytes → IfSome known P
 of_input None bytes n P e le p = tt
 of_input (Some input) bytes n P e le p = rw (sym (whole_input input bytes n e le)) p

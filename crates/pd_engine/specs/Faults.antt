@@ -4,6 +4,6 @@ use Rattle.pd_engine.specs.declared.fault.EngineFault.TheVariants as engine
 use Rattle.pd_report.specs.declared.fault.WriteFault.{WriteFault}
 use Rattle.pd_report.specs.declared.fault.WriteFault.TheVariants as reports
 
-abbrev pub fault_of : WriteFault → EngineFault
-fault_of reports.Memory = engine.Memory
-fault_of reports.Write = engine.Write
+abbrev pub engine_fault : WriteFault → EngineFault
+engine_fault reports.Memory = engine.Memory
+engine_fault reports.Write = engine.Write

@@ -11,22 +11,27 @@ use Rattle.pd_engine.specs.declared.finding.Checked.{Checked}
 use Rattle.pd_engine.specs.declared.finding.Finding.{Finding}
 use Rattle.pd_engine.specs.declared.finding.Finding.TheVariants.{NotRead, OfRefusal, OfSession}
 
-abbrev pub verdict_of : Verdict → texts.Verdict
-verdict_of Good = texts.Good
-verdict_of Bad = texts.Bad
-verdict_of Unchecked = texts.Unchecked
+abbrev pub verdict_view : Verdict → texts.Verdict
+verdict_view Good = texts.Good
+verdict_view Bad = texts.Bad
+verdict_view Unchecked = texts.Unchecked
 
-abbrev pub checked_of : Checked → texts.Checked
-checked_of checked = record { name = string_bytes checked.name; possibly = verdict_of checked.possibly; definitely = verdict_of checked.definitely }
+abbrev pub checked_view : Checked → texts.Checked
+checked_view checked = record {
+  name = string_bytes checked.name;
+  possibly = verdict_view checked.possibly;
+  definitely =
+      verdict_view checked.definitely;
+}
 
-abbrev pub answers_of : Option (Vec Checked Global) → Option (List texts.Checked)
-answers_of None = None
-answers_of (Some answers) = Some (map checked_of answers.items)
+abbrev pub verdicts_view : Option (Vec Checked Global) → Option (List texts.Checked)
+verdicts_view None = None
+verdicts_view (Some answers) = Some (map checked_view answers.items)
 
-abbrev pub finding_of : Finding → texts.Finding
-finding_of (NotRead line) = texts.NotRead line
-finding_of (OfRefusal good) = texts.OfRefusal good
-finding_of (OfSession good answers) = texts.OfSession good (answers_of answers)
+abbrev pub finding_view : Finding → texts.Finding
+finding_view (NotRead line) = texts.NotRead line
+finding_view (OfRefusal good) = texts.OfRefusal good
+finding_view (OfSession good answers) = texts.OfSession good (verdicts_view answers)
 
 -- the line of a verdict on an answer, with its LF; the modality stands between spaces
 abbrev pub answer_line : (name modality : List ℕ) → texts.Verdict → List ℕ
@@ -42,4 +47,4 @@ unread_line line = codes "report line " ++ (decimal line ++ line_feed ∷ [])
 
 -- the lines of verdicts, each with its LF
 abbrev pub verdicts_text : List Checked → List ℕ
-verdicts_text answers = flat_map (λ checked. text_of_lines (checked_lines (checked_of checked))) answers
+verdicts_text answers = flat_map (λ checked. text_of_lines (checked_lines (checked_view checked))) answers

@@ -10,5 +10,5 @@ use Rattle.pd_format.specs.Reports.{Answer, Report, Judged}
 -- the report has the numbers of processes, of events and of messages, and for each predicate its answer
 pub record IsJudged (document : Document) (recorded : Recorded) (messages : ℕ) (report : Report) : Type 0 where
   pub answers : List Answer
-  pub told : report ≡ Judged (length document.names) (total recorded.events) messages answers
+  pub reported : report ≡ Judged (length document.names) (total recorded.events) messages answers
   pub answered : AllZip (IsAnswered document.names recorded document.width) document.predicates answers

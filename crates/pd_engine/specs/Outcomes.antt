@@ -15,11 +15,11 @@ outcome_of (Refused refusal) = outcomes.Refused
 pub record WritesReport (bundle : List ℕ) (outcome : Outcome) (old new : Option (List ℕ)) : Type 0 where
   pub report : Report
   pub right : IsReportOfBundle bundle report
-  pub told : outcome ≡ outcome_of report
+  pub reported : outcome ≡ outcome_of report
   pub written : Appends old new (report_text report)
 
--- a front of that text is written, and not all of it
-pub record WritesFront (bundle : List ℕ) (old new : Option (List ℕ)) : Type 0 where
+-- a prefix of that text is written, and not all of it
+pub record WritesPrefix (bundle : List ℕ) (old new : Option (List ℕ)) : Type 0 where
   pub report : Report
   pub right : IsReportOfBundle bundle report
   pub taken : ℕ

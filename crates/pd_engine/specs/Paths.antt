@@ -4,7 +4,7 @@ use Rattle.pd_definitely.specs.declared.answer.DefinitelyAnswer.{DefinitelyAnswe
 use Rattle.pd_definitely.specs.declared.answer.DefinitelyAnswer.TheVariants.{Yes, No, Unknown}
 
 -- each process of the observation is one of so many
-abbrev pub IsTold : ℕ → DefinitelyAnswer → Type 0
-IsTold processes (Yes level) = Unit {0}
-IsTold processes (No path) = All (λ p. p < processes) path.items
-IsTold processes (Unknown level) = Unit {0}
+abbrev pub HasProcessesBelow : ℕ → DefinitelyAnswer → Type 0
+HasProcessesBelow processes (Yes level) = Unit {0}
+HasProcessesBelow processes (No path) = All (λ p. p < processes) path.items
+HasProcessesBelow processes (Unknown level) = Unit {0}

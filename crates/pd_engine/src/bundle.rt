@@ -25,9 +25,9 @@ fn is_separator(line: &[u8]) -> bool
     matches!(line, b"---" | b"---\r" | b"---\n" | b"---\r\n")
 }
 
-/// The bytes between separator lines: first the document, and then the streams. With no separator there is one part, and
-/// a separator at the end begins an empty one. A separator is `---`, with a CR behind it or none, and ends with an LF or
-/// with the bytes.
+/// The bytes between separator lines: first the document, and then the streams. With no separator there is one part,
+/// and a separator at the end begins an empty one. A separator is `---`, with a CR after it or none, and ends with an
+/// LF or with the bytes.
 ///
 /// # Errors
 /// Where memory runs out.

@@ -1,15 +1,16 @@
 //! The report of a bundle.
-ghost use Rattle.pd_engine.specs.Openings.{HasFed, IsOpened, joined, whole_stream};
-ghost use Rattle.pd_engine.specs.Outcomes.{WritesFront, WritesReport};
+ghost use Rattle.pd_engine.specs.Openings.{HasFed, IsOpened, joined_pieces_of, whole_stream};
+ghost use Rattle.pd_engine.specs.Outcomes.{WritesPrefix, WritesReport};
 ghost use Rattle.pd_engine.specs.Truths.{WritesTruth};
 ghost use Rattle.pd_report.specs.Views as views;
-ghost use Rattle.pd_format.specs.Bundles.{bundle_limit, parts_of};
-ghost use Rattle.pd_format.specs.Judgements.{IsReportOfBundle, ended_streams, outcomes_of};
+ghost use Rattle.pd_format.specs.Bundles.{parts_of};
+ghost use Rattle.pd_format.specs.Limits.{bundle_byte_limit};
+ghost use Rattle.pd_format.specs.Judgements.{IsReportOfBundle, ended_streams, results_of};
 ghost use Rattle.pd_format.specs.Names.{ProcessNames};
 ghost use Rattle.pd_format.specs.Sessions.{Interleaving};
 ghost use Rattle.pd_gather.specs.Taken.{HasTaken};
-ghost use Rattle.pd_gather.specs.Views.{ReadingFits, outcomes_seen};
-ghost use Rattle.pd_spec.specs.Views.{document_of};
+ghost use Rattle.pd_gather.specs.Views.{ReadingFits, results_view};
+ghost use Rattle.pd_spec.specs.Views.{document_view};
 ghost use Rattle.std.specs.Io.KnownBytes.{Keeps};
 ghost use Rattle.std.specs.Prelude.{◌≡◌, ◌<◌, ◌≤◌, ◌++◌, ℕ, List, All, IfOk, IfSome, OnOk, IsOkUnless, Ok, Err, length, map};
 
@@ -46,7 +47,8 @@ pub(crate) enum Opened {
 fn feed_whole(core: &mut Core<'_>, stream: usize, bytes: &[u8]) -> Result<(), AllocError>
     requires { stream < length core.old }
     ensures fed { OnOk result ((names : List ProcessNames) (steps : Interleaving) → HasTaken core.old names steps →
-        (pieces : List (List ℕ)) × (joined pieces ≡ bytes.now) × HasTaken core.new names (steps ++ whole_stream stream pieces)) }
+        (pieces : List (List ℕ)) × (joined_pieces_of pieces ≡ bytes.now)
+        × HasTaken core.new names (steps ++ whole_stream stream pieces)) }
     ensures streams { length core.new ≡ length core.old }
 {
     let mut rest = bytes;
@@ -61,8 +63,9 @@ fn feed_whole(core: &mut Core<'_>, stream: usize, bytes: &[u8]) -> Result<(), Al
 /// What whole streams give. Where they are too many, they aren't read.
 fn gather_whole(alloc: Global, spec: &Spec, streams: &[&[u8]]) -> Result<Gathered, AllocError>
     ensures streams { IfOk result (λ gathered. gathered.streams ≡ length streams.now) }
-    ensures told { IfOk result (λ gathered. length streams.now ≤ 16 → outcomes_seen gathered.readings.items ≡ outcomes_of (document_of spec.now).names (ended_streams (map (λ stream. stream.now) streams.now))) }
-    ensures fit { IfOk result (λ gathered. All (ReadingFits (document_of spec.now).names) gathered.readings.items) }
+    ensures reported { IfOk result (λ gathered. length streams.now ≤ 16 → results_view gathered.readings.items
+        ≡ results_of (document_view spec.now).names (ended_streams (map (λ stream. stream.now) streams.now))) }
+    ensures fit { IfOk result (λ gathered. All (ReadingFits (document_view spec.now).names) gathered.readings.items) }
 {
     if streams.len() > MAX_STREAMS {
         return Ok(Gathered {
@@ -109,7 +112,7 @@ fn bundle_report<S: RandomSource, G: Gate + Sync>(
     workers: u64,
     gate: &G,
 ) -> Result<Report, EngineFault>
-    ensures report { IfOk result (λ report. IsReportOfBundle bundle.items (views.report_of report)) }
+    ensures report { IfOk result (λ report. IsReportOfBundle bundle.items (views.report_view report)) }
     ensures err { IsOkUnless result EngineFault.Memory }
 {
     match open(alloc, bundle)? {
@@ -129,10 +132,11 @@ fn write_judged<S: RandomSource, R: Read + Drop, W: Write, G: Gate + Sync>(
 ) -> Result<Outcome, EngineFault>
     ensures written { IfOk result (λ outcome. IfSome (R.remaining reader) (λ input.
         WritesReport input outcome (W.contents writer.old) (W.contents writer.new))) }
-    ensures short { IfOk result (λ outcome. IfSome (R.remaining reader) (λ input. length input ≤ bundle_limit)) }
-    ensures long { result ≡ Err EngineFault.BundleLong → IfSome (R.remaining reader) (λ input. bundle_limit < length input) }
+    ensures short { IfOk result (λ outcome. IfSome (R.remaining reader) (λ input. length input ≤ bundle_byte_limit)) }
+    ensures long { result ≡ Err EngineFault.BundleLong
+        → IfSome (R.remaining reader) (λ input. bundle_byte_limit < length input) }
     ensures part { result ≡ Err EngineFault.Write → IfSome (R.remaining reader) (λ input.
-        WritesFront input (W.contents writer.old) (W.contents writer.new)) }
+        WritesPrefix input (W.contents writer.old) (W.contents writer.new)) }
     ensures memory { result ≡ Err EngineFault.Memory → Keeps (W.contents writer.old) (W.contents writer.new) }
     ensures read { result ≡ Err EngineFault.Read → Keeps (W.contents writer.old) (W.contents writer.new) }
     ensures unread { result ≡ Err EngineFault.BundleLong → Keeps (W.contents writer.old) (W.contents writer.new) }
@@ -149,8 +153,8 @@ fn write_judged<S: RandomSource, R: Read + Drop, W: Write, G: Gate + Sync>(
 /// Reads a bundle, judges it, and writes its report. `workers`, from 1 to 16, and the gate change nothing yet.
 ///
 /// # Errors
-/// `Memory`, `Read` where the reader fails, and `BundleLong` where it has more than 67,108,864 bytes leave nothing written.
-/// `Write` leaves a front of the report written, and not all of it.
+/// `Memory`, `Read` where the reader fails, and `BundleLong` where it has more than 67,108,864 bytes leave nothing
+/// written. `Write` leaves a prefix of the report written, and not all of it.
 pub fn judge_bundle<S: RandomSource, R: Read + Drop, W: Write, G: Gate + Sync>(
     rt: &S,
     alloc: Global,
@@ -159,18 +163,19 @@ pub fn judge_bundle<S: RandomSource, R: Read + Drop, W: Write, G: Gate + Sync>(
     gate: &G,
     writer: &mut W,
 ) -> Result<Outcome, EngineFault>
-    // What is written is the text of the report that the input's bytes make, which is judged or refused as is told.
+    // What is written is the text of the report that the input's bytes make, which is judged or refused as is reported.
     ensures written { IfOk result (λ outcome. IfSome (R.remaining reader) (λ input.
         WritesReport input outcome (W.contents writer.old) (W.contents writer.new))) }
     // Where the input holds a well-formed session with no level over the width, it tells the truth of each predicate.
     ensures headline { IfOk result (λ outcome. IfSome (R.remaining reader) (λ input.
         WritesTruth input (W.contents writer.old) (W.contents writer.new))) }
-    // The input is too long exactly where that is told.
-    ensures short { IfOk result (λ outcome. IfSome (R.remaining reader) (λ input. length input ≤ bundle_limit)) }
-    ensures long { result ≡ Err EngineFault.BundleLong → IfSome (R.remaining reader) (λ input. bundle_limit < length input) }
-    // A write that fails leaves a front of the text of that report, and every other fault leaves nothing.
+    // The input is too long exactly where that is reported.
+    ensures short { IfOk result (λ outcome. IfSome (R.remaining reader) (λ input. length input ≤ bundle_byte_limit)) }
+    ensures long { result ≡ Err EngineFault.BundleLong
+        → IfSome (R.remaining reader) (λ input. bundle_byte_limit < length input) }
+    // A write that fails leaves a prefix of the text of that report, and every other fault leaves nothing.
     ensures part { result ≡ Err EngineFault.Write → IfSome (R.remaining reader) (λ input.
-        WritesFront input (W.contents writer.old) (W.contents writer.new)) }
+        WritesPrefix input (W.contents writer.old) (W.contents writer.new)) }
     ensures memory { result ≡ Err EngineFault.Memory → Keeps (W.contents writer.old) (W.contents writer.new) }
     ensures read { result ≡ Err EngineFault.Read → Keeps (W.contents writer.old) (W.contents writer.new) }
     ensures unread { result ≡ Err EngineFault.BundleLong → Keeps (W.contents writer.old) (W.contents writer.new) }

@@ -1,11 +1,11 @@
 //! Checks a report's evidence.
-ghost use Rattle.pd_engine.specs.Checks.{Finds, WritesFinding, WritesFindingFront};
+ghost use Rattle.pd_engine.specs.Checks.{Finds, WritesFinding, WritesFindingPrefix};
 ghost use Rattle.pd_engine.specs.Claims.{FindsClaim};
-ghost use Rattle.pd_engine.specs.FindingViews.{finding_of};
-ghost use Rattle.pd_gather.specs.ReadersTold.{AreReadOf};
-ghost use Rattle.pd_gather.specs.Views.{ReadingFits, outcomes_seen};
+ghost use Rattle.pd_engine.specs.FindingViews.{finding_view};
+ghost use Rattle.pd_gather.specs.ReadStreams.{AreReadOf};
+ghost use Rattle.pd_gather.specs.Views.{ReadingFits, results_view};
 ghost use Rattle.pd_report.specs.Views as views;
-ghost use Rattle.pd_spec.specs.Views.{document_of};
+ghost use Rattle.pd_spec.specs.Views.{document_view};
 ghost use Rattle.std.specs.Io.KnownBytes.{Keeps};
 ghost use Rattle.std.specs.Prelude.{◌≡◌, ◌≤◌, ◌⊎◌, All, Err, IfErr, IfOk, IsOkUnless, map, vec_len};
 
@@ -29,8 +29,10 @@ fn gather_few<R: Read + Drop>(
     streams: Vec<R>,
 ) -> Result<Gathered, AllocError>
     ensures streams { IfOk result (λ gathered. gathered.streams ≡ vec_len streams) }
-    ensures read { IfOk result (λ gathered. vec_len streams ≤ 16 → AreReadOf (document_of spec.now).names (map R.remaining streams.items) (outcomes_seen gathered.readings.items)) }
-    ensures fit { IfOk result (λ gathered. All (ReadingFits (document_of spec.now).names) gathered.readings.items) }
+    ensures read { IfOk result (λ gathered. vec_len streams ≤ 16
+        → AreReadOf (document_view spec.now).names (map R.remaining streams.items)
+        (results_view gathered.readings.items)) }
+    ensures fit { IfOk result (λ gathered. All (ReadingFits (document_view spec.now).names) gathered.readings.items) }
 {
     if streams.len() > MAX_STREAMS {
         return Ok(Gathered {
@@ -49,7 +51,8 @@ fn find_claim<S: RandomSource, R: Read + Drop>(
     claimed: &Report,
     streams: Vec<R>,
 ) -> Result<Finding, EngineFault>
-    ensures found { IfOk result (λ finding. FindsClaim spec.now (views.report_of claimed.now) (map R.remaining streams.items) (finding_of finding)) }
+    ensures found { IfOk result (λ finding.
+        FindsClaim spec.now (views.report_view claimed.now) (map R.remaining streams.items) (finding_view finding)) }
     ensures err { IsOkUnless result EngineFault.Memory }
 {
     match Spec::read(alloc, spec) {
@@ -72,7 +75,8 @@ fn find<S: RandomSource, R: Read + Drop>(
     report: &[u8],
     streams: Vec<R>,
 ) -> Result<Finding, EngineFault>
-    ensures found { IfOk result (λ finding. Finds spec.now report.now (map R.remaining streams.items) (finding_of finding)) }
+    ensures found { IfOk result (λ finding.
+        Finds spec.now report.now (map R.remaining streams.items) (finding_view finding)) }
     ensures err { IsOkUnless result EngineFault.Memory }
 {
     match pd_report::read(alloc, report) {
@@ -82,15 +86,16 @@ fn find<S: RandomSource, R: Read + Drop>(
     }
 }
 
-/// Checks a report against the session that it is said to be of, and writes what it finds: that the report's bytes are no
-/// report, and from which line on; or whether the session is refused as the report says; or whether the report's counts and
-/// names are the session's and, for each predicate, whether the cut that is printed is consistent and satisfies, and the
-/// path that is printed is that of an observation with no satisfying cut. The streams are read one after another, and only
-/// where the report is read and the document isn't refused. It tells whether nothing that it found is bad.
+/// Checks a report against the session that it is said to be of, and writes what it finds: that the report's bytes are
+/// no report, and from which line on; or whether the session is refused as the report says; or whether the report's
+/// counts and names are the session's and, for each predicate, whether the cut that is printed is consistent and
+/// satisfies, and the path that is printed is that of an observation with no satisfying cut. The streams are read one
+/// after another, and only where the report is read and the document isn't refused. It tells whether nothing that it
+/// found is bad.
 ///
 /// # Errors
-/// `Memory` leaves nothing written. `Write` leaves a front of the text written, and not all of it. A read that fails is a
-/// fault of its stream.
+/// `Memory` leaves nothing written. `Write` leaves a prefix of the text written, and not all of it. A read that fails
+/// is a fault of its stream.
 pub fn check<S: RandomSource, R: Read + Drop, W: Write>(
     rt: &S,
     alloc: Global,
@@ -99,11 +104,14 @@ pub fn check<S: RandomSource, R: Read + Drop, W: Write>(
     streams: Vec<R>,
     writer: &mut W,
 ) -> Result<bool, EngineFault>
-    // What is written is the text of what the check finds; true is told exactly where no line of it ends with the word `bad`,
-    // and none tells that the report isn't read.
-    ensures written { IfOk result (λ good. WritesFinding spec.now report.now (map R.remaining streams.items) good (W.contents writer.old) (W.contents writer.new)) }
-    // A write that fails leaves a front of that text, and want of memory leaves nothing.
-    ensures part { result ≡ Err EngineFault.Write → WritesFindingFront spec.now report.now (map R.remaining streams.items) (W.contents writer.old) (W.contents writer.new) }
+    // What is written is the text of what the check finds; true is reported exactly where no line of it ends with the
+    // word `bad`, and none tells that the report isn't read.
+    ensures written { IfOk result (λ good. WritesFinding spec.now report.now (map R.remaining streams.items) good
+        (W.contents writer.old) (W.contents writer.new)) }
+    // A write that fails leaves a prefix of that text, and out of memory leaves nothing.
+    ensures part { result ≡ Err EngineFault.Write
+        → WritesFindingPrefix spec.now report.now (map R.remaining streams.items) (W.contents writer.old)
+        (W.contents writer.new) }
     ensures memory { result ≡ Err EngineFault.Memory → Keeps (W.contents writer.old) (W.contents writer.new) }
     ensures err { IfErr result (λ fault. (fault ≡ EngineFault.Memory) ⊎ (fault ≡ EngineFault.Write)) }
 {

@@ -1,14 +1,14 @@
 //! How a report stands to what a session comes to.
 ghost use Rattle.pd_engine.specs.Claims.{HoldsOutcomes, HoldsTraces, IsClaimFinding};
-ghost use Rattle.pd_engine.specs.FindingViews.{finding_of};
+ghost use Rattle.pd_engine.specs.FindingViews.{finding_view};
 ghost use Rattle.pd_engine.specs.Formings.{AreWellFormed};
-ghost use Rattle.pd_format.specs.Judgements.{IsReportOfOutcomes, IsTracesReport};
+ghost use Rattle.pd_format.specs.Judgements.{IsReportOfResults, IsTracesReport};
 ghost use Rattle.pd_format.specs.Readings as readings;
 ghost use Rattle.pd_format.specs.Reports as reports;
-ghost use Rattle.pd_gather.specs.Views.{AreTraces, ReadingFits, outcomes_seen, traces_seen};
+ghost use Rattle.pd_gather.specs.Views.{AreTraces, ReadingFits, results_view, traces_view};
 ghost use Rattle.pd_model.specs.Cuts.{total};
 ghost use Rattle.pd_report.specs.Views as views;
-ghost use Rattle.pd_spec.specs.Views.{document_of};
+ghost use Rattle.pd_spec.specs.Views.{document_view};
 ghost use Rattle.std.specs.Prelude.{◌≡◌, ◌↔◌, List, All, IfOk, IsOkUnless, IsTrue, length};
 
 use super::EngineFault;
@@ -25,10 +25,10 @@ use std::random::RandomSource;
 
 /// Whether the report is this refusal.
 pub(crate) fn is_refusal(claimed: &Report, refusal: &Refusal) -> bool
-    ensures { IsTrue result ↔ (views.report_of claimed.now ≡ reports.Refused (views.refusal_of refusal.now)) }
+    ensures { IsTrue result ↔ (views.report_view claimed.now ≡ reports.Refused (views.refusal_view refusal.now)) }
 {
     match claimed {
-        Report::Refused(told) => same_refusal(told, refusal),
+        Report::Refused(reported) => same_refusal(reported, refusal),
         Report::Judged { .. } => false,
     }
 }
@@ -40,7 +40,8 @@ fn are_counts(
     messages: u64,
     counts: (u64, u64, u64),
 ) -> bool
-    ensures { IsTrue result ↔ ((counts.0 ≡ length (document_of spec.now).names) × (counts.1 ≡ total computation.now.events) × (counts.2 ≡ messages)) }
+    ensures { IsTrue result ↔ ((counts.0 ≡ length (document_view spec.now).names)
+        × (counts.1 ≡ total computation.now.events) × (counts.2 ≡ messages)) }
 {
     let (processes, events, matched) = counts;
     processes == spec.names().processes() as u64
@@ -56,9 +57,11 @@ fn find_formed(
     computation: &Computation<'_>,
     messages: u64,
 ) -> Result<Finding, AllocError>
-    requires { length computation.now.events ≡ length (document_of spec.now).names }
-    ensures { IfOk result (λ finding. (traces : List readings.Trace) → AreWellFormed (document_of spec.now) traces computation.now messages →
-        IsClaimFinding (IsTracesReport (document_of spec.now) traces) (HoldsTraces (document_of spec.now) traces) (views.report_of claimed.now) (finding_of finding)) }
+    requires { length computation.now.events ≡ length (document_view spec.now).names }
+    ensures { IfOk result (λ finding. (traces : List readings.Trace)
+        → AreWellFormed (document_view spec.now) traces computation.now messages →
+        IsClaimFinding (IsTracesReport (document_view spec.now) traces) (HoldsTraces (document_view spec.now) traces)
+        (views.report_view claimed.now) (finding_view finding)) }
 {
     match claimed {
         Report::Judged {
@@ -84,8 +87,11 @@ fn find_traces<S: RandomSource>(
     claimed: &Report,
     traces: &[Trace],
 ) -> Result<Finding, EngineFault>
-    requires { AreTraces (document_of spec.now).names traces.now }
-    ensures found { IfOk result (λ finding. IsClaimFinding (IsTracesReport (document_of spec.now) (traces_seen traces.now)) (HoldsTraces (document_of spec.now) (traces_seen traces.now)) (views.report_of claimed.now) (finding_of finding)) }
+    requires { AreTraces (document_view spec.now).names traces.now }
+    ensures found { IfOk result (λ finding.
+        IsClaimFinding (IsTracesReport (document_view spec.now) (traces_view traces.now))
+        (HoldsTraces (document_view spec.now) (traces_view traces.now)) (views.report_view claimed.now)
+        (finding_view finding)) }
     ensures err { IsOkUnless result EngineFault.Memory }
 {
     match form(rt, alloc, spec, traces)? {
@@ -104,8 +110,12 @@ pub(crate) fn find_gathered<S: RandomSource>(
     claimed: &Report,
     gathered: Gathered,
 ) -> Result<Finding, EngineFault>
-    requires { All (ReadingFits (document_of spec.now).names) gathered.readings.items }
-    ensures found { IfOk result (λ finding. IsClaimFinding (IsReportOfOutcomes (document_of spec.now) gathered.streams (outcomes_seen gathered.readings.items)) (HoldsOutcomes (document_of spec.now) gathered.streams (outcomes_seen gathered.readings.items)) (views.report_of claimed.now) (finding_of finding)) }
+    requires { All (ReadingFits (document_view spec.now).names) gathered.readings.items }
+    ensures found { IfOk result (λ finding.
+        IsClaimFinding (IsReportOfResults (document_view spec.now) gathered.streams
+        (results_view gathered.readings.items))
+        (HoldsOutcomes (document_view spec.now) gathered.streams (results_view gathered.readings.items))
+        (views.report_view claimed.now) (finding_view finding)) }
     ensures err { IsOkUnless result EngineFault.Memory }
 {
     match join(alloc, spec, gathered)? {

@@ -44,9 +44,9 @@ impl<T: Drop> From<AllocFailed<T>> for EngineFault {
 
 impl From<WriteFault> for EngineFault {
     ghost use Rattle.std.specs.Prelude.{◌≡◌};
-    ghost use Rattle.pd_engine.specs.Faults.{fault_of};
+    ghost use Rattle.pd_engine.specs.Faults.{engine_fault};
 
-    ghost from_gives = { λ fault e. e ≡ fault_of fault };
+    ghost from_gives = { λ fault e. e ≡ engine_fault fault };
 
     fn from(fault: WriteFault) -> EngineFault {
         match fault {

@@ -1,5 +1,5 @@
 //! What a check of a report finds.
-ghost use Rattle.pd_engine.specs.FindingViews.{checked_of, finding_of, verdict_of};
+ghost use Rattle.pd_engine.specs.FindingViews.{checked_view, finding_view, verdict_view};
 ghost use Rattle.pd_format.specs.OtherTexts.{by_test};
 ghost use Rattle.pd_judgement.specs.Findings.{has_bad, is_bad, is_clean};
 ghost use Rattle.std.specs.List.{list_any};
@@ -34,22 +34,22 @@ pub(crate) enum Finding {
     NotRead(u64),
     /// The session is refused or the report is a refusal, and whether the report is right.
     OfRefusal(bool),
-    /// The session is well formed and the report has answers: whether the counts are right, and the verdicts on the answers,
-    /// unless their names are wrong.
+    /// The session is well formed and the report has answers: whether the counts are right, and the verdicts on the
+    /// answers, unless their names are wrong.
     OfSession(bool, Option<Vec<Checked>>),
 }
 
 impl Verdict {
     /// The verdict on what is good or not.
     pub(crate) fn by_test(good: bool) -> Verdict
-        ensures { verdict_of result ≡ by_test good }
+        ensures { verdict_view result ≡ by_test good }
     {
         if good { Verdict::Good } else { Verdict::Bad }
     }
 
     /// Whether it is bad.
     fn is_bad(self) -> bool
-        ensures { result ≡ is_bad (verdict_of self) }
+        ensures { result ≡ is_bad (verdict_view self) }
     {
         match self {
             Verdict::Bad => true,
@@ -61,7 +61,7 @@ impl Verdict {
 impl Checked {
     /// Whether one of the verdicts is bad.
     fn has_bad(&self) -> bool
-        ensures { result ≡ has_bad (checked_of self.now) }
+        ensures { result ≡ has_bad (checked_view self.now) }
     {
         self.possibly.is_bad() || self.definitely.is_bad()
     }
@@ -70,7 +70,7 @@ impl Checked {
 impl Finding {
     /// Whether nothing that was found is bad.
     pub(crate) fn is_clean(&self) -> bool
-        ensures { result ≡ is_clean (finding_of self.now) }
+        ensures { result ≡ is_clean (finding_view self.now) }
     {
         match self {
             Finding::NotRead(_) => false,

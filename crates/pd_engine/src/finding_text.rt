@@ -1,5 +1,5 @@
 //! The text of what a check finds.
-ghost use Rattle.pd_engine.specs.FindingViews.{answer_line, checked_of, finding_of, test_line, unread_line, verdict_of, verdicts_text};
+ghost use Rattle.pd_engine.specs.FindingViews.{answer_line, checked_view, finding_view, test_line, unread_line, verdict_view, verdicts_text};
 ghost use Rattle.pd_format.specs.OtherTexts.{check_text, checked_lines, verdict_word};
 ghost use Rattle.pd_format.specs.Lines.{line_feed};
 ghost use Rattle.pd_format.specs.Reports.{text_of_lines};
@@ -11,7 +11,7 @@ use std::alloc::{AllocError, Global};
 
 /// The word for a verdict.
 fn word(verdict: Verdict) -> &'static [u8]
-    ensures { result.now ≡ verdict_word (verdict_of verdict) }
+    ensures { result.now ≡ verdict_word (verdict_view verdict) }
 {
     match verdict {
         Verdict::Good => b"good",
@@ -22,7 +22,7 @@ fn word(verdict: Verdict) -> &'static [u8]
 
 /// Appends a verdict's word, and an LF.
 fn push_verdict(out: &mut Vec<u8>, verdict: Verdict) -> Result<(), AllocError>
-    ensures { OnOk result (out.new.items ≡ out.old.items ++ (verdict_word (verdict_of verdict) ++ line_feed ∷ [])) }
+    ensures { OnOk result (out.new.items ≡ out.old.items ++ (verdict_word (verdict_view verdict) ++ line_feed ∷ [])) }
 {
     push_bytes(out, word(verdict))?;
     push_bytes(out, b"\n")
@@ -35,7 +35,7 @@ fn push_answer(
     modality: &[u8],
     verdict: Verdict,
 ) -> Result<(), AllocError>
-    ensures { OnOk result (out.new.items ≡ out.old.items ++ answer_line name.now modality.now (verdict_of verdict)) }
+    ensures { OnOk result (out.new.items ≡ out.old.items ++ answer_line name.now modality.now (verdict_view verdict)) }
 {
     push_bytes(out, name.as_bytes())?;
     push_bytes(out, modality)?;
@@ -44,7 +44,7 @@ fn push_answer(
 
 /// Appends the two lines of one predicate.
 fn push_checked(out: &mut Vec<u8>, checked: &Checked) -> Result<(), AllocError>
-    ensures { OnOk result (out.new.items ≡ out.old.items ++ text_of_lines (checked_lines (checked_of checked.now))) }
+    ensures { OnOk result (out.new.items ≡ out.old.items ++ text_of_lines (checked_lines (checked_view checked.now))) }
 {
     push_answer(out, &checked.name, b" possibly ", checked.possibly)?;
     push_answer(out, &checked.name, b" definitely ", checked.definitely)
@@ -79,7 +79,7 @@ fn push_unread(out: &mut Vec<u8>, line: u64) -> Result<(), AllocError>
 
 /// Appends the lines of what a check finds.
 fn push_finding(out: &mut Vec<u8>, finding: &Finding) -> Result<(), AllocError>
-    ensures { OnOk result (out.new.items ≡ out.old.items ++ check_text (finding_of finding.now)) }
+    ensures { OnOk result (out.new.items ≡ out.old.items ++ check_text (finding_view finding.now)) }
 {
     match finding {
         Finding::NotRead(line) => push_unread(out, *line),
@@ -94,10 +94,10 @@ fn push_finding(out: &mut Vec<u8>, finding: &Finding) -> Result<(), AllocError>
     }
 }
 
-/// The text of what a check finds: the line where the report isn't read, or the refusal's or the session's verdict and two
-/// lines for each predicate, each ended by an LF.
+/// The text of what a check finds: the line where the report isn't read, or the refusal's or the session's verdict and
+/// two lines for each predicate, each ended by an LF.
 pub(crate) fn text(alloc: Global, finding: &Finding) -> Result<Vec<u8>, AllocError>
-    ensures { IfOk result (λ text. text.items ≡ check_text (finding_of finding.now)) }
+    ensures { IfOk result (λ text. text.items ≡ check_text (finding_view finding.now)) }
 {
     let mut out = Vec::new(alloc);
     push_finding(&mut out, finding)?;

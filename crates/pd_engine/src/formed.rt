@@ -1,9 +1,9 @@
 //! What a session comes to, before any predicate is judged: a refusal, or a well-formed computation.
 ghost use Rattle.pd_engine.specs.Formings.{IsFormed, IsJoined};
-ghost use Rattle.pd_events.specs.Views.{computation_of};
-ghost use Rattle.pd_gather.specs.Views.{AreTraces, ReadingFits, outcomes_seen, traces_seen};
+ghost use Rattle.pd_events.specs.Views.{computation_view};
+ghost use Rattle.pd_gather.specs.Views.{AreTraces, ReadingFits, results_view, traces_view};
 ghost use Rattle.pd_model.specs.Messages.{HasLawfulMessages, IsMessageList};
-ghost use Rattle.pd_spec.specs.Views.{document_of};
+ghost use Rattle.pd_spec.specs.Views.{document_view};
 ghost use Rattle.std.specs.Prelude.{All, IfOk, IsOkUnless};
 
 use super::EngineFault;
@@ -37,8 +37,9 @@ pub(crate) enum Formed<'a> {
 
 /// The traces of streams, or the refusal.
 pub(crate) fn join(alloc: Global, spec: &Spec, gathered: Gathered) -> Result<Joined, EngineFault>
-    requires { All (ReadingFits (document_of spec.now).names) gathered.readings.items }
-    ensures joined { IfOk result (IsJoined (document_of spec.now) gathered.streams (outcomes_seen gathered.readings.items)) }
+    requires { All (ReadingFits (document_view spec.now).names) gathered.readings.items }
+    ensures joined { IfOk result (IsJoined (document_view spec.now) gathered.streams
+        (results_view gathered.readings.items)) }
     ensures err { IsOkUnless result EngineFault.Memory }
 {
     match session(alloc, spec, gathered) {
@@ -54,8 +55,8 @@ pub(crate) fn form<'a, S: RandomSource>(
     spec: &'a Spec,
     traces: &'a [Trace],
 ) -> Result<Formed<'a>, EngineFault>
-    requires { AreTraces (document_of spec.now).names traces.now }
-    ensures formed { IfOk result (IsFormed (document_of spec.now) (traces_seen traces.now)) }
+    requires { AreTraces (document_view spec.now).names traces.now }
+    ensures formed { IfOk result (IsFormed (document_view spec.now) (traces_view traces.now)) }
     ensures err { IsOkUnless result EngineFault.Memory }
 {
     match match_messages(rt, alloc, traces) {
@@ -71,10 +72,10 @@ fn build<'a>(
     traces: &'a [Trace],
     matched: &Matched,
 ) -> Result<Formed<'a>, EngineFault>
-    requires traces { AreTraces (document_of spec.now).names traces.now }
-    requires lawful { HasLawfulMessages (computation_of traces.now) }
-    requires messages { IsMessageList (computation_of traces.now) matched.now }
-    ensures formed { IfOk result (IsFormed (document_of spec.now) (traces_seen traces.now)) }
+    requires traces { AreTraces (document_view spec.now).names traces.now }
+    requires lawful { HasLawfulMessages (computation_view traces.now) }
+    requires messages { IsMessageList (computation_view traces.now) matched.now }
+    ensures formed { IfOk result (IsFormed (document_view spec.now) (traces_view traces.now)) }
     ensures err { IsOkUnless result EngineFault.Memory }
 {
     match Computation::build(alloc, spec.initial_rows(), traces, matched) {

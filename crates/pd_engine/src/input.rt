@@ -9,8 +9,8 @@ use std::io::Read;
 /// How many bytes are asked for at a time.
 const PIECE: usize = 65_536;
 
-/// One read into the piece. What it gives goes behind the bytes read so far, and how much that is is told: nothing only at
-/// the reader's end, or where the piece has no room.
+/// One read into the piece. What it gives goes after the bytes read so far, and how much that is is reported: nothing
+/// only at the reader's end, or where the piece has no room.
 fn read_piece<R: Read>(
     reader: &mut R,
     piece: &mut [u8],
@@ -36,8 +36,9 @@ fn new_piece(alloc: Global, most: usize) -> Result<Vec<u8>, AllocError>
     vec![in alloc; 0u8; size]
 }
 
-/// All bytes that the reader gives, or its first `limit + 1` bytes where there are more: so the length tells whether the
-/// limit is kept. The limit is at most 268,435,456. No more bytes than these are asked for, in at most `limit + 1` reads.
+/// All bytes that the reader gives, or its first `limit + 1` bytes where there are more: so the length tells whether
+/// the limit is kept. The limit is at most 268,435,456. No more bytes than these are asked for, in at most `limit + 1`
+/// reads.
 ///
 /// # Errors
 /// `Read` where a read fails, of whatever kind, and `Memory`. The bytes read until then are dropped.
@@ -48,7 +49,8 @@ pub fn read_upto<R: Read + Drop>(
 ) -> Result<Vec<u8>, EngineFault>
     requires { limit ≤ 268435456 }
     ensures within { IfOk result (λ bytes. vec_len bytes ≤ limit + 1) }
-    ensures front { IfOk result (λ bytes. IfSome (R.remaining reader) (λ input. bytes.items ≡ take (limit + 1) input)) }
+    ensures prefix { IfOk result (λ bytes. IfSome (R.remaining reader) (λ input. bytes.items ≡ take (limit + 1) input))
+        }
     ensures err { IfErr result (λ fault. (fault ≡ EngineFault.Memory) ⊎ (fault ≡ EngineFault.Read)) }
 {
     let most = limit + 1;

@@ -1,18 +1,18 @@
 //! The report of a session's streams.
 ghost use Rattle.pd_engine.specs.Judged.{IsJudged};
 ghost use Rattle.pd_report.specs.Views as views;
-ghost use Rattle.pd_format.specs.Judgements.{IsAnswered, IsReportOfOutcomes, IsTracesReport, definitely_of, name_of_process, possibly_of};
-ghost use Rattle.pd_events.specs.Views.{computation_of};
-ghost use Rattle.pd_gather.specs.Views.{AreTraces, ReadingFits, outcomes_seen, traces_seen};
+ghost use Rattle.pd_format.specs.Judgements.{IsAnswered, IsReportOfResults, IsTracesReport, printed_definitely, name_of_process, printed_possibly};
+ghost use Rattle.pd_events.specs.Views.{computation_view};
+ghost use Rattle.pd_gather.specs.Views.{AreTraces, ReadingFits, results_view, traces_view};
 ghost use Rattle.pd_model.specs.Answers.{IsPossiblyAnswer};
 ghost use Rattle.pd_model.specs.Messages.{HasLawfulMessages, IsMessageList};
 ghost use Rattle.pd_model.specs.Order.{HasNoCycle};
 ghost use Rattle.pd_definitely.specs.Answers as avoidances;
-ghost use Rattle.pd_engine.specs.Paths.{IsTold};
+ghost use Rattle.pd_engine.specs.Paths.{HasProcessesBelow};
 ghost use Rattle.pd_engine.specs.Truths.{TellsTruthOf};
-ghost use Rattle.pd_possibly.specs.Answers.{answer_of};
+ghost use Rattle.pd_possibly.specs.Answers.{possibly_answer_view};
 ghost use Rattle.pd_spec.specs.Named.{named_of};
-ghost use Rattle.pd_spec.specs.Views.{document_of};
+ghost use Rattle.pd_spec.specs.Views.{document_view};
 ghost use Rattle.std.specs.List.{AllZip};
 ghost use Rattle.std.specs.Prelude.{◌≡◌, ◌<◌, ◌≤◌, All, IfOk, IsOkUnless, length, map, string_bytes};
 
@@ -30,8 +30,8 @@ use pd_spec::{NamedPred, Spec};
 use std::alloc::{AllocError, Global};
 use std::random::RandomSource;
 
-/// The report of what the streams of a session gave: the first refusal, or an answer for each predicate. `workers`, from 1 to
-/// 16, and the gate change nothing yet.
+/// The report of what the streams of a session gave: the first refusal, or an answer for each predicate. `workers`,
+/// from 1 to 16, and the gate change nothing yet.
 ///
 /// # Errors
 /// `Memory`.
@@ -43,11 +43,15 @@ pub fn report_of<S: RandomSource, G: Gate + Sync>(
     workers: u64,
     gate: &G,
 ) -> Result<Report, EngineFault>
-    requires { All (ReadingFits (document_of spec.now).names) gathered.readings.items }
+    requires { All (ReadingFits (document_view spec.now).names) gathered.readings.items }
     // The report is the one that the definitions give.
-    ensures report { IfOk result (λ report. IsReportOfOutcomes (document_of spec.now) gathered.streams (outcomes_seen gathered.readings.items) (views.report_of report)) }
-    // Where the streams make a well-formed computation with no level over the width, it tells the truth of each predicate.
-    ensures headline { IfOk result (λ report. TellsTruthOf (document_of spec.now) gathered.streams (outcomes_seen gathered.readings.items) (views.report_of report)) }
+    ensures report { IfOk result (λ report. IsReportOfResults (document_view spec.now) gathered.streams
+        (results_view gathered.readings.items) (views.report_view report)) }
+    // Where the streams make a well-formed computation with no level over the width, it tells the truth of each
+    // predicate.
+    ensures headline { IfOk result (λ report.
+        TellsTruthOf (document_view spec.now) gathered.streams (results_view gathered.readings.items)
+        (views.report_view report)) }
     ensures err { IsOkUnless result EngineFault.Memory }
 {
     pd_judgement::headline();
@@ -63,8 +67,9 @@ fn gathered_report<S: RandomSource, G: Gate + Sync>(
     workers: u64,
     gate: &G,
 ) -> Result<Report, EngineFault>
-    requires { All (ReadingFits (document_of spec.now).names) gathered.readings.items }
-    ensures report { IfOk result (λ report. IsReportOfOutcomes (document_of spec.now) gathered.streams (outcomes_seen gathered.readings.items) (views.report_of report)) }
+    requires { All (ReadingFits (document_view spec.now).names) gathered.readings.items }
+    ensures report { IfOk result (λ report. IsReportOfResults (document_view spec.now) gathered.streams
+        (results_view gathered.readings.items) (views.report_view report)) }
     ensures err { IsOkUnless result EngineFault.Memory }
 {
     match join(alloc, spec, gathered)? {
@@ -82,8 +87,9 @@ fn judged<S: RandomSource, G: Gate + Sync>(
     workers: u64,
     gate: &G,
 ) -> Result<Report, EngineFault>
-    requires { AreTraces (document_of spec.now).names traces.now }
-    ensures report { IfOk result (λ report. IsTracesReport (document_of spec.now) (traces_seen traces.now) (views.report_of report)) }
+    requires { AreTraces (document_view spec.now).names traces.now }
+    ensures report { IfOk result (λ report. IsTracesReport (document_view spec.now) (traces_view traces.now)
+        (views.report_view report)) }
     ensures err { IsOkUnless result EngineFault.Memory }
 {
     match form(rt, alloc, spec, traces)? {
@@ -104,8 +110,9 @@ fn answered<G: Gate + Sync>(
     gate: &G,
 ) -> Result<Report, EngineFault>
     requires acyclic { HasNoCycle computation.now.events }
-    requires processes { length computation.now.events ≡ length (document_of spec.now).names }
-    ensures report { IfOk result (λ report. IsJudged (document_of spec.now) computation.now messages (views.report_of report)) }
+    requires processes { length computation.now.events ≡ length (document_view spec.now).names }
+    ensures report { IfOk result (λ report. IsJudged (document_view spec.now) computation.now messages
+        (views.report_view report)) }
     ensures err { IsOkUnless result EngineFault.Memory }
 {
     let answers = answers(alloc, spec, computation, workers, gate)?;
@@ -126,8 +133,10 @@ fn answers<G: Gate + Sync>(
     gate: &G,
 ) -> Result<Vec<Answer>, AllocError>
     requires acyclic { HasNoCycle computation.now.events }
-    requires processes { length computation.now.events ≡ length (document_of spec.now).names }
-    ensures { IfOk result (λ answers. AllZip (IsAnswered (document_of spec.now).names computation.now (document_of spec.now).width) (document_of spec.now).predicates (map views.answer_of answers.items)) }
+    requires processes { length computation.now.events ≡ length (document_view spec.now).names }
+    ensures { IfOk result (λ answers. AllZip
+        (IsAnswered (document_view spec.now).names computation.now (document_view spec.now).width)
+        (document_view spec.now).predicates (map views.answer_view answers.items)) }
 {
     let asked = spec.predicates();
     let mut answers = Vec::new(alloc);
@@ -147,22 +156,24 @@ fn answer<G: Gate + Sync>(
     gate: &G,
 ) -> Result<Answer, AllocError>
     requires acyclic { HasNoCycle computation.now.events }
-    requires processes { length computation.now.events ≡ length (document_of spec.now).names }
-    ensures { IfOk result (λ answer. IsAnswered (document_of spec.now).names computation.now (document_of spec.now).width (named_of asked.now) (views.answer_of answer)) }
+    requires processes { length computation.now.events ≡ length (document_view spec.now).names }
+    ensures { IfOk result (λ answer. IsAnswered (document_view spec.now).names computation.now
+        (document_view spec.now).width (named_of asked.now) (views.answer_view answer)) }
 {
     let width = spec.width();
     let found = possibly(alloc, computation, &asked.pred, width, workers, gate)?;
     let avoided = definitely(alloc, computation, &asked.pred, width, workers, gate)?;
     Ok(Answer {
         name: asked.name.clone()?,
-        possibly: told(alloc, &found)?,
-        definitely: told_by_names(alloc, spec.names(), &avoided)?,
+        possibly: reported(alloc, &found)?,
+        definitely: reported_by_names(alloc, spec.names(), &avoided)?,
     })
 }
 
 /// The answer as a report tells it.
-fn told(alloc: Global, answer: &PossiblyAnswer) -> Result<Possibly, AllocError>
-    ensures { IfOk result (λ possibly. views.possibly_of possibly ≡ possibly_of (answer_of answer.now)) }
+fn reported(alloc: Global, answer: &PossiblyAnswer) -> Result<Possibly, AllocError>
+    ensures { IfOk result (λ possibly. views.possibly_view possibly
+        ≡ printed_possibly (possibly_answer_view answer.now)) }
 {
     match answer {
         PossiblyAnswer::Yes(cut) => Ok(Possibly::Yes(cut.counts().to_vec(alloc)?)),
@@ -182,23 +193,24 @@ fn name_of(alloc: Global, names: &Names, p: usize) -> Result<String, AllocError>
 /// The names of processes, which are counted from 0.
 fn names_of(alloc: Global, names: &Names, path: &[usize]) -> Result<Vec<String>, AllocError>
     requires { All (λ p. p < length names.now) path.now }
-    ensures { IfOk result (λ told. map string_bytes told.items ≡ map (name_of_process names.now) path.now) }
+    ensures { IfOk result (λ reported. map string_bytes reported.items ≡ map (name_of_process names.now) path.now) }
 {
-    let mut told = Vec::new(alloc);
+    let mut reported = Vec::new(alloc);
     for &p in path {
-        told.push(name_of(alloc, names, p)?)?;
+        reported.push(name_of(alloc, names, p)?)?;
     }
-    Ok(told)
+    Ok(reported)
 }
 
 /// The answer as a report tells it, with an observation by the names of its processes.
-fn told_by_names(
+fn reported_by_names(
     alloc: Global,
     names: &Names,
     answer: &DefinitelyAnswer,
 ) -> Result<Definitely, AllocError>
-    requires { IsTold (length names.now) answer.now }
-    ensures { IfOk result (λ definitely. views.definitely_of definitely ≡ definitely_of names.now (avoidances.answer_of answer.now)) }
+    requires { HasProcessesBelow (length names.now) answer.now }
+    ensures { IfOk result (λ definitely. views.definitely_view definitely
+        ≡ printed_definitely names.now (avoidances.definitely_answer_view answer.now)) }
 {
     match answer {
         DefinitelyAnswer::Yes(level) => Ok(Definitely::Yes(*level)),

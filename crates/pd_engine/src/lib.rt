@@ -1,8 +1,8 @@
 //! The engine's edge: what it reads, what it refuses, and what it writes.
 //!
-//! Bytes come from a reader up to a limit and are cut into a bundle's parts; a report is a value, and its text is exactly
-//! the one that the definitions give; a text reaches a writer whole, or the call fails. Only a refused allocation is told
-//! as want of memory.
+//! Bytes come from a reader up to a limit and are cut into a bundle's parts; a report is a value, and its text is
+//! exactly the one that the definitions give; a text reaches a writer whole, or the call fails. Only a refused
+//! allocation is reported as out of memory.
 //!
 //! - `formed`: what a session comes to, before any predicate is judged
 //! - `judge`: the report of a session's streams

@@ -1,6 +1,6 @@
 //! How a session was judged.
 ghost use Rattle.pd_engine.specs.Outcomes.{outcome_of};
-ghost use Rattle.pd_report.specs.Views.{report_of};
+ghost use Rattle.pd_report.specs.Views.{report_view};
 ghost use Rattle.std.specs.Prelude.{◌≡◌};
 
 use pd_report::Report;
@@ -16,7 +16,7 @@ pub enum Outcome {
 
 /// What a report is.
 pub(crate) fn outcome_of_report(report: &Report) -> Outcome
-    ensures { result ≡ outcome_of (report_of report.now) }
+    ensures { result ≡ outcome_of (report_view report.now) }
 {
     match report {
         Report::Judged { .. } => Outcome::Judged,

@@ -1,12 +1,12 @@
 //! Refusals in the words of a report.
-ghost use Rattle.pd_report.specs.Views.{place_of, places_of, refusal_of};
+ghost use Rattle.pd_report.specs.Views.{named_place_view, named_places_view, refusal_view};
 ghost use Rattle.pd_engine.specs.Refusals.{HasNames, IsDocumentRefusal, NamesPlace, NamesStream, kind_word};
 ghost use Rattle.pd_format.specs.Judgements.{match_refusal, named_place, session_refusal, stream_word};
 ghost use Rattle.pd_format.specs.Reports as reports;
-ghost use Rattle.pd_gather.specs.Views.{told};
-ghost use Rattle.pd_events.specs.Views.{stream_kind_seen};
+ghost use Rattle.pd_gather.specs.Views.{session_fault_view};
+ghost use Rattle.pd_events.specs.Views.{stream_kind_view};
 ghost use Rattle.pd_spec.specs.declared.fault.SpecFault.TheVariants as faults;
-ghost use Rattle.pd_match.specs.Views.{fault_seen, place_seen};
+ghost use Rattle.pd_match.specs.Views.{match_fault_view, place_view};
 ghost use Rattle.std.specs.Prelude.{◌≡◌, ◌<◌, All, IfOk, IsOkUnless, MatchOption, Some, length, map};
 
 use super::EngineFault;
@@ -18,7 +18,7 @@ use pd_report::Refusal;
 use pd_spec::SpecFault;
 use std::alloc::{AllocError, Global};
 
-/// The word for a predicate's fault, if it isn't want of memory.
+/// The word for a predicate's fault, if it isn't out of memory.
 fn predicate_word(kind: PredErrorKind) -> Option<&'static str>
     ensures { kind_word kind result }
 {
@@ -35,7 +35,7 @@ fn predicate_word(kind: PredErrorKind) -> Option<&'static str>
 
 /// The refusal of a document by this word.
 fn of_word(alloc: Global, word: &str) -> Result<Refusal, AllocError>
-    ensures { IfOk result (λ refusal. refusal_of refusal ≡ reports.Spec word.now) }
+    ensures { IfOk result (λ refusal. refusal_view refusal ≡ reports.Spec word.now) }
 {
     Ok(Refusal::Spec(String::from_str(alloc, word)?))
 }
@@ -43,9 +43,9 @@ fn of_word(alloc: Global, word: &str) -> Result<Refusal, AllocError>
 /// The refusal of predicate `k`, which is counted from 1.
 ///
 /// # Errors
-/// `Memory`, where the error is want of memory, or the word can't be copied for want of it.
+/// `Memory`, where the error is out of memory, or the word can't be copied because memory ran out.
 fn of_predicate(alloc: Global, k: u64, error: PredError) -> Result<Refusal, EngineFault>
-    ensures tells { IfOk result (λ refusal. IsDocumentRefusal (faults.Predicate k error) (refusal_of refusal)) }
+    ensures tells { IfOk result (λ refusal. IsDocumentRefusal (faults.Predicate k error) (refusal_view refusal)) }
     ensures err { IsOkUnless result EngineFault.Memory }
 {
     match predicate_word(error.kind) {
@@ -61,9 +61,9 @@ fn of_predicate(alloc: Global, k: u64, error: PredError) -> Result<Refusal, Engi
 /// The refusal of a document with this fault.
 ///
 /// # Errors
-/// `Memory`, where the fault is want of memory, or the word can't be copied for want of it.
+/// `Memory`, where the fault is out of memory, or the word can't be copied because memory ran out.
 pub(crate) fn of_document(alloc: Global, fault: SpecFault) -> Result<Refusal, EngineFault>
-    ensures tells { IfOk result (λ refusal. IsDocumentRefusal fault (refusal_of refusal)) }
+    ensures tells { IfOk result (λ refusal. IsDocumentRefusal fault (refusal_view refusal)) }
     ensures err { IsOkUnless result EngineFault.Memory }
 {
     let refusal = match fault {
@@ -84,7 +84,7 @@ pub(crate) fn of_document(alloc: Global, fault: SpecFault) -> Result<Refusal, En
 
 /// The word for a stream's fault.
 fn stream_word(kind: StreamKind) -> &'static str
-    ensures { result.now ≡ stream_word (stream_kind_seen kind) }
+    ensures { result.now ≡ stream_word (stream_kind_view kind) }
 {
     match kind {
         StreamKind::LineTooLong => "linetoolong",
@@ -105,14 +105,15 @@ fn stream_word(kind: StreamKind) -> &'static str
 /// The refusal of streams with this fault. A report counts streams from 1.
 ///
 /// # Errors
-/// `Memory`, where the fault is want of memory, or the name can't be copied for want of it.
+/// `Memory`, where the fault is out of memory, or the name can't be copied because memory ran out.
 pub(crate) fn of_streams(
     alloc: Global,
     names: &Names,
     fault: SessionFault,
 ) -> Result<Refusal, EngineFault>
     requires { NamesStream names.now fault }
-    ensures tells { IfOk result (λ refusal. MatchOption (told fault) ⊥ (λ seen. refusal_of refusal ≡ session_refusal names.now seen)) }
+    ensures tells { IfOk result (λ refusal. MatchOption (session_fault_view fault) ⊥ (λ seen. refusal_view refusal
+        ≡ session_refusal names.now seen)) }
     ensures err { IsOkUnless result EngineFault.Memory }
 {
     match fault {
@@ -138,7 +139,7 @@ pub(crate) fn of_streams(
 /// The name of a place's process, and the place's number.
 fn named(alloc: Global, names: &Names, place: Place) -> Result<(String, u64), AllocError>
     requires { place.process < length names.now }
-    ensures { IfOk result (λ named. place_of named ≡ named_place names.now (place_seen place)) }
+    ensures { IfOk result (λ named. named_place_view named ≡ named_place names.now (place_view place)) }
 {
     let name = String::from_str(alloc, names.name(place.process))?;
     Ok((name, place.number))
@@ -147,7 +148,8 @@ fn named(alloc: Global, names: &Names, place: Place) -> Result<(String, u64), Al
 /// The refusal of an event with this word.
 fn of_event(alloc: Global, names: &Names, word: &str, place: Place) -> Result<Refusal, AllocError>
     requires { place.process < length names.now }
-    ensures { IfOk result (λ refusal. refusal_of refusal ≡ reports.Match word.now (named_place names.now (place_seen place))) }
+    ensures { IfOk result (λ refusal. refusal_view refusal
+        ≡ reports.Match word.now (named_place names.now (place_view place))) }
 {
     let (name, number) = named(alloc, names, place)?;
     Ok(Refusal::Match {
@@ -160,14 +162,15 @@ fn of_event(alloc: Global, names: &Names, word: &str, place: Place) -> Result<Re
 /// The refusal of messages with this fault.
 ///
 /// # Errors
-/// `Memory`, where the fault is want of memory, or the name can't be copied for want of it.
+/// `Memory`, where the fault is out of memory, or the name can't be copied because memory ran out.
 pub(crate) fn of_messages(
     alloc: Global,
     names: &Names,
     fault: MatchFault,
 ) -> Result<Refusal, EngineFault>
     requires { NamesPlace names.now fault }
-    ensures tells { IfOk result (λ refusal. MatchOption (fault_seen fault) ⊥ (λ seen. refusal_of refusal ≡ match_refusal names.now seen)) }
+    ensures tells { IfOk result (λ refusal. MatchOption (match_fault_view fault) ⊥ (λ seen. refusal_view refusal
+        ≡ match_refusal names.now seen)) }
     ensures err { IsOkUnless result EngineFault.Memory }
 {
     let refusal = match fault {
@@ -183,7 +186,8 @@ pub(crate) fn of_messages(
 /// The refusal of a causal cycle.
 pub(crate) fn of_cycle(alloc: Global, names: &Names, cycle: &[Place]) -> Result<Refusal, AllocError>
     requires { All (HasNames names.now) cycle.now }
-    ensures { IfOk result (λ refusal. refusal_of refusal ≡ reports.Cycle (map (λ place. named_place names.now (place_seen place)) cycle.now)) }
+    ensures { IfOk result (λ refusal. refusal_view refusal
+        ≡ reports.Cycle (map (λ place. named_place names.now (place_view place)) cycle.now)) }
 {
     let mut places = Vec::new(alloc);
     for &place in cycle {

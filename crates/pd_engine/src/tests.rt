@@ -79,7 +79,7 @@ impl Read for Failing {
 }
 
 #[test]
-fn failures_are_told(rt: HostRuntime) -> Result<(), Fail> {
+fn failures_are_reported(rt: HostRuntime) -> Result<(), Fail> {
     let read = read_upto(rt.alloc(), Failing { left: 2 }, 2);
     assert!(rt; matches!(&read, Err(EngineFault::Read)));
     let full = read_upto(rt.alloc(), Failing { left: 2 }, 1)?;
@@ -101,7 +101,8 @@ fn faults_have_words(rt: HostRuntime) -> Result<(), Fail> {
 }
 
 const DOCUMENT: &[u8] =
-    br#"{"processes":[{"name":"a","vars":{"x":0}},{"name":"b","vars":{"y":0}}],"predicates":[{"name":"both","text":"a.x == 1 and b.y == 1"}]}"#;
+    br#"{"processes":[{"name":"a","vars":{"x":0}},{"name":"b","vars":{"y":0}}],"predicates":[{"name":"both","text":"a.x
+        == 1 and b.y == 1"}]}"#;
 
 const STREAM_A: &[u8] =
     b"{\"process\":\"a\"}\n{\"set\":{\"x\":1}}\n{\"set\":{\"x\":0}}\n{\"end\":true}\n";
@@ -122,7 +123,7 @@ fn is_found(
     streams.push(STREAM_A)?;
     streams.push(STREAM_B)?;
     let mut written = Vec::new(alloc);
-    let told = check(
+    let reported = check(
         rt,
         alloc,
         document,
@@ -130,7 +131,7 @@ fn is_found(
         streams,
         &mut written,
     )?;
-    Ok(told == clean && written.as_slice() == text.as_bytes())
+    Ok(reported == clean && written.as_slice() == text.as_bytes())
 }
 
 #[test]

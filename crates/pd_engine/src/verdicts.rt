@@ -1,14 +1,14 @@
 //! The verdicts on the evidence of a report's answers.
-ghost use Rattle.pd_engine.specs.FindingViews.{answers_of, checked_of, verdict_of};
+ghost use Rattle.pd_engine.specs.FindingViews.{verdicts_view, checked_view, verdict_view};
 ghost use Rattle.pd_engine.specs.Verdicts.{IsCheckedBy, IsCutVerdict, IsPathOf, IsPathVerdict};
 ghost use Rattle.pd_format.specs.Judgements.{recorded_of};
 ghost use Rattle.pd_format.specs.Readings as readings;
 ghost use Rattle.pd_judgement.specs.Findings.{IsAnswersFinding, names_answered, IsGoodPath};
 ghost use Rattle.pd_model.specs.Predicates.{test_of};
-ghost use Rattle.pd_pred.specs.Views.{predicate_of};
+ghost use Rattle.pd_pred.specs.Views.{predicate_view};
 ghost use Rattle.pd_report.specs.Views as views;
 ghost use Rattle.pd_spec.specs.Named.{named_of};
-ghost use Rattle.pd_spec.specs.Views.{document_of};
+ghost use Rattle.pd_spec.specs.Views.{document_view};
 ghost use Rattle.std.specs.List.{AllZip};
 ghost use Rattle.std.specs.Prelude.{◌≡◌, ◌<◌, ◌↔◌, List, IfOk, IsTrue, length, map, string_bytes, zip};
 
@@ -21,11 +21,15 @@ use pd_spec::{NamedPred, Spec};
 use std::alloc::{AllocError, Global};
 
 /// The processes of these names, counted from 0, if each is there.
-fn path_of(alloc: Global, names: &Names, told: &[String]) -> Result<Option<Vec<usize>>, AllocError>
-    ensures { IfOk result (IsPathOf names.now (map string_bytes told.now)) }
+fn path_of(
+    alloc: Global,
+    names: &Names,
+    reported: &[String],
+) -> Result<Option<Vec<usize>>, AllocError>
+    ensures { IfOk result (IsPathOf names.now (map string_bytes reported.now)) }
 {
     let mut path = Vec::new(alloc);
-    for name in told {
+    for name in reported {
         match names.find(name) {
             Some(p) => path.push(p)?,
             None => return Ok(None),
@@ -41,7 +45,8 @@ fn cut_verdict(
     pred: &Pred,
     possibly: &Possibly,
 ) -> Result<Verdict, AllocError>
-    ensures { IfOk result (λ verdict. IsCutVerdict computation.now.events (test_of computation.now (predicate_of pred.now)) (views.possibly_of possibly.now) (verdict_of verdict)) }
+    ensures { IfOk result (λ verdict. IsCutVerdict computation.now.events
+        (test_of computation.now (predicate_view pred.now)) (views.possibly_view possibly.now) (verdict_view verdict)) }
 {
     match possibly {
         Possibly::Yes(counts) => {
@@ -58,13 +63,15 @@ fn avoids(
     names: &Names,
     computation: &Computation<'_>,
     pred: &Pred,
-    told: &[String],
+    reported: &[String],
 ) -> Result<bool, AllocError>
     requires { length computation.now.events ≡ length names.now }
-    ensures { IfOk result (λ good. IsTrue good ↔ IsGoodPath names.now computation.now.events (test_of computation.now (predicate_of pred.now)) (map string_bytes told.now)) }
+    ensures { IfOk result (λ good. IsTrue good
+        ↔ IsGoodPath names.now computation.now.events (test_of computation.now (predicate_view pred.now))
+        (map string_bytes reported.now)) }
 {
     names.differ();
-    match path_of(alloc, names, told)? {
+    match path_of(alloc, names, reported)? {
         Some(path) => check_path(alloc, computation, pred, &path),
         None => Ok(false),
     }
@@ -79,11 +86,13 @@ fn path_verdict(
     definitely: &Definitely,
 ) -> Result<Verdict, AllocError>
     requires { length computation.now.events ≡ length names.now }
-    ensures { IfOk result (λ verdict. IsPathVerdict names.now computation.now.events (test_of computation.now (predicate_of pred.now)) (views.definitely_of definitely.now) (verdict_of verdict)) }
+    ensures { IfOk result (λ verdict. IsPathVerdict names.now computation.now.events
+        (test_of computation.now (predicate_view pred.now)) (views.definitely_view definitely.now)
+        (verdict_view verdict)) }
 {
     match definitely {
-        Definitely::No(told) => {
-            let good = avoids(alloc, names, computation, pred, told)?;
+        Definitely::No(reported) => {
+            let good = avoids(alloc, names, computation, pred, reported)?;
             Ok(Verdict::by_test(good))
         }
         Definitely::Yes(_) | Definitely::Unknown(_) => Ok(Verdict::Unchecked),
@@ -99,7 +108,10 @@ fn checked(
     answer: &Answer,
 ) -> Result<Checked, AllocError>
     requires { length computation.now.events ≡ length names.now }
-    ensures { IfOk result (λ checked. IsCheckedBy names.now computation.now (named_of asked.now, views.answer_of answer.now) (checked_of checked)) }
+    ensures { IfOk result (λ checked. IsCheckedBy names.now computation.now (
+      named_of asked.now,
+      views.answer_view answer.now,
+    ) (checked_view checked)) }
 {
     Ok(Checked {
         name: answer.name.clone()?,
@@ -117,7 +129,8 @@ fn is_for(asked: &NamedPred, answer: &Answer) -> bool
 
 /// Whether the answers are for these predicates, by name and in order.
 fn are_for(asked: &[NamedPred], answers: &[Answer]) -> bool
-    ensures { IsTrue result ↔ (map (λ answer. string_bytes answer.name) answers.now ≡ map (λ predicate. string_bytes predicate.name) asked.now) }
+    ensures { IsTrue result ↔ (map (λ answer. string_bytes answer.name) answers.now
+        ≡ map (λ predicate. string_bytes predicate.name) asked.now) }
 {
     if asked.len() != answers.len() {
         return false;
@@ -137,8 +150,10 @@ pub(crate) fn verdicts(
     computation: &Computation<'_>,
     answers: &[Answer],
 ) -> Result<Option<Vec<Checked>>, AllocError>
-    requires { length computation.now.events ≡ length (document_of spec.now).names }
-    ensures { IfOk result (λ found. (traces : List readings.Trace) → computation.now ≡ recorded_of (document_of spec.now) traces → IsAnswersFinding (document_of spec.now) traces (map views.answer_of answers.now) (answers_of found)) }
+    requires { length computation.now.events ≡ length (document_view spec.now).names }
+    ensures { IfOk result (λ found. (traces : List readings.Trace)
+        → computation.now ≡ recorded_of (document_view spec.now) traces
+        → IsAnswersFinding (document_view spec.now) traces (map views.answer_view answers.now) (verdicts_view found)) }
 {
     let asked = spec.predicates();
     if !are_for(asked, answers) {

@@ -12,19 +12,27 @@ use Rattle.pd_spec.proofs.MemberViews.{list_any-map}
 
 -- each field is one of these variables, as the program finds it
 pub has_only_vars-entries : (vars : List (String Global)) (entries : List (String Global × Value))
-    → list_all (λ (key : String Global). list_any (λ (var : String Global). bytes_eq (string_bytes key) (string_bytes var)) vars) (keys_of entries) ≡ has_only (map string_bytes vars) (members_view entries)
+    → list_all (λ (key : String Global).
+    list_any (λ (var : String Global). bytes_eq (string_bytes key) (string_bytes var)) vars) (keys_of entries)
+    ≡ has_only (map string_bytes vars) (members_view entries)
 has_only_vars-entries vars [] = refl
 has_only_vars-entries vars (entry ∷ entries) =
-    rw (list_any-map (λ (var : List ℕ). bytes_eq (string_bytes entry.0) var) (λ (var : String Global). string_bytes var) vars)
-    (ap (λ b. list_any (λ (var : String Global). bytes_eq (string_bytes entry.0) (string_bytes var)) vars && b) (has_only_vars-entries vars entries))
+    rw (list_any-map (λ (var : List ℕ). bytes_eq (string_bytes entry.0) var) (λ (var : String Global). string_bytes var)
+    vars)
+    (ap (λ b. list_any (λ (var : String Global). bytes_eq (string_bytes entry.0) (string_bytes var)) vars && b)
+    (has_only_vars-entries vars entries))
 
 -- a test of each value
-pub all_values-entries : (test : Data → Bool) (entries : List (String Global × Value)) → list_all (λ (value : Value). test (view value)) (values_of entries) ≡ list_all test (values (members_view entries))
+pub all_values-entries : (test : Data → Bool) (entries : List (String Global × Value))
+    → list_all (λ (value : Value). test (view value)) (values_of entries)
+    ≡ list_all test (values (members_view entries))
 all_values-entries test [] = refl
 all_values-entries test (entry ∷ entries) = ap (λ b. test (view entry.1) && b) (all_values-entries test entries)
 
 -- an entry that stands alone
-pub one_entry : (entries : List (String Global × Value)) (name : String Global) (value : Value) → length entries ≡ 1 → slice_get entries 0 ≡ Some (name, value) → members_view entries ≡ member (string_bytes name) (view value) no_members
+pub one_entry : (entries : List (String Global × Value)) (name : String Global) (value : Value) → length entries ≡ 1
+    → slice_get entries 0 ≡ Some (name, value)
+    → members_view entries ≡ member (string_bytes name) (view value) no_members
 one_entry [] name value h e = absurd (omega arith)
 one_entry (x ∷ []) name value h e =
     let same : x ≡ (name, value) = cc in

@@ -12,27 +12,34 @@ use Rattle.pd_format.specs.Records as records
 use Rattle.pd_events.specs.declared.fault.RecordFault.{RecordFault}
 use Rattle.pd_events.specs.declared.fault.RecordFault.TheVariants as faults
 use Rattle.pd_events.specs.Parts.{sets_due}
-use Rattle.pd_events.specs.Statements.{settings_seen}
+use Rattle.pd_events.specs.Statements.{settings_view}
 use Rattle.pd_events.specs.Views.{IsRecord}
 
 pub no_sets : (v : ℕ) (vars : List (List ℕ)) → sets_from v vars no_members ≡ []
 no_sets v [] = refl
 no_sets v (var ∷ others) = no_sets (suc v) others
 
-no_value : (names : List ProcessNames) (joined : Option ℕ) (bytes : List ℕ) → json_value bytes ≡ None → record_of names joined bytes ≡ Err Json
+no_value : (names : List ProcessNames) (joined : Option ℕ) (bytes : List ℕ) → json_value bytes ≡ None
+    → record_of names joined bytes ≡ Err Json
 unfolding record_of
 no_value names joined bytes e = ap (λ v. record_of_value names joined v) e
 
 -- bytes that are no value, or of which memory didn't suffice to tell
-pub fault_of_value : (names : List ProcessNames) (joined : Option ℕ) (bytes : List ℕ) (fault : RecordFault) → (fault ≡ faults.Memory) ⊎ ((fault ≡ faults.Json) × (json_value bytes ≡ None)) → IsRecord (record_of names joined bytes) (Err fault)
+pub fault_of_value : (names : List ProcessNames) (joined : Option ℕ) (bytes : List ℕ) (fault : RecordFault)
+    → (fault ≡ faults.Memory) ⊎ ((fault ≡ faults.Json) × (json_value bytes ≡ None))
+    → IsRecord (record_of names joined bytes) (Err fault)
 fault_of_value names joined bytes fault (inl memory) = rw memory tt
 fault_of_value names joined bytes fault (inr (json, none)) = rw json (no_value names joined bytes none)
 
-pub record_of_its_value : (names : List ProcessNames) (joined : Option ℕ) (bytes : List ℕ) (value : Data) (statement : Option records.Statement) → json_value bytes ≡ Some value → statement ≡ statement_of value → record_of names joined bytes ≡ record_of_shape names joined statement
+pub record_of_its_value : (names : List ProcessNames) (joined : Option ℕ) (bytes : List ℕ) (value : Data)
+    (statement : Option records.Statement) → json_value bytes ≡ Some value → statement ≡ statement_of value
+    → record_of names joined bytes ≡ record_of_shape names joined statement
 unfolding record_of
-record_of_its_value names joined bytes value statement e f = ap (λ v. record_of_value names joined v) e ∙ ap (λ s. record_of_shape names joined s) (sym f)
+record_of_its_value names joined bytes value statement e f = ap (λ v. record_of_value names joined v) e
+    ∙ ap (λ s. record_of_shape names joined s) (sym f)
 
 -- a line that says no settings sets nothing
-pub nothing_set : (vars : List (List ℕ)) (settings : Option (Bor (BTreeMap (String Global) Value))) → settings ≡ None → sets_due vars (settings_seen settings) ≡ Ok []
+pub nothing_set : (vars : List (List ℕ)) (settings : Option (Bor (BTreeMap (String Global) Value))) → settings ≡ None
+    → sets_due vars (settings_view settings) ≡ Ok []
 nothing_set vars None e = ap (λ sets. Ok sets) (no_sets 0 vars)
 nothing_set vars (Some settings) e = absurd (cc)

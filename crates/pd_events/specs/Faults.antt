@@ -4,16 +4,16 @@ use Rattle.pd_format.specs.Records as records
 use Rattle.pd_events.specs.declared.fault.RecordFault.{RecordFault}
 use Rattle.pd_events.specs.declared.fault.RecordFault.TheVariants as faults
 
-abbrev pub memory_fault : RecordFault
-memory_fault = faults.Memory
+abbrev pub record_memory_fault : RecordFault
+record_memory_fault = faults.Memory
 
--- the fault of the line that is told, if it isn't want of memory
-abbrev pub told : RecordFault → Option records.RecordFault
-told faults.Json = Some records.Json
-told faults.Shape = Some records.Shape
-told faults.Join = Some records.Join
-told faults.UnknownProcess = Some records.UnknownProcess
-told faults.UnknownVar = Some records.UnknownVar
-told faults.Value = Some records.Value
-told faults.MessageId = Some records.MessageId
-told faults.Memory = None
+-- the fault of the line that is reported, if it isn't out of memory
+abbrev pub record_fault_view : RecordFault → Option records.RecordFault
+record_fault_view faults.Json = Some records.Json
+record_fault_view faults.Shape = Some records.Shape
+record_fault_view faults.Join = Some records.Join
+record_fault_view faults.UnknownProcess = Some records.UnknownProcess
+record_fault_view faults.UnknownVar = Some records.UnknownVar
+record_fault_view faults.Value = Some records.Value
+record_fault_view faults.MessageId = Some records.MessageId
+record_fault_view faults.Memory = None

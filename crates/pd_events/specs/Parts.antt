@@ -1,4 +1,4 @@
--- The parts of an event as they are read: each is as it is due, or its fault is told, or that memory ran out.
+-- The parts of an event as they are read: each is as it is due, or its fault is reported, or that memory ran out.
 use Rattle.std.specs.Prelude.{◌≡◌, ◌&&◌, ℕ, nat_le, not, List, [], ◌∷◌, length, Vec, String, string_bytes, ℤ, is_some, Result, Ok, Err, MatchResult, MatchOption, if◌then◌else◌}
 use Rattle.std.specs.Global.{Global}
 use Rattle.std.specs.List.{list_all}
@@ -7,14 +7,15 @@ use Rattle.pd_model.specs.Events.{Kind}
 use Rattle.pd_format.specs.Lists.{first_that_applies, unless}
 use Rattle.pd_format.specs.Records.{has_only, id_fits, sets_from, values, whole_number, UnknownVar, Value, MessageId}
 use Rattle.pd_format.specs.Records as records
-use Rattle.pd_events.specs.Faults.{told}
-use Rattle.pd_events.specs.Views.{kind_seen}
+use Rattle.pd_events.specs.Faults.{record_fault_view}
+use Rattle.pd_events.specs.Views.{kind_view}
 use Rattle.pd_events.specs.declared.event.EventKind.{EventKind}
 use Rattle.pd_events.specs.declared.fault.RecordFault.{RecordFault}
 
 abbrev pub Tells : {A B : Type 0} → (B → A) → Result A records.RecordFault → Result B RecordFault → Type 0
 Tells seen due answer =
-    MatchResult answer (λ value. due ≡ Ok (seen value)) (λ fault. MatchOption (told fault) (Unit {0}) (λ f. due ≡ Err f))
+    MatchResult answer (λ value. due ≡ Ok (seen value)) (λ fault.
+    MatchOption (record_fault_view fault) (Unit {0}) (λ f. due ≡ Err f))
 
 -- the variables that settings set, or the first fault of the settings
 abbrev pub sets_due : List (List ℕ) → Members → Result (List (ℕ × ℤ)) records.RecordFault
@@ -33,7 +34,7 @@ abbrev pub kind_due : Kind → Result Kind records.RecordFault
 kind_due kind = if id_fits kind then Ok kind else Err MessageId
 
 abbrev pub IsKind : Kind → Result EventKind RecordFault → Type 0
-IsKind kind answer = Tells kind_seen (kind_due kind) answer
+IsKind kind answer = Tells kind_view (kind_due kind) answer
 
 -- the id, if it has its length
 abbrev pub id_due : List ℕ → Result (List ℕ) records.RecordFault

@@ -14,9 +14,9 @@ use Rattle.pd_events.specs.declared.statement.Statement.{Statement}
 use Rattle.pd_events.specs.declared.statement.Statement.TheVariants.{Join, Finish, Event}
 
 -- the variables that are set, with their values
-abbrev pub settings_seen : Option (Bor (BTreeMap (String Global) Value)) → Members
-settings_seen None = no_members
-settings_seen (Some settings) = members_view settings.now.entries
+abbrev pub settings_view : Option (Bor (BTreeMap (String Global) Value)) → Members
+settings_view None = no_members
+settings_view (Some settings) = members_view settings.now.entries
 
 -- the kind of event that is said
 abbrev pub kind_said : Said → events.Kind
@@ -24,7 +24,7 @@ kind_said Local = events.Local
 kind_said (Send id) = events.Send id.now
 kind_said (Recv id) = events.Receive id.now
 
-abbrev pub statement_seen : Statement → records.Statement
-statement_seen (Join name) = records.SaysJoin name.now
-statement_seen Finish = records.SaysEnd
-statement_seen (Event kind settings) = records.SaysEvent (kind_said kind) (settings_seen settings)
+abbrev pub statement_view : Statement → records.Statement
+statement_view (Join name) = records.SaysJoin name.now
+statement_view Finish = records.SaysEnd
+statement_view (Event kind settings) = records.SaysEvent (kind_said kind) (settings_view settings)

@@ -16,7 +16,8 @@ pub enum EventKind {
 pub struct Event {
     /// What kind of event it is.
     pub kind: EventKind,
-    /// The variables that it sets, with their values. Variables are counted from 0 among those of the process, and ascend.
+    /// The variables that it sets, with their values. Variables are counted from 0 among those of the process, and
+    /// ascend.
     pub sets: Vec<(usize, i64)>,
 }
 

@@ -24,9 +24,9 @@ pub enum RecordFault {
 
 impl From<AllocError> for RecordFault {
     ghost use Rattle.std.specs.Prelude.{◌≡◌};
-    ghost use Rattle.pd_events.specs.Faults.{memory_fault};
+    ghost use Rattle.pd_events.specs.Faults.{record_memory_fault};
 
-    ghost from_gives = { λ _ e. e ≡ memory_fault };
+    ghost from_gives = { λ _ e. e ≡ record_memory_fault };
 
     fn from(_error: AllocError) -> RecordFault {
         RecordFault::Memory
@@ -35,9 +35,9 @@ impl From<AllocError> for RecordFault {
 
 impl<T: Drop> From<AllocFailed<T>> for RecordFault {
     ghost use Rattle.std.specs.Prelude.{◌≡◌};
-    ghost use Rattle.pd_events.specs.Faults.{memory_fault};
+    ghost use Rattle.pd_events.specs.Faults.{record_memory_fault};
 
-    ghost from_gives = { λ _ e. e ≡ memory_fault };
+    ghost from_gives = { λ _ e. e ≡ record_memory_fault };
 
     fn from(_error: AllocFailed<T>) -> RecordFault {
         RecordFault::Memory

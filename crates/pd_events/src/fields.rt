@@ -17,7 +17,8 @@ fn is_one_of(texts: &[&str], text: &str) -> bool
 }
 
 fn keys_are_among(names: &[&str], fields: &Map<String, Value>) -> bool
-    ensures { result ≡ list_all (λ key. list_any (λ other. bytes_eq (string_bytes key) other.now) names.now) (keys fields.now) }
+    ensures { result ≡ list_all (λ key. list_any (λ other. bytes_eq (string_bytes key) other.now) names.now)
+        (keys fields.now) }
 {
     fields.keys().all(|key| is_one_of(names, key.as_str()))
 }
@@ -36,7 +37,8 @@ fn is_var(vars: &[String], text: &str) -> bool
 }
 
 fn keys_are_vars(vars: &[String], fields: &Map<String, Value>) -> bool
-    ensures { result ≡ list_all (λ key. list_any (λ var. bytes_eq (string_bytes key) (string_bytes var)) vars.now) (keys fields.now) }
+    ensures { result ≡ list_all (λ key. list_any (λ var. bytes_eq (string_bytes key) (string_bytes var)) vars.now)
+        (keys fields.now) }
 {
     fields.keys().all(|key| is_var(vars, key.as_str()))
 }

@@ -1,8 +1,8 @@
 //! Records and traces from the lines of a stream.
 //!
-//! `read_record` says exactly what a line says, or the first fault that applies. A trace reader takes a stream's bytes in
-//! pieces; however they are cut, its state, its events and its outcome are those of the reading of all bytes that came
-//! before it closed. Where memory runs out it stays as it was.
+//! `read_record` says exactly what a line says, or the first fault that applies. A trace reader takes a stream's bytes
+//! in pieces; however they are cut, its state, its events and its outcome are those of the reading of all bytes that
+//! came before it closed. Where memory runs out it stays as it was.
 //!
 //! - `event`: events, traces and records
 //! - `fault`: what is wrong with a line or a stream, and how far a stream is

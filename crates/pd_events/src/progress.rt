@@ -1,13 +1,13 @@
 //! How far the lines of a stream have been read.
 ghost use Rattle.std.specs.Prelude.{◌≡◌, List, ◌++◌, length, option_map, Ok, IfOk, OnErr, OnOk};
-ghost use Rattle.pd_frames.specs.Views.{line_of, lines_of};
+ghost use Rattle.pd_frames.specs.Views.{line_view, lines_view};
 ghost use Rattle.pd_format.specs.Readings.{IsClosed, NothingMore, with_end};
 ghost use Rattle.std.specs.Bool.{OnFalse, OnTrue};
 ghost use Rattle.pd_format.specs.ReadingLaws.{after_record, read_line, read_on, unless_stopped};
-ghost use Rattle.pd_spec.specs.Views.{document_of};
-ghost use Rattle.pd_events.specs.Faults.{told};
-ghost use Rattle.pd_events.specs.Progress.{in_record, joined_of, joined_seen, open_reading, reading_seen, stop_of, stop_of_fault};
-ghost use Rattle.pd_events.specs.Views.{events_seen, record_seen, stream_kind_seen};
+ghost use Rattle.pd_spec.specs.Views.{document_view};
+ghost use Rattle.pd_events.specs.Faults.{record_fault_view};
+ghost use Rattle.pd_events.specs.Progress.{in_record, joined_of, joined_view, open_reading, reading_view, stop_of, stop_of_fault};
+ghost use Rattle.pd_events.specs.Views.{events_view, record_view, stream_kind_view};
 
 use super::{Event, LineRecord, RecordFault, StreamFault, StreamKind, read_record};
 use pd_frames::Line;
@@ -35,14 +35,14 @@ pub enum Phase {
     Joined(Join),
     /// Its end line has come.
     Ended(Join),
-    /// It has a fault, behind the join if there was one.
+    /// It has a fault, after the join if there was one.
     Faulted(Option<Join>, StreamFault),
 }
 
 impl Phase {
     /// The join, if there was one.
     pub fn joined(self) -> Option<Join>
-        ensures { joined_seen result ≡ joined_of self }
+        ensures { joined_view result ≡ joined_of self }
     {
         match self {
             Phase::Fresh => None,
@@ -63,11 +63,12 @@ impl Phase {
         }
     }
 
-    /// The same phase with this fault behind it, if there is one and the stream hasn't stopped before.
-    fn ended_by(self, behind: Option<StreamFault>) -> Phase
-        ensures { (events : List Event) → reading_seen result events ≡ with_end (stop_of_fault behind) (reading_seen self events) }
+    /// The same phase with this fault after it, if there is one and the stream hasn't stopped before.
+    fn ended_by(self, following: Option<StreamFault>) -> Phase
+        ensures { (events : List Event) → reading_view result events
+            ≡ with_end (stop_of_fault following) (reading_view self events) }
     {
-        match (self, behind) {
+        match (self, following) {
             (Phase::Fresh, Some(fault)) => Phase::Faulted(None, fault),
             (Phase::Joined(join), Some(fault)) => Phase::Faulted(Some(join), fault),
             (phase, _) => phase,
@@ -75,9 +76,9 @@ impl Phase {
     }
 }
 
-/// What a record's fault is in a stream, if it isn't want of memory.
+/// What a record's fault is in a stream, if it isn't out of memory.
 fn kind_of(fault: RecordFault) -> Option<StreamKind>
-    ensures { option_map stream_kind_seen result ≡ option_map in_record (told fault) }
+    ensures { option_map stream_kind_view result ≡ option_map in_record (record_fault_view fault) }
 {
     match fault {
         RecordFault::Json => Some(StreamKind::Json),
@@ -91,7 +92,7 @@ fn kind_of(fault: RecordFault) -> Option<StreamKind>
     }
 }
 
-/// Takes a record, behind so many events; an event is added to the new ones.
+/// Takes a record, after so many events; an event is added to the new ones.
 fn take_record(
     joined: Option<Join>,
     kept: usize,
@@ -100,8 +101,9 @@ fn take_record(
     said: LineRecord,
 ) -> Result<Phase, AllocError>
     ensures { IfOk result (λ phase. (events : List Event) → length events ≡ kept →
-        reading_seen phase (events ++ new.new.items)
-        ≡ after_record (joined_seen joined) (open_reading (joined_seen joined) (events_seen (events ++ new.old.items))) number (Ok (record_seen said))) }
+        reading_view phase (events ++ new.new.items)
+        ≡ after_record (joined_view joined) (open_reading (joined_view joined) (events_view (events ++ new.old.items)))
+        number (Ok (record_view said))) }
 {
     let fault = |kind| Phase::Faulted(joined, StreamFault { line: number, kind });
     match (joined, said) {
@@ -122,7 +124,7 @@ fn take_record(
     }
 }
 
-/// Takes a line, behind so many events. What has stopped stays as it is.
+/// Takes a line, after so many events. What has stopped stays as it is.
 fn take_line(
     alloc: Global,
     spec: &Spec,
@@ -132,9 +134,10 @@ fn take_line(
     line: &Line,
 ) -> Result<Phase, AllocError>
     ensures { IfOk result (λ after. (events : List Event) → length events ≡ kept →
-        reading_seen after (events ++ new.new.items)
-        ≡ unless_stopped (stop_of phase) (reading_seen phase (events ++ new.old.items))
-        (read_line (document_of spec.now).names (reading_seen phase (events ++ new.old.items)) (line_of line.now))) }
+        reading_view after (events ++ new.new.items)
+        ≡ unless_stopped (stop_of phase) (reading_view phase (events ++ new.old.items))
+        (read_line (document_view spec.now).names (reading_view phase (events ++ new.old.items)) (line_view line.now)))
+            }
 {
     if phase.is_closed() {
         return Ok(phase);
@@ -166,7 +169,7 @@ pub struct Progress {
 }
 
 impl Progress {
-    /// Takes these lines, and the fault behind them, if there is one.
+    /// Takes these lines, and the fault after them, if there is one.
     ///
     /// # Errors
     /// Where memory runs out; the progress is then as it was.
@@ -175,12 +178,14 @@ impl Progress {
         alloc: Global,
         spec: &Spec,
         lines: &[Line],
-        behind: Option<StreamFault>,
+        following: Option<StreamFault>,
     ) -> Result<(), AllocError>
-        ensures ok { OnOk result (reading_seen self.new.phase self.new.events.items
-            ≡ with_end (stop_of_fault behind)
-            (read_on (document_of spec.now).names (reading_seen self.old.phase self.old.events.items) (lines_of lines.now))) }
-        ensures err { OnErr result (reading_seen self.new.phase self.new.events.items ≡ reading_seen self.old.phase self.old.events.items) }
+        ensures ok { OnOk result (reading_view self.new.phase self.new.events.items
+            ≡ with_end (stop_of_fault following)
+            (read_on (document_view spec.now).names (reading_view self.old.phase self.old.events.items)
+            (lines_view lines.now))) }
+        ensures err { OnErr result (reading_view self.new.phase self.new.events.items
+            ≡ reading_view self.old.phase self.old.events.items) }
     {
         let mut phase = self.phase;
         let mut new = Vec::new(alloc);
@@ -189,15 +194,15 @@ impl Progress {
             phase = take_line(alloc, spec, phase, kept, &mut new, line)?;
         }
         self.events.append(&mut new)?;
-        self.phase = phase.ended_by(behind);
+        self.phase = phase.ended_by(following);
         Ok(())
     }
 
-    /// Takes the fault behind the lines, if there is one and the stream hasn't stopped before.
-    pub fn end_by(&mut self, behind: Option<StreamFault>)
-        ensures { reading_seen self.new.phase self.new.events.items
-            ≡ with_end (stop_of_fault behind) (reading_seen self.old.phase self.old.events.items) }
+    /// Takes the fault after the lines, if there is one and the stream hasn't stopped before.
+    pub fn end_by(&mut self, following: Option<StreamFault>)
+        ensures { reading_view self.new.phase self.new.events.items
+            ≡ with_end (stop_of_fault following) (reading_view self.old.phase self.old.events.items) }
     {
-        self.phase = self.phase.ended_by(behind);
+        self.phase = self.phase.ended_by(following);
     }
 }

@@ -3,12 +3,12 @@ ghost use Rattle.std.specs.Bool.{OnFalse, OnTrue};
 ghost use Rattle.std.specs.Prelude.{◌≡◌, ℕ, false, List, [], ◌++◌, length, IfOk, IsOk, OnErr, OnOk, Ok, Some};
 ghost use Rattle.pd_format.specs.Lines.{has_line_feed};
 ghost use Rattle.pd_format.specs.Names.{ProcessNames};
-ghost use Rattle.pd_format.specs.Readings.{Ending, Ended, Failed, IsClosed, NothingMore, Open, outcome, state};
+ghost use Rattle.pd_format.specs.Readings.{Ending, Ended, Failed, IsClosed, NothingMore, Open, result_of, state};
 ghost use Rattle.pd_format.specs.ReadingLaws.{FitsSession, process_of};
-ghost use Rattle.pd_spec.specs.Views.{document_of};
+ghost use Rattle.pd_spec.specs.Views.{document_view};
 ghost use Rattle.pd_events.specs.Progress.{stop_of_fault};
 ghost use Rattle.pd_events.specs.Reads.{Reads, stop_of_frame};
-ghost use Rattle.pd_events.specs.Views.{outcome_seen, state_seen, trace_seen};
+ghost use Rattle.pd_events.specs.Views.{result_view, state_view, trace_view};
 
 use super::progress::{Phase, Progress};
 use super::{StreamFault, StreamKind, StreamState, Trace};
@@ -57,13 +57,13 @@ impl<'spec> Model for TraceReader<'spec> {
 
     ghost Value = { ReaderState };
 
-    ghost use Rattle.pd_spec.specs.Views.{document_of};
-    ghost use Rattle.pd_events.specs.Progress.{reading_seen};
+    ghost use Rattle.pd_spec.specs.Views.{document_view};
+    ghost use Rattle.pd_events.specs.Progress.{reading_view};
 
     ghost view = { λ r. record {
-      names = (document_of r.spec.now).names;
+      names = (document_view r.spec.now).names;
       framer = r.framer;
-      reading = reading_seen r.progress.phase r.progress.events.items;
+      reading = reading_view r.progress.phase r.progress.events.items;
     } };
 
     ghost use Rattle.std.specs.Prelude.{◌≡◌, false};
@@ -76,7 +76,7 @@ impl<'spec> Model for TraceReader<'spec> {
 impl<'spec> TraceReader<'spec> {
     /// A reader of a stream of which no byte has come. It takes no memory.
     pub fn new(alloc: Global, spec: &'spec Spec) -> TraceReader<'spec>
-        ensures { Reads result (document_of spec.now).names Open [] }
+        ensures { Reads result (document_view spec.now).names Open [] }
     {
         TraceReader {
             alloc,
@@ -89,7 +89,7 @@ impl<'spec> TraceReader<'spec> {
         }
     }
 
-    /// Whether the end line or a fault has come, or the end or a failed read was told.
+    /// Whether the end line or a fault has come, or the end or a failed read was reported.
     pub fn is_closed(&self) -> bool
         ensures yes { OnTrue result (IsClosed self.now.reading.stop) }
         ensures no { OnFalse result (self.now.reading.stop ≡ NothingMore) }
@@ -99,7 +99,7 @@ impl<'spec> TraceReader<'spec> {
 
     /// How far the stream is.
     pub fn state(&self) -> StreamState
-        ensures { state_seen result ≡ state self.now.reading }
+        ensures { state_view result ≡ state self.now.reading }
     {
         match self.progress.phase {
             Phase::Fresh => StreamState::Fresh,
@@ -164,7 +164,8 @@ impl<'spec> TraceReader<'spec> {
         Ok(())
     }
 
-    /// Tells the end of the input, after which the reader is closed. A closed reader takes no memory and stays as it is.
+    /// Tells the end of the input, after which the reader is closed. A closed reader takes no memory and stays as it
+    /// is.
     ///
     /// # Errors
     /// Where memory runs out; the reader is then as it was.
@@ -193,8 +194,8 @@ impl<'spec> TraceReader<'spec> {
         Ok(())
     }
 
-    /// Tells that a read of the input failed, after which the reader is closed. A closed reader stays as it is. It takes no
-    /// memory.
+    /// Tells that a read of the input failed, after which the reader is closed. A closed reader stays as it is. It
+    /// takes no memory.
     pub fn fail(&mut self)
         ensures reads { (names : List ProcessNames) (bytes : List ℕ) →
             Reads self.old names Open bytes → Reads self.new names Failed bytes }
@@ -219,9 +220,9 @@ impl<'spec> TraceReader<'spec> {
     /// The first fault of the stream.
     pub fn outcome(self) -> Result<Trace, StreamFault>
         requires { IsClosed self.reading.stop }
-        ensures value { Some (outcome_seen result) ≡ outcome self.entry.reading }
+        ensures value { Some (result_view result) ≡ result_of self.entry.reading }
         ensures fits { IfOk result (λ trace. (names : List ProcessNames) (ending : Ending) (bytes : List ℕ) →
-            Reads self.entry names ending bytes → FitsSession names (trace_seen trace)) }
+            Reads self.entry names ending bytes → FitsSession names (trace_view trace)) }
     {
         pd_format::traces_fit();
         let Progress { phase, events } = self.progress;

@@ -4,9 +4,9 @@ ghost use Rattle.serde_json.specs.Find.{get_member};
 ghost use Rattle.serde_json.specs.View.{members_view};
 ghost use Rattle.pd_format.specs.Names.{vars_of};
 ghost use Rattle.pd_format.specs.Records.{event_record, record_of, record_of_statement, sets_from, whole_number};
-ghost use Rattle.pd_spec.specs.Views.{document_of};
+ghost use Rattle.pd_spec.specs.Views.{document_view};
 ghost use Rattle.pd_events.specs.Parts.{IsId, IsKind, IsSets};
-ghost use Rattle.pd_events.specs.Statements.{kind_said, settings_seen, statement_seen};
+ghost use Rattle.pd_events.specs.Statements.{kind_said, settings_view, statement_view};
 ghost use Rattle.pd_events.specs.Views.{IsRecord};
 
 use super::fields::{are_whole, has_only_vars, value_at};
@@ -45,7 +45,8 @@ fn sets_of(
     vars: &[String],
     settings: &Map<String, Value>,
 ) -> Result<Vec<(usize, i64)>, AllocError>
-    ensures { IfOk result (λ sets. sets.items ≡ sets_from 0 (map string_bytes vars.now) (members_view settings.now.entries)) }
+    ensures { IfOk result (λ sets. sets.items
+        ≡ sets_from 0 (map string_bytes vars.now) (members_view settings.now.entries)) }
 {
     let mut sets = Vec::new(alloc);
     for (number, var) in vars.iter().enumerate() {
@@ -79,7 +80,7 @@ fn sets_said(
     vars: &[String],
     settings: Option<&Map<String, Value>>,
 ) -> Result<Vec<(usize, i64)>, RecordFault>
-    ensures { IsSets (map string_bytes vars.now) (settings_seen settings.entry) result }
+    ensures { IsSets (map string_bytes vars.now) (settings_view settings.entry) result }
 {
     match settings {
         None => Ok(Vec::new(alloc)),
@@ -115,7 +116,8 @@ fn event_of(
     said: Said<'_>,
     settings: Option<&Map<String, Value>>,
 ) -> Result<LineRecord, RecordFault>
-    ensures { IsRecord (event_record (map string_bytes vars.now) (kind_said said.entry) (settings_seen settings.entry)) result }
+    ensures { IsRecord (event_record (map string_bytes vars.now) (kind_said said.entry) (settings_view settings.entry))
+        result }
 {
     let sets = sets_said(alloc, vars, settings)?;
     let kind = kind_of(alloc, said)?;
@@ -129,7 +131,7 @@ fn record_of(
     joined: Option<usize>,
     statement: Statement<'_>,
 ) -> Result<LineRecord, RecordFault>
-    ensures { IsRecord (record_of_statement names.now joined (statement_seen statement.entry)) result }
+    ensures { IsRecord (record_of_statement names.now joined (statement_view statement.entry)) result }
 {
     match (joined, statement) {
         (None, Statement::Join(name)) => match names.find(name) {
@@ -148,14 +150,14 @@ fn record_of(
 /// The record of a line, before the join or after the join of a process, which is counted from 0.
 ///
 /// # Errors
-/// The first fault that applies, or want of memory.
+/// The first fault that applies, or out of memory.
 pub fn read_record(
     alloc: Global,
     spec: &Spec,
     joined: Option<usize>,
     bytes: &[u8],
 ) -> Result<LineRecord, RecordFault>
-    ensures { IsRecord (record_of (document_of spec.now).names joined bytes.now) result }
+    ensures { IsRecord (record_of (document_view spec.now).names joined bytes.now) result }
 {
     let value = value_of(alloc, bytes)?;
     match statement_of(&value) {

@@ -2,8 +2,8 @@
 ghost use Rattle.std.specs.Prelude.{◌≡◌, option_map};
 ghost use Rattle.serde_json.specs.View.{view, members_view};
 ghost use Rattle.pd_format.specs.Lists.{first_some};
-ghost use Rattle.pd_format.specs.Records.{end_statement, event_statement, join_statement, kind_of, settings_of, statement_of};
-ghost use Rattle.pd_events.specs.Statements.{kind_said, settings_seen, statement_seen};
+ghost use Rattle.pd_format.specs.Records.{end_statement, event_statement, join_statement, kind_by_fields, settings_of, statement_of};
+ghost use Rattle.pd_events.specs.Statements.{kind_said, settings_view, statement_view};
 
 use super::fields::{has_only, only_field, value_at};
 use serde_json::{Map, Value};
@@ -32,8 +32,9 @@ pub enum Statement<'a> {
 
 /// The join or the end that the fields say, if there is one alone.
 fn only_statement(fields: &Map<String, Value>) -> Option<Statement<'_>>
-    ensures { option_map statement_seen result
-        ≡ first_some (join_statement (members_view fields.now.entries)) (end_statement (members_view fields.now.entries)) }
+    ensures { option_map statement_view result
+        ≡ first_some (join_statement (members_view fields.now.entries))
+        (end_statement (members_view fields.now.entries)) }
 {
     let (name, value) = only_field(fields)?;
     if name == "process" {
@@ -48,7 +49,8 @@ fn only_statement(fields: &Map<String, Value>) -> Option<Statement<'_>>
 /// The kind of event, by the ids of what it sends and of what it receives. It doesn't do both.
 fn kind_in<'a>(sent: Option<&'a Value>, received: Option<&'a Value>) -> Option<Said<'a>>
     ensures { option_map kind_said result
-        ≡ kind_of (option_map (λ value. view value.now) sent.entry) (option_map (λ value. view value.now) received.entry) }
+        ≡ kind_by_fields (option_map (λ value. view value.now) sent.entry)
+        (option_map (λ value. view value.now) received.entry) }
 {
     match (sent, received) {
         (None, None) => Some(Said::Local),
@@ -60,7 +62,7 @@ fn kind_in<'a>(sent: Option<&'a Value>, received: Option<&'a Value>) -> Option<S
 
 /// The variables that are set, if any are said. What says them is an object.
 fn settings(value: Option<&Value>) -> Option<Option<&Map<String, Value>>>
-    ensures { option_map settings_seen result ≡ settings_of (option_map (λ value. view value.now) value.entry) }
+    ensures { option_map settings_view result ≡ settings_of (option_map (λ value. view value.now) value.entry) }
 {
     match value {
         Some(value) => Some(Some(value.as_object()?)),
@@ -70,7 +72,7 @@ fn settings(value: Option<&Value>) -> Option<Option<&Map<String, Value>>>
 
 /// The event that the fields say.
 fn event_of(fields: &Map<String, Value>) -> Option<Statement<'_>>
-    ensures { option_map statement_seen result ≡ event_statement (members_view fields.now.entries) }
+    ensures { option_map statement_view result ≡ event_statement (members_view fields.now.entries) }
 {
     if !has_only(&["send", "recv", "set"], fields) {
         return None;
@@ -82,7 +84,7 @@ fn event_of(fields: &Map<String, Value>) -> Option<Statement<'_>>
 
 /// What the value says, if it has the shape of a record.
 pub fn statement_of(value: &Value) -> Option<Statement<'_>>
-    ensures { option_map statement_seen result ≡ statement_of (view value.now) }
+    ensures { option_map statement_view result ≡ statement_of (view value.now) }
 {
     let fields = value.as_object()?;
     match only_statement(fields) {

@@ -27,12 +27,14 @@ first_along : (cut : List ℕ) (path : List ℕ) → first_of (cuts_along cut pa
 first_along cut [] = refl
 first_along cut (p ∷ path) = refl
 
--- the last of the cuts stays the last with one more in front
-last_along : (first cut : List ℕ) (path : List ℕ) → last_of (first ∷ cuts_along cut path) ≡ last_of (cuts_along cut path)
+-- the last of the cuts stays the last with one more in prefix
+last_along : (first cut : List ℕ) (path : List ℕ) → last_of (first ∷ cuts_along cut path)
+    ≡ last_of (cuts_along cut path)
 last_along first cut [] = refl
 last_along first cut (p ∷ path) = refl
 
-linked_along : (first cut : List ℕ) (path : List ℕ) → Linked AddsEvent (first ∷ cuts_along cut path) ↔ (AddsEvent first cut × Linked AddsEvent (cuts_along cut path))
+linked_along : (first cut : List ℕ) (path : List ℕ) → Linked AddsEvent (first ∷ cuts_along cut path)
+    ↔ (AddsEvent first cut × Linked AddsEvent (cuts_along cut path))
 linked_along first cut [] = (λ h. h, λ h. h)
 linked_along first cut (p ∷ path) = (λ h. h, λ h. h)
 
@@ -44,19 +46,25 @@ all_rest : {A : Type 0} (P : A → Type 0) (x : A) (xs : List A) → All P (x �
 all_rest P x xs all = λ i d lt. all (suc i) d (omega arith)
 
 -- The path is good where its first cut is.
-pub avoids_here : (c : Computation) (test : List ℕ → Bool) (cut path : List ℕ) → AvoidsFrom c test cut path → IsAvoidingCut c test cut
+pub avoids_here : (c : Computation) (test : List ℕ → Bool) (cut path : List ℕ) → AvoidsFrom c test cut path
+    → IsAvoidingCut c test cut
 avoids_here c test cut [] (walk, fails) =
     (all_here (IsConsistent c) cut [] walk.consistent, all_here (λ x. test x ≡ false) cut [] fails)
-avoids_here c test cut (p ∷ path) (walk, fails) =
-    (all_here (IsConsistent c) cut (cuts_along (one_more cut p) path) walk.consistent, all_here (λ x. test x ≡ false) cut (cuts_along (one_more cut p) path) fails)
+avoids_here c test cut (p ∷ path) (walk, fails) = (
+  all_here (IsConsistent c) cut (cuts_along (one_more cut p) path) walk.consistent,
+  all_here (λ x. test x ≡ false) cut (cuts_along (one_more cut p) path) fails,
+)
 
 -- At a good cut the path goes on: one step and the rest.
-pub avoids_on : (c : Computation) (test : List ℕ → Bool) (cut : List ℕ) (p : ℕ) (path : List ℕ) → IsAvoidingCut c test cut → AvoidsFrom c test cut (p ∷ path) ↔ ((p < length cut) × AvoidsFrom c test (one_more cut p) path)
+pub avoids_on : (c : Computation) (test : List ℕ → Bool) (cut : List ℕ) (p : ℕ) (path : List ℕ)
+    → IsAvoidingCut c test cut → AvoidsFrom c test cut (p ∷ path)
+    ↔ ((p < length cut) × AvoidsFrom c test (one_more cut p) path)
 avoids_on c test cut p path (ok, fail) = (to, from)
   where
     to : AvoidsFrom c test cut (p ∷ path) → (p < length cut) × AvoidsFrom c test (one_more cut p) path
     to (walk, fails) =
-        let linked : AddsEvent cut (one_more cut p) × Linked AddsEvent (cuts_along (one_more cut p) path) = (linked_along cut (one_more cut p) path).0 walk.steps in (
+        let linked : AddsEvent cut (one_more cut p) × Linked AddsEvent (cuts_along (one_more cut p) path) =
+        (linked_along cut (one_more cut p) path).0 walk.steps in (
           added_is_there cut p linked.0,
           (
             record {
@@ -81,7 +89,8 @@ avoids_on c test cut p path (ok, fail) = (to, from)
     )
 
 -- At a good cut the path may end exactly where the cut is full.
-pub avoids_ended : (c : Computation) (test : List ℕ → Bool) (cut : List ℕ) → IsAvoidingCut c test cut → AvoidsFrom c test cut [] ↔ (cut ≡ full_cut c)
+pub avoids_ended : (c : Computation) (test : List ℕ → Bool) (cut : List ℕ) → IsAvoidingCut c test cut
+    → AvoidsFrom c test cut [] ↔ (cut ≡ full_cut c)
 avoids_ended c test cut (ok, fail) = (to, from)
   where
     to : AvoidsFrom c test cut [] → cut ≡ full_cut c
@@ -103,31 +112,42 @@ pub zeros_are_empty : (c : Computation) → replicate (length c) 0 ≡ empty_cut
 zeros_are_empty [] = refl
 zeros_are_empty (events ∷ c) = ap (λ (xs : List ℕ). 0 ∷ xs) (zeros_are_empty c)
 
-pub full_from_counts : (c : Computation) (counts : List ℕ) → length counts ≡ length c → ((k : ℕ) → k < length counts → get_or counts k 0 ≡ event_count c k) → counts ≡ full_cut c
+pub full_from_counts : (c : Computation) (counts : List ℕ) → length counts ≡ length c
+    → ((k : ℕ) → k < length counts → get_or counts k 0 ≡ event_count c k) → counts ≡ full_cut c
 full_from_counts c counts count each =
     ext_get_or 0 counts (full_cut c) (count ∙ sym (length_full c)) (λ k lt. each k lt ∙ sym (full_at c k))
 
--- What is said of the whole path is that it avoids from the cut here on. If the cut here or the next step isn't good, the
--- whole isn't.
-pub refused_here : (c : Computation) (test : List ℕ → Bool) (cut path : List ℕ) (whole : Type 0) (good : Bool) → (whole ↔ AvoidsFrom c test cut path) → (IsTrue good ↔ IsAvoidingCut c test cut) → good ≡ false → IsTrue false ↔ whole
+-- What is said of the whole path is that it avoids from the cut here on. If the cut here or the next step isn't good,
+-- the whole isn't.
+pub refused_here : (c : Computation) (test : List ℕ → Bool) (cut path : List ℕ) (whole : Type 0) (good : Bool)
+    → (whole ↔ AvoidsFrom c test cut path) → (IsTrue good ↔ IsAvoidingCut c test cut) → good ≡ false → IsTrue false
+    ↔ whole
 refused_here c test cut path whole good rest exact fail =
     (λ h. absurd (false≢true h), λ w. absurd (false≢true (sym fail ∙ exact.1 (avoids_here c test cut path (rest.0 w)))))
 
-pub refused_step : (c : Computation) (test : List ℕ → Bool) (cut : List ℕ) (p : ℕ) (path : List ℕ) (whole : Type 0) (good : Bool) → (whole ↔ AvoidsFrom c test cut (p ∷ path)) → IsAvoidingCut c test cut → (IsTrue good ↔ ((p < length cut) × IsAvoidingCut c test (one_more cut p))) → good ≡ false → IsTrue false ↔ whole
+pub refused_step : (c : Computation) (test : List ℕ → Bool) (cut : List ℕ) (p : ℕ) (path : List ℕ) (whole : Type 0)
+    (good : Bool) → (whole ↔ AvoidsFrom c test cut (p ∷ path)) → IsAvoidingCut c test cut
+    → (IsTrue good ↔ ((p < length cut) × IsAvoidingCut c test (one_more cut p))) → good ≡ false → IsTrue false ↔ whole
 refused_step c test cut p path whole good rest here exact fail = (λ h. absurd (false≢true h), none)
   where
     none : whole → IsTrue false
     none w =
-        let on : (p < length cut) × AvoidsFrom c test (one_more cut p) path = (avoids_on c test cut p path here).0 (rest.0 w) in
+        let on : (p < length cut) × AvoidsFrom c test (one_more cut p) path =
+        (avoids_on c test cut p path here).0 (rest.0 w) in
         absurd (false≢true (sym fail ∙ exact.1 (on.0, avoids_here c test (one_more cut p) path on.1)))
 
 -- A good step leaves the rest of the path.
-pub rest_after : (c : Computation) (test : List ℕ → Bool) (cut : List ℕ) (p : ℕ) (path : List ℕ) (whole : Type 0) → (whole ↔ AvoidsFrom c test cut (p ∷ path)) → IsAvoidingCut c test cut → p < length cut → whole ↔ AvoidsFrom c test (one_more cut p) path
+pub rest_after : (c : Computation) (test : List ℕ → Bool) (cut : List ℕ) (p : ℕ) (path : List ℕ) (whole : Type 0)
+    → (whole ↔ AvoidsFrom c test cut (p ∷ path)) → IsAvoidingCut c test cut → p < length cut
+    → whole ↔ AvoidsFrom c test (one_more cut p) path
 rest_after c test cut p path whole rest here lt =
-    let on : AvoidsFrom c test cut (p ∷ path) ↔ ((p < length cut) × AvoidsFrom c test (one_more cut p) path) = avoids_on c test cut p path here in
+    let on : AvoidsFrom c test cut (p ∷ path) ↔ ((p < length cut) × AvoidsFrom c test (one_more cut p) path) =
+    avoids_on c test cut p path here in
     (λ w. (on.0 (rest.0 w)).1, λ a. rest.1 (on.1 (lt, a)))
 
-pub ended_full : (c : Computation) (test : List ℕ → Bool) (cut : List ℕ) (whole : Type 0) (full : Bool) → (whole ↔ AvoidsFrom c test cut []) → IsAvoidingCut c test cut → (IsTrue full ↔ (cut ≡ full_cut c)) → IsTrue full ↔ whole
+pub ended_full : (c : Computation) (test : List ℕ → Bool) (cut : List ℕ) (whole : Type 0) (full : Bool)
+    → (whole ↔ AvoidsFrom c test cut []) → IsAvoidingCut c test cut → (IsTrue full ↔ (cut ≡ full_cut c)) → IsTrue full
+    ↔ whole
 ended_full c test cut whole full rest here exact =
     let ended : AvoidsFrom c test cut [] ↔ (cut ≡ full_cut c) = avoids_ended c test cut here in
     (λ h. rest.1 (ended.1 (exact.0 h)), λ w. exact.1 (ended.0 (rest.0 w)))

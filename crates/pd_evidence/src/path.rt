@@ -3,7 +3,7 @@ ghost use Rattle.pd_evidence.specs.Paths.{AvoidsFrom, IsAvoidingCut};
 ghost use Rattle.pd_model.specs.Answers.{IsAvoidingObservation};
 ghost use Rattle.pd_model.specs.Cuts.{FitsProcesses, empty_cut, full_cut, one_more};
 ghost use Rattle.pd_model.specs.Predicates.{test_of};
-ghost use Rattle.pd_pred.specs.Views.{predicate_of};
+ghost use Rattle.pd_pred.specs.Views.{predicate_view};
 ghost use Rattle.std.specs.Prelude.{◌≡◌, ◌<◌, ◌↔◌, IfOk, IsTrue, Ok, length, true};
 
 use super::cut::satisfies;
@@ -11,9 +11,9 @@ use pd_clock::{Computation, Cut};
 use pd_pred::Pred;
 use std::alloc::{AllocError, Global};
 
-/// Whether the process numbers, counted from 0, name an observation with no satisfying cut: from the cut with no event each
-/// adds one event of its process, up to the cut with all. A process that isn't there, a step that leaves no consistent cut,
-/// and a path that ends early or goes on too long make none.
+/// Whether the process numbers, counted from 0, name an observation with no satisfying cut: from the cut with no event
+/// each adds one event of its process, up to the cut with all. A process that isn't there, a step that leaves no
+/// consistent cut, and a path that ends early or goes on too long make none.
 ///
 /// # Errors
 /// Memory was refused.
@@ -23,7 +23,8 @@ pub fn check_path(
     pred: &Pred,
     path: &[usize],
 ) -> Result<bool, AllocError>
-    ensures { IfOk result (λ good. IsTrue good ↔ IsAvoidingObservation computation.now.events (test_of computation.now (predicate_of pred.now)) path.now) }
+    ensures { IfOk result (λ good. IsTrue good
+        ↔ IsAvoidingObservation computation.now.events (test_of computation.now (predicate_view pred.now)) path.now) }
 {
     let mut counts = no_events(alloc, computation)?;
     if !avoids(alloc, computation, pred, &counts)? {
@@ -51,14 +52,15 @@ fn avoids(
     pred: &Pred,
     counts: &[u64],
 ) -> Result<bool, AllocError>
-    ensures { IfOk result (λ good. IsTrue good ↔ IsAvoidingCut computation.now.events (test_of computation.now (predicate_of pred.now)) counts.now) }
+    ensures { IfOk result (λ good. IsTrue good
+        ↔ IsAvoidingCut computation.now.events (test_of computation.now (predicate_view pred.now)) counts.now) }
 {
     let here = Cut::new(alloc, counts)?;
     Ok(computation.consistent(&here) && !satisfies(computation, pred, &here))
 }
 
-/// Adds the next event of process `p`, and tells whether there was one and the counts are those of a consistent cut that
-/// doesn't satisfy.
+/// Adds the next event of process `p`, and tells whether there was one and the counts are those of a consistent cut
+/// that doesn't satisfy.
 fn step(
     alloc: Global,
     computation: &Computation<'_>,
@@ -67,7 +69,9 @@ fn step(
     p: usize,
 ) -> Result<bool, AllocError>
     requires { FitsProcesses computation.now.events counts.old }
-    ensures exact { IfOk result (λ good. IsTrue good ↔ ((p < length counts.old) × IsAvoidingCut computation.now.events (test_of computation.now (predicate_of pred.now)) (one_more counts.old p))) }
+    ensures exact { IfOk result (λ good. IsTrue good
+        ↔ ((p < length counts.old) × IsAvoidingCut computation.now.events
+        (test_of computation.now (predicate_view pred.now)) (one_more counts.old p))) }
     ensures taken { result ≡ Ok true → counts.new ≡ one_more counts.old p }
 {
     if p < counts.len() && counts[p] < computation.events(p) {

@@ -9,9 +9,9 @@ use Rattle.pd_format.specs.Lines.{line, open_lines, finished_lines, frame_fault,
 use Rattle.pd_format.proofs.LineFacts.{fault-append, short_is_sound_lem, unended-no_feed}
 use Rattle.pd_format.specs.Names.{ProcessNames}
 use Rattle.pd_format.specs.Records.{RecordFault, Json, Shape, Join, UnknownProcess, UnknownVar, Value, MessageId, LineRecord, Joins, Happens, Ends, record_of}
-use Rattle.pd_format.specs.Readings.{Reading, Ended, Open, reading, outcome, Trace, StreamFault, Unended, InRecord}
+use Rattle.pd_format.specs.Readings.{Reading, Ended, Open, reading, result_of, Trace, StreamFault, Unended, InRecord}
 use Rattle.pd_format.specs.Documents as documents
-use Rattle.pd_format.specs.Documents.{DocumentFault, Outline, outline_of_bytes, names_of, initial_of, width_of}
+use Rattle.pd_format.specs.Documents.{DocumentFault, Outline, outline_of_bytes, names_of_outline, initial_of, width_of}
 use Rattle.pd_format.specs.Sessions.{session, Taken, Absent, bytes_of, Piece, AtEnd, Broken}
 use Rattle.pd_format.specs.Reports.{Possibly, Definitely, Judged, Refused, Cycle, report_text}
 use Rattle.pd_format.specs.OtherTexts.{snapshot_text, check_text, NotRead}
@@ -79,7 +79,8 @@ pub long_id : record_of names (Some 0) (codes "{\"send\":\"" ++ replicate 65 97 
 unfolding on_lines
 long_id = refl
 
-pub send_and_set : record_of names (Some 0) (codes "{\"send\":\"m\",\"set\":{\"x\":-7}}\r") ≡ Ok (Happens (record { kind = Send (codes "m"); sets = (0, ℤ.negsuc 6) ∷ [] }))
+pub send_and_set : record_of names (Some 0) (codes "{\"send\":\"m\",\"set\":{\"x\":-7}}\r")
+    ≡ Ok (Happens (record { kind = Send (codes "m"); sets = (0, ℤ.negsuc 6) ∷ [] }))
 unfolding on_lines
 send_and_set = refl
 
@@ -109,32 +110,35 @@ local z = record { kind = Local; sets = (0, z) ∷ [] }
 abbrev pub stream_b : List ℕ
 stream_b = codes "{\"process\":\"b\"}\n{\"set\":{\"y\":1}}\n{\"set\":{\"y\":0}}\n"
 
-pub whole : outcome (reading names Ended (stream_b ++ codes "{\"end\":true}\n{ x")) ≡ Some (Ok (record { process = 1; join_line = 1; events = local (pos 1) ∷ local (pos 0) ∷ [] }))
+pub whole : result_of (reading names Ended (stream_b ++ codes "{\"end\":true}\n{ x"))
+    ≡ Some (Ok (record { process = 1; join_line = 1; events = local (pos 1) ∷ local (pos 0) ∷ [] }))
 unfolding on_lines
 whole = refl
 
-pub no_end_line : outcome (reading names Ended stream_b) ≡ Some (Err (record { line = 4; kind = Unended }))
+pub no_end_line : result_of (reading names Ended stream_b) ≡ Some (Err (record { line = 4; kind = Unended }))
 unfolding on_lines
 no_end_line = refl
 
-pub still_open : outcome (reading names Open stream_b) ≡ None
+pub still_open : result_of (reading names Open stream_b) ≡ None
 unfolding on_lines
 still_open = refl
 
 -- ---- documents
 
 abbrev pub example_document : List ℕ
-example_document = codes "{\"processes\":[{\"name\":\"a\",\"vars\":{\"x\":0}},{\"name\":\"b\",\"vars\":{\"y\":0}}],\"predicates\":[{\"name\":\"both\",\"text\":\"a.x == 1 and b.y == 1\"}]}"
+example_document =
+    codes "{\"processes\":[{\"name\":\"a\",\"vars\":{\"x\":0}},{\"name\":\"b\",\"vars\":{\"y\":0}}],\"predicates\":[{\"name\":\"both\",\"text\":\"a.x == 1 and b.y == 1\"}]}"
 
 abbrev pub with_outline : {A : Type 0} → (Outline → A) → Result Outline DocumentFault → Option A
 with_outline f (Ok outline) = Some (f outline)
 with_outline f (Err fault) = None
 
-pub names_of_example : with_outline names_of (outline_of_bytes example_document) ≡ Some names
+pub names_of_example : with_outline names_of_outline (outline_of_bytes example_document) ≡ Some names
 unfolding on_lines
 names_of_example = refl
 
-pub predicates_of_example : with_outline (λ (o : Outline). o.predicates) (outline_of_bytes example_document) ≡ Some ((codes "both", codes "a.x == 1 and b.y == 1") ∷ [])
+pub predicates_of_example : with_outline (λ (o : Outline). o.predicates) (outline_of_bytes example_document)
+    ≡ Some ((codes "both", codes "a.x == 1 and b.y == 1") ∷ [])
 unfolding on_lines
 predicates_of_example = refl
 
@@ -150,23 +154,30 @@ pub no_processes : outline_of_bytes (codes "{\"processes\":[],\"predicates\":[],
 unfolding on_lines
 no_processes = refl
 
-pub named_and : outline_of_bytes (codes "{\"processes\":[{\"name\":\"and\",\"vars\":{}}],\"predicates\":[]}") ≡ Err documents.Name
+pub named_and : outline_of_bytes (codes "{\"processes\":[{\"name\":\"and\",\"vars\":{}}],\"predicates\":[]}")
+    ≡ Err documents.Name
 unfolding on_lines
 named_and = refl
 
-pub two_of_a : outline_of_bytes (codes "{\"processes\":[{\"name\":\"a\",\"vars\":{}},{\"name\":\"a\",\"vars\":{}}],\"predicates\":[]}") ≡ Err documents.NameTwice
+pub two_of_a : outline_of_bytes (codes
+    "{\"processes\":[{\"name\":\"a\",\"vars\":{}},{\"name\":\"a\",\"vars\":{}}],\"predicates\":[]}")
+    ≡ Err documents.NameTwice
 unfolding on_lines
 two_of_a = refl
 
-pub text_var : outline_of_bytes (codes "{\"processes\":[{\"name\":\"a\",\"vars\":{\"x\":\"1\"}}],\"predicates\":[]}") ≡ Err documents.Vars
+pub text_var : outline_of_bytes (codes "{\"processes\":[{\"name\":\"a\",\"vars\":{\"x\":\"1\"}}],\"predicates\":[]}")
+    ≡ Err documents.Vars
 unfolding on_lines
 text_var = refl
 
-pub no_predicates : outline_of_bytes (codes "{\"processes\":[{\"name\":\"a\",\"vars\":{}}],\"predicates\":[]}") ≡ Err documents.Predicates
+pub no_predicates : outline_of_bytes (codes "{\"processes\":[{\"name\":\"a\",\"vars\":{}}],\"predicates\":[]}")
+    ≡ Err documents.Predicates
 unfolding on_lines
 no_predicates = refl
 
-pub width_zero : outline_of_bytes (codes "{\"processes\":[{\"name\":\"a\",\"vars\":{}}],\"predicates\":[{\"name\":\"p\",\"text\":\"\"}],\"width\":0}") ≡ Err documents.Width
+pub width_zero : outline_of_bytes (codes
+    "{\"processes\":[{\"name\":\"a\",\"vars\":{}}],\"predicates\":[{\"name\":\"p\",\"text\":\"\"}],\"width\":0}")
+    ≡ Err documents.Width
 unfolding on_lines
 width_zero = refl
 
@@ -176,15 +187,31 @@ extra_field = refl
 
 -- ---- texts
 
-pub judged : report_text (Judged 2 4 0 (record { name = codes "both"; possibly = Possibly.Yes (1 ∷ 1 ∷ []); definitely = Definitely.No (codes "b" ∷ codes "a" ∷ []) } ∷ [])) ≡ codes "session 2 processes 4 events 0 messages\nboth possibly yes 1,1\nboth definitely no b,a\n"
+pub judged : report_text (Judged 2 4 0 (record {
+  name = codes "both";
+  possibly = Possibly.Yes (1 ∷ 1 ∷ []);
+  definitely =
+      Definitely.No (codes "b" ∷ codes "a" ∷ []);
+} ∷ []))
+    ≡ codes "session 2 processes 4 events 0 messages\nboth possibly yes 1,1\nboth definitely no b,a\n"
 unfolding on_lines
 judged = refl
 
-pub cycle : report_text (Refused (Cycle (record { name = codes "a"; number = 1 } ∷ record { name = codes "b"; number = 1 } ∷ []))) ≡ codes "refused cycle a#1,b#1\n"
+pub cycle : report_text (Refused (Cycle (record { name = codes "a"; number = 1 } ∷ record {
+  name = codes "b";
+  number =
+      1;
+} ∷ []))) ≡ codes "refused cycle a#1,b#1\n"
 unfolding on_lines
 cycle = refl
 
-pub fresh : snapshot_text names (record { process = None; events = 0; state = readings.Fresh } ∷ record { process = Some 1; events = 3; state = readings.HasEnded } ∷ []) ≡ codes "stream 1 process - events 0 fresh\nstream 2 process b events 3 ended\n"
+pub fresh : snapshot_text names (record { process = None; events = 0; state = readings.Fresh } ∷ record {
+  process =
+      Some 1;
+  events = 3;
+  state = readings.HasEnded;
+} ∷ [])
+    ≡ codes "stream 1 process - events 0 fresh\nstream 2 process b events 3 ended\n"
 unfolding on_lines
 fresh = refl
 
@@ -194,21 +221,32 @@ not_read = refl
 
 -- ---- a line that is too long
 
--- a byte behind 65,536 others of its line that isn't an LF
-pub long_line : (bytes : List ℕ) (byte : ℕ) → has_line_feed bytes ≡ false → length bytes ≡ 65536 → (byte == 10) ≡ false → frame_fault (bytes ++ byte ∷ []) ≡ Some (LineTooLong (line_number bytes))
+-- a byte after 65,536 others of its line that isn't an LF
+pub long_line : (bytes : List ℕ) (byte : ℕ) → has_line_feed bytes ≡ false → length bytes ≡ 65536 → (byte == 10) ≡ false
+    → frame_fault (bytes ++ byte ∷ []) ≡ Some (LineTooLong (line_number bytes))
 long_line bytes byte none size other =
-    rw (fault-append [] bytes (byte ∷ []), short_is_sound_lem bytes (omega arith), other, unended-no_feed bytes none, size) refl
+    rw (
+      fault-append [] bytes (byte ∷ []),
+      short_is_sound_lem bytes (omega arith),
+      other,
+      unended-no_feed bytes none,
+      size,
+    ) refl
 
 -- ---- sessions
 
-pub two_of_one : session names 2 (Ok (record { process = 0; join_line = 1; events = [] }) ∷ Ok (record { process = 0; join_line = 1; events = [] }) ∷ []) ≡ Err (Taken 1 1)
+pub two_of_one : session names 2 (Ok (record { process = 0; join_line = 1; events = [] })
+    ∷ Ok (record { process = 0; join_line = 1; events = [] }) ∷ []) ≡ Err (Taken 1 1)
 two_of_one = refl
 
 pub one_alone : session names 1 (Ok (record { process = 0; join_line = 1; events = [] }) ∷ []) ≡ Err (Absent 1)
 one_alone = refl
 
-pub out_of_order : session names 2 (Ok (record { process = 1; join_line = 2; events = [] }) ∷ Ok (record { process = 0; join_line = 1; events = [] }) ∷ []) ≡ Ok (record { process = 0; join_line = 1; events = [] } ∷ record { process = 1; join_line = 2; events = [] } ∷ [])
+pub out_of_order : session names 2 (Ok (record { process = 1; join_line = 2; events = [] })
+    ∷ Ok (record { process = 0; join_line = 1; events = [] }) ∷ [])
+    ≡ Ok (record { process = 0; join_line = 1; events = [] } ∷ record { process = 1; join_line = 2; events = [] } ∷ [])
 out_of_order = refl
 
-pub pieces_in_turn : bytes_of 1 ((0, Piece (codes "a")) ∷ (1, Piece (codes "b")) ∷ (0, AtEnd) ∷ (1, Piece (codes "c")) ∷ (1, Broken) ∷ (1, Piece (codes "d")) ∷ []) ≡ codes "bc"
+pub pieces_in_turn : bytes_of 1 ((0, Piece (codes "a")) ∷ (1, Piece (codes "b")) ∷ (0, AtEnd) ∷ (1, Piece (codes "c"))
+    ∷ (1, Broken) ∷ (1, Piece (codes "d")) ∷ []) ≡ codes "bc"
 pieces_in_turn = refl

@@ -7,9 +7,11 @@ use Rattle.pd_model.specs.Predicates.{Predicate}
 use Rattle.pd_format.specs.Lists.{first_that_applies, unless, is_one_of}
 use Rattle.pd_format.specs.Names.{ProcessNames, is_name}
 use Rattle.pd_format.specs.Records.{json_value, whole_number, keys, values, has_only}
-use Rattle.pd_format.specs.PredicateTexts.{PredicateFault, IsPredicate, IsRefused}
+use Rattle.pd_format.specs.PredicateTexts.{PredicateFault, IsPredicate, IsRefusedPredicate}
+use Rattle.pd_format.specs.Limits.{document_byte_limit, default_width, var_limit, width_limit, process_limit, predicate_limit}
 
--- a document of right shape: the processes with their variables, the predicates with their texts, and the width if it is there
+-- a document of right shape: the processes with their variables, the predicates with their texts, and the width if it
+-- is there
 pub record Outline : Type 0 where
   pub processes : List (List ℕ × Members)
   pub predicates : List (List ℕ × List ℕ)
@@ -32,7 +34,8 @@ field name f fields = option_and_then f (get_member name fields)
 -- an object of exactly a name and one other field
 abbrev pub named_object : {A : Type 0} → List ℕ → (Data → Option A) → Data → Option (List ℕ × A)
 named_object other f value =
-    option_and_then (λ fields. if has_only (codes "name" ∷ other ∷ []) fields then pair_of (field (codes "name") as_str fields) (field other f fields) else None) (as_object value)
+    option_and_then (λ fields. if has_only (codes "name" ∷ other ∷ []) fields then
+    pair_of (field (codes "name") as_str fields) (field other f fields) else None) (as_object value)
 
 abbrev pub objects : {A : Type 0} → (Data → Option A) → Data → Option (List A)
 objects f value = option_and_then (each f) (as_array value)
@@ -40,7 +43,12 @@ objects f value = option_and_then (each f) (as_array value)
 abbrev pub outline_of_fields : Members → Option Outline
 outline_of_fields fields =
     if has_only (codes "processes" ∷ codes "predicates" ∷ codes "width" ∷ []) fields
-    then option_map (λ (both : List (List ℕ × Members) × List (List ℕ × List ℕ)). record { processes = both.0; predicates = both.1; width = get_member (codes "width") fields })
+    then option_map (λ (both : List (List ℕ × Members) × List (List ℕ × List ℕ)). record {
+      processes =
+          both.0;
+      predicates = both.1;
+      width = get_member (codes "width") fields;
+    })
     (pair_of (field (codes "processes") (objects (named_object (codes "vars") as_object)) fields)
     (field (codes "predicates") (objects (named_object (codes "text") as_str)) fields))
     else None
@@ -78,10 +86,11 @@ predicate_names outline = map (λ (predicate : List ℕ × List ℕ). predicate.
 
 -- at most 16 variables, each with a whole number of 64 bits
 abbrev pub vars_fit : List ℕ × Members → Bool
-vars_fit process = nat_le (length (keys process.1)) 16 && list_all (λ value. is_some (whole_number value)) (values process.1)
+vars_fit process =
+    nat_le (length (keys process.1)) var_limit && list_all (λ value. is_some (whole_number value)) (values process.1)
 
 abbrev pub is_width : ℤ → Bool
-is_width (pos n) = is_within 1 65536 n
+is_width (pos n) = is_within 1 width_limit n
 is_width (negsuc n) = false
 
 abbrev pub width_fits : Option Data → Bool
@@ -91,11 +100,16 @@ width_fits (Some value) = unwrap_or (option_map is_width (whole_number value)) f
 -- the first fault of a document of right shape, but for those in predicates
 abbrev pub outline_fault : Outline → Option DocumentFault
 outline_fault outline = first_that_applies (
-    (not (is_within 1 8 (length outline.processes)), Processes)
-    ∷ (not (list_all is_name (process_names outline) && list_all (λ (process : List ℕ × Members). list_all is_name (keys process.1)) outline.processes && list_all is_name (predicate_names outline)), Name)
+    (not (is_within 1 process_limit (length outline.processes)), Processes)
+    ∷ (
+      not (list_all is_name (process_names outline)
+          && list_all (λ (process : List ℕ × Members). list_all is_name (keys process.1)) outline.processes
+          && list_all is_name (predicate_names outline)),
+      Name,
+    )
     ∷ (has_twice (process_names outline) || has_twice (predicate_names outline), NameTwice)
     ∷ (not (list_all vars_fit outline.processes), Vars)
-    ∷ (not (is_within 1 16 (length outline.predicates)), Predicates)
+    ∷ (not (is_within 1 predicate_limit (length outline.predicates)), Predicates)
     ∷ (not (width_fits outline.width), Width)
     ∷ [])
 
@@ -107,12 +121,9 @@ abbrev pub outline_of_json : Option Data → Result Outline DocumentFault
 outline_of_json None = Err Json
 outline_of_json (Some value) = checked_outline (outline_of value)
 
-abbrev pub document_limit : ℕ
-document_limit = 262144
-
 -- the outline of a document's bytes, or the first fault that isn't in a predicate
 unfoldable pub outline_of_bytes : List ℕ → Result Outline DocumentFault
-outline_of_bytes bytes = if nat_lt document_limit (length bytes) then Err Long else outline_of_json (json_value bytes)
+outline_of_bytes bytes = if nat_lt document_byte_limit (length bytes) then Err Long else outline_of_json (json_value bytes)
 
 -- ---- the document
 
@@ -126,34 +137,35 @@ pub record Document : Type 0 where
   pub predicates : List NamedPredicate
   pub width : ℕ
 
-abbrev pub names_of : Outline → List ProcessNames
-names_of outline = map (λ (process : List ℕ × Members). record { name = process.0; vars = keys process.1 }) outline.processes
+abbrev pub names_of_outline : Outline → List ProcessNames
+names_of_outline outline =
+    map (λ (process : List ℕ × Members). record { name = process.0; vars = keys process.1 }) outline.processes
 
 abbrev pub initial_of : Outline → List (List ℤ)
-initial_of outline = map (λ (process : List ℕ × Members). map (λ value. unwrap_or (whole_number value) (pos 0)) (values process.1)) outline.processes
+initial_of outline =
+    map (λ (process : List ℕ × Members). map (λ value. unwrap_or (whole_number value) (pos 0)) (values process.1))
+    outline.processes
 
 abbrev pub natural : ℤ → ℕ
 natural (pos n) = n
 natural (negsuc n) = 0
-
-abbrev pub default_width : ℕ
-default_width = 4096
 
 abbrev pub width_of : Option Data → ℕ
 width_of width = unwrap_or (option_map natural (option_and_then whole_number width)) default_width
 
 -- the name is that of the predicate's, and the text is the predicate
 abbrev pub IsNamedPredicate : List ProcessNames → List ℕ × List ℕ → NamedPredicate → Type 0
-IsNamedPredicate names written predicate = (predicate.name ≡ written.0) × IsPredicate names written.1 predicate.predicate
+IsNamedPredicate names written predicate = (predicate.name ≡ written.0)
+    × IsPredicate names written.1 predicate.predicate
 
 -- the bytes are this document
 pub record IsDocument (bytes : List ℕ) (document : Document) : Type 0 where
   pub outline : Outline
   pub sound : outline_of_bytes bytes ≡ Ok outline
-  pub names : document.names ≡ names_of outline
+  pub names : document.names ≡ names_of_outline outline
   pub initial : document.initial ≡ initial_of outline
   pub width : document.width ≡ width_of outline.width
-  pub predicates : AllZip (IsNamedPredicate (names_of outline)) outline.predicates document.predicates
+  pub predicates : AllZip (IsNamedPredicate (names_of_outline outline)) outline.predicates document.predicates
 
 -- a predicate of a sound outline is refused, and those before it aren't
 pub record HasRefusedPredicate (bytes : List ℕ) (number : ℕ) (fault : PredicateFault) (at : ℕ) : Type 0 where
@@ -164,8 +176,9 @@ pub record HasRefusedPredicate (bytes : List ℕ) (number : ℕ) (fault : Predic
   pub after : List (List ℕ × List ℕ)
   pub parts : outline.predicates ≡ before ++ refused ∷ after
   pub place : number ≡ length before + 1
-  pub stands : IsRefused (names_of outline) refused.1 fault at
-  pub none_before : AllByRecursion (λ (written : List ℕ × List ℕ). (predicate : Predicate) × IsPredicate (names_of outline) written.1 predicate) before
+  pub stands : IsRefusedPredicate (names_of_outline outline) refused.1 fault at
+  pub none_before : AllByRecursion (λ (written : List ℕ × List ℕ). (predicate : Predicate)
+      × IsPredicate (names_of_outline outline) written.1 predicate) before
 
 -- the bytes are refused with this fault
 abbrev pub IsRefusedDocument : List ℕ → DocumentFault → Type 0

@@ -11,7 +11,8 @@ Naming = List ℕ → List ℕ → ℕ → ℕ → Type 0
 -- by the processes of a session
 abbrev pub NamedBy : List ProcessNames → Naming
 NamedBy names process var p v =
-    (entry : ProcessNames) × (slice_get names p ≡ Some entry) × (entry.name ≡ process) × (slice_get entry.vars v ≡ Some var)
+    (entry : ProcessNames) × (slice_get names p ≡ Some entry) × (entry.name ≡ process)
+    × (slice_get entry.vars v ≡ Some var)
 
 -- where all names are taken as known
 abbrev pub AnyName : Naming
@@ -19,18 +20,21 @@ AnyName process var p v = Unit {0}
 
 -- a name, a dot and a name
 abbrev pub SpellsReference : Naming → List Token → ℕ → ℕ → Type 0
-SpellsReference Refers tokens p v = (process var : List ℕ) × (tokens ≡ Word process ∷ Dot ∷ Word var ∷ []) × IsFalse (is_keyword process) × IsFalse (is_keyword var) × Refers process var p v
+SpellsReference Refers tokens p v = (process var : List ℕ) × (tokens ≡ Word process ∷ Dot ∷ Word var ∷ [])
+    × IsFalse (is_keyword process) × IsFalse (is_keyword var) × Refers process var p v
 
 -- a number, a reference, or a number times a reference
 abbrev pub SpellsTerm : Naming → List Token → Term → Type 0
 SpellsTerm Refers tokens (Number n) = tokens ≡ Digits n ∷ []
 SpellsTerm Refers tokens (Variable p v) = SpellsReference Refers tokens p v
-SpellsTerm Refers tokens (Times n p v) = (factor : List Token) × (tokens ≡ Digits n ∷ Star ∷ factor) × SpellsReference Refers factor p v
+SpellsTerm Refers tokens (Times n p v) = (factor : List Token) × (tokens ≡ Digits n ∷ Star ∷ factor)
+    × SpellsReference Refers factor p v
 
 -- terms, each with its sign before it
 abbrev pub SpellsSigned : Naming → List Token → List (Sign × Term) → Type 0
 SpellsSigned Refers tokens [] = tokens ≡ []
-SpellsSigned Refers tokens ((sign, term) ∷ others) = (front back : List Token) × (tokens ≡ Signs sign ∷ (front ++ back)) × SpellsTerm Refers front term × SpellsSigned Refers back others
+SpellsSigned Refers tokens ((sign, term) ∷ others) = (prefix back : List Token)
+    × (tokens ≡ Signs sign ∷ (prefix ++ back)) × SpellsTerm Refers prefix term × SpellsSigned Refers back others
 
 -- A sum is signed terms; where the first sign is plus, it isn't written.
 abbrev pub SpellsSum : Naming → List Token → List (Sign × Term) → Type 0
@@ -55,15 +59,21 @@ word_not = Word (codes "not")
 
 -- by this rule the tokens spell this predicate; a row of `or` or `and` is taken together from the left
 pub data Spells (Refers : Naming) : Rule → List Token → Predicate → Type 0 where
-  either : (left right : List Token) {a b : Predicate} → Spells Refers OrRule left a → Spells Refers AndRule right b → Spells Refers OrRule (left ++ word_or ∷ right) (Or a b)
+  either : (left right : List Token) {a b : Predicate} → Spells Refers OrRule left a → Spells Refers AndRule right b
+      → Spells Refers OrRule (left ++ word_or ∷ right) (Or a b)
   no_or : {tokens : List Token} {a : Predicate} → Spells Refers AndRule tokens a → Spells Refers OrRule tokens a
-  both : (left right : List Token) {a b : Predicate} → Spells Refers AndRule left a → Spells Refers NotRule right b → Spells Refers AndRule (left ++ word_and ∷ right) (And a b)
+  both : (left right : List Token) {a b : Predicate} → Spells Refers AndRule left a → Spells Refers NotRule right b
+      → Spells Refers AndRule (left ++ word_and ∷ right) (And a b)
   no_and : {tokens : List Token} {a : Predicate} → Spells Refers NotRule tokens a → Spells Refers AndRule tokens a
-  negated : {tokens : List Token} {a : Predicate} → Spells Refers NotRule tokens a → Spells Refers NotRule (word_not ∷ tokens) (Not a)
-  in_parens : (tokens : List Token) {a : Predicate} → Spells Refers OrRule tokens a → Spells Refers NotRule (OpenParen ∷ (tokens ++ CloseParen ∷ [])) a
+  negated : {tokens : List Token} {a : Predicate} → Spells Refers NotRule tokens a
+      → Spells Refers NotRule (word_not ∷ tokens) (Not a)
+  in_parens : (tokens : List Token) {a : Predicate} → Spells Refers OrRule tokens a
+      → Spells Refers NotRule (OpenParen ∷ (tokens ++ CloseParen ∷ [])) a
   always : Spells Refers NotRule (Word (codes "true") ∷ []) Always
   never : Spells Refers NotRule (Word (codes "false") ∷ []) Never
-  compare : (left right : List Token) {xs ys : List (Sign × Term)} {comparison : Comparison} → SpellsSum Refers left xs → SpellsSum Refers right ys → Spells Refers NotRule (left ++ Relates comparison ∷ right) (Compare xs comparison ys)
+  compare : (left right : List Token) {xs ys : List (Sign × Term)} {comparison : Comparison} → SpellsSum Refers left xs
+      → SpellsSum Refers right ys → Spells Refers NotRule (left ++ Relates comparison ∷ right)
+      (Compare xs comparison ys)
 
 -- the tokens of a whole text, with the end, spell this predicate
 abbrev pub SpellsWhole : Naming → List Token → Predicate → Type 0

@@ -12,10 +12,10 @@ use Rattle.pd_format.specs.PredicateTexts.{PredicateFault}
 use Rattle.pd_format.specs.PredicateTexts as predicates
 use Rattle.pd_format.specs.Records.{RecordFault}
 use Rattle.pd_format.specs.Records as records
-use Rattle.pd_format.specs.Readings.{Ending, Ended, StreamKind, LineTooLong, StreamTooLong, InRecord, TooManyEvents, Unended, ReadFailed, Trace, outcome, reading}
+use Rattle.pd_format.specs.Readings.{Ending, Ended, StreamKind, LineTooLong, StreamTooLong, InRecord, TooManyEvents, Unended, ReadFailed, Trace, result_of, reading}
 use Rattle.pd_format.specs.Documents.{Document, NamedPredicate, DocumentFault, IsDocument, IsRefusedDocument}
 use Rattle.pd_format.specs.Documents as documents
-use Rattle.pd_format.specs.Sessions.{SessionFault, TooManyStreams, Stream, Taken, Absent, Outcome, session}
+use Rattle.pd_format.specs.Sessions.{SessionFault, TooManyStreams, Stream, Taken, Absent, StreamResult, session}
 use Rattle.pd_format.specs.Reports.{Possibly, Definitely, Answer, NamedPlace, Refusal, Report, Judged, Refused}
 use Rattle.pd_format.specs.Reports as reports
 use Rattle.pd_format.specs.Bundles.{parts_of}
@@ -87,33 +87,41 @@ events_of_traces traces = map (λ (trace : Trace). trace.events) traces
 abbrev pub recorded_of : Document → List Trace → Recorded
 recorded_of document traces = record { initial = document.initial; events = events_of_traces traces }
 
-abbrev pub possibly_of : PossiblyAnswer → Possibly
-possibly_of (PossiblyYes cut) = Possibly.Yes cut
-possibly_of PossiblyNo = Possibly.No
-possibly_of (PossiblyUnknown level) = Possibly.Unknown level
+abbrev pub printed_possibly : PossiblyAnswer → Possibly
+printed_possibly (PossiblyYes cut) = Possibly.Yes cut
+printed_possibly PossiblyNo = Possibly.No
+printed_possibly (PossiblyUnknown level) = Possibly.Unknown level
 
 -- the avoiding observation as the names of its processes
-abbrev pub definitely_of : List ProcessNames → DefinitelyAnswer → Definitely
-definitely_of names (DefinitelyYes level) = Definitely.Yes level
-definitely_of names (DefinitelyNo path) = Definitely.No (map (name_of_process names) path)
-definitely_of names (DefinitelyUnknown level) = Definitely.Unknown level
+abbrev pub printed_definitely : List ProcessNames → DefinitelyAnswer → Definitely
+printed_definitely names (DefinitelyYes level) = Definitely.Yes level
+printed_definitely names (DefinitelyNo path) = Definitely.No (map (name_of_process names) path)
+printed_definitely names (DefinitelyUnknown level) = Definitely.Unknown level
 
--- The answer for one predicate: whether some consistent cut satisfies it, and whether every observation passes through such
--- a cut, under this width.
-pub record IsAnswered (names : List ProcessNames) (recorded : Recorded) (width : ℕ) (asked : NamedPredicate) (answer : Answer) : Type 0 where
+-- The answer for one predicate: whether some consistent cut satisfies it, and whether every observation passes through
+-- such a cut, under this width.
+pub record IsAnswered (names : List ProcessNames) (recorded : Recorded) (width : ℕ) (asked : NamedPredicate)
+    (answer : Answer) : Type 0 where
   pub name : answer.name ≡ asked.name
   pub possibly : PossiblyAnswer
-  pub possibly_told : answer.possibly ≡ possibly_of possibly
+  pub possibly_reported : answer.possibly ≡ printed_possibly possibly
   pub possibly_right : IsPossiblyAnswer recorded.events (test_of recorded asked.predicate) width possibly
   pub definitely : DefinitelyAnswer
-  pub definitely_told : answer.definitely ≡ definitely_of names definitely
+  pub definitely_reported : answer.definitely ≡ printed_definitely names definitely
   pub definitely_right : IsDefinitelyAnswer recorded.events (test_of recorded asked.predicate) width definitely
 
 -- The report of traces: the first fault of the messages, else the causal cycle, else the answers.
 pub data IsTracesReport (document : Document) (traces : List Trace) : Report → Type 0 where
-  of_messages : (fault : Fault) → IsReported (events_of_traces traces) fault → IsTracesReport document traces (Refused (match_refusal document.names fault))
-  of_cycle : (cycle : List Place) → HasLawfulMessages (events_of_traces traces) → IsReportedCycle (events_of_traces traces) cycle → IsTracesReport document traces (Refused (reports.Cycle (map (named_place document.names) cycle)))
-  of_answers : (messages : List (Place × Place)) (answers : List Answer) → IsWellFormed (events_of_traces traces) → IsMessageList (events_of_traces traces) messages → AllZip (IsAnswered document.names (recorded_of document traces) document.width) document.predicates answers → IsTracesReport document traces (Judged (length document.names) (total (events_of_traces traces)) (length messages) answers)
+  of_messages : (fault : Fault) → IsReported (events_of_traces traces) fault
+      → IsTracesReport document traces (Refused (match_refusal document.names fault))
+  of_cycle : (cycle : List Place) → HasLawfulMessages (events_of_traces traces)
+      → IsReportedCycle (events_of_traces traces) cycle
+      → IsTracesReport document traces (Refused (reports.Cycle (map (named_place document.names) cycle)))
+  of_answers : (messages : List (Place × Place)) (answers : List Answer) → IsWellFormed (events_of_traces traces)
+      → IsMessageList (events_of_traces traces) messages
+      → AllZip (IsAnswered document.names (recorded_of document traces) document.width) document.predicates answers
+      → IsTracesReport document traces (Judged (length document.names) (total (events_of_traces traces))
+      (length messages) answers)
 
 -- the report of what a session comes to
 abbrev pub IsReportOfSession : Document → Result (List Trace) SessionFault → Report → Type 0
@@ -121,23 +129,28 @@ IsReportOfSession document (Err fault) report = report ≡ Refused (session_refu
 IsReportOfSession document (Ok traces) report = IsTracesReport document traces report
 
 -- the report of so many streams with these outcomes
-abbrev pub IsReportOfOutcomes : Document → ℕ → List Outcome → Report → Type 0
-IsReportOfOutcomes document streams outcomes report = IsReportOfSession document (session document.names streams outcomes) report
+abbrev pub IsReportOfResults : Document → ℕ → List StreamResult → Report → Type 0
+IsReportOfResults document streams outcomes report =
+    IsReportOfSession document (session document.names streams outcomes) report
 
--- what a stream told: its bytes, and how they ended
-pub record Told : Type 0 where
+-- what a stream reported: its bytes, and how they ended
+pub record RawStream : Type 0 where
   pub ending : Ending
   pub bytes : List ℕ
 
-abbrev pub outcomes_of : List ProcessNames → List Told → List Outcome
-outcomes_of names streams = filter_map (λ (told : Told). outcome (reading names told.ending told.bytes)) streams
+abbrev pub results_of : List ProcessNames → List RawStream → List StreamResult
+results_of names streams =
+    filter_map (λ (reported : RawStream). result_of (reading names reported.ending reported.bytes)) streams
 
--- the report of a document's bytes and of what the streams told
-pub data IsJudgement (bytes : List ℕ) (streams : List Told) (report : Report) : Type 0 where
-  of_refused : (fault : DocumentFault) → IsRefusedDocument bytes fault → report ≡ Refused (document_refusal fault) → IsJudgement bytes streams report
-  of_read : (document : Document) → IsDocument bytes document → IsReportOfOutcomes document (length streams) (outcomes_of document.names streams) report → IsJudgement bytes streams report
+-- the report of a document's bytes and of what the streams reported
+pub data IsJudgement (bytes : List ℕ) (streams : List RawStream) (report : Report) : Type 0 where
+  of_refused : (fault : DocumentFault) → IsRefusedDocument bytes fault → report ≡ Refused (document_refusal fault)
+      → IsJudgement bytes streams report
+  of_read : (document : Document) → IsDocument bytes document
+      → IsReportOfResults document (length streams) (results_of document.names streams) report
+      → IsJudgement bytes streams report
 
-abbrev pub ended_streams : List (List ℕ) → List Told
+abbrev pub ended_streams : List (List ℕ) → List RawStream
 ended_streams parts = map (λ bytes. record { ending = Ended; bytes = bytes }) parts
 
 -- the report of a bundle: its first part is the document, and the others are the streams

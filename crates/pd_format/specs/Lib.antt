@@ -1,4 +1,5 @@
 pub mod Lists
+pub mod Limits
 pub mod Lines
 pub mod Names
 pub mod Records

@@ -1,4 +1,4 @@
--- The stack of what is open behind tokens, the innermost first.
+-- The stack of what is open after tokens, the innermost first.
 use Rattle.std.specs.Prelude.{if◌then◌else◌, List, [], ◌∷◌, codes}
 use Rattle.std.specs.Str.{bytes_eq}
 use Rattle.pd_format.specs.Tokens.{Token, Word, OpenParen, CloseParen}
@@ -19,11 +19,12 @@ abbrev pub drop_one : List Opener → List Opener
 drop_one [] = []
 drop_one (x ∷ stack) = stack
 
--- what is open behind a token
+-- what is open after a token
 abbrev pub opened : List Opener → Token → List Opener
 opened stack OpenParen = Paren ∷ stack
 opened stack CloseParen = drop_one (drop_nots stack)
-opened stack (Word w) = if bytes_eq w (codes "not") then Negation ∷ stack else (if is_and_or w then drop_nots stack else stack)
+opened stack (Word w) = if bytes_eq w (codes "not") then Negation ∷ stack else
+    (if is_and_or w then drop_nots stack else stack)
 opened stack _ = stack
 
 abbrev pub all_opened : List Opener → List Token → List Opener

@@ -6,12 +6,7 @@ use Rattle.pd_format.specs.Lists.{IsFirst, is_one_of}
 use Rattle.pd_format.specs.Names.{ProcessNames, process_named, var_named}
 use Rattle.pd_format.specs.Tokens.{Token, Word, Digits, OpenParen, CloseParen, Star, Dot, Placed, AreTokens, IsStray}
 use Rattle.pd_format.specs.Grammar.{NamedBy, SpellsWhole, CanGoOn}
-
-abbrev pub text_limit : ℕ
-text_limit = 4096
-
-abbrev pub depth_limit : ℕ
-depth_limit = 64
+use Rattle.pd_format.specs.Limits.{predicate_byte_limit, depth_limit}
 
 abbrev pub tokens_of : List Placed → List Token
 tokens_of tokens = map (λ (t : Placed). t.token) tokens
@@ -26,7 +21,7 @@ abbrev pub begins_with_star : List Placed → Bool
 begins_with_star [] = false
 begins_with_star (t ∷ rest) = is_star t.token
 
--- a number past 63 bits, or past 31 bits with `*` behind it
+-- a number past 63 bits, or past 31 bits with `*` after it
 abbrev pub is_too_large : Token → List Placed → Bool
 is_too_large (Digits n) after = nat_lt 9223372036854775807 n || (nat_lt 2147483647 n && begins_with_star after)
 is_too_large _ after = false
@@ -36,7 +31,7 @@ IsTooLarge before t after = IsTrue (is_too_large t.token after)
 
 -- ---- depth
 
--- a `(`, in which so many more are open, is still open behind these tokens
+-- a `(`, in which so many more are open, is still open after these tokens
 abbrev pub paren_is_open : ℕ → List Token → Bool
 paren_is_open inner [] = true
 paren_is_open inner (OpenParen ∷ rest) = paren_is_open (suc inner) rest
@@ -47,7 +42,8 @@ paren_is_open inner (_ ∷ rest) = paren_is_open inner rest
 abbrev pub is_and_or : List ℕ → Bool
 is_and_or word = is_one_of (codes "and" ∷ codes "or" ∷ []) word
 
--- The operand of a `not`, in which so many `(` are open, goes on behind these tokens: an `and`, an `or` or a `)` outside of its own parentheses ends it.
+-- The operand of a `not`, in which so many `(` are open, goes on after these tokens: an `and`, an `or` or a `)` outside
+-- of its own parentheses ends it.
 abbrev pub operand_is_open : ℕ → List Token → Bool
 operand_is_open inner [] = true
 operand_is_open inner (OpenParen ∷ rest) = operand_is_open (suc inner) rest
@@ -62,16 +58,16 @@ opens OpenParen = true
 opens (Word word) = bytes_eq word (codes "not")
 opens _ = false
 
--- the token encloses what stands behind these tokens, which follow it
+-- the token encloses what stands after these tokens, which follow it
 abbrev pub encloses : Token → List Token → Bool
 encloses OpenParen between = paren_is_open 0 between
 encloses (Word word) between = bytes_eq word (codes "not") && operand_is_open 0 between
 encloses _ between = false
 
--- how many of the tokens enclose what stands behind them
-abbrev pub depth_behind : List Token → ℕ
-depth_behind [] = 0
-depth_behind (token ∷ between) = if encloses token between then suc (depth_behind between) else depth_behind between
+-- how many of the tokens enclose what stands after them
+abbrev pub depth_after : List Token → ℕ
+depth_after [] = 0
+depth_after (token ∷ between) = if encloses token between then suc (depth_after between) else depth_after between
 
 -- ---- faults
 
@@ -87,12 +83,12 @@ pub data PredicateFault : Type 0 where
 abbrev pub IsUnknownProcess : List ProcessNames → List Token → List ℕ → Type 0
 IsUnknownProcess names before word = CanGoOn (before ++ Word word ∷ Dot ∷ []) × (process_named names word ≡ None)
 
--- no variable of the process has this name, which stands behind the process's name and a dot
+-- no variable of the process has this name, which stands after the process's name and a dot
 pub record IsUnknownVar (names : List ProcessNames) (before : List Token) (word : List ℕ) : Type 0 where
-  pub front : List Token
+  pub prefix : List Token
   pub name : List ℕ
   pub process : ℕ
-  pub behind_dot : before ≡ front ++ Word name ∷ Dot ∷ []
+  pub after_dot : before ≡ prefix ++ Word name ∷ Dot ∷ []
   pub fits : CanGoOn (before ++ Word word ∷ [])
   pub is_process : process_named names name ≡ Some process
   pub is_no_var : var_named names process word ≡ None
@@ -101,24 +97,26 @@ abbrev pub IsUnknownName : List ProcessNames → List Token → Token → Type 0
 IsUnknownName names before (Word word) = IsUnknownProcess names before word ⊎ IsUnknownVar names before word
 IsUnknownName names before _ = ⊥
 
--- the token behind these has this fault
+-- the token after these has this fault
 abbrev pub IsFaulty : List ProcessNames → PredicateFault → List Token → Token → Type 0
 IsFaulty names Expected before token = ¬ (CanGoOn (before ++ token ∷ []))
 IsFaulty names UnknownName before token = IsUnknownName names before token
-IsFaulty names Depth before token = CanGoOn (before ++ token ∷ []) × IsTrue (opens token) × (depth_limit ≤ depth_behind before)
+IsFaulty names Depth before token = CanGoOn (before ++ token ∷ []) × IsTrue (opens token)
+    × (depth_limit ≤ depth_after before)
 IsFaulty names _ before token = ⊥
 
--- the token behind these has some fault
+-- the token after these has some fault
 abbrev pub IsMisplaced : List ProcessNames → List Placed → Placed → List Placed → Type 0
 IsMisplaced names before t after = (fault : PredicateFault) × IsFaulty names fault (tokens_of before) t.token
 
 -- no number among the tokens is too large
 abbrev pub NumbersFit : List Placed → Type 0
-NumbersFit tokens = (before : List Placed) (t : Placed) (after : List Placed) → tokens ≡ before ++ t ∷ after → ¬ (IsTooLarge before t after)
+NumbersFit tokens = (before : List Placed) (t : Placed) (after : List Placed) → tokens ≡ before ++ t ∷ after
+    → ¬ (IsTooLarge before t after)
 
 -- the first misplaced token, and its fault
 pub record HasMisplaced (names : List ProcessNames) (text : List ℕ) (fault : PredicateFault) (at : ℕ) : Type 0 where
-  pub short : length text ≤ text_limit
+  pub short : length text ≤ predicate_byte_limit
   pub tokens : List Placed
   pub are_tokens : AreTokens text tokens
   pub numbers_fit : NumbersFit tokens
@@ -130,7 +128,7 @@ pub record HasMisplaced (names : List ProcessNames) (text : List ℕ) (fault : P
 
 -- the first number that is too large
 pub record HasTooLarge (text : List ℕ) (at : ℕ) : Type 0 where
-  pub short : length text ≤ text_limit
+  pub short : length text ≤ predicate_byte_limit
   pub tokens : List Placed
   pub are_tokens : AreTokens text tokens
   pub before : List Placed
@@ -139,19 +137,20 @@ pub record HasTooLarge (text : List ℕ) (at : ℕ) : Type 0 where
   pub first : IsFirst IsTooLarge tokens before (record { at = at; token = token }) after
 
 -- the text is refused with this fault at this byte, counted from 1
-abbrev pub IsRefused : List ProcessNames → List ℕ → PredicateFault → ℕ → Type 0
-IsRefused names text Long at = (text_limit < length text) × (at ≡ text_limit + 1)
-IsRefused names text Character at = (length text ≤ text_limit) × IsStray text at
-IsRefused names text Number at = HasTooLarge text at
-IsRefused names text Expected at = HasMisplaced names text Expected at
-IsRefused names text UnknownName at = HasMisplaced names text UnknownName at
-IsRefused names text Depth at = HasMisplaced names text Depth at
+abbrev pub IsRefusedPredicate : List ProcessNames → List ℕ → PredicateFault → ℕ → Type 0
+IsRefusedPredicate names text Long at = (predicate_byte_limit < length text) × (at ≡ predicate_byte_limit + 1)
+IsRefusedPredicate names text Character at = (length text ≤ predicate_byte_limit) × IsStray text at
+IsRefusedPredicate names text Number at = HasTooLarge text at
+IsRefusedPredicate names text Expected at = HasMisplaced names text Expected at
+IsRefusedPredicate names text UnknownName at = HasMisplaced names text UnknownName at
+IsRefusedPredicate names text Depth at = HasMisplaced names text Depth at
 
 -- The text is this predicate: its tokens spell it, and none is misplaced or too large.
 pub record IsPredicate (names : List ProcessNames) (text : List ℕ) (predicate : Predicate) : Type 0 where
-  pub short : length text ≤ text_limit
+  pub short : length text ≤ predicate_byte_limit
   pub tokens : List Placed
   pub are_tokens : AreTokens text tokens
   pub numbers_fit : NumbersFit tokens
-  pub well_placed : (before : List Placed) (t : Placed) (after : List Placed) → tokens ≡ before ++ t ∷ after → ¬ (IsMisplaced names before t after)
+  pub well_placed : (before : List Placed) (t : Placed) (after : List Placed) → tokens ≡ before ++ t ∷ after
+      → ¬ (IsMisplaced names before t after)
   pub spells : SpellsWhole (NamedBy names) (tokens_of tokens) predicate

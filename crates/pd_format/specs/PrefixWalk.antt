@@ -15,7 +15,8 @@ pub data WordKind : Type 0 where
 
 abbrev pub word_kind : List ℕ → WordKind
 word_kind w =
-    if bytes_eq w (codes "and") then AJoin else (if bytes_eq w (codes "or") then AJoin else (if bytes_eq w (codes "not") then ANot
+    if bytes_eq w (codes "and") then AJoin else
+    (if bytes_eq w (codes "or") then AJoin else (if bytes_eq w (codes "not") then ANot
     else (if bytes_eq w (codes "true") then ATruth else (if bytes_eq w (codes "false") then ATruth else AName))))
 
 -- ---- the walk
@@ -30,12 +31,12 @@ pub data Mode : Type 0 where
   AtOperand : Mode
   AtSum : Mode
   AtTerm : Side → Mode
-  BehindNumber : Side → Mode
-  BehindStar : Side → Mode
-  BehindName : Side → Mode
-  BehindDot : Side → Mode
-  BehindTerm : Side → Mode
-  BehindOperand : Mode
+  AfterNumber : Side → Mode
+  AfterStar : Side → Mode
+  AfterName : Side → Mode
+  AfterDot : Side → Mode
+  AfterTerm : Side → Mode
+  AfterOperand : Mode
 
 -- a mode inside so many parentheses, or the end
 pub data State : Type 0 where
@@ -54,26 +55,26 @@ if_name mode d ATruth = None
 
 abbrev pub operand_word : ℕ → WordKind → Option State
 operand_word d ANot = goes AtOperand d
-operand_word d ATruth = goes BehindOperand d
-operand_word d AName = goes (BehindName OnLeft) d
+operand_word d ATruth = goes AfterOperand d
+operand_word d AName = goes (AfterName OnLeft) d
 operand_word d AJoin = None
 
 abbrev pub operand_next : ℕ → Token → Option State
 operand_next d (Word w) = operand_word d (word_kind w)
-operand_next d (Digits n) = goes (BehindNumber OnLeft) d
+operand_next d (Digits n) = goes (AfterNumber OnLeft) d
 operand_next d OpenParen = goes AtOperand (suc d)
 operand_next d (Signs Minus) = goes (AtTerm OnLeft) d
 operand_next d _ = None
 
 abbrev pub sum_next : ℕ → Token → Option State
-sum_next d (Word w) = if_name (BehindName OnRight) d (word_kind w)
-sum_next d (Digits n) = goes (BehindNumber OnRight) d
+sum_next d (Word w) = if_name (AfterName OnRight) d (word_kind w)
+sum_next d (Digits n) = goes (AfterNumber OnRight) d
 sum_next d (Signs Minus) = goes (AtTerm OnRight) d
 sum_next d _ = None
 
 abbrev pub term_next : Side → ℕ → Token → Option State
-term_next side d (Word w) = if_name (BehindName side) d (word_kind w)
-term_next side d (Digits n) = goes (BehindNumber side) d
+term_next side d (Word w) = if_name (AfterName side) d (word_kind w)
+term_next side d (Digits n) = goes (AfterNumber side) d
 term_next side d _ = None
 
 abbrev pub if_join : ℕ → WordKind → Option State
@@ -82,54 +83,54 @@ if_join d ANot = None
 if_join d ATruth = None
 if_join d AName = None
 
-abbrev pub behind_operand_next : ℕ → Token → Option State
-behind_operand_next d (Word w) = if_join d (word_kind w)
-behind_operand_next (suc d) CloseParen = goes BehindOperand d
-behind_operand_next zero End = Some AtEnd
-behind_operand_next d _ = None
+abbrev pub after_operand_next : ℕ → Token → Option State
+after_operand_next d (Word w) = if_join d (word_kind w)
+after_operand_next (suc d) CloseParen = goes AfterOperand d
+after_operand_next zero End = Some AtEnd
+after_operand_next d _ = None
 
-abbrev pub behind_term_next : Side → ℕ → Token → Option State
-behind_term_next side d (Signs sign) = goes (AtTerm side) d
-behind_term_next OnLeft d (Relates comparison) = goes AtSum d
-behind_term_next OnLeft d _ = None
-behind_term_next OnRight d (Word w) = behind_operand_next d (Word w)
-behind_term_next OnRight d (Digits n) = None
-behind_term_next OnRight d OpenParen = None
-behind_term_next OnRight d CloseParen = behind_operand_next d CloseParen
-behind_term_next OnRight d (Relates comparison) = None
-behind_term_next OnRight d Star = None
-behind_term_next OnRight d Dot = None
-behind_term_next OnRight d End = behind_operand_next d End
+abbrev pub after_term_next : Side → ℕ → Token → Option State
+after_term_next side d (Signs sign) = goes (AtTerm side) d
+after_term_next OnLeft d (Relates comparison) = goes AtSum d
+after_term_next OnLeft d _ = None
+after_term_next OnRight d (Word w) = after_operand_next d (Word w)
+after_term_next OnRight d (Digits n) = None
+after_term_next OnRight d OpenParen = None
+after_term_next OnRight d CloseParen = after_operand_next d CloseParen
+after_term_next OnRight d (Relates comparison) = None
+after_term_next OnRight d Star = None
+after_term_next OnRight d Dot = None
+after_term_next OnRight d End = after_operand_next d End
 
-abbrev pub behind_number_next : Side → ℕ → Token → Option State
-behind_number_next side d Star = goes (BehindStar side) d
-behind_number_next side d (Word w) = behind_term_next side d (Word w)
-behind_number_next side d (Digits n) = behind_term_next side d (Digits n)
-behind_number_next side d OpenParen = behind_term_next side d OpenParen
-behind_number_next side d CloseParen = behind_term_next side d CloseParen
-behind_number_next side d (Relates comparison) = behind_term_next side d (Relates comparison)
-behind_number_next side d (Signs sign) = behind_term_next side d (Signs sign)
-behind_number_next side d Dot = behind_term_next side d Dot
-behind_number_next side d End = behind_term_next side d End
+abbrev pub after_number_next : Side → ℕ → Token → Option State
+after_number_next side d Star = goes (AfterStar side) d
+after_number_next side d (Word w) = after_term_next side d (Word w)
+after_number_next side d (Digits n) = after_term_next side d (Digits n)
+after_number_next side d OpenParen = after_term_next side d OpenParen
+after_number_next side d CloseParen = after_term_next side d CloseParen
+after_number_next side d (Relates comparison) = after_term_next side d (Relates comparison)
+after_number_next side d (Signs sign) = after_term_next side d (Signs sign)
+after_number_next side d Dot = after_term_next side d Dot
+after_number_next side d End = after_term_next side d End
 
 abbrev pub name_next : Mode → ℕ → Token → Option State
 name_next mode d (Word w) = if_name mode d (word_kind w)
 name_next mode d _ = None
 
 abbrev pub dot_next : Side → ℕ → Token → Option State
-dot_next side d Dot = goes (BehindDot side) d
+dot_next side d Dot = goes (AfterDot side) d
 dot_next side d _ = None
 
 abbrev pub next : Mode → ℕ → Token → Option State
 next AtOperand d t = operand_next d t
 next AtSum d t = sum_next d t
 next (AtTerm side) d t = term_next side d t
-next (BehindNumber side) d t = behind_number_next side d t
-next (BehindStar side) d t = name_next (BehindName side) d t
-next (BehindName side) d t = dot_next side d t
-next (BehindDot side) d t = name_next (BehindTerm side) d t
-next (BehindTerm side) d t = behind_term_next side d t
-next BehindOperand d t = behind_operand_next d t
+next (AfterNumber side) d t = after_number_next side d t
+next (AfterStar side) d t = name_next (AfterName side) d t
+next (AfterName side) d t = dot_next side d t
+next (AfterDot side) d t = name_next (AfterTerm side) d t
+next (AfterTerm side) d t = after_term_next side d t
+next AfterOperand d t = after_operand_next d t
 
 abbrev pub step : State → Token → Option State
 step (Inside mode d) t = next mode d t

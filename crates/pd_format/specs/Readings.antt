@@ -5,6 +5,7 @@ use Rattle.pd_format.specs.Lines.{Line, FrameFault, frame_fault, open_lines, fin
 use Rattle.pd_format.specs.Lines as lines
 use Rattle.pd_format.specs.Names.{ProcessNames}
 use Rattle.pd_format.specs.Records.{RecordFault, Join, LineRecord, Joins, Happens, Ends, record_of}
+use Rattle.pd_format.specs.Limits.{event_limit}
 
 -- whether more bytes may come, the input ended, or a read of it failed
 pub data Ending : Type 0 where
@@ -26,9 +27,6 @@ pub data Stop : Type 0 where
   EndLine : Stop
   Fault : ℕ → StreamKind → Stop
 
-abbrev pub event_limit : ℕ
-event_limit = 10000
-
 -- the events, and why there are no more
 pub record Course : Type 0 where
   pub events : List Event
@@ -40,7 +38,7 @@ stopped stop = record { events = []; stop = stop }
 abbrev pub with_first : Event → Course → Course
 with_first event later = record { events = event ∷ later.events; stop = later.stop }
 
--- a line's record, behind so many events, and then the later lines
+-- a line's record, after so many events, and then the later lines
 abbrev pub course_from : ℕ → ℕ → Result LineRecord RecordFault → Course → Course
 course_from before number (Ok (Joins process)) later = stopped (Fault number (InRecord Join))
 course_from before number (Ok (Happens event)) later =
@@ -48,11 +46,12 @@ course_from before number (Ok (Happens event)) later =
 course_from before number (Ok Ends) later = stopped EndLine
 course_from before number (Err fault) later = stopped (Fault number (InRecord fault))
 
--- the lines after the join of a process, behind so many events
+-- the lines after the join of a process, after so many events
 abbrev pub course_of : List ProcessNames → ℕ → ℕ → List Line → Course
 course_of names process before [] = stopped NothingMore
 course_of names process before (line ∷ later) =
-    course_from before line.number (record_of names (Some process) line.bytes) (course_of names process (suc before) later)
+    course_from before line.number (record_of names (Some process) line.bytes)
+    (course_of names process (suc before) later)
 
 -- the process with the line of its join, if it joined; its events; and why there are no more
 pub record Reading : Type 0 where
@@ -99,9 +98,10 @@ with_end stop reading = record { joined = reading.joined; events = reading.event
 
 -- the reading of a stream's bytes
 abbrev pub reading : List ProcessNames → Ending → List ℕ → Reading
-reading names ending bytes = with_end (stop_at_end ending bytes (frame_fault bytes)) (reading_of_lines names (lines_of ending bytes))
+reading names ending bytes =
+    with_end (stop_at_end ending bytes (frame_fault bytes)) (reading_of_lines names (lines_of ending bytes))
 
--- ---- what is told of a reading
+-- ---- what is reported of a reading
 
 pub data StreamState : Type 0 where
   Fresh : StreamState
@@ -109,14 +109,14 @@ pub data StreamState : Type 0 where
   HasEnded : StreamState
   Faulted : StreamState
 
-abbrev pub state_of : Stop → Option (ℕ × ℕ) → StreamState
-state_of NothingMore None = Fresh
-state_of NothingMore (Some joined) = Joined
-state_of EndLine joined = HasEnded
-state_of (Fault number kind) joined = Faulted
+abbrev pub stream_state : Stop → Option (ℕ × ℕ) → StreamState
+stream_state NothingMore None = Fresh
+stream_state NothingMore (Some joined) = Joined
+stream_state EndLine joined = HasEnded
+stream_state (Fault number kind) joined = Faulted
 
 abbrev pub state : Reading → StreamState
-state r = state_of r.stop r.joined
+state r = stream_state r.stop r.joined
 
 -- the end line or a fault is there
 pub data IsClosed : Stop → Type 0 where
@@ -133,12 +133,12 @@ pub record StreamFault : Type 0 where
   pub kind : StreamKind
 
 -- the trace of a stream that has its end line, or its fault; none while more may come
-abbrev pub outcome_of : Stop → Option (ℕ × ℕ) → List Event → Option (Result Trace StreamFault)
-outcome_of (Fault number kind) joined events = Some (Err (record { line = number; kind = kind }))
-outcome_of EndLine (Some (process, join_line)) events =
+abbrev pub result_by_stop : Stop → Option (ℕ × ℕ) → List Event → Option (Result Trace StreamFault)
+result_by_stop (Fault number kind) joined events = Some (Err (record { line = number; kind = kind }))
+result_by_stop EndLine (Some (process, join_line)) events =
     Some (Ok (record { process = process; join_line = join_line; events = events }))
-outcome_of EndLine None events = None
-outcome_of NothingMore joined events = None
+result_by_stop EndLine None events = None
+result_by_stop NothingMore joined events = None
 
-abbrev pub outcome : Reading → Option (Result Trace StreamFault)
-outcome r = outcome_of r.stop r.joined r.events
+abbrev pub result_of : Reading → Option (Result Trace StreamFault)
+result_of r = result_by_stop r.stop r.joined r.events

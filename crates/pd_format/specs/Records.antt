@@ -8,6 +8,7 @@ use Rattle.serde_json.specs.Find.{get_member, as_number, as_str, as_object, as_i
 use Rattle.pd_model.specs.Events.{Kind, Local, Send, Receive, Event}
 use Rattle.pd_format.specs.Lists.{first_that_applies, unless, first_some, is_one_of}
 use Rattle.pd_format.specs.Names.{ProcessNames, process_named, vars_of}
+use Rattle.pd_format.specs.Limits.{id_byte_limit}
 
 -- the value that the bytes are in JSON, if they are one
 abbrev pub json_value : List ℕ → Option Data
@@ -37,7 +38,8 @@ pub data Statement : Type 0 where
 
 -- a field `process` alone, which is a text
 abbrev pub join_statement : Members → Option Statement
-join_statement (member key (string name) no_members) = if bytes_eq key (codes "process") then Some (SaysJoin name) else None
+join_statement (member key (string name) no_members) = if bytes_eq key (codes "process") then Some (SaysJoin name) else
+    None
 join_statement _ = None
 
 -- a field `end` alone, which is true
@@ -46,11 +48,11 @@ end_statement (member key (boolean true) no_members) = if bytes_eq key (codes "e
 end_statement _ = None
 
 -- by the fields `send` and `recv`, which aren't both there, and are texts
-abbrev pub kind_of : Option Data → Option Data → Option Kind
-kind_of None None = Some Local
-kind_of (Some id) None = option_map Send (as_str id)
-kind_of None (Some id) = option_map Receive (as_str id)
-kind_of (Some id) (Some other) = None
+abbrev pub kind_by_fields : Option Data → Option Data → Option Kind
+kind_by_fields None None = Some Local
+kind_by_fields (Some id) None = option_map Send (as_str id)
+kind_by_fields None (Some id) = option_map Receive (as_str id)
+kind_by_fields (Some id) (Some other) = None
 
 -- the field `set` is an object, if it is there
 abbrev pub settings_of : Option Data → Option Members
@@ -60,12 +62,14 @@ settings_of (Some value) = as_object value
 abbrev pub event_statement : Members → Option Statement
 event_statement fields =
     if has_only (codes "send" ∷ codes "recv" ∷ codes "set" ∷ []) fields
-    then option_and_then (λ kind. option_map (SaysEvent kind) (settings_of (get_member (codes "set") fields))) (kind_of (get_member (codes "send") fields) (get_member (codes "recv") fields))
+    then option_and_then (λ kind. option_map (SaysEvent kind) (settings_of (get_member (codes "set") fields)))
+    (kind_by_fields (get_member (codes "send") fields) (get_member (codes "recv") fields))
     else None
 
 abbrev pub statement_of : Data → Option Statement
 statement_of value =
-    option_and_then (λ fields. first_some (join_statement fields) (first_some (end_statement fields) (event_statement fields))) (as_object value)
+    option_and_then (λ fields. first_some (join_statement fields)
+    (first_some (end_statement fields) (event_statement fields))) (as_object value)
 
 pub data RecordFault : Type 0 where
   Json : RecordFault
@@ -83,14 +87,15 @@ pub data LineRecord : Type 0 where
 
 abbrev pub id_fits : Kind → Bool
 id_fits Local = true
-id_fits (Send id) = nat_le 1 (length id) && nat_le (length id) 64
-id_fits (Receive id) = nat_le 1 (length id) && nat_le (length id) 64
+id_fits (Send id) = nat_le 1 (length id) && nat_le (length id) id_byte_limit
+id_fits (Receive id) = nat_le 1 (length id) && nat_le (length id) id_byte_limit
 
 -- each variable, from this number on, that is set, with its value
 abbrev pub sets_from : ℕ → List (List ℕ) → Members → List (ℕ × ℤ)
 sets_from v [] settings = []
 sets_from v (var ∷ others) settings =
-    cons_option (option_map (λ value. (v, value)) (option_and_then whole_number (get_member var settings))) (sets_from (suc v) others settings)
+    cons_option (option_map (λ value. (v, value)) (option_and_then whole_number (get_member var settings)))
+    (sets_from (suc v) others settings)
 
 -- an event of a process with these variables, or its first fault
 abbrev pub event_record : List (List ℕ) → Kind → Members → Result LineRecord RecordFault

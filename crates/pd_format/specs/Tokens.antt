@@ -23,7 +23,7 @@ pub record Placed : Type 0 where
 abbrev pub placed : ℕ → Token → Placed
 placed at token = record { at = at; token = token }
 
--- the number that digits write, behind one that was written before
+-- the number that digits write, after one that was written before
 abbrev pub number_from : ℕ → List ℕ → ℕ
 number_from n [] = n
 number_from n (digit ∷ rest) = number_from (10 * n + (digit - 48)) rest
@@ -64,7 +64,7 @@ continues (Relates IsLess) byte = byte == 61
 continues (Relates IsGreater) byte = byte == 61
 continues _ byte = false
 
--- a token in front of these bytes is as long as it can be
+-- a token before these bytes is as long as it can be
 abbrev pub IsLongest : Token → List ℕ → Type 0
 IsLongest token [] = Unit {0}
 IsLongest token (byte ∷ rest) = IsFalse (continues token byte)
@@ -76,18 +76,24 @@ is_space byte = byte == 32 || byte == 9
 abbrev pub AreSpaces : List ℕ → Type 0
 AreSpaces bytes = IsTrue (list_all is_space bytes)
 
--- The bytes, of which the first is number at, are spaces and these tokens, each as long as it can be, and then the rest, of which the first is number end.
+-- The bytes, of which the first is number at, are spaces and these tokens, each as long as it can be, and then the
+-- rest, of which the first is number end.
 abbrev pub Lexes : ℕ → List ℕ → List Placed → ℕ → List ℕ → Type 0
-Lexes at bytes [] end rest = (spaces : List ℕ) × AreSpaces spaces × (bytes ≡ spaces ++ rest) × (end ≡ at + length spaces)
-Lexes at bytes (t ∷ tokens) end rest = (spaces spelling others : List ℕ) × AreSpaces spaces × (bytes ≡ spaces ++ (spelling ++ others)) × (t.at ≡ at + length spaces) × IsSpelling spelling t.token × IsLongest t.token others × Lexes (t.at + length spelling) others tokens end rest
+Lexes at bytes [] end rest = (spaces : List ℕ) × AreSpaces spaces × (bytes ≡ spaces ++ rest)
+    × (end ≡ at + length spaces)
+Lexes at bytes (t ∷ tokens) end rest = (spaces spelling others : List ℕ) × AreSpaces spaces
+    × (bytes ≡ spaces ++ (spelling ++ others)) × (t.at ≡ at + length spaces) × IsSpelling spelling t.token
+    × IsLongest t.token others × Lexes (t.at + length spelling) others tokens end rest
 
--- the text is these tokens; the end counts as one, behind the last byte
+-- the text is these tokens; the end counts as one, after the last byte
 abbrev pub AreTokens : List ℕ → List Placed → Type 0
-AreTokens text all = (tokens : List Placed) × (all ≡ tokens ++ placed (length text + 1) End ∷ []) × Lexes 1 text tokens (length text + 1) []
+AreTokens text all = (tokens : List Placed) × (all ≡ tokens ++ placed (length text + 1) End ∷ [])
+    × Lexes 1 text tokens (length text + 1) []
 
--- no token stands at the front of the bytes
+-- no token stands at the prefix of the bytes
 abbrev pub BeginsNoToken : List ℕ → Type 0
-BeginsNoToken bytes = (spelling rest : List ℕ) (token : Token) → bytes ≡ spelling ++ rest → ¬ (IsSpelling spelling token)
+BeginsNoToken bytes = (spelling rest : List ℕ) (token : Token) → bytes ≡ spelling ++ rest
+    → ¬ (IsSpelling spelling token)
 
 -- byte number at begins no token, and isn't space or tab; those before it are tokens
 pub record IsStray (text : List ℕ) (at : ℕ) : Type 0 where

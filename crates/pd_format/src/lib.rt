@@ -2,6 +2,8 @@
 //! The definitions stand in `specs/`; each function here is a law that holds of them.
 #![tactic(auto)]
 
+mod limits;
+
 ghost use Rattle.pd_format.specs.LineLaws.{
   ShortPartIsSound,
   LongLineIsFaulty,
@@ -34,12 +36,18 @@ ghost use Rattle.pd_format.specs.Laws.{
   StopsAtOneLine,
 };
 
+pub use limits::{
+    BUNDLE_BYTE_LIMIT, DEFAULT_WIDTH, DEPTH_LIMIT, DOCUMENT_BYTE_LIMIT, EVENT_LIMIT, ID_BYTE_LIMIT,
+    LINE_BYTE_LIMIT, NAME_BYTE_LIMIT, PREDICATE_BYTE_LIMIT, PREDICATE_LIMIT, PROCESS_LIMIT,
+    REPORT_BYTE_LIMIT, STREAM_BYTE_LIMIT, STREAM_COUNT_LIMIT, VAR_LIMIT, WIDTH_LIMIT,
+};
+
 /// The lines of more bytes begin with the lines of these.
 pub fn lines_go_on()
     ensures { LinesGoOn }
 {}
 
-/// Bytes behind a fault change neither the fault nor the lines.
+/// Bytes after a fault change neither the fault nor the lines.
 pub fn fault_stays()
     ensures { FaultStays }
 {}
@@ -59,14 +67,15 @@ pub fn short_is_sound()
     ensures { ShortIsSound }
 {}
 
-/// The first fault of bytes without an LF that stand behind others: none, of their line, or of the stream.
+/// The first fault of bytes without an LF that stand after others: none, of their line, or of the stream.
 pub fn faults_of_parts()
     ensures sound { ShortPartIsSound }
     ensures long_line { LongLineIsFaulty }
     ensures long_stream { LongStreamIsFaulty }
 {}
 
-/// What bytes without an LF, and an LF, add to sound bytes: more of the rest, a line, or a fault behind which nothing counts.
+/// What bytes without an LF, and an LF, add to sound bytes: more of the rest, a line, or a fault after which nothing
+/// counts.
 pub fn lines_grow()
     ensures part { PartGoesOn }
     ensures feed { FeedEndsLine }
@@ -102,7 +111,7 @@ pub fn no_two_trees()
     ensures { NoTwoTrees }
 {}
 
-/// Of any tokens it can be told whether they begin a predicate's.
+/// Of any tokens it can be reported whether they begin a predicate's.
 pub fn prefixes_are_decided()
     ensures { PrefixesAreDecided }
 {}
@@ -113,7 +122,7 @@ pub fn prefixes_are_walked()
     ensures go_on { WalksGoOn }
 {}
 
-/// The depth behind tokens is the height of a stack, which goes on from what it was.
+/// The depth after tokens is the height of a stack, which goes on from what it was.
 pub fn depths_are_heights()
     ensures exact { DepthsAreHeights }
     ensures go_on { StacksGoOn }

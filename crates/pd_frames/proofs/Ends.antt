@@ -1,4 +1,4 @@
--- Which bytes a framer stands for behind a fault.
+-- Which bytes a framer stands for after a fault.
 use Rattle.std.proofs.Common.{◌≡◌, ℕ, false, List, [], refl, sym, ◌∙◌}
 use Rattle.std.specs.Prelude.{Option, Some, None, IsSome}
 use Rattle.pd_format.specs.Lines.{FrameFault, open_lines, IsBatch}
@@ -7,7 +7,8 @@ use Rattle.pd_frames.specs.State.{State, Stands}
 use Rattle.pd_frames.proofs.Steps.{append_nil}
 
 -- there is the fault alone
-pub faulty_batch : FaultStays → (state : State) (bytes piece : List ℕ) → Stands state bytes false → IsSome state.fault → IsBatch bytes piece [] state.fault
+pub faulty_batch : FaultStays → (state : State) (bytes piece : List ℕ) → Stands state bytes false → IsSome state.fault
+    → IsBatch bytes piece [] state.fault
 faulty_batch stays state bytes piece s some = go state.fault refl some
   where
     go : (f : Option FrameFault) → state.fault ≡ f → IsSome f → IsBatch bytes piece [] f

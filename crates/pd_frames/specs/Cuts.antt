@@ -16,17 +16,19 @@ pub record Fits (rest line total : ℕ) : Type 0 where
   pub total_fits : total ≤ 16777216
   pub line_fits : line + rest ≤ total + 1
 
--- a part of the line behind such bytes has this fault, whatever comes behind it
+-- a part of the line after such bytes has this fault, whatever comes after it
 abbrev pub Faces : List ℕ → ℕ → ℕ → List ℕ → Option FrameFault → Type 0
 Faces rest line total part fault =
-    (bytes more : List ℕ) → IsOpen rest line total bytes → has_line_feed part ≡ false → IsBatch bytes (part ++ more) [] fault
+    (bytes more : List ℕ) → IsOpen rest line total bytes → has_line_feed part ≡ false
+    → IsBatch bytes (part ++ more) [] fault
 
 -- the same of a part that an LF ends
 abbrev pub FacesEnd : List ℕ → ℕ → ℕ → List ℕ → Option FrameFault → Type 0
 FacesEnd rest line total part fault =
-    (bytes more : List ℕ) → IsOpen rest line total bytes → has_line_feed part ≡ false → IsBatch bytes (part ++ line_feed ∷ more) [] fault
+    (bytes more : List ℕ) → IsOpen rest line total bytes → has_line_feed part ≡ false
+    → IsBatch bytes (part ++ line_feed ∷ more) [] fault
 
--- the piece behind the bytes gives these lines, up to the tail behind which the numbers stand
+-- the piece after the bytes gives these lines, up to the tail after which the numbers stand
 pub record Cuts (bytes piece rest : List ℕ) (line total : ℕ) (tail : List ℕ) (lines : List Line) : Type 0 where
   pub done : List ℕ
   pub whole : piece ≡ done ++ tail

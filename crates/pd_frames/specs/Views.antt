@@ -5,18 +5,18 @@ use Rattle.pd_frames.specs.declared.line.Line.{Line}
 use Rattle.pd_frames.specs.declared.line.FrameFault.{FrameFault}
 use Rattle.pd_frames.specs.declared.line.FrameFault.TheVariants.{LineTooLong, StreamTooLong}
 
-abbrev pub line_of : Line → lines.Line
-line_of line = lines.line line.number line.bytes.items
+abbrev pub line_view : Line → lines.Line
+line_view line = lines.line line.number line.bytes.items
 
-abbrev pub lines_of : List Line → List lines.Line
-lines_of all = map line_of all
+abbrev pub lines_view : List Line → List lines.Line
+lines_view all = map line_view all
 
-abbrev pub fault_of : FrameFault → lines.FrameFault
-fault_of (LineTooLong line) = lines.LineTooLong line
-fault_of (StreamTooLong line) = lines.StreamTooLong line
+abbrev pub frame_fault_view : FrameFault → lines.FrameFault
+frame_fault_view (LineTooLong line) = lines.LineTooLong line
+frame_fault_view (StreamTooLong line) = lines.StreamTooLong line
 
-abbrev pub faults_of : Option FrameFault → Option lines.FrameFault
-faults_of fault = option_map fault_of fault
+abbrev pub frame_faults_view : Option FrameFault → Option lines.FrameFault
+frame_faults_view fault = option_map frame_fault_view fault
 
 -- the line in which the first faulty byte stands
 abbrev pub fault_line : lines.FrameFault → ℕ

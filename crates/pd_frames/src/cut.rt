@@ -1,7 +1,7 @@
 //! Takes the lines that end off a piece.
 ghost use Rattle.pd_format.specs.Lines.{IsBatch, has_line_feed, is_blank as is_blank_line, numbered_from};
 ghost use Rattle.pd_frames.specs.Cuts.{Faces, FacesEnd, Fits, IsOpen};
-ghost use Rattle.pd_frames.specs.Views.{fault_of, faults_of, lines_of};
+ghost use Rattle.pd_frames.specs.Views.{frame_fault_view, frame_faults_view, lines_view};
 ghost use Rattle.std.specs.Prelude.{◌≡◌, ◌+◌, ◌*◌, ◌^◌, ◌<◌, ◌≤◌, false, List, ℕ, [], ◌∷◌, ◌++◌, length, Some, IfSome, IfNone, IfOk, OnOk, MatchOption};
 
 use super::line::{FrameFault, Line};
@@ -19,7 +19,7 @@ const STREAM_LIMIT: u64 = 16_777_216;
 pub struct Cut<'kept, 'piece> {
     /// The lines that end, without the blank ones.
     pub lines: Vec<Line>,
-    /// The first fault of the lines that end, behind which nothing counts.
+    /// The first fault of the lines that end, after which nothing counts.
     pub fault: Option<FrameFault>,
     /// The bytes before the piece that belong to the line that hasn't ended.
     pub kept: &'kept [u8],
@@ -31,7 +31,7 @@ pub struct Cut<'kept, 'piece> {
     pub total: u64,
 }
 
-/// The bytes before the first LF and those behind it, if there is one.
+/// The bytes before the first LF and those after it, if there is one.
 fn split_line(bytes: &[u8]) -> Option<(&[u8], &[u8])>
     ensures { MatchOption result (has_line_feed bytes.now ≡ false)
         (λ parts. (bytes.now ≡ parts.0.now ++ 10 ∷ parts.1.now) × (has_line_feed parts.0.now ≡ false)) }
@@ -57,10 +57,10 @@ fn is_blank(bytes: &[u8]) -> bool
 }
 
 /// One text of the two.
-fn joined(alloc: Global, front: &[u8], back: &[u8]) -> Result<Vec<u8>, AllocError>
-    ensures { IfOk result (λ bytes. bytes.items ≡ front.now ++ back.now) }
+fn joined(alloc: Global, prefix: &[u8], back: &[u8]) -> Result<Vec<u8>, AllocError>
+    ensures { IfOk result (λ bytes. bytes.items ≡ prefix.now ++ back.now) }
 {
-    let mut bytes = Vec::from_slice(alloc, front)?;
+    let mut bytes = Vec::from_slice(alloc, prefix)?;
     bytes.extend_from_slice(back)?;
     Ok(bytes)
 }
@@ -73,8 +73,8 @@ pub fn push_line(
     kept: &[u8],
     part: &[u8],
 ) -> Result<(), AllocError>
-    ensures { OnOk result (lines_of lines.new.items
-        ≡ lines_of lines.old.items ++ numbered_from number ((kept.now ++ part.now) ∷ [])) }
+    ensures { OnOk result (lines_view lines.new.items
+        ≡ lines_view lines.old.items ++ numbered_from number ((kept.now ++ part.now) ∷ [])) }
 {
     if is_blank(kept) && is_blank(part) {
         return Ok(());
@@ -88,7 +88,7 @@ pub fn push_line(
 pub fn part_fault(kept: &[u8], line: u64, total: u64, part: &[u8]) -> Option<FrameFault>
     requires { Fits (length kept.now) line total }
     ensures fits { IfNone result ((length kept.now + length part.now ≤ 65536) × (total + length part.now ≤ 16777216)) }
-    ensures faulty { IfSome result (λ fault. Faces kept.now line total part.now (Some (fault_of fault))) }
+    ensures faulty { IfSome result (λ fault. Faces kept.now line total part.now (Some (frame_fault_view fault))) }
 {
     pd_format::faults_of_parts();
     pd_format::lines_grow();
@@ -107,7 +107,7 @@ pub fn part_fault(kept: &[u8], line: u64, total: u64, part: &[u8]) -> Option<Fra
 fn ended_fault(kept: &[u8], line: u64, total: u64, part: &[u8]) -> Option<FrameFault>
     requires { Fits (length kept.now) line total }
     ensures fits { IfNone result ((length kept.now + length part.now ≤ 65536) × (total + length part.now < 16777216)) }
-    ensures faulty { IfSome result (λ fault. FacesEnd kept.now line total part.now (Some (fault_of fault))) }
+    ensures faulty { IfSome result (λ fault. FacesEnd kept.now line total part.now (Some (frame_fault_view fault))) }
 {
     pd_format::faults_of_parts();
     pd_format::lines_grow();
@@ -118,7 +118,8 @@ fn ended_fault(kept: &[u8], line: u64, total: u64, part: &[u8]) -> Option<FrameF
     }
 }
 
-/// Takes the lines that end off a piece which comes behind these bytes of a line with this number, and so many bytes in all.
+/// Takes the lines that end off a piece which comes after these bytes of a line with this number, and so many bytes in
+/// all.
 pub fn take_lines<'kept, 'piece>(
     alloc: Global,
     mut kept: &'kept [u8],
@@ -128,17 +129,18 @@ pub fn take_lines<'kept, 'piece>(
 ) -> Result<Cut<'kept, 'piece>, AllocError>
     requires { Fits (length kept.now) line total }
     ensures batch { IfOk result (λ cut. (bytes : List ℕ) → IsOpen kept.now line total bytes →
-        IsBatch bytes piece.now (lines_of cut.lines.items) (faults_of cut.fault)) }
+        IsBatch bytes piece.now (lines_view cut.lines.items) (frame_faults_view cut.fault)) }
     ensures goes_on { IfOk result (λ cut. IfNone cut.fault ((bytes : List ℕ) → IsOpen kept.now line total bytes →
         IsOpen (cut.kept.now ++ cut.tail.now) cut.line (cut.total + length cut.tail.now) (bytes ++ piece.now))) }
-    ensures fits { IfOk result (λ cut. IfNone cut.fault (Fits (length cut.kept.now + length cut.tail.now) cut.line (cut.total + length cut.tail.now))) }
+    ensures fits { IfOk result (λ cut. IfNone cut.fault
+        (Fits (length cut.kept.now + length cut.tail.now) cut.line (cut.total + length cut.tail.now))) }
     ensures kept { IfOk result (λ cut. 0 < length cut.kept.now → cut.kept.now ≡ kept.now) }
 {
     pd_format::faults_of_parts();
     pd_format::lines_grow();
     let mut lines = Vec::new(alloc);
     let mut tail = piece;
-    'lines: while let Some((part, behind)) = split_line(tail) {
+    'lines: while let Some((part, following)) = split_line(tail) {
         if let Some(fault) = ended_fault(kept, line, total, part) {
             return Ok(Cut {
                 lines,
@@ -153,7 +155,7 @@ pub fn take_lines<'kept, 'piece>(
         total += part.len() as u64 + 1;
         line += 1;
         kept = &[];
-        tail = behind;
+        tail = following;
     }
     let fault = part_fault(kept, line, total, tail);
     Ok(Cut {

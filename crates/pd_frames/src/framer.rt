@@ -1,7 +1,7 @@
 //! The framer itself.
 ghost use Rattle.pd_format.specs.Lines.{IsBatch, finished_lines, frame_fault, open_lines};
 ghost use Rattle.pd_frames.specs.State.{Stands, line_to_come};
-ghost use Rattle.pd_frames.specs.Views.{faults_of, lines_of};
+ghost use Rattle.pd_frames.specs.Views.{frame_faults_view, lines_view};
 ghost use Rattle.std.specs.Bool.{OnTrue, OnFalse};
 ghost use Rattle.std.specs.Prelude.{◌≡◌, ℕ, Bool, true, false, List, [], ◌++◌, ◌+◌, ◌<◌, ◌⊎◌, None, length, if◌then◌else◌, IfOk, IsOk, IsSome, OnErr, OnOk};
 
@@ -24,7 +24,7 @@ pub struct Framer {
 impl Model for Framer {
     ghost use Rattle.std.specs.Prelude.{length};
     ghost use Rattle.pd_frames.specs.Cuts.{Fits};
-    ghost use Rattle.pd_frames.specs.Views.{faults_of};
+    ghost use Rattle.pd_frames.specs.Views.{frame_faults_view};
     ghost use Rattle.pd_frames.specs.State.{State};
 
     ghost Value = { State };
@@ -33,7 +33,7 @@ impl Model for Framer {
       rest = f.rest.items;
       line = f.line;
       total = f.total;
-      fault = faults_of f.fault;
+      fault = frame_faults_view f.fault;
       finished = f.finished;
     } };
 
@@ -68,7 +68,7 @@ impl Framer {
         }
     }
 
-    /// Whether the end of the stream was told by `finish`.
+    /// Whether the end of the stream was reported by `finish`.
     pub fn is_finished(&self) -> bool
         ensures { result ≡ self.now.finished }
     {
@@ -104,8 +104,8 @@ impl Framer {
         })
     }
 
-    /// Takes the next bytes of the stream, and gives the lines that end in them. Behind a fault there is no line, but the
-    /// same fault, and no memory is taken.
+    /// Takes the next bytes of the stream, and gives the lines that end in them. After a fault there is no line, but
+    /// the same fault, and no memory is taken.
     ///
     /// # Errors
     /// Where memory runs out; the framer is then as it was.
@@ -114,7 +114,7 @@ impl Framer {
         ensures stands { OnOk result
             ((bytes : List ℕ) → Stands self.old bytes false → Stands self.new (bytes ++ piece.now) false) }
         ensures batch { IfOk result (λ batch. (bytes : List ℕ) → Stands self.old bytes false →
-            IsBatch bytes piece.now (lines_of batch.lines.items) (faults_of batch.fault)) }
+            IsBatch bytes piece.now (lines_view batch.lines.items) (frame_faults_view batch.fault)) }
         ensures err { OnErr result (self.new ≡ self.old) }
         ensures faulty { IsSome self.old.fault → IsOk result }
         ensures unfinished { self.new.finished ≡ false }
@@ -153,8 +153,8 @@ impl Framer {
         self.fault.is_none() && !self.rest.is_empty()
     }
 
-    /// Tells the end of the stream. A rest that isn't empty is the last line. Behind a fault there is no line, but the same
-    /// fault, and no memory is taken.
+    /// Tells the end of the stream. A rest that isn't empty is the last line. After a fault there is no line, but the
+    /// same fault, and no memory is taken.
     ///
     /// # Errors
     /// Where memory runs out; the framer is then as it was.
@@ -162,9 +162,9 @@ impl Framer {
         requires { self.old.finished ≡ false }
         ensures stands { OnOk result ((bytes : List ℕ) → Stands self.old bytes false → Stands self.new bytes true) }
         ensures lines { IfOk result (λ batch. (bytes : List ℕ) → Stands self.old bytes false →
-            finished_lines bytes ≡ open_lines bytes ++ lines_of batch.lines.items) }
+            finished_lines bytes ≡ open_lines bytes ++ lines_view batch.lines.items) }
         ensures fault { IfOk result (λ batch. (bytes : List ℕ) → Stands self.old bytes false →
-            frame_fault bytes ≡ faults_of batch.fault) }
+            frame_fault bytes ≡ frame_faults_view batch.fault) }
         ensures err { OnErr result (self.new ≡ self.old) }
         ensures faulty { IsSome self.old.fault → IsOk result }
     {

@@ -20,11 +20,11 @@ pub enum FrameFault {
 
 impl FrameFault {
     ghost use Rattle.std.specs.Prelude.{◌≡◌};
-    ghost use Rattle.pd_frames.specs.Views.{fault_of, fault_line};
+    ghost use Rattle.pd_frames.specs.Views.{frame_fault_view, fault_line};
 
     /// The number of the line in which the first faulty byte stands, counted from 1.
     pub fn line(&self) -> u64
-        ensures { result ≡ fault_line (fault_of self.now) }
+        ensures { result ≡ fault_line (frame_fault_view self.now) }
     {
         match *self {
             FrameFault::LineTooLong(line) => line,

@@ -4,23 +4,26 @@ use Rattle.std.specs.Prelude.{Option, Some, Result, Ok, Err, IfOk, slice_get}
 use Rattle.std.specs.List.{AllZip, cons_option}
 use Rattle.std.proofs.lemmas.List.Elements.{All-cons}
 use Rattle.pd_format.specs.Names.{ProcessNames}
-use Rattle.pd_format.specs.Readings.{Ending, Reading, outcome, reading}
+use Rattle.pd_format.specs.Readings.{Ending, Reading, result_of, reading}
 use Rattle.pd_format.specs.ReadingLaws.{FitsSession}
-use Rattle.pd_format.specs.Sessions.{Interleaving, Outcome, bytes_of, ending_of, stream_reading}
-use Rattle.pd_format.specs.Judgements.{Told, outcomes_of}
+use Rattle.pd_format.specs.Sessions.{Interleaving, StreamResult, bytes_of, ending_of, stream_reading}
+use Rattle.pd_format.specs.Judgements.{RawStream, results_of}
 use Rattle.pd_events.specs.Reads.{ReaderState, Reads}
-use Rattle.pd_events.specs.Views.{outcome_seen, trace_seen}
+use Rattle.pd_events.specs.Views.{result_view, trace_view}
 use Rattle.pd_events.specs.declared.event.Trace.{Trace}
 use Rattle.pd_events.specs.declared.fault.StreamFault.{StreamFault}
-use Rattle.pd_gather.specs.Taken.{HasTaken, OrderIsNothing, told_from, told_of}
-use Rattle.pd_gather.specs.Views.{ReadingFits, outcomes_seen}
+use Rattle.pd_gather.specs.Taken.{HasTaken, OrderDoesntMatter, raw_streams_from, raw_stream_of}
+use Rattle.pd_gather.specs.Views.{ReadingFits, results_view}
 
 -- what a reader gives: its reading's outcome, which fits the names of any session that it is a stream of
 pub record Gives (reader : ReaderState) (given : Result Trace StreamFault) : Type 0 where
-  pub value : Some (outcome_seen given) ≡ outcome reader.reading
-  pub fits : IfOk given (λ (trace : Trace). (names : List ProcessNames) (ending : Ending) (bytes : List ℕ) → Reads reader names ending bytes → FitsSession names (trace_seen trace))
+  pub value : Some (result_view given) ≡ result_of reader.reading
+  pub fits : IfOk given (λ (trace : Trace). (names : List ProcessNames) (ending : Ending) (bytes : List ℕ)
+      → Reads reader names ending bytes → FitsSession names (trace_view trace))
 
-pub gives_push : (readers : List ReaderState) (room : List (Result Trace StreamFault)) (reader : ReaderState) (given : Result Trace StreamFault) → AllZip Gives readers room → Gives reader given → AllZip Gives (readers ++ reader ∷ []) (room ++ given ∷ [])
+pub gives_push : (readers : List ReaderState) (room : List (Result Trace StreamFault)) (reader : ReaderState)
+    (given : Result Trace StreamFault) → AllZip Gives readers room → Gives reader given
+    → AllZip Gives (readers ++ reader ∷ []) (room ++ given ∷ [])
 gives_push [] [] reader given all one = (one, tt)
 gives_push [] (y ∷ ys) reader given all one = absurd all
 gives_push (x ∷ xs) [] reader given all one = absurd all
@@ -28,34 +31,52 @@ gives_push (x ∷ xs) (y ∷ ys) reader given all one = (all.0, gives_push xs ys
 
 -- the streams from this one on
 abbrev pub HasFrom : List ProcessNames → Interleaving → ℕ → List ReaderState → Type 0
-HasFrom names steps first core = (i : ℕ) (reader : ReaderState) → slice_get core i ≡ Some reader → Reads reader names (ending_of (first + i) steps) (bytes_of (first + i) steps)
+HasFrom names steps first core = (i : ℕ) (reader : ReaderState) → slice_get core i ≡ Some reader
+    → Reads reader names (ending_of (first + i) steps) (bytes_of (first + i) steps)
 
-at : (names : List ProcessNames) (steps : Interleaving) (reader : ReaderState) (i j : ℕ) → i ≡ j → Reads reader names (ending_of i steps) (bytes_of i steps) → Reads reader names (ending_of j steps) (bytes_of j steps)
+at : (names : List ProcessNames) (steps : Interleaving) (reader : ReaderState) (i j : ℕ) → i ≡ j
+    → Reads reader names (ending_of i steps) (bytes_of i steps)
+    → Reads reader names (ending_of j steps) (bytes_of j steps)
 at names steps reader i j e = subst (λ (k : ℕ). Reads reader names (ending_of k steps) (bytes_of k steps)) e
 
-later_from : (names : List ProcessNames) (steps : Interleaving) (first : ℕ) (x : ReaderState) (xs : List ReaderState) → HasFrom names steps first (x ∷ xs) → HasFrom names steps (suc first) xs
-later_from names steps first x xs has = λ i reader e. at names steps reader (first + suc i) (suc first + i) (omega arith) (has (suc i) reader e)
+later_from : (names : List ProcessNames) (steps : Interleaving) (first : ℕ) (x : ReaderState) (xs : List ReaderState)
+    → HasFrom names steps first (x ∷ xs) → HasFrom names steps (suc first) xs
+later_from names steps first x xs has =
+    λ i reader e. at names steps reader (first + suc i) (suc first + i) (omega arith) (has (suc i) reader e)
 
-head_from : (names : List ProcessNames) (steps : Interleaving) (first : ℕ) (x : ReaderState) (xs : List ReaderState) → HasFrom names steps first (x ∷ xs) → Reads x names (ending_of first steps) (bytes_of first steps)
+head_from : (names : List ProcessNames) (steps : Interleaving) (first : ℕ) (x : ReaderState) (xs : List ReaderState)
+    → HasFrom names steps first (x ∷ xs) → Reads x names (ending_of first steps) (bytes_of first steps)
 head_from names steps first x xs has = at names steps x (first + 0) first (omega arith) (has 0 x refl)
 
 -- the outcome of a reader is that of the reading it stands for
-pub told_outcome : (names : List ProcessNames) (ending : Ending) (bytes : List ℕ) (reader : ReaderState) (given : Result Trace StreamFault) → Reads reader names ending bytes → Gives reader given → Some (outcome_seen given) ≡ outcome (reading names ending bytes)
-told_outcome names ending bytes reader given r gives = gives.value ∙ ap (λ (x : Reading). outcome x) r.same_reading
+pub reported_outcome : (names : List ProcessNames) (ending : Ending) (bytes : List ℕ) (reader : ReaderState)
+    (given : Result Trace StreamFault) → Reads reader names ending bytes → Gives reader given
+    → Some (result_view given) ≡ result_of (reading names ending bytes)
+reported_outcome names ending bytes reader given r gives =
+    gives.value ∙ ap (λ (x : Reading). result_of x) r.same_reading
 
-told_all : (names : List ProcessNames) (steps : Interleaving) (first : ℕ) (core : List ReaderState) (room : List (Result Trace StreamFault)) → HasFrom names steps first core → AllZip Gives core room → outcomes_seen room ≡ outcomes_of names (told_from steps first (length core))
-told_all names steps first [] [] has all = refl
-told_all names steps first [] (y ∷ ys) has all = absurd all
-told_all names steps first (x ∷ xs) [] has all = absurd all
-told_all names steps first (x ∷ xs) (y ∷ ys) has all =
-    ap (λ (rest : List Outcome). outcome_seen y ∷ rest) (told_all names steps (suc first) xs ys (later_from names steps first x xs has) all.1)
-    ∙ ap (λ (o : Option Outcome). cons_option o (outcomes_of names (told_from steps (suc first) (length xs)))) (told_outcome names (ending_of first steps) (bytes_of first steps) x y (head_from names steps first x xs has) all.0)
+reported_all : (names : List ProcessNames) (steps : Interleaving) (first : ℕ) (core : List ReaderState)
+    (room : List (Result Trace StreamFault)) → HasFrom names steps first core → AllZip Gives core room
+    → results_view room ≡ results_of names (raw_streams_from steps first (length core))
+reported_all names steps first [] [] has all = refl
+reported_all names steps first [] (y ∷ ys) has all = absurd all
+reported_all names steps first (x ∷ xs) [] has all = absurd all
+reported_all names steps first (x ∷ xs) (y ∷ ys) has all =
+    ap (λ (rest : List StreamResult). result_view y ∷ rest)
+    (reported_all names steps (suc first) xs ys (later_from names steps first x xs has) all.1)
+    ∙ ap (λ (o : Option StreamResult). cons_option o
+    (results_of names (raw_streams_from steps (suc first) (length xs))))
+    (reported_outcome names (ending_of first steps) (bytes_of first steps) x y
+    (head_from names steps first x xs has) all.0)
 
-pub one_fits : (names : List ProcessNames) (ending : Ending) (bytes : List ℕ) (reader : ReaderState) (given : Result Trace StreamFault) → Reads reader names ending bytes → Gives reader given → ReadingFits names given
+pub one_fits : (names : List ProcessNames) (ending : Ending) (bytes : List ℕ) (reader : ReaderState)
+    (given : Result Trace StreamFault) → Reads reader names ending bytes → Gives reader given → ReadingFits names given
 one_fits names ending bytes reader (Ok trace) r gives = gives.fits names ending bytes r
 one_fits names ending bytes reader (Err fault) r gives = tt
 
-fit_all : (names : List ProcessNames) (steps : Interleaving) (first : ℕ) (core : List ReaderState) (room : List (Result Trace StreamFault)) → HasFrom names steps first core → AllZip Gives core room → All (ReadingFits names) room
+fit_all : (names : List ProcessNames) (steps : Interleaving) (first : ℕ) (core : List ReaderState)
+    (room : List (Result Trace StreamFault)) → HasFrom names steps first core → AllZip Gives core room
+    → All (ReadingFits names) room
 fit_all names steps first core [] has all = λ k d lt. absurd (omega arith)
 fit_all names steps first [] (y ∷ ys) has all = absurd all
 fit_all names steps first (x ∷ xs) (y ∷ ys) has all =
@@ -63,33 +84,46 @@ fit_all names steps first (x ∷ xs) (y ∷ ys) has all =
     (one_fits names (ending_of first steps) (bytes_of first steps) x y (head_from names steps first x xs has) all.0)
     (fit_all names steps (suc first) xs ys (later_from names steps first x xs has) all.1)
 
-each_from : (names : List ProcessNames) (steps : Interleaving) (first : ℕ) (core : List ReaderState) (room : List (Result Trace StreamFault)) → HasFrom names steps first core → AllZip Gives core room → (i : ℕ) (given : Result Trace StreamFault) → slice_get room i ≡ Some given → Some (outcome_seen given) ≡ outcome (stream_reading names steps (first + i))
+each_from : (names : List ProcessNames) (steps : Interleaving) (first : ℕ) (core : List ReaderState)
+    (room : List (Result Trace StreamFault)) → HasFrom names steps first core → AllZip Gives core room
+    → (i : ℕ) (given : Result Trace StreamFault) → slice_get room i ≡ Some given
+    → Some (result_view given) ≡ result_of (stream_reading names steps (first + i))
 each_from names steps first core [] has all i given e = cc
 each_from names steps first [] (y ∷ ys) has all i given e = absurd all
 each_from names steps first (x ∷ xs) (y ∷ ys) has all zero given e =
     let same : y ≡ given = cc in
-    ap (λ (g : Result Trace StreamFault). Some (outcome_seen g)) (sym same)
-    ∙ (told_outcome names (ending_of first steps) (bytes_of first steps) x y (head_from names steps first x xs has) all.0
-    ∙ ap (λ (k : ℕ). outcome (stream_reading names steps k)) (omega arith))
+    ap (λ (g : Result Trace StreamFault). Some (result_view g)) (sym same)
+    ∙ (reported_outcome names (ending_of first steps) (bytes_of first steps) x y (head_from names steps first x xs has)
+    all.0
+    ∙ ap (λ (k : ℕ). result_of (stream_reading names steps k)) (omega arith))
 each_from names steps first (x ∷ xs) (y ∷ ys) has all (suc i) given e =
     each_from names steps (suc first) xs ys (later_from names steps first x xs has) all.1 i given e
-    ∙ ap (λ (k : ℕ). outcome (stream_reading names steps k)) (omega arith)
+    ∙ ap (λ (k : ℕ). result_of (stream_reading names steps k)) (omega arith)
 
-pub from_taken : (names : List ProcessNames) (steps : Interleaving) (core : List ReaderState) → HasTaken core names steps → HasFrom names steps 0 core
+pub from_taken : (names : List ProcessNames) (steps : Interleaving) (core : List ReaderState)
+    → HasTaken core names steps → HasFrom names steps 0 core
 from_taken names steps core taken = λ i reader e. at names steps reader i (0 + i) (omega arith) (taken.each i reader e)
 
-pub outcomes_told : (core : List ReaderState) (room : List (Result Trace StreamFault)) → AllZip Gives core room → (names : List ProcessNames) (steps : Interleaving) → HasTaken core names steps → outcomes_seen room ≡ outcomes_of names (told_from steps 0 (length core))
-outcomes_told core room all names steps taken = told_all names steps 0 core room (from_taken names steps core taken) all
+pub outcomes_reported : (core : List ReaderState) (room : List (Result Trace StreamFault)) → AllZip Gives core room
+    → (names : List ProcessNames) (steps : Interleaving) → HasTaken core names steps
+    → results_view room ≡ results_of names (raw_streams_from steps 0 (length core))
+outcomes_reported core room all names steps taken =
+    reported_all names steps 0 core room (from_taken names steps core taken) all
 
-pub outcomes_fit : (core : List ReaderState) (room : List (Result Trace StreamFault)) → AllZip Gives core room → (names : List ProcessNames) (steps : Interleaving) → HasTaken core names steps → All (ReadingFits names) room
+pub outcomes_fit : (core : List ReaderState) (room : List (Result Trace StreamFault)) → AllZip Gives core room
+    → (names : List ProcessNames) (steps : Interleaving) → HasTaken core names steps → All (ReadingFits names) room
 outcomes_fit core room all names steps taken = fit_all names steps 0 core room (from_taken names steps core taken) all
 
-pub outcomes_each : (core : List ReaderState) (room : List (Result Trace StreamFault)) → AllZip Gives core room → (names : List ProcessNames) (steps : Interleaving) → HasTaken core names steps → (i : ℕ) (given : Result Trace StreamFault) → slice_get room i ≡ Some given → Some (outcome_seen given) ≡ outcome (stream_reading names steps i)
+pub outcomes_each : (core : List ReaderState) (room : List (Result Trace StreamFault)) → AllZip Gives core room
+    → (names : List ProcessNames) (steps : Interleaving) → HasTaken core names steps
+    → (i : ℕ) (given : Result Trace StreamFault) → slice_get room i ≡ Some given
+    → Some (result_view given) ≡ result_of (stream_reading names steps i)
 outcomes_each core room all names steps taken i given e =
     each_from names steps 0 core room (from_taken names steps core taken) all i given e
-    ∙ ap (λ (k : ℕ). outcome (stream_reading names steps k)) (omega arith)
+    ∙ ap (λ (k : ℕ). result_of (stream_reading names steps k)) (omega arith)
 
-pub as_many : (core : List ReaderState) (room : List (Result Trace StreamFault)) → AllZip Gives core room → length room ≡ length core
+pub as_many : (core : List ReaderState) (room : List (Result Trace StreamFault)) → AllZip Gives core room
+    → length room ≡ length core
 as_many [] [] all = refl
 as_many [] (y ∷ ys) all = absurd all
 as_many (x ∷ xs) [] all = absurd all
@@ -97,12 +131,18 @@ as_many (x ∷ xs) (y ∷ ys) all = ap suc (as_many xs ys all.1)
 
 -- ---- the order in which inputs come
 
-same_told : (steps others : Interleaving) (first count : ℕ) → ((i : ℕ) → i < first + count → bytes_of i steps ≡ bytes_of i others) → ((i : ℕ) → i < first + count → ending_of i steps ≡ ending_of i others) → told_from steps first count ≡ told_from others first count
-same_told steps others first zero bytes endings = refl
-same_told steps others first (suc count) bytes endings =
-    ap (λ (told : Told). told ∷ told_from steps (suc first) count) (rw (bytes first (omega arith), endings first (omega arith)) refl)
-    ∙ ap (λ (rest : List Told). told_of others first ∷ rest) (same_told steps others (suc first) count (λ i lt. bytes i (omega arith)) (λ i lt. endings i (omega arith)))
+same_reported : (steps others : Interleaving) (first count : ℕ)
+    → ((i : ℕ) → i < first + count → bytes_of i steps ≡ bytes_of i others)
+    → ((i : ℕ) → i < first + count → ending_of i steps ≡ ending_of i others) → raw_streams_from steps first count
+    ≡ raw_streams_from others first count
+same_reported steps others first zero bytes endings = refl
+same_reported steps others first (suc count) bytes endings =
+    ap (λ (reported : RawStream). reported ∷ raw_streams_from steps (suc first) count)
+    (rw (bytes first (omega arith), endings first (omega arith)) refl)
+    ∙ ap (λ (rest : List RawStream). raw_stream_of others first ∷ rest)
+    (same_reported steps others (suc first) count (λ i lt. bytes i (omega arith)) (λ i lt. endings i (omega arith)))
 
-pub order_is_nothing : OrderIsNothing
-order_is_nothing = λ names count steps others bytes endings.
-    ap (outcomes_of names) (same_told steps others 0 count (λ i lt. bytes i (omega arith)) (λ i lt. endings i (omega arith)))
+pub order_doesnt_matter : OrderDoesntMatter
+order_doesnt_matter = λ names count steps others bytes endings.
+    ap (results_of names) (same_reported steps others 0 count (λ i lt. bytes i (omega arith)) (λ i lt.
+    endings i (omega arith)))

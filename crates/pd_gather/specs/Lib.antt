@@ -1,4 +1,4 @@
 pub mod Views
 pub mod Taken
-pub mod ReadersTold
+pub mod ReadStreams
 pub mod ReadSoFar

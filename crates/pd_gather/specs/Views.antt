@@ -5,7 +5,7 @@ use Rattle.pd_format.specs.Names.{ProcessNames}
 use Rattle.pd_format.specs.Readings as readings
 use Rattle.pd_format.specs.ReadingLaws.{FitsSession}
 use Rattle.pd_format.specs.Sessions as sessions
-use Rattle.pd_events.specs.Views.{outcome_seen, stream_fault_seen, trace_seen}
+use Rattle.pd_events.specs.Views.{result_view, stream_fault_view, trace_view}
 use Rattle.pd_events.specs.declared.event.Trace.{Trace}
 use Rattle.pd_events.specs.declared.fault.StreamFault.{StreamFault}
 use Rattle.pd_gather.specs.declared.input.Input.{Input}
@@ -13,44 +13,46 @@ use Rattle.pd_gather.specs.declared.input.Input.TheVariants as inputs
 use Rattle.pd_gather.specs.declared.fault.SessionFault.{SessionFault}
 use Rattle.pd_gather.specs.declared.fault.SessionFault.TheVariants as faults
 
-abbrev pub input_seen : Input → sessions.Input
-input_seen (inputs.Piece bytes) = sessions.Piece bytes.now
-input_seen inputs.End = sessions.AtEnd
-input_seen inputs.Failed = sessions.Broken
+abbrev pub input_view : Input → sessions.Input
+input_view (inputs.Piece bytes) = sessions.Piece bytes.now
+input_view inputs.End = sessions.AtEnd
+input_view inputs.Failed = sessions.Broken
 
-abbrev pub outcomes_seen : List (Result Trace StreamFault) → List sessions.Outcome
-outcomes_seen given = map outcome_seen given
+abbrev pub results_view : List (Result Trace StreamFault) → List sessions.StreamResult
+results_view given = map result_view given
 
 -- whether it is a trace of this process
 abbrev pub is_of : ℕ → Result Trace StreamFault → Bool
 is_of process (Ok trace) = trace.process == process
 is_of process (Err fault) = false
 
-abbrev pub traces_seen : List Trace → List readings.Trace
-traces_seen traces = map trace_seen traces
+abbrev pub traces_view : List Trace → List readings.Trace
+traces_view traces = map trace_view traces
 
-abbrev pub memory_fault : SessionFault
-memory_fault = faults.Memory
+abbrev pub session_memory_fault : SessionFault
+session_memory_fault = faults.Memory
 
--- the fault that is told, if it isn't want of memory
-abbrev pub told : SessionFault → Option sessions.SessionFault
-told faults.Streams = Some sessions.TooManyStreams
-told (faults.Stream stream fault) = Some (sessions.Stream stream (stream_fault_seen fault))
-told (faults.Taken stream line) = Some (sessions.Taken stream line)
-told (faults.Absent process) = Some (sessions.Absent process)
-told faults.Memory = None
+-- the fault that is reported, if it isn't out of memory
+abbrev pub session_fault_view : SessionFault → Option sessions.SessionFault
+session_fault_view faults.Streams = Some sessions.TooManyStreams
+session_fault_view (faults.Stream stream fault) = Some (sessions.Stream stream (stream_fault_view fault))
+session_fault_view (faults.Taken stream line) = Some (sessions.Taken stream line)
+session_fault_view (faults.Absent process) = Some (sessions.Absent process)
+session_fault_view faults.Memory = None
 
 -- the answer is these traces or this fault, or tells that memory ran out
-abbrev pub IsSession : Result (List readings.Trace) sessions.SessionFault → Result (Vec Trace Global) SessionFault → Type 0
+abbrev pub IsSession : Result (List readings.Trace) sessions.SessionFault → Result (Vec Trace Global) SessionFault
+    → Type 0
 IsSession due answer =
-    MatchResult answer (λ traces. due ≡ Ok (traces_seen traces.items)) (λ fault. MatchOption (told fault) (Unit {0}) (λ f. due ≡ Err f))
+    MatchResult answer (λ traces. due ≡ Ok (traces_view traces.items)) (λ fault.
+    MatchOption (session_fault_view fault) (Unit {0}) (λ f. due ≡ Err f))
 
 -- what a stream gave fits the session's names
 abbrev pub ReadingFits : List ProcessNames → Result Trace StreamFault → Type 0
-ReadingFits names given = IfOk given (λ trace. FitsSession names (trace_seen trace))
+ReadingFits names given = IfOk given (λ trace. FitsSession names (trace_view trace))
 
 -- one trace for each process, in the processes' order
 pub record AreTraces (names : List ProcessNames) (traces : List Trace) : Type 0 where
   pub one_each : length traces ≡ length names
   pub process : (p : ℕ) (trace : Trace) → slice_get traces p ≡ Some trace → trace.process ≡ p
-  pub fit : (p : ℕ) (trace : Trace) → slice_get traces p ≡ Some trace → FitsSession names (trace_seen trace)
+  pub fit : (p : ℕ) (trace : Trace) → slice_get traces p ≡ Some trace → FitsSession names (trace_view trace)

@@ -19,9 +19,9 @@ pub enum SessionFault {
 
 impl From<AllocError> for SessionFault {
     ghost use Rattle.std.specs.Prelude.{◌≡◌};
-    ghost use Rattle.pd_gather.specs.Views.{memory_fault};
+    ghost use Rattle.pd_gather.specs.Views.{session_memory_fault};
 
-    ghost from_gives = { λ _ e. e ≡ memory_fault };
+    ghost from_gives = { λ _ e. e ≡ session_memory_fault };
 
     fn from(_error: AllocError) -> SessionFault {
         SessionFault::Memory
@@ -30,9 +30,9 @@ impl From<AllocError> for SessionFault {
 
 impl<T: Drop> From<AllocFailed<T>> for SessionFault {
     ghost use Rattle.std.specs.Prelude.{◌≡◌};
-    ghost use Rattle.pd_gather.specs.Views.{memory_fault};
+    ghost use Rattle.pd_gather.specs.Views.{session_memory_fault};
 
-    ghost from_gives = { λ _ e. e ≡ memory_fault };
+    ghost from_gives = { λ _ e. e ≡ session_memory_fault };
 
     fn from(_error: AllocFailed<T>) -> SessionFault {
         SessionFault::Memory

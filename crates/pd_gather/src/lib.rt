@@ -1,8 +1,8 @@
 //! The streams of a session: their bytes in any interleaving, and the traces that they make.
 //!
 //! A core takes the inputs of all streams in whatever order they come. Once each stream is closed its outcome has the
-//! reading of each stream's bytes, and depends on nothing else. `session` puts the traces into the order of the processes,
-//! or finds the first refusal.
+//! reading of each stream's bytes, and depends on nothing else. `session` puts the traces into the order of the
+//! processes, or finds the first refusal.
 //!
 //! - `input`: what can come of a stream
 //! - `gathered`: the readings of all streams
@@ -25,5 +25,5 @@ pub use fault::SessionFault;
 pub use gathered::Gathered;
 pub use input::Input;
 pub use readers::{gather, read_stream};
-pub use streams::{Core, order_is_nothing};
+pub use streams::{Core, order_doesnt_matter};
 pub use traces::session;

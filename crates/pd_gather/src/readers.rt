@@ -1,12 +1,12 @@
 //! Streams that are read from readers.
 ghost use Rattle.pd_events.specs.Reads.{Reads};
-ghost use Rattle.pd_events.specs.Views.{outcome_seen};
+ghost use Rattle.pd_events.specs.Views.{result_view};
 ghost use Rattle.pd_format.specs.Names.{ProcessNames};
 ghost use Rattle.pd_format.specs.Readings.{Open};
-ghost use Rattle.pd_gather.specs.ReadSoFar.{HasRead, input_told};
-ghost use Rattle.pd_gather.specs.ReadersTold.{AreReadOf, IsReadOf};
-ghost use Rattle.pd_gather.specs.Views.{ReadingFits, input_seen, outcomes_seen};
-ghost use Rattle.pd_spec.specs.Views.{document_of};
+ghost use Rattle.pd_gather.specs.ReadSoFar.{HasRead, input_of_read};
+ghost use Rattle.pd_gather.specs.ReadStreams.{AreReadOf, IsReadOf};
+ghost use Rattle.pd_gather.specs.Views.{ReadingFits, input_view, results_view};
+ghost use Rattle.pd_spec.specs.Views.{document_view};
 ghost use Rattle.std.specs.Io.KnownBytes.{Consumes};
 ghost use Rattle.std.specs.Prelude.{◌≡◌, ◌<◌, ◌≤◌, ℕ, List, Option, All, IfOk, OnOk, length, map, vec_len};
 
@@ -21,8 +21,8 @@ use std::io::Read;
 /// How many bytes are asked for at a time.
 const PIECE: usize = 65_536;
 
-/// How often a reader is asked at most. Each time it gives a byte or more, tells its end or fails, and no stream is open
-/// behind 16,777,216 bytes: so no reader that keeps the rules of `Read` is asked as often.
+/// How often a reader is asked at most. Each time it gives a byte or more, tells its end or fails, and no stream is
+/// open after 16,777,216 bytes: so no reader that keeps the rules of `Read` is asked as often.
 const TURNS: u32 = 33_554_432;
 
 /// Room for the bytes of one read.
@@ -32,11 +32,11 @@ fn new_piece(alloc: Global, size: usize) -> Result<Vec<u8>, AllocError>
     vec![in alloc; 0u8; size]
 }
 
-/// What a read into the piece tells of the stream: the bytes that it gave, the reader's end where it gave none, or that it
-/// failed.
+/// What a read into the piece tells of the stream: the bytes that it gave, the reader's end where it gave none, or that
+/// it failed.
 fn input_of(read: io::Result<usize>, piece: &[u8]) -> Input<'_>
     requires { IfOk read (λ count. count ≤ length piece.now) }
-    ensures { input_seen result ≡ input_told read piece.now }
+    ensures { input_view result ≡ input_of_read read piece.now }
 {
     match read {
         Ok(0) => Input::End,
@@ -60,8 +60,8 @@ fn read_once<R: Read>(
     take_input(stream, input)
 }
 
-/// Reads a stream to its end line or its first fault, to the reader's end, or until a read fails, and gives its trace or its
-/// fault. Any error of a read is a failed read. The reader isn't asked again once the stream is closed.
+/// Reads a stream to its end line or its first fault, to the reader's end, or until a read fails, and gives its trace
+/// or its fault. Any error of a read is a failed read. The reader isn't asked again once the stream is closed.
 ///
 /// # Errors
 /// Where memory runs out.
@@ -70,8 +70,9 @@ pub fn read_stream<R: Read + Drop>(
     spec: &Spec,
     mut reader: R,
 ) -> Result<Result<Trace, StreamFault>, AllocError>
-    ensures read { IfOk result (λ given. IsReadOf (document_of spec.now).names (R.remaining reader) (outcome_seen given)) }
-    ensures fits { IfOk result (ReadingFits (document_of spec.now).names) }
+    ensures read { IfOk result (λ given. IsReadOf (document_view spec.now).names (R.remaining reader)
+        (result_view given)) }
+    ensures fits { IfOk result (ReadingFits (document_view spec.now).names) }
 {
     let mut piece = new_piece(alloc, PIECE)?;
     let mut stream = TraceReader::new(alloc, spec);
@@ -97,8 +98,9 @@ pub fn gather<R: Read + Drop>(
 ) -> Result<Gathered, AllocError>
     requires { vec_len readers ≤ 16 }
     ensures streams { IfOk result (λ gathered. gathered.streams ≡ vec_len readers) }
-    ensures read { IfOk result (λ gathered. AreReadOf (document_of spec.now).names (map R.remaining readers.items) (outcomes_seen gathered.readings.items)) }
-    ensures fit { IfOk result (λ gathered. All (ReadingFits (document_of spec.now).names) gathered.readings.items) }
+    ensures read { IfOk result (λ gathered. AreReadOf (document_view spec.now).names (map R.remaining readers.items)
+        (results_view gathered.readings.items)) }
+    ensures fit { IfOk result (λ gathered. All (ReadingFits (document_view spec.now).names) gathered.readings.items) }
 {
     let streams = readers.len() as u64;
     let mut readings = Vec::with_capacity(alloc, readers.len())?;

@@ -1,13 +1,13 @@
 //! The streams while they are read.
 ghost use Rattle.pd_events.specs.Reads.{Reads};
-ghost use Rattle.pd_events.specs.Views.{outcome_seen};
-ghost use Rattle.pd_format.specs.Judgements.{outcomes_of};
+ghost use Rattle.pd_events.specs.Views.{result_view};
+ghost use Rattle.pd_format.specs.Judgements.{results_of};
 ghost use Rattle.pd_format.specs.Names.{ProcessNames};
-ghost use Rattle.pd_format.specs.Readings.{outcome};
+ghost use Rattle.pd_format.specs.Readings.{result_of};
 ghost use Rattle.pd_format.specs.Sessions.{Interleaving, stream_reading};
-ghost use Rattle.pd_gather.specs.Taken.{HasClosed, HasTaken, OrderIsNothing, Takes, streams_told};
-ghost use Rattle.pd_gather.specs.Views.{ReadingFits, input_seen, outcomes_seen};
-ghost use Rattle.pd_spec.specs.Views.{document_of};
+ghost use Rattle.pd_gather.specs.Taken.{HasClosed, HasTaken, OrderDoesntMatter, Takes, raw_streams};
+ghost use Rattle.pd_gather.specs.Views.{ReadingFits, input_view, results_view};
+ghost use Rattle.pd_spec.specs.Views.{document_view};
 ghost use Rattle.std.specs.Bool.{OnFalse, OnTrue};
 ghost use Rattle.std.specs.Prelude.{◌≡◌, ◌<◌, ◌≤◌, ℕ, ◌++◌, ◌∷◌, [], List, All, IfOk, OnErr, OnOk, Some, length, slice_get};
 
@@ -37,13 +37,13 @@ impl<'a> Model for Core<'a> {
 }
 
 /// What the streams give depends on the bytes and the ending of each, and on no order in which their inputs come.
-pub fn order_is_nothing()
-    ensures { OrderIsNothing }
+pub fn order_doesnt_matter()
+    ensures { OrderDoesntMatter }
 {}
 
 /// Takes one input of the reader's stream.
 pub(super) fn take_input(reader: &mut TraceReader<'_>, input: Input<'_>) -> Result<(), AllocError>
-    ensures takes { OnOk result (Takes reader.old reader.new (input_seen input.entry)) }
+    ensures takes { OnOk result (Takes reader.old reader.new (input_view input.entry)) }
     ensures err { OnErr result (reader.new ≡ reader.old) }
 {
     match input {
@@ -64,7 +64,7 @@ impl<'a> Core<'a> {
     pub fn new(alloc: Global, n: usize, spec: &'a Spec) -> Result<Core<'a>, AllocError>
         requires { n ≤ 16 }
         ensures streams { IfOk result (λ core. length core ≡ n) }
-        ensures none { IfOk result (λ core. HasTaken core (document_of spec.now).names []) }
+        ensures none { IfOk result (λ core. HasTaken core (document_view spec.now).names []) }
     {
         let mut readers = Vec::with_capacity(alloc, n)?;
         for _ in 0..n {
@@ -74,7 +74,7 @@ impl<'a> Core<'a> {
         Ok(Core { readers, room })
     }
 
-    /// Takes one input of a stream, which is counted from 0. What comes behind the stream's end or a failed read doesn't
+    /// Takes one input of a stream, which is counted from 0. What comes after the stream's end or a failed read doesn't
     /// count.
     ///
     /// # Errors
@@ -82,7 +82,7 @@ impl<'a> Core<'a> {
     pub fn step(&mut self, stream: usize, input: Input<'_>) -> Result<(), AllocError>
         requires { stream < length self.old }
         ensures taken { OnOk result ((names : List ProcessNames) (steps : Interleaving) →
-            HasTaken self.old names steps → HasTaken self.new names (steps ++ (stream, input_seen input.entry) ∷ [])) }
+            HasTaken self.old names steps → HasTaken self.new names (steps ++ (stream, input_view input.entry) ∷ [])) }
         ensures streams { length self.new ≡ length self.old }
         ensures err { OnErr result (self.new ≡ self.old) }
     {
@@ -102,11 +102,11 @@ impl<'a> Core<'a> {
         requires { All HasClosed self }
         ensures streams { result.streams ≡ length self.entry }
         ensures one_each { length result.readings.items ≡ length self.entry }
-        ensures told { (names : List ProcessNames) (steps : Interleaving) → HasTaken self.entry names steps →
-            outcomes_seen result.readings.items ≡ outcomes_of names (streams_told (length self.entry) steps) }
+        ensures reported { (names : List ProcessNames) (steps : Interleaving) → HasTaken self.entry names steps →
+            results_view result.readings.items ≡ results_of names (raw_streams (length self.entry) steps) }
         ensures each { (names : List ProcessNames) (steps : Interleaving) → HasTaken self.entry names steps →
             (i : ℕ) (given : _) → slice_get result.readings.items i ≡ Some given →
-            Some (outcome_seen given) ≡ outcome (stream_reading names steps i) }
+            Some (result_view given) ≡ result_of (stream_reading names steps i) }
         ensures fit { (names : List ProcessNames) (steps : Interleaving) → HasTaken self.entry names steps →
             All (ReadingFits names) result.readings.items }
     {

@@ -2,8 +2,8 @@
 ghost use Rattle.pd_format.specs.Names.{ProcessNames};
 ghost use Rattle.pd_format.specs.Sessions.{Interleaving};
 ghost use Rattle.pd_gather.specs.Taken.{HasTaken};
-ghost use Rattle.pd_gather.specs.Views.{ReadingFits, input_seen};
-ghost use Rattle.pd_spec.specs.Views.{document_of};
+ghost use Rattle.pd_gather.specs.Views.{ReadingFits, input_view};
+ghost use Rattle.pd_spec.specs.Views.{document_view};
 ghost use Rattle.std.specs.Prelude.{◌≡◌, ◌<◌, ◌≤◌, ◌++◌, ◌∷◌, [], All, IfOk, List, OnOk, length};
 
 use super::{Core, Gathered, Input, SessionFault, gather, read_stream, session};
@@ -15,7 +15,8 @@ use std::io::{Error, ErrorKind, Read};
 use std::test::Fail;
 
 const DOCUMENT: &[u8] =
-    br#"{"processes":[{"name":"a","vars":{"x":0}},{"name":"b","vars":{}}],"predicates":[{"name":"p","text":"a.x == 1"}]}"#;
+    br#"{"processes":[{"name":"a","vars":{"x":0}},{"name":"b","vars":{}}],"predicates":[{"name":"p","text":"a.x ==
+        1"}]}"#;
 
 const STREAM_A: &[u8] = b"{\"process\":\"a\"}\n{\"set\":{\"x\":1}}\n{\"end\":true}\n";
 
@@ -32,7 +33,7 @@ fn spec(alloc: Global) -> Result<Spec, Fail> {
 fn take(core: &mut Core<'_>, stream: usize, input: Input<'_>) -> Result<(), AllocError>
     requires { stream < length core.old }
     ensures taken { OnOk result ((names : List ProcessNames) (steps : Interleaving) →
-        HasTaken core.old names steps → HasTaken core.new names (steps ++ (stream, input_seen input.entry) ∷ [])) }
+        HasTaken core.old names steps → HasTaken core.new names (steps ++ (stream, input_view input.entry) ∷ [])) }
     ensures streams { length core.new ≡ length core.old }
 {
     match core.step(stream, input) {
@@ -41,7 +42,7 @@ fn take(core: &mut Core<'_>, stream: usize, input: Input<'_>) -> Result<(), Allo
     }
 }
 
-/// What so many streams give that are told these inputs.
+/// What so many streams give that are reported these inputs.
 fn gathered(
     alloc: Global,
     spec: &Spec,
@@ -49,7 +50,7 @@ fn gathered(
     inputs: &[(usize, Input<'_>)],
 ) -> Result<Gathered, Fail>
     requires { streams ≤ 16 }
-    ensures { IfOk result (λ gathered. All (ReadingFits (document_of spec.now).names) gathered.readings.items) }
+    ensures { IfOk result (λ gathered. All (ReadingFits (document_view spec.now).names) gathered.readings.items) }
 {
     let mut core = Core::new(alloc, streams, spec)?;
     for i in 0..inputs.len() {
@@ -66,7 +67,7 @@ fn gathered(
     }
 }
 
-/// The refusal of streams that are told these inputs.
+/// The refusal of streams that are reported these inputs.
 fn refusal(
     alloc: Global,
     streams: usize,
@@ -197,7 +198,7 @@ impl Read for Endless {
     }
 }
 
-/// What is read of a stream whose reader gives one byte a call, and then fails as told or ends.
+/// What is read of a stream whose reader gives one byte a call, and then fails as reported or ends.
 fn read_slowly(
     alloc: Global,
     bytes: &[u8],

@@ -1,10 +1,10 @@
 //! The traces of a session.
-ghost use Rattle.pd_events.specs.Views.{outcome_seen, trace_seen};
+ghost use Rattle.pd_events.specs.Views.{result_view, trace_view};
 ghost use Rattle.pd_format.specs.Names.{ProcessNames};
 ghost use Rattle.pd_format.specs.ReadingLaws.{FitsSession};
 ghost use Rattle.pd_format.specs.Sessions as sessions;
-ghost use Rattle.pd_gather.specs.Views.{AreTraces, IsSession, ReadingFits, is_of, outcomes_seen, told};
-ghost use Rattle.pd_spec.specs.Views.{document_of};
+ghost use Rattle.pd_gather.specs.Views.{AreTraces, IsSession, ReadingFits, is_of, results_view, session_fault_view};
+ghost use Rattle.pd_spec.specs.Views.{document_view};
 ghost use Rattle.std.specs.List.{list_any, position};
 ghost use Rattle.std.specs.Prelude.{◌≡◌, ℕ, [], List, All, IfOk, IfSome, Some, option_map};
 
@@ -23,9 +23,10 @@ const STREAM_LIMIT: u64 = 16;
 /// The first refusal: too many streams; then, of the first stream that has one, its fault or that its process is taken;
 /// then the first process that no stream joined. Also where memory runs out.
 pub fn session(alloc: Global, spec: &Spec, gathered: Gathered) -> Result<Vec<Trace>, SessionFault>
-    requires { All (ReadingFits (document_of spec.now).names) gathered.readings.items }
-    ensures exact { IsSession (sessions.session (document_of spec.now).names gathered.streams (outcomes_seen gathered.readings.items)) result }
-    ensures fits { IfOk result (λ traces. AreTraces (document_of spec.now).names traces.items) }
+    requires { All (ReadingFits (document_view spec.now).names) gathered.readings.items }
+    ensures exact { IsSession (sessions.session (document_view spec.now).names gathered.streams
+        (results_view gathered.readings.items)) result }
+    ensures fits { IfOk result (λ traces. AreTraces (document_view spec.now).names traces.items) }
 {
     if gathered.streams > STREAM_LIMIT {
         return Err(SessionFault::Streams);
@@ -39,10 +40,11 @@ pub fn session(alloc: Global, spec: &Spec, gathered: Gathered) -> Result<Vec<Tra
 
 /// The fault of the first stream that has one.
 fn first_fault(readings: &[Result<Trace, StreamFault>]) -> Option<SessionFault>
-    ensures { option_map told result ≡ option_map Some (sessions.first_stream_fault [] (outcomes_seen readings.now)) }
+    ensures { option_map session_fault_view result
+        ≡ option_map Some (sessions.first_stream_fault [] (results_view readings.now)) }
 {
     for i in 0..readings.len() {
-        let fault = fault_behind(&readings[..i], &readings[i]);
+        let fault = fault_after(&readings[..i], &readings[i]);
         if fault.is_some() {
             return fault;
         }
@@ -50,12 +52,13 @@ fn first_fault(readings: &[Result<Trace, StreamFault>]) -> Option<SessionFault>
     None
 }
 
-/// The fault of a stream behind these: its own, or that one of them joined its process.
-fn fault_behind(
+/// The fault of a stream after these: its own, or that one of them joined its process.
+fn fault_after(
     before: &[Result<Trace, StreamFault>],
     reading: &Result<Trace, StreamFault>,
 ) -> Option<SessionFault>
-    ensures { option_map told result ≡ option_map Some (sessions.stream_fault (outcomes_seen before.now) (outcome_seen reading.now)) }
+    ensures { option_map session_fault_view result
+        ≡ option_map Some (sessions.stream_fault (results_view before.now) (result_view reading.now)) }
 {
     let stream = before.len() as u64;
     match reading {
@@ -94,7 +97,7 @@ fn in_order(
     mut readings: Vec<Result<Trace, StreamFault>>,
 ) -> Result<Vec<Trace>, SessionFault>
     requires { All (ReadingFits names.now) readings.items }
-    ensures exact { IsSession (sessions.traces_from 0 names.now (outcomes_seen readings.items)) result }
+    ensures exact { IsSession (sessions.traces_from 0 names.now (results_view readings.items)) result }
     ensures fits { IfOk result (λ traces. AreTraces names.now traces.items) }
 {
     let mut traces = Vec::with_capacity(alloc, names.processes())?;
@@ -109,11 +112,13 @@ fn in_order(
 
 /// Takes the trace of this process out, if there is one.
 fn take_trace(process: usize, readings: &mut Vec<Result<Trace, StreamFault>>) -> Option<Trace>
-    ensures value { option_map trace_seen result ≡ sessions.trace_of process (outcomes_seen readings.old.items) }
+    ensures value { option_map trace_view result ≡ sessions.trace_of process (results_view readings.old.items) }
     ensures others { (q : ℕ) → (q ≡ process → ⊥) →
-        sessions.trace_of q (outcomes_seen readings.new.items) ≡ sessions.trace_of q (outcomes_seen readings.old.items) }
-    ensures left { (names : List ProcessNames) → All (ReadingFits names) readings.old.items → All (ReadingFits names) readings.new.items }
-    ensures fits { IfSome result (λ trace. (names : List ProcessNames) → All (ReadingFits names) readings.old.items → FitsSession names (trace_seen trace)) }
+        sessions.trace_of q (results_view readings.new.items) ≡ sessions.trace_of q (results_view readings.old.items) }
+    ensures left { (names : List ProcessNames) → All (ReadingFits names) readings.old.items
+        → All (ReadingFits names) readings.new.items }
+    ensures fits { IfSome result (λ trace. (names : List ProcessNames) → All (ReadingFits names) readings.old.items
+        → FitsSession names (trace_view trace)) }
 {
     let at = place_of(process, readings)?;
     readings.remove(at).ok()

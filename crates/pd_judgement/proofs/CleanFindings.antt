@@ -11,42 +11,47 @@ use Rattle.pd_judgement.specs.Findings.{EndsBad, TellsUnread, IsCleanLine, is_ba
 
 -- ---- the last two bytes of a line
 
--- the last byte of a line that stands behind this one
+-- the last byte of a line that stands after this one
 abbrev last_of : ℕ → List ℕ → ℕ
 last_of byte [] = byte
 last_of byte (next ∷ rest) = last_of next rest
 
--- the last byte but one of a line that stands behind these two
+-- the last byte but one of a line that stands after these two
 abbrev last_but_one : ℕ → ℕ → List ℕ → ℕ
 last_but_one first second [] = first
 last_but_one first second (next ∷ rest) = last_but_one second next rest
 
-last_of-append : (byte : ℕ) (front : List ℕ) (x : ℕ) (rest : List ℕ) → last_of byte (front ++ x ∷ rest) ≡ last_of x rest
+last_of-append : (byte : ℕ) (prefix : List ℕ) (x : ℕ) (rest : List ℕ) → last_of byte (prefix ++ x ∷ rest)
+    ≡ last_of x rest
 last_of-append byte [] x rest = refl
-last_of-append byte (next ∷ front) x rest = last_of-append next front x rest
+last_of-append byte (next ∷ prefix) x rest = last_of-append next prefix x rest
 
-last_but_one-append : (first second : ℕ) (front : List ℕ) (x y : ℕ) (rest : List ℕ) → last_but_one first second (front ++ x ∷ y ∷ rest) ≡ last_but_one x y rest
+last_but_one-append : (first second : ℕ) (prefix : List ℕ) (x y : ℕ) (rest : List ℕ)
+    → last_but_one first second (prefix ++ x ∷ y ∷ rest) ≡ last_but_one x y rest
 last_but_one-append first second [] x y rest = refl
-last_but_one-append first second (next ∷ front) x y rest = last_but_one-append second next front x y rest
+last_but_one-append first second (next ∷ prefix) x y rest = last_but_one-append second next prefix x y rest
 
 -- ---- the end of a number
 
--- behind any byte but `d` the bytes end with another than `d`
+-- after any byte but `d` the bytes end with another than `d`
 abbrev EndsOtherwise : List ℕ → Type 0
 EndsOtherwise bytes = (byte : ℕ) → byte ≢ 100 → last_of byte bytes ≢ 100
 
 digit_differs : (n : ℕ) → digit_glyph false (n % 10) ≢ 100
 digit_differs n = grind (arith, nat_tests)
 
-digits_end : (k n : ℕ) (behind : List ℕ) → EndsOtherwise behind → EndsOtherwise (digits_onto k 10 false n behind)
-digits_end zero n behind h = h
-digits_end (suc k) n behind h = go (n / 10 == 0) (digits_end k (n / 10) (digit_glyph false (n % 10) ∷ behind) more)
+digits_end : (k n : ℕ) (following : List ℕ) → EndsOtherwise following
+    → EndsOtherwise (digits_onto k 10 false n following)
+digits_end zero n following h = h
+digits_end (suc k) n following h =
+    go (n / 10 == 0) (digits_end k (n / 10) (digit_glyph false (n % 10) ∷ following) more)
   where
-    more : EndsOtherwise (digit_glyph false (n % 10) ∷ behind)
+    more : EndsOtherwise (digit_glyph false (n % 10) ∷ following)
     more byte other = h (digit_glyph false (n % 10)) (digit_differs n)
 
-    go : (is_last : Bool) → EndsOtherwise (digits_onto k 10 false (n / 10) (digit_glyph false (n % 10) ∷ behind))
-        → EndsOtherwise (if is_last then digit_glyph false (n % 10) ∷ behind else digits_onto k 10 false (n / 10) (digit_glyph false (n % 10) ∷ behind))
+    go : (is_last : Bool) → EndsOtherwise (digits_onto k 10 false (n / 10) (digit_glyph false (n % 10) ∷ following))
+        → EndsOtherwise (if is_last then digit_glyph false (n % 10) ∷ following else
+        digits_onto k 10 false (n / 10) (digit_glyph false (n % 10) ∷ following))
     go true further = more
     go false further = further
 
@@ -57,14 +62,18 @@ decimal_ends n = digits_end 64 n [] (λ byte other. other)
 -- ---- lines
 
 -- a line is clean whose last byte is `d`, with another before it than `a`
-clean_line : (front : List ℕ) (x y : ℕ) (rest : List ℕ) → last_but_one x y rest ≢ 97 → last_of y rest ≡ 100 → IsCleanLine (front ++ x ∷ y ∷ rest)
-clean_line front x y rest other last = (not_bad, not_unread)
+clean_line : (prefix : List ℕ) (x y : ℕ) (rest : List ℕ) → last_but_one x y rest ≢ 97 → last_of y rest ≡ 100
+    → IsCleanLine (prefix ++ x ∷ y ∷ rest)
+clean_line prefix x y rest other last = (not_bad, not_unread)
   where
-    not_bad : ¬ EndsBad (front ++ x ∷ y ∷ rest)
-    not_bad (before, same) = other (sym (last_but_one-append 0 0 front x y rest) ∙ ap (last_but_one 0 0) same ∙ last_but_one-append 0 0 before 32 98 (97 ∷ 100 ∷ []))
+    not_bad : ¬ EndsBad (prefix ++ x ∷ y ∷ rest)
+    not_bad (before, same) =
+        other (sym (last_but_one-append 0 0 prefix x y rest) ∙ ap (last_but_one 0 0) same
+        ∙ last_but_one-append 0 0 before 32 98 (97 ∷ 100 ∷ []))
 
-    not_unread : ¬ TellsUnread (front ++ x ∷ y ∷ rest)
-    not_unread (number, same) = decimal_ends number 32 (omega arith) (sym (ap (last_of 0) same) ∙ last_of-append 0 front x (y ∷ rest) ∙ last)
+    not_unread : ¬ TellsUnread (prefix ++ x ∷ y ∷ rest)
+    not_unread (number, same) =
+        decimal_ends number 32 (omega arith) (sym (ap (last_of 0) same) ∙ last_of-append 0 prefix x (y ∷ rest) ∙ last)
 
 -- ---- verdicts
 
@@ -72,24 +81,30 @@ clean_line front x y rest other last = (not_bad, not_unread)
 abbrev verdict_line : List ℕ → List ℕ → Verdict → List ℕ
 verdict_line name word verdict = spaced (name ∷ word ∷ verdict_word verdict ∷ [])
 
-possibly_clean : (name : List ℕ) (verdict : Verdict) → is_bad verdict ≡ false → IsCleanLine (verdict_line name (codes "possibly") verdict)
+possibly_clean : (name : List ℕ) (verdict : Verdict) → is_bad verdict ≡ false
+    → IsCleanLine (verdict_line name (codes "possibly") verdict)
 possibly_clean name Good e = clean_line name 32 112 (codes "ossibly good") (omega arith) refl
 possibly_clean name Bad e = absurd (cc)
 possibly_clean name Unchecked e = clean_line name 32 112 (codes "ossibly unchecked") (omega arith) refl
 
-definitely_clean : (name : List ℕ) (verdict : Verdict) → is_bad verdict ≡ false → IsCleanLine (verdict_line name (codes "definitely") verdict)
+definitely_clean : (name : List ℕ) (verdict : Verdict) → is_bad verdict ≡ false
+    → IsCleanLine (verdict_line name (codes "definitely") verdict)
 definitely_clean name Good e = clean_line name 32 100 (codes "efinitely good") (omega arith) refl
 definitely_clean name Bad e = absurd (cc)
 definitely_clean name Unchecked e = clean_line name 32 100 (codes "efinitely unchecked") (omega arith) refl
 
-possibly_not_bad : (name : List ℕ) (verdict : Verdict) → IsCleanLine (verdict_line name (codes "possibly") verdict) → is_bad verdict ≡ false
+possibly_not_bad : (name : List ℕ) (verdict : Verdict) → IsCleanLine (verdict_line name (codes "possibly") verdict)
+    → is_bad verdict ≡ false
 possibly_not_bad name Good h = refl
-possibly_not_bad name Bad h = absurd (h.0 (name ++ codes " possibly", sym (append_assoc name (codes " possibly") (codes " bad"))))
+possibly_not_bad name Bad h =
+    absurd (h.0 (name ++ codes " possibly", sym (append_assoc name (codes " possibly") (codes " bad"))))
 possibly_not_bad name Unchecked h = refl
 
-definitely_not_bad : (name : List ℕ) (verdict : Verdict) → IsCleanLine (verdict_line name (codes "definitely") verdict) → is_bad verdict ≡ false
+definitely_not_bad : (name : List ℕ) (verdict : Verdict) → IsCleanLine (verdict_line name (codes "definitely") verdict)
+    → is_bad verdict ≡ false
 definitely_not_bad name Good h = refl
-definitely_not_bad name Bad h = absurd (h.0 (name ++ codes " definitely", sym (append_assoc name (codes " definitely") (codes " bad"))))
+definitely_not_bad name Bad h =
+    absurd (h.0 (name ++ codes " definitely", sym (append_assoc name (codes " definitely") (codes " bad"))))
 definitely_not_bad name Unchecked h = refl
 
 neither : (a b : Bool) → (a || b) ≡ false → (a ≡ false) × (b ≡ false)
@@ -99,25 +114,32 @@ neither false b e = (refl, e)
 checked_clean : (checked : Checked) → has_bad checked ≡ false → All IsCleanLine (checked_lines checked)
 checked_clean checked e =
     let none = neither (is_bad checked.possibly) (is_bad checked.definitely) e in
-    All-cons IsCleanLine (verdict_line checked.name (codes "possibly") checked.possibly) (verdict_line checked.name (codes "definitely") checked.definitely ∷ [])
+    All-cons IsCleanLine (verdict_line checked.name (codes "possibly") checked.possibly)
+    (verdict_line checked.name (codes "definitely") checked.definitely ∷ [])
     (possibly_clean checked.name checked.possibly none.0)
-    (All-cons IsCleanLine (verdict_line checked.name (codes "definitely") checked.definitely) [] (definitely_clean checked.name checked.definitely none.1) (All-nil IsCleanLine))
+    (All-cons IsCleanLine (verdict_line checked.name (codes "definitely") checked.definitely) []
+    (definitely_clean checked.name checked.definitely none.1) (All-nil IsCleanLine))
 
-all_clean : (verdicts : List Checked) → list_any has_bad verdicts ≡ false → All IsCleanLine (flat_map checked_lines verdicts)
+all_clean : (verdicts : List Checked) → list_any has_bad verdicts ≡ false
+    → All IsCleanLine (flat_map checked_lines verdicts)
 all_clean [] e = All-nil IsCleanLine
 all_clean (checked ∷ verdicts) e =
     let none = neither (has_bad checked) (list_any has_bad verdicts) e in
-    All-append IsCleanLine (checked_lines checked) (flat_map checked_lines verdicts) (checked_clean checked none.0) (all_clean verdicts none.1)
+    All-append IsCleanLine (checked_lines checked) (flat_map checked_lines verdicts) (checked_clean checked none.0)
+    (all_clean verdicts none.1)
 
-none_bad : (verdicts : List Checked) → All IsCleanLine (flat_map checked_lines verdicts) → list_any has_bad verdicts ≡ false
+none_bad : (verdicts : List Checked) → All IsCleanLine (flat_map checked_lines verdicts)
+    → list_any has_bad verdicts ≡ false
 none_bad [] h = refl
 none_bad (checked ∷ verdicts) h =
     let first = verdict_line checked.name (codes "possibly") checked.possibly in
     let second = verdict_line checked.name (codes "definitely") checked.definitely in
     let rest = flat_map checked_lines verdicts in
     let later : All IsCleanLine (second ∷ rest) = All-tail IsCleanLine first (second ∷ rest) h in
-    let possibly : is_bad checked.possibly ≡ false = possibly_not_bad checked.name checked.possibly (All-head IsCleanLine first (second ∷ rest) h) in
-    let definitely : is_bad checked.definitely ≡ false = definitely_not_bad checked.name checked.definitely (All-head IsCleanLine second rest later) in
+    let possibly : is_bad checked.possibly ≡ false =
+    possibly_not_bad checked.name checked.possibly (All-head IsCleanLine first (second ∷ rest) h) in
+    let definitely : is_bad checked.definitely ≡ false =
+    definitely_not_bad checked.name checked.definitely (All-head IsCleanLine second rest later) in
     let others : list_any has_bad verdicts ≡ false = none_bad verdicts (All-tail IsCleanLine second rest later) in
     rw (possibly, definitely, others) refl
 
@@ -128,14 +150,36 @@ not_false true e = absurd (cc)
 not_false false e = refl
 
 pub clean_is_clean_lem : CleanIsClean
-clean_is_clean_lem (NotRead line) = ((λ e. absurd (cc)), (λ h. absurd ((All-head IsCleanLine (spaced (codes "report" ∷ codes "line" ∷ decimal line ∷ [])) [] h).1 (line, refl))))
-clean_is_clean_lem (OfRefusal true) = ((λ e. All-cons IsCleanLine (codes "refused good") [] (clean_line [] 114 101 (codes "fused good") (omega arith) refl) (All-nil IsCleanLine)), (λ h. refl))
-clean_is_clean_lem (OfRefusal false) = ((λ e. absurd (cc)), (λ h. absurd ((All-head IsCleanLine (codes "refused bad") [] h).0 (codes "refused", refl))))
-clean_is_clean_lem (OfSession true None) =
-    ((λ e. absurd (cc)), (λ h. absurd ((All-head IsCleanLine (codes "names bad") [] (All-tail IsCleanLine (codes "session good") (codes "names bad" ∷ []) h)).0 (codes "names", refl))))
-clean_is_clean_lem (OfSession false None) = ((λ e. absurd (cc)), (λ h. absurd ((All-head IsCleanLine (codes "session bad") (codes "names bad" ∷ []) h).0 (codes "session", refl))))
-clean_is_clean_lem (OfSession false (Some verdicts)) = ((λ e. absurd (cc)), (λ h. absurd ((All-head IsCleanLine (codes "session bad") (flat_map checked_lines verdicts) h).0 (codes "session", refl))))
+clean_is_clean_lem (NotRead line) = (
+  (λ e. absurd (cc)),
+  (λ h. absurd ((All-head IsCleanLine
+      (spaced (codes "report" ∷ codes "line" ∷ decimal line ∷ [])) [] h).1 (line, refl))),
+)
+clean_is_clean_lem (OfRefusal true) = (
+  (λ e. All-cons IsCleanLine (codes "refused good") []
+      (clean_line [] 114 101 (codes "fused good") (omega arith) refl) (All-nil IsCleanLine)),
+  (λ h. refl),
+)
+clean_is_clean_lem (OfRefusal false) =
+    ((λ e. absurd (cc)), (λ h. absurd ((All-head IsCleanLine (codes "refused bad") [] h).0 (codes "refused", refl))))
+clean_is_clean_lem (OfSession true None) = (
+  (λ e. absurd (cc)),
+  (λ h. absurd ((All-head IsCleanLine (codes "names bad") []
+      (All-tail IsCleanLine (codes "session good") (codes "names bad" ∷ []) h)).0 (codes "names", refl))),
+)
+clean_is_clean_lem (OfSession false None) = (
+  (λ e. absurd (cc)),
+  (λ h. absurd ((All-head IsCleanLine (codes "session bad") (codes "names bad" ∷ []) h).0
+      (codes "session", refl))),
+)
+clean_is_clean_lem (OfSession false (Some verdicts)) = (
+  (λ e. absurd (cc)),
+  (λ h. absurd ((All-head IsCleanLine (codes "session bad") (flat_map checked_lines verdicts)
+      h).0 (codes "session", refl))),
+)
 clean_is_clean_lem (OfSession true (Some verdicts)) = (
-  (λ e. All-cons IsCleanLine (codes "session good") (flat_map checked_lines verdicts) (clean_line [] 115 101 (codes "ssion good") (omega arith) refl) (all_clean verdicts (not_false (list_any has_bad verdicts) e))),
+  (λ e. All-cons IsCleanLine (codes "session good") (flat_map checked_lines verdicts)
+      (clean_line [] 115 101 (codes "ssion good") (omega arith) refl)
+      (all_clean verdicts (not_false (list_any has_bad verdicts) e))),
   (λ h. ap not (none_bad verdicts (All-tail IsCleanLine (codes "session good") (flat_map checked_lines verdicts) h))),
 )

@@ -3,10 +3,10 @@ use Rattle.std.proofs.Common.{◌≡◌, ℕ, ◌+◌, List, [], ◌∷◌, ◌+
 use Rattle.std.specs.Prelude.{Ok, Err}
 use Rattle.std.specs.List.{AllZip, AllByRecursion}
 use Rattle.pd_model.specs.Predicates.{Predicate}
-use Rattle.pd_format.specs.Documents.{Outline, Document, NamedPredicate, DocumentFault, Long, Json, Shape, Processes, Name, NameTwice, Vars, Predicates, Width, InPredicate, IsNamedPredicate, IsDocument, HasRefusedPredicate, IsRefusedDocument, outline_of_bytes, names_of, initial_of, width_of}
+use Rattle.pd_format.specs.Documents.{Outline, Document, NamedPredicate, DocumentFault, Long, Json, Shape, Processes, Name, NameTwice, Vars, Predicates, Width, InPredicate, IsNamedPredicate, IsDocument, HasRefusedPredicate, IsRefusedDocument, outline_of_bytes, names_of_outline, initial_of, width_of}
 use Rattle.pd_format.specs.Laws.{AreClear}
 use Rattle.pd_format.specs.Names.{ProcessNames}
-use Rattle.pd_format.specs.PredicateTexts.{PredicateFault, IsPredicate, IsRefused}
+use Rattle.pd_format.specs.PredicateTexts.{PredicateFault, IsPredicate, IsRefusedPredicate}
 use Rattle.pd_format.proofs.OneAnswer.{one_predicate_lem, predicate_not_refused_lem, refused_once_lem}
 use Rattle.pd_judgement.proofs.DocumentNames.{clear_document}
 
@@ -18,13 +18,16 @@ same_outline bytes a b e f = cc
 
 -- ---- one document
 
-one_named : (names : List ProcessNames) → AreClear names → (written : Written) (a b : NamedPredicate) → IsNamedPredicate names written a → IsNamedPredicate names written b → a ≡ b
+one_named : (names : List ProcessNames) → AreClear names → (written : Written) (a b : NamedPredicate)
+    → IsNamedPredicate names written a → IsNamedPredicate names written b → a ≡ b
 one_named names clear written a b p q =
     let name : a.name ≡ b.name = p.0 ∙ sym q.0 in
-    let predicate : a.predicate ≡ b.predicate = one_predicate_lem names clear written.1 a.predicate b.predicate p.1 q.1 in
+    let predicate : a.predicate ≡ b.predicate =
+    one_predicate_lem names clear written.1 a.predicate b.predicate p.1 q.1 in
     λ i. record { name = name i; predicate = predicate i }
 
-one_each : (names : List ProcessNames) → AreClear names → (written : List Written) (a b : List NamedPredicate) → AllZip (IsNamedPredicate names) written a → AllZip (IsNamedPredicate names) written b → a ≡ b
+one_each : (names : List ProcessNames) → AreClear names → (written : List Written) (a b : List NamedPredicate)
+    → AllZip (IsNamedPredicate names) written a → AllZip (IsNamedPredicate names) written b → a ≡ b
 one_each names clear [] [] [] p q = refl
 one_each names clear [] [] (y ∷ b) p q = absurd q
 one_each names clear [] (x ∷ a) b p q = absurd p
@@ -38,17 +41,22 @@ one_each names clear (w ∷ written) (x ∷ a) (y ∷ b) p q =
 pub one_document_lem : (bytes : List ℕ) (a b : Document) → IsDocument bytes a → IsDocument bytes b → a ≡ b
 one_document_lem bytes a b p q =
     let same : q.outline ≡ p.outline = same_outline bytes q.outline p.outline q.sound p.sound in
-    let names : a.names ≡ b.names = p.names ∙ (ap names_of (sym same) ∙ sym q.names) in
+    let names : a.names ≡ b.names = p.names ∙ (ap names_of_outline (sym same) ∙ sym q.names) in
     let initial : a.initial ≡ b.initial = p.initial ∙ (ap initial_of (sym same) ∙ sym q.initial) in
     let width : a.width ≡ b.width = p.width ∙ (ap (λ (o : Outline). width_of o.width) (sym same) ∙ sym q.width) in
-    let moved : AllZip (IsNamedPredicate (names_of p.outline)) p.outline.predicates b.predicates = subst (λ (o : Outline). AllZip (IsNamedPredicate (names_of o)) o.predicates b.predicates) same q.predicates in
-    let predicates : a.predicates ≡ b.predicates = one_each (names_of p.outline) (clear_document bytes p.outline p.sound) p.outline.predicates a.predicates b.predicates p.predicates moved in
+    let moved : AllZip (IsNamedPredicate (names_of_outline p.outline)) p.outline.predicates b.predicates =
+    subst (λ (o : Outline). AllZip (IsNamedPredicate (names_of_outline o)) o.predicates b.predicates) same
+    q.predicates in
+    let predicates : a.predicates ≡ b.predicates =
+    one_each (names_of_outline p.outline) (clear_document bytes p.outline p.sound) p.outline.predicates a.predicates
+    b.predicates p.predicates moved in
     λ i. record { names = names i; initial = initial i; predicates = predicates i; width = width i }
 
 -- ---- a document isn't refused
 
 -- what stands beside an element in the midst of a list
-partner : {A B : Type 0} (R : A → B → Type 0) (before : List A) (x : A) (after : List A) (ys : List B) → AllZip R (before ++ x ∷ after) ys → (y : B) × R x y
+partner : {A B : Type 0} (R : A → B → Type 0) (before : List A) (x : A) (after : List A) (ys : List B)
+    → AllZip R (before ++ x ∷ after) ys → (y : B) × R x y
 partner R [] x after [] h = absurd h
 partner R [] x after (y ∷ ys) h = (y, h.0)
 partner R (z ∷ before) x after [] h = absurd h
@@ -57,7 +65,8 @@ partner R (z ∷ before) x after (y ∷ ys) h = partner R before x after ys h.1
 -- a refusal that isn't of a predicate, or one that is
 data Refusing (bytes : List ℕ) (fault : DocumentFault) : Type 0 where
   of_outline : outline_of_bytes bytes ≡ Err fault → Refusing bytes fault
-  of_predicate : (number : ℕ) (inner : PredicateFault) (at : ℕ) → fault ≡ InPredicate number inner at → HasRefusedPredicate bytes number inner at → Refusing bytes fault
+  of_predicate : (number : ℕ) (inner : PredicateFault) (at : ℕ) → fault ≡ InPredicate number inner at
+      → HasRefusedPredicate bytes number inner at → Refusing bytes fault
 
 refusing : (bytes : List ℕ) (fault : DocumentFault) → IsRefusedDocument bytes fault → Refusing bytes fault
 refusing bytes Long h = of_outline h
@@ -71,29 +80,41 @@ refusing bytes Predicates h = of_outline h
 refusing bytes Width h = of_outline h
 refusing bytes (InPredicate number inner at) h = of_predicate number inner at refl h
 
-not_both : (bytes : List ℕ) (outline : Outline) (fault : DocumentFault) → outline_of_bytes bytes ≡ Ok outline → outline_of_bytes bytes ≡ Err fault → ⊥
+not_both : (bytes : List ℕ) (outline : Outline) (fault : DocumentFault) → outline_of_bytes bytes ≡ Ok outline
+    → outline_of_bytes bytes ≡ Err fault → ⊥
 not_both bytes outline fault e f = cc
 
-pub document_not_refused_lem : (bytes : List ℕ) (document : Document) (fault : DocumentFault) → IsDocument bytes document → IsRefusedDocument bytes fault → ⊥
+pub document_not_refused_lem : (bytes : List ℕ) (document : Document) (fault : DocumentFault)
+    → IsDocument bytes document → IsRefusedDocument bytes fault → ⊥
 document_not_refused_lem bytes document fault p refused = go (refusing bytes fault refused)
   where
     go : Refusing bytes fault → ⊥
     go (of_outline e) = not_both bytes p.outline fault p.sound e
     go (of_predicate number inner at e r) =
         let same : p.outline ≡ r.outline = same_outline bytes p.outline r.outline p.sound r.sound in
-        let moved : AllZip (IsNamedPredicate (names_of r.outline)) r.outline.predicates document.predicates = subst (λ (o : Outline). AllZip (IsNamedPredicate (names_of o)) o.predicates document.predicates) same p.predicates in
-        let parts : AllZip (IsNamedPredicate (names_of r.outline)) (r.before ++ r.refused ∷ r.after) document.predicates = subst (λ (ws : List Written). AllZip (IsNamedPredicate (names_of r.outline)) ws document.predicates) r.parts moved in
-        let found : (y : NamedPredicate) × IsNamedPredicate (names_of r.outline) r.refused y = partner (IsNamedPredicate (names_of r.outline)) r.before r.refused r.after document.predicates parts in
-        predicate_not_refused_lem (names_of r.outline) r.refused.1 found.0.predicate inner at found.1.1 r.stands
+        let moved : AllZip (IsNamedPredicate (names_of_outline r.outline)) r.outline.predicates document.predicates =
+        subst (λ (o : Outline). AllZip (IsNamedPredicate (names_of_outline o)) o.predicates document.predicates)
+        same p.predicates in
+        let parts : AllZip (IsNamedPredicate (names_of_outline r.outline)) (r.before ++ r.refused ∷ r.after)
+        document.predicates =
+        subst (λ (ws : List Written). AllZip (IsNamedPredicate (names_of_outline r.outline)) ws document.predicates)
+        r.parts moved in
+        let found : (y : NamedPredicate) × IsNamedPredicate (names_of_outline r.outline) r.refused y =
+        partner (IsNamedPredicate (names_of_outline r.outline)) r.before r.refused r.after document.predicates parts
+        in
+        predicate_not_refused_lem (names_of_outline r.outline) r.refused.1 found.0.predicate inner at found.1.1 r.stands
 
 -- ---- one fault
 
 -- the first element without P is one, and so is what stands before it
 one_first : {A : Type 0} (P : A → Type 0) (before : List A) (x : A) (after before' : List A) (x' : A) (after' : List A)
-    → AllByRecursion P before → AllByRecursion P before' → ¬ P x → ¬ P x' → before ++ x ∷ after ≡ before' ++ x' ∷ after' → (before ≡ before') × (x ≡ x')
+    → AllByRecursion P before → AllByRecursion P before' → ¬ P x → ¬ P x' → before ++ x ∷ after ≡ before' ++ x' ∷ after'
+    → (before ≡ before') × (x ≡ x')
 one_first P [] x after [] x' after' h h' none none' e = (refl, cc)
-one_first P [] x after (y ∷ before') x' after' h h' none none' e = let same : y ≡ x = cc in absurd (none (subst P same h'.0))
-one_first P (z ∷ before) x after [] x' after' h h' none none' e = let same : z ≡ x' = cc in absurd (none' (subst P same h.0))
+one_first P [] x after (y ∷ before') x' after' h h' none none' e = let same : y ≡ x =
+    cc in absurd (none (subst P same h'.0))
+one_first P (z ∷ before) x after [] x' after' h h' none none' e = let same : z ≡ x' =
+    cc in absurd (none' (subst P same h.0))
 one_first P (z ∷ before) x after (y ∷ before') x' after' h h' none none' e =
     let first : z ≡ y = cc in
     let rest : (before ≡ before') × (x ≡ x') = one_first P before x after before' x' after' h.1 h'.1 none none' (cc) in
@@ -110,26 +131,43 @@ record Refuses (outline : Outline) (number : ℕ) (fault : PredicateFault) (at :
   after : List Written
   parts : outline.predicates ≡ before ++ refused ∷ after
   place : number ≡ length before + 1
-  stands : IsRefused (names_of outline) refused.1 fault at
-  none_before : AllByRecursion (IsSome (names_of outline)) before
+  stands : IsRefusedPredicate (names_of_outline outline) refused.1 fault at
+  none_before : AllByRecursion (IsSome (names_of_outline outline)) before
 
-refuses : (bytes : List ℕ) (number : ℕ) (fault : PredicateFault) (at : ℕ) (r : HasRefusedPredicate bytes number fault at) → Refuses r.outline number fault at
+refuses : (bytes : List ℕ) (number : ℕ) (fault : PredicateFault) (at : ℕ)
+    (r : HasRefusedPredicate bytes number fault at) → Refuses r.outline number fault at
 refuses bytes number fault at r =
-    record { before = r.before; refused = r.refused; after = r.after; parts = r.parts; place = r.place; stands = r.stands; none_before = r.none_before }
+    record {
+      before = r.before;
+      refused = r.refused;
+      after = r.after;
+      parts = r.parts;
+      place = r.place;
+      stands =
+          r.stands;
+      none_before = r.none_before;
+    }
 
-not_some : (names : List ProcessNames) (written : Written) (fault : PredicateFault) (at : ℕ) → IsRefused names written.1 fault at → ¬ IsSome names written
+not_some : (names : List ProcessNames) (written : Written) (fault : PredicateFault) (at : ℕ)
+    → IsRefusedPredicate names written.1 fault at → ¬ IsSome names written
 not_some names written fault at r some = predicate_not_refused_lem names written.1 some.0 fault at some.1 r
 
-one_refuses : (outline : Outline) (number other : ℕ) (f g : PredicateFault) (at place : ℕ) → Refuses outline number f at → Refuses outline other g place → InPredicate number f at ≡ InPredicate other g place
+one_refuses : (outline : Outline) (number other : ℕ) (f g : PredicateFault) (at place : ℕ) → Refuses outline number f at
+    → Refuses outline other g place → InPredicate number f at ≡ InPredicate other g place
 one_refuses outline number other f g at place r s =
-    let same = one_first (IsSome (names_of outline)) r.before r.refused r.after s.before s.refused s.after r.none_before s.none_before
-    (not_some (names_of outline) r.refused f at r.stands) (not_some (names_of outline) s.refused g place s.stands) (sym r.parts ∙ s.parts) in
+    let same =
+    one_first (IsSome (names_of_outline outline)) r.before r.refused r.after s.before s.refused s.after
+    r.none_before s.none_before
+    (not_some (names_of_outline outline) r.refused f at r.stands)
+    (not_some (names_of_outline outline) s.refused g place s.stands) (sym r.parts ∙ s.parts) in
     let numbers : number ≡ other = r.place ∙ (ap (λ (ws : List Written). length ws + 1) same.0 ∙ sym s.place) in
-    let stands : IsRefused (names_of outline) s.refused.1 f at = subst (λ (w : Written). IsRefused (names_of outline) w.1 f at) same.1 r.stands in
-    let once = refused_once_lem (names_of outline) s.refused.1 f g at place stands s.stands in
+    let stands : IsRefusedPredicate (names_of_outline outline) s.refused.1 f at =
+    subst (λ (w : Written). IsRefusedPredicate (names_of_outline outline) w.1 f at) same.1 r.stands in
+    let once = refused_once_lem (names_of_outline outline) s.refused.1 f g at place stands s.stands in
     λ i. InPredicate (numbers i) (once.0 i) (once.1 i)
 
-pub one_document_fault_lem : (bytes : List ℕ) (f g : DocumentFault) → IsRefusedDocument bytes f → IsRefusedDocument bytes g → f ≡ g
+pub one_document_fault_lem : (bytes : List ℕ) (f g : DocumentFault) → IsRefusedDocument bytes f
+    → IsRefusedDocument bytes g → f ≡ g
 one_document_fault_lem bytes f g p q = go (refusing bytes f p) (refusing bytes g q)
   where
     go : Refusing bytes f → Refusing bytes g → f ≡ g
@@ -138,5 +176,7 @@ one_document_fault_lem bytes f g p q = go (refusing bytes f p) (refusing bytes g
     go (of_predicate number inner at k r) (of_outline e) = absurd (not_both bytes r.outline g r.sound e)
     go (of_predicate number inner at k r) (of_predicate number' inner' at' k' r') =
         let same : r.outline ≡ r'.outline = same_outline bytes r.outline r'.outline r.sound r'.sound in
-        let moved : Refuses r'.outline number inner at = subst (λ (o : Outline). Refuses o number inner at) same (refuses bytes number inner at r) in
-        k ∙ (one_refuses r'.outline number number' inner inner' at at' moved (refuses bytes number' inner' at' r') ∙ sym k')
+        let moved : Refuses r'.outline number inner at =
+        subst (λ (o : Outline). Refuses o number inner at) same (refuses bytes number inner at r) in
+        k ∙ (one_refuses r'.outline number number' inner inner' at at' moved (refuses bytes number' inner' at' r')
+        ∙ sym k')

@@ -13,7 +13,7 @@ use Rattle.pd_format.specs.Names.{ProcessNames}
 use Rattle.pd_format.specs.Readings.{Trace}
 use Rattle.pd_format.specs.Documents.{Document, NamedPredicate}
 use Rattle.pd_format.specs.Reports.{Possibly, Definitely, Answer}
-use Rattle.pd_format.specs.Judgements.{name_of_process, events_of_traces, recorded_of, possibly_of, definitely_of, IsAnswered, of_messages, of_cycle, of_answers}
+use Rattle.pd_format.specs.Judgements.{name_of_process, events_of_traces, recorded_of, printed_possibly, printed_definitely, IsAnswered, of_messages, of_cycle, of_answers}
 use Rattle.pd_model.proofs.Decisions.{dec_list}
 use Rattle.pd_model.proofs.OneAnswer.{below_rest, ascending_rest, contains_cases, contains_later, lex_asymmetric, lex_irreflexive, definite_is_possible, cut_below_level}
 use Rattle.pd_model.proofs.Paths.{avoiding_level, path_avoids}
@@ -22,20 +22,27 @@ use Rattle.pd_model.proofs.Stuck.{none_stuck}
 use Rattle.pd_judgement.specs.Headline.{IsNarrow, SaysTruly, AnswersTruly, Headline}
 
 -- An ascending list whose elements all stand in another is no longer than that one.
-pub no_longer : (xs ys : List (List ℕ)) → Linked LexBelow xs → Linked LexBelow ys → ((cut : List ℕ) → Contains xs cut → Contains ys cut) → length xs ≤ length ys
+pub no_longer : (xs ys : List (List ℕ)) → Linked LexBelow xs → Linked LexBelow ys
+    → ((cut : List ℕ) → Contains xs cut → Contains ys cut) → length xs ≤ length ys
 no_longer [] ys a b within = omega arith
-no_longer (x ∷ xs) [] a b within = let w : Contains [] x = within x (0, omega arith, refl) in let lt : w.0 < 0 = w.1 in absurd (omega arith)
+no_longer (x ∷ xs) [] a b within = let w : Contains [] x = within x (0, omega arith, refl) in let lt : w.0 < 0 =
+    w.1 in absurd (omega arith)
 no_longer (x ∷ xs) (y ∷ ys) a b within =
-    go (no_longer xs ys (ascending_rest x xs a) (ascending_rest y ys b)) (no_longer (x ∷ xs) ys a (ascending_rest y ys b)) (dec_list x y)
+    go (no_longer xs ys (ascending_rest x xs a) (ascending_rest y ys b))
+    (no_longer (x ∷ xs) ys a (ascending_rest y ys b)) (dec_list x y)
   where
-    go : (((cut : List ℕ) → Contains xs cut → Contains ys cut) → length xs ≤ length ys) → (((cut : List ℕ) → Contains (x ∷ xs) cut → Contains ys cut) → length (x ∷ xs) ≤ length ys) → Dec (x ≡ y) → length (x ∷ xs) ≤ length (y ∷ ys)
+    go : (((cut : List ℕ) → Contains xs cut → Contains ys cut) → length xs ≤ length ys)
+        → (((cut : List ℕ) → Contains (x ∷ xs) cut → Contains ys cut) → length (x ∷ xs) ≤ length ys) → Dec (x ≡ y)
+        → length (x ∷ xs) ≤ length (y ∷ ys)
     go both one (yes e) = let rest : length xs ≤ length ys = both later in omega arith
       where
         later : (cut : List ℕ) → Contains xs cut → Contains ys cut
         later cut has = pick (contains_cases y cut ys (within cut (contains_later x cut xs has)))
           where
             pick : (y ≡ cut) ⊎ Contains ys cut → Contains ys cut
-            pick (inl f) = absurd (lex_irreflexive cut (subst (λ (w : List ℕ). LexBelow w cut) (e ∙ f) (below_rest x cut xs a has)))
+            pick (inl f) =
+                absurd (lex_irreflexive cut (subst (λ (w : List ℕ). LexBelow w cut) (e
+                ∙ f) (below_rest x cut xs a has)))
             pick (inr h) = h
     go both one (no apart) = let rest : length (x ∷ xs) ≤ length ys = one later in omega arith
       where
@@ -52,19 +59,25 @@ no_longer (x ∷ xs) (y ∷ ys) a b within =
             pick : (x ≡ cut) ⊎ Contains xs cut → (y ≡ cut) ⊎ Contains ys cut → Contains ys cut
             pick here (inr h) = h
             pick (inl e) there = subst (Contains ys) e first
-            pick (inr h) (inl f) = absurd (lex_asymmetric x y (below_rest x y xs a (subst (Contains xs) (sym f) h)) (below_rest y x ys b first))
+            pick (inr h) (inl f) =
+                absurd (lex_asymmetric x y (below_rest x y xs a (subst (Contains xs) (sym f) h))
+                (below_rest y x ys b first))
 
 -- what holds of all cuts of a narrow level's list holds of no more than w cuts
-pub not_more_within : (P Q : List ℕ → Type 0) (w : ℕ) (cuts : List (List ℕ)) → IsListOf P cuts → length cuts ≤ w → ((cut : List ℕ) → Q cut → P cut) → ¬ MoreThan w Q
+pub not_more_within : (P Q : List ℕ → Type 0) (w : ℕ) (cuts : List (List ℕ)) → IsListOf P cuts → length cuts ≤ w
+    → ((cut : List ℕ) → Q cut → P cut) → ¬ MoreThan w Q
 not_more_within P Q w cuts list le within (some, list', lt) =
-    let n : length some ≤ length cuts = no_longer some cuts list'.ascending list.ascending (λ cut has. (list.just cut).1 (within cut ((list'.just cut).0 has))) in
+    let n : length some ≤ length cuts =
+    no_longer some cuts list'.ascending list.ascending (λ cut has.
+    (list.just cut).1 (within cut ((list'.just cut).0 has))) in
     omega arith
 
 -- ---- no answer is unknown
 
 module _ (c : Computation) (test : List ℕ → Bool) (w : ℕ) (narrow : IsNarrow c w) where
   pub level_is_narrow : (k : ℕ) → ¬ MoreThan w (IsOfLevel c k)
-  level_is_narrow k = let n : (cuts : List (List ℕ)) × IsListOf (IsOfLevel c k) cuts × (length cuts ≤ w) = narrow k in not_more (IsOfLevel c k) w n.0 n.1 n.2
+  level_is_narrow k = let n : (cuts : List (List ℕ)) × IsListOf (IsOfLevel c k) cuts × (length cuts ≤ w) =
+      narrow k in not_more (IsOfLevel c k) w n.0 n.1 n.2
 
   pub avoided_narrowly : (k : ℕ) → ¬ MoreThan w (IsAvoiding c test k)
   avoided_narrowly k =
@@ -73,48 +86,67 @@ module _ (c : Computation) (test : List ℕ → Bool) (w : ℕ) (narrow : IsNarr
 
 -- ---- what is said of Possibly
 
-module _ (c : Computation) (test : List ℕ → Bool) (w : ℕ) (narrow : IsNarrow c w) (told : Possibly) where
-  possibly_yes_exactly : (p : PossiblyAnswer) → told ≡ possibly_of p → IsPossiblyAnswer c test w p → ((cut : List ℕ) × (told ≡ Possibly.Yes cut)) ↔ observations.Possibly c test
+module _ (c : Computation) (test : List ℕ → Bool) (w : ℕ) (narrow : IsNarrow c w) (reported : Possibly) where
+  possibly_yes_exactly : (p : PossiblyAnswer) → reported ≡ printed_possibly p → IsPossiblyAnswer c test w p
+      → ((cut : List ℕ) × (reported ≡ Possibly.Yes cut)) ↔ observations.Possibly c test
   possibly_yes_exactly (PossiblyYes cut) e (known, f) = (λ said. (cut, f.consistent, f.satisfies), λ holds. (cut, e))
-  possibly_yes_exactly PossiblyNo e (known, none) = (λ said. let other : told ≡ Possibly.Yes said.0 = said.1 in absurd (cc), λ holds. absurd (none holds))
+  possibly_yes_exactly PossiblyNo e (known, none) =
+      (λ said. let other : reported ≡ Possibly.Yes said.0 = said.1 in absurd (cc), λ holds. absurd (none holds))
   possibly_yes_exactly (PossiblyUnknown k) e u = absurd (level_is_narrow c test w narrow k u.wide)
 
-  possibly_no_exactly : (p : PossiblyAnswer) → told ≡ possibly_of p → IsPossiblyAnswer c test w p → (told ≡ Possibly.No) ↔ (¬ observations.Possibly c test)
-  possibly_no_exactly (PossiblyYes cut) e (known, f) = (λ said. absurd (cc), λ none. absurd (none (cut, f.consistent, f.satisfies)))
+  possibly_no_exactly : (p : PossiblyAnswer) → reported ≡ printed_possibly p → IsPossiblyAnswer c test w p
+      → (reported ≡ Possibly.No) ↔ (¬ observations.Possibly c test)
+  possibly_no_exactly (PossiblyYes cut) e (known, f) =
+      (λ said. absurd (cc), λ none. absurd (none (cut, f.consistent, f.satisfies)))
   possibly_no_exactly PossiblyNo e (known, none) = (λ said. none, λ holds. e)
   possibly_no_exactly (PossiblyUnknown k) e u = absurd (level_is_narrow c test w narrow k u.wide)
 
-  cut_printed : (p : PossiblyAnswer) → told ≡ possibly_of p → IsPossiblyAnswer c test w p → (cut : List ℕ) → told ≡ Possibly.Yes cut → p ≡ PossiblyYes cut
+  cut_printed : (p : PossiblyAnswer) → reported ≡ printed_possibly p → IsPossiblyAnswer c test w p → (cut : List ℕ)
+      → reported ≡ Possibly.Yes cut → p ≡ PossiblyYes cut
   cut_printed (PossiblyYes printed) e right cut said = let same : printed ≡ cut = cc in ap PossiblyYes same
   cut_printed PossiblyNo e right cut said = absurd (cc)
   cut_printed (PossiblyUnknown k) e right cut said = absurd (cc)
 
 -- ---- what is said of Definitely
 
-module _ (names : List ProcessNames) (c : Computation) (test : List ℕ → Bool) (w : ℕ) (narrow : IsNarrow c w) (told : Definitely) where
-  definitely_yes_exactly : (d : DefinitelyAnswer) → told ≡ definitely_of names d → IsDefinitelyAnswer c test w d → ((level : ℕ) × (told ≡ Definitely.Yes level)) ↔ observations.Definitely c test
+module _ (names : List ProcessNames) (c : Computation) (test : List ℕ → Bool) (w : ℕ) (narrow : IsNarrow c w)
+    (reported : Definitely) where
+  definitely_yes_exactly : (d : DefinitelyAnswer) → reported ≡ printed_definitely names d
+      → IsDefinitelyAnswer c test w d → ((level : ℕ) × (reported ≡ Definitely.Yes level))
+      ↔ observations.Definitely c test
   definitely_yes_exactly (DefinitelyYes level) e (known, every, free) = (λ said. every, λ holds. (level, e))
-  definitely_yes_exactly (DefinitelyNo path) e (known, not_every, printed) = (λ said. let other : told ≡ Definitely.Yes said.0 = said.1 in absurd (cc), λ holds. absurd (not_every holds))
+  definitely_yes_exactly (DefinitelyNo path) e (known, not_every, printed) =
+      (λ said. let other : reported ≡ Definitely.Yes said.0 = said.1 in absurd (cc), λ holds. absurd (not_every holds))
   definitely_yes_exactly (DefinitelyUnknown k) e u = absurd (avoided_narrowly c test w narrow k u.wide)
 
-  definitely_no_exactly : (d : DefinitelyAnswer) → told ≡ definitely_of names d → IsDefinitelyAnswer c test w d → ((path : List (List ℕ)) × (told ≡ Definitely.No path)) ↔ (¬ observations.Definitely c test)
-  definitely_no_exactly (DefinitelyYes level) e (known, every, free) = (λ said. let other : told ≡ Definitely.No said.0 = said.1 in absurd (cc), λ none. absurd (none every))
-  definitely_no_exactly (DefinitelyNo path) e (known, not_every, printed) = (λ said. not_every, λ holds. (map (name_of_process names) path, e))
+  definitely_no_exactly : (d : DefinitelyAnswer) → reported ≡ printed_definitely names d → IsDefinitelyAnswer c test w d
+      → ((path : List (List ℕ)) × (reported ≡ Definitely.No path)) ↔ (¬ observations.Definitely c test)
+  definitely_no_exactly (DefinitelyYes level) e (known, every, free) =
+      (λ said. let other : reported ≡ Definitely.No said.0 = said.1 in absurd (cc), λ none. absurd (none every))
+  definitely_no_exactly (DefinitelyNo path) e (known, not_every, printed) =
+      (λ said. not_every, λ holds. (map (name_of_process names) path, e))
   definitely_no_exactly (DefinitelyUnknown k) e u = absurd (avoided_narrowly c test w narrow k u.wide)
 
-  level_printed : (d : DefinitelyAnswer) → told ≡ definitely_of names d → (level : ℕ) → told ≡ Definitely.Yes level → d ≡ DefinitelyYes level
+  level_printed : (d : DefinitelyAnswer) → reported ≡ printed_definitely names d → (level : ℕ)
+      → reported ≡ Definitely.Yes level → d ≡ DefinitelyYes level
   level_printed (DefinitelyYes printed) e level said = let same : printed ≡ level = cc in ap DefinitelyYes same
   level_printed (DefinitelyNo path) e level said = absurd (cc)
   level_printed (DefinitelyUnknown k) e level said = absurd (cc)
 
-  path_printed : (d : DefinitelyAnswer) → told ≡ definitely_of names d → IsDefinitelyAnswer c test w d → (words : List (List ℕ)) → told ≡ Definitely.No words → (path : List ℕ) × (words ≡ map (name_of_process names) path) × IsAvoidingObservation c test path
+  path_printed : (d : DefinitelyAnswer) → reported ≡ printed_definitely names d → IsDefinitelyAnswer c test w d
+      → (words : List (List ℕ)) → reported ≡ Definitely.No words → (path : List ℕ)
+      × (words ≡ map (name_of_process names) path) × IsAvoidingObservation c test path
   path_printed (DefinitelyYes level) e right words said = absurd (cc)
-  path_printed (DefinitelyNo path) e (known, not_every, printed) words said = let same : words ≡ map (name_of_process names) path = cc in (path, same, path_avoids c test path printed)
+  path_printed (DefinitelyNo path) e (known, not_every, printed) words said =
+      let same : words ≡ map (name_of_process names) path = cc in (path, same, path_avoids c test path printed)
   path_printed (DefinitelyUnknown k) e right words said = absurd (cc)
 
 -- ---- one answer
 
-pub says_truly : (names : List ProcessNames) (c : Computation) (test : List ℕ → Bool) (w : ℕ) (answer : Answer) → HasNoCycle c → IsNarrow c w → (p : PossiblyAnswer) → answer.possibly ≡ possibly_of p → IsPossiblyAnswer c test w p → (d : DefinitelyAnswer) → answer.definitely ≡ definitely_of names d → IsDefinitelyAnswer c test w d → SaysTruly names c test answer
+pub says_truly : (names : List ProcessNames) (c : Computation) (test : List ℕ → Bool) (w : ℕ) (answer : Answer)
+    → HasNoCycle c → IsNarrow c w → (p : PossiblyAnswer) → answer.possibly ≡ printed_possibly p
+    → IsPossiblyAnswer c test w p → (d : DefinitelyAnswer) → answer.definitely ≡ printed_definitely names d
+    → IsDefinitelyAnswer c test w d → SaysTruly names c test answer
 says_truly names c test w answer acyclic narrow p e right d f right' =
     record {
       possibly_yes = possibly_yes_exactly c test w narrow answer.possibly p e right;
@@ -134,10 +166,13 @@ says_truly names c test w answer acyclic narrow p e right d f right' =
     yes_exactly = definitely_yes_exactly names c test w narrow answer.definitely d f right'
 
     first : (cut : List ℕ) → answer.possibly ≡ Possibly.Yes cut → IsFirstSatisfying c test cut
-    first cut said = (subst (IsPossiblyAnswer c test w) (cut_printed c test w narrow answer.possibly p e right cut said) right).1
+    first cut said =
+        (subst (IsPossiblyAnswer c test w) (cut_printed c test w narrow answer.possibly p e right cut said) right).1
 
     free : (level : ℕ) → answer.definitely ≡ Definitely.Yes level → IsLeastFree c test level
-    free level said = (subst (IsDefinitelyAnswer c test w) (level_printed names c test w narrow answer.definitely d f level said) right').2
+    free level said =
+        (subst (IsDefinitelyAnswer c test w) (level_printed names c test w narrow answer.definitely d f level said)
+        right').2
 
 -- ---- the report
 
@@ -147,27 +182,39 @@ no_fault c lawful (Orphan e) r = lawful.received_well e r.1.0
 no_fault c lawful (SelfMessage e) r = lawful.received_well e r.1.0
 no_fault c lawful (ReceivedTwice e) r = lawful.received_well e r.1.0
 
-no_cycle_told : (c : Computation) → HasNoCycle c → (cycle : List Place) → ¬ IsReportedCycle c cycle
-no_cycle_told c acyclic cycle r = (none_stuck c).0 acyclic r.first r.least.0.0
+no_cycle_reported : (c : Computation) → HasNoCycle c → (cycle : List Place) → ¬ IsReportedCycle c cycle
+no_cycle_reported c acyclic cycle r = (none_stuck c).0 acyclic r.first r.least.0.0
 
-all_zip_map : {A B : Type 0} → (R S : A → B → Type 0) → ((x : A) (y : B) → R x y → S x y) → (xs : List A) (ys : List B) → AllZip R xs ys → AllZip S xs ys
+all_zip_map : {A B : Type 0} → (R S : A → B → Type 0) → ((x : A) (y : B) → R x y → S x y) → (xs : List A) (ys : List B)
+    → AllZip R xs ys → AllZip S xs ys
 all_zip_map R S f [] [] h = tt
 all_zip_map R S f [] (y ∷ ys) h = h
 all_zip_map R S f (x ∷ xs) [] h = h
 all_zip_map R S f (x ∷ xs) (y ∷ ys) h = (f x y h.0, all_zip_map R S f xs ys h.1)
 
-answers_truly : (document : Document) (traces : List Trace) → HasNoCycle (events_of_traces traces) → IsNarrow (events_of_traces traces) document.width → (asked : NamedPredicate) (answer : Answer) → IsAnswered document.names (recorded_of document traces) document.width asked answer → AnswersTruly document traces asked answer
-answers_truly document traces acyclic narrow asked answer a =
-    (a.name, says_truly document.names (events_of_traces traces) (test_of (recorded_of document traces) asked.predicate) document.width answer acyclic narrow a.possibly a.possibly_told a.possibly_right a.definitely a.definitely_told a.definitely_right)
+answers_truly : (document : Document) (traces : List Trace) → HasNoCycle (events_of_traces traces)
+    → IsNarrow (events_of_traces traces) document.width → (asked : NamedPredicate) (answer : Answer)
+    → IsAnswered document.names (recorded_of document traces) document.width asked answer
+    → AnswersTruly document traces asked answer
+answers_truly document traces acyclic narrow asked answer a = (
+  a.name,
+  says_truly document.names (events_of_traces traces) (test_of (recorded_of document traces) asked.predicate)
+      document.width answer acyclic narrow a.possibly a.possibly_reported a.possibly_right a.definitely
+      a.definitely_reported a.definitely_right,
+)
 
 pub headline_lem : Headline
-headline_lem document traces report formed narrow (of_messages fault r) = absurd (no_fault (events_of_traces traces) formed.messages fault r)
-headline_lem document traces report formed narrow (of_cycle cycle lawful r) = absurd (no_cycle_told (events_of_traces traces) formed.no_cycle cycle r)
+headline_lem document traces report formed narrow (of_messages fault r) =
+    absurd (no_fault (events_of_traces traces) formed.messages fault r)
+headline_lem document traces report formed narrow (of_cycle cycle lawful r) =
+    absurd (no_cycle_reported (events_of_traces traces) formed.no_cycle cycle r)
 headline_lem document traces report formed narrow (of_answers messages answers formed' are answered) =
     record {
       messages = messages;
       answers = answers;
-      told = refl;
+      reported = refl;
       are_messages = are;
-      truly = all_zip_map (IsAnswered document.names (recorded_of document traces) document.width) (AnswersTruly document traces) (answers_truly document traces formed.no_cycle narrow) document.predicates answers answered;
+      truly = all_zip_map (IsAnswered document.names (recorded_of document traces) document.width)
+          (AnswersTruly document traces) (answers_truly document traces formed.no_cycle narrow) document.predicates
+          answers answered;
     }

@@ -40,19 +40,26 @@ ascending_rest : (x : Pair) (xs : List Pair) → Linked IsEarlier (x ∷ xs) →
 ascending_rest x [] links = tt
 ascending_rest x (y ∷ xs) links = links.1
 
-one_ascending : (xs ys : List Pair) → Linked IsEarlier xs → Linked IsEarlier ys → ((z : Pair) → Contains xs z ↔ Contains ys z) → xs ≡ ys
+one_ascending : (xs ys : List Pair) → Linked IsEarlier xs → Linked IsEarlier ys
+    → ((z : Pair) → Contains xs z ↔ Contains ys z) → xs ≡ ys
 one_ascending [] [] a b same = refl
-one_ascending [] (y ∷ ys) a b same = let w : Contains [] y = (same y).1 (0, omega arith, refl) in let lt : w.0 < 0 = w.1 in absurd (omega arith)
-one_ascending (x ∷ xs) [] a b same = let w : Contains [] x = (same x).0 (0, omega arith, refl) in let lt : w.0 < 0 = w.1 in absurd (omega arith)
+one_ascending [] (y ∷ ys) a b same = let w : Contains [] y = (same y).1 (0, omega arith, refl) in let lt : w.0 < 0 =
+    w.1 in absurd (omega arith)
+one_ascending (x ∷ xs) [] a b same = let w : Contains [] x = (same x).0 (0, omega arith, refl) in let lt : w.0 < 0 =
+    w.1 in absurd (omega arith)
 one_ascending (x ∷ xs) (y ∷ ys) a b same =
-    let e : x ≡ y = first (contains_cases y x ys ((same x).0 (0, omega arith, refl))) (contains_cases x y xs ((same y).1 (0, omega arith, refl))) in
-    let rest : xs ≡ ys = one_ascending xs ys (ascending_rest x xs a) (ascending_rest y ys b) (λ z. (to e z, from e z)) in
+    let e : x ≡ y =
+    first (contains_cases y x ys ((same x).0 (0, omega arith, refl)))
+    (contains_cases x y xs ((same y).1 (0, omega arith, refl))) in
+    let rest : xs ≡ ys = one_ascending xs ys (ascending_rest x xs a) (ascending_rest y ys b) (λ z. (to e z, from e z))
+    in
     λ i. e i ∷ rest i
   where
     first : (y ≡ x) ⊎ Contains ys x → (x ≡ y) ⊎ Contains xs y → x ≡ y
     first (inl e) r = sym e
     first (inr l) (inl e) = e
-    first (inr l) (inr r) = absurd (not_before x.1 (before_trans x.1 y.1 x.1 (before_rest x y xs a r) (before_rest y x ys b l)))
+    first (inr l) (inr r) =
+        absurd (not_before x.1 (before_trans x.1 y.1 x.1 (before_rest x y xs a r) (before_rest y x ys b l)))
 
     to : x ≡ y → (z : Pair) → Contains xs z → Contains ys z
     to e z has = go (contains_cases y z ys ((same z).0 (contains_later x z xs has)))
@@ -65,9 +72,13 @@ one_ascending (x ∷ xs) (y ∷ ys) a b same =
     from e z has = go (contains_cases x z xs ((same z).1 (contains_later y z ys has)))
       where
         go : (x ≡ z) ⊎ Contains xs z → Contains xs z
-        go (inl f) = absurd (not_before z.1 (subst (λ (w : Pair). IsEarlier w z) (sym e ∙ f) (before_rest y z ys b has)))
+        go (inl f) =
+            absurd (not_before z.1 (subst (λ (w : Pair). IsEarlier w z) (sym e ∙ f) (before_rest y z ys b has)))
         go (inr later) = later
 
 pub one_message_list : (c : Computation) (xs ys : List Pair) → IsMessageList c xs → IsMessageList c ys → xs ≡ ys
 one_message_list c xs ys p q =
-    one_ascending xs ys p.ascending q.ascending (λ z. ((λ has. (q.just z.0 z.1).1 ((p.just z.0 z.1).0 has)), (λ has. (p.just z.0 z.1).1 ((q.just z.0 z.1).0 has))))
+    one_ascending xs ys p.ascending q.ascending (λ z. (
+      (λ has. (q.just z.0 z.1).1 ((p.just z.0 z.1).0 has)),
+      (λ has. (p.just z.0 z.1).1 ((q.just z.0 z.1).0 has)),
+    ))

@@ -19,11 +19,13 @@ abbrev pub Holds : {A : Type 0} → (A → Type 0) → Option A → Type 0
 Holds P None = ⊤
 Holds P (Some x) = P x
 
-pub holds_map : {A B : Type 0} (P : A → Type 0) (Q : B → Type 0) (f : A → B) → ((x : A) → P x → Q (f x)) → (o : Option A) → Holds P o → Holds Q (option_map f o)
+pub holds_map : {A B : Type 0} (P : A → Type 0) (Q : B → Type 0) (f : A → B) → ((x : A) → P x → Q (f x))
+    → (o : Option A) → Holds P o → Holds Q (option_map f o)
 holds_map P Q f each None h = tt
 holds_map P Q f each (Some x) h = each x h
 
-pub holds_then : {A B : Type 0} (P : A → Type 0) (Q : B → Type 0) (f : A → Option B) → ((x : A) → P x → Holds Q (f x)) → (o : Option A) → Holds P o → Holds Q (option_and_then f o)
+pub holds_then : {A B : Type 0} (P : A → Type 0) (Q : B → Type 0) (f : A → Option B) → ((x : A) → P x → Holds Q (f x))
+    → (o : Option A) → Holds P o → Holds Q (option_and_then f o)
 holds_then P Q f each None h = tt
 holds_then P Q f each (Some x) h = each x h
 
@@ -63,50 +65,68 @@ abbrev mutual
   HasOrderedKeys no_members = ⊤
   HasOrderedKeys (member key value others) = IsOrdered value × IsBelowKeys key others × HasOrderedKeys others
 
-below_fewer : (key other : List ℕ) (members : Members) → slice_cmp nat_cmp key other ≡ Less → IsBelowKeys other members → IsBelowKeys key members
+below_fewer : (key other : List ℕ) (members : Members) → slice_cmp nat_cmp key other ≡ Less → IsBelowKeys other members
+    → IsBelowKeys key members
 below_fewer key other no_members less below = tt
 below_fewer key other (member third value others) less below =
     (nat_list_cmp_total.trans key other third less below.0, below_fewer key other others less below.1)
 
-below_choice : (key : List ℕ) (o : Ordering) (a b c : Members) → IsBelowKeys key a → IsBelowKeys key b → IsBelowKeys key c → IsBelowKeys key (match_ordering o a b c)
+below_choice : (key : List ℕ) (o : Ordering) (a b c : Members) → IsBelowKeys key a → IsBelowKeys key b
+    → IsBelowKeys key c → IsBelowKeys key (match_ordering o a b c)
 below_choice key Less a b c p q r = p
 below_choice key Equal a b c p q r = q
 below_choice key Greater a b c p q r = r
 
-below_put : (key other : List ℕ) (value : Data) (members : Members) → slice_cmp nat_cmp key other ≡ Less → IsBelowKeys key members → IsBelowKeys key (put other value members)
+below_put : (key other : List ℕ) (value : Data) (members : Members) → slice_cmp nat_cmp key other ≡ Less
+    → IsBelowKeys key members → IsBelowKeys key (put other value members)
 below_put key other value no_members less below = (less, tt)
 below_put key other value (member third old others) less below =
-    below_choice key (slice_cmp nat_cmp other third) (member other value (member third old others)) (member third value others) (member third old (put other value others))
+    below_choice key (slice_cmp nat_cmp other third) (member other value (member third old others))
+    (member third value others) (member third old (put other value others))
     (less, below) below (below.0, below_put key other value others less below.1)
 
-ordered_put : (key : List ℕ) (value : Data) (members : Members) → IsOrdered value → HasOrderedKeys members → HasOrderedKeys (put key value members)
+ordered_put : (key : List ℕ) (value : Data) (members : Members) → IsOrdered value → HasOrderedKeys members
+    → HasOrderedKeys (put key value members)
 ordered_put key value no_members o h = (o, tt, tt)
-ordered_put key value (member other old others) o h = go (slice_cmp nat_cmp key other) refl (ordered_put key value others o h.2)
+ordered_put key value (member other old others) o h =
+    go (slice_cmp nat_cmp key other) refl (ordered_put key value others o h.2)
   where
     go : (order : Ordering) → slice_cmp nat_cmp key other ≡ order → HasOrderedKeys (put key value others)
-        → HasOrderedKeys (match_ordering order (member key value (member other old others)) (member other value others) (member other old (put key value others)))
+        → HasOrderedKeys (match_ordering order (member key value (member other old others)) (member other value others)
+        (member other old (put key value others)))
     go Less e rest = (o, (e, below_fewer key other others e h.1), h)
     go Equal e rest = (o, h.1, h.2)
-    go Greater e rest = (h.0, below_put other key value others (nat_list_cmp_total.antisymm other key ∙ ap ordering_reverse e) h.1, rest)
+    go Greater e rest = (
+      h.0,
+      below_put other key value others (nat_list_cmp_total.antisymm other key ∙ ap ordering_reverse e) h.1,
+      rest,
+    )
 
 mutual
   ordered_of_json : (j : json.Json) → Holds IsOrdered (of_json j)
   ordered_of_json json.null = tt
   ordered_of_json (json.boolean b) = tt
-  ordered_of_json (json.number s) = holds_map Anything IsOrdered number (λ n h. tt) (number_of s) (anything (number_of s))
+  ordered_of_json (json.number s) =
+      holds_map Anything IsOrdered number (λ n h. tt) (number_of s) (anything (number_of s))
   ordered_of_json (json.string s) = tt
-  ordered_of_json (json.array js) = holds_map AreOrdered IsOrdered array (λ items h. h) (of_items js) (ordered_of_items js)
-  ordered_of_json (json.object ms) = holds_map HasOrderedKeys IsOrdered object (λ members h. h) (of_members ms no_members) (ordered_of_members ms no_members tt)
+  ordered_of_json (json.array js) =
+      holds_map AreOrdered IsOrdered array (λ items h. h) (of_items js) (ordered_of_items js)
+  ordered_of_json (json.object ms) =
+      holds_map HasOrderedKeys IsOrdered object (λ members h. h) (of_members ms no_members)
+      (ordered_of_members ms no_members tt)
 
   ordered_of_items : (js : json.Items) → Holds AreOrdered (of_items js)
   ordered_of_items json.no_items = tt
   ordered_of_items (json.item j js) =
-      holds_then IsOrdered AreOrdered _ (λ value h. holds_map AreOrdered AreOrdered (item value) (λ items k. (h, k)) (of_items js) (ordered_of_items js)) (of_json j) (ordered_of_json j)
+      holds_then IsOrdered AreOrdered _ (λ value h. holds_map AreOrdered AreOrdered (item value) (λ items k. (h, k))
+      (of_items js) (ordered_of_items js)) (of_json j) (ordered_of_json j)
 
-  ordered_of_members : (ms : json.Members) (found : Members) → HasOrderedKeys found → Holds HasOrderedKeys (of_members ms found)
+  ordered_of_members : (ms : json.Members) (found : Members) → HasOrderedKeys found
+      → Holds HasOrderedKeys (of_members ms found)
   ordered_of_members json.no_members found h = h
   ordered_of_members (json.member key j ms) found h =
-      holds_then IsOrdered HasOrderedKeys _ (λ value o. ordered_of_members ms (put key value found) (ordered_put key value found o h)) (of_json j) (ordered_of_json j)
+      holds_then IsOrdered HasOrderedKeys _ (λ value o.
+      ordered_of_members ms (put key value found) (ordered_put key value found o h)) (of_json j) (ordered_of_json j)
 
 ordered_read : (text : List ℕ) → Holds IsOrdered (read text)
 ordered_read text = go (option_and_then (λ p. json.if_last p.0 p.1) (json.value max_depth (tokens text)))
@@ -120,13 +140,17 @@ ordered_json bytes = holds_if IsOrdered (is_utf8 bytes) (read bytes) (ordered_re
 -- ---- keys that differ
 
 below_differs : (key other : List ℕ) → slice_cmp nat_cmp key other ≡ Less → key ≢ other
-below_differs key other less same = let tied : slice_cmp nat_cmp key other ≡ Equal = rw same (tied_itself nat_list_cmp_total other) in cc
+below_differs key other less same = let tied : slice_cmp nat_cmp key other ≡ Equal =
+    rw same (tied_itself nat_list_cmp_total other) in cc
 
-below_all : (key : List ℕ) (members : Members) → IsBelowKeys key members → All (λ (other : List ℕ). key ≢ other) (keys members)
+below_all : (key : List ℕ) (members : Members) → IsBelowKeys key members
+    → All (λ (other : List ℕ). key ≢ other) (keys members)
 below_all key no_members below = All-nil (λ (other : List ℕ). key ≢ other)
 below_all key (member other value others) below =
-    All-cons (λ (other : List ℕ). key ≢ other) other (keys others) (below_differs key other below.0) (below_all key others below.1)
+    All-cons (λ (other : List ℕ). key ≢ other) other (keys others) (below_differs key other below.0)
+    (below_all key others below.1)
 
 pub keys_differ : (members : Members) → HasOrderedKeys members → AllPairs (λ (x y : List ℕ). x ≢ y) (keys members)
 keys_differ no_members h = λ i j d before within. absurd (omega arith)
-keys_differ (member key value others) h = AllPairs-cons (λ (x y : List ℕ). x ≢ y) key (keys others) (below_all key others h.1) (keys_differ others h.2)
+keys_differ (member key value others) h =
+    AllPairs-cons (λ (x y : List ℕ). x ≢ y) key (keys others) (below_all key others h.1) (keys_differ others h.2)

@@ -12,10 +12,10 @@ use Rattle.pd_model.proofs.Stuck.{one_cycle}
 use Rattle.pd_format.specs.Names.{ProcessNames}
 use Rattle.pd_format.specs.Readings.{Trace}
 use Rattle.pd_format.specs.Documents.{Document, NamedPredicate}
-use Rattle.pd_format.specs.Sessions.{SessionFault, Outcome, session}
+use Rattle.pd_format.specs.Sessions.{SessionFault, StreamResult, session}
 use Rattle.pd_format.specs.Reports.{Answer, Refusal, Report, Judged, Refused, Cycle}
 use Rattle.pd_format.specs.Bundles.{parts_of}
-use Rattle.pd_format.specs.Judgements.{document_refusal, match_refusal, named_place, events_of_traces, recorded_of, possibly_of, definitely_of, IsAnswered, IsTracesReport, of_messages, of_cycle, of_answers, IsReportOfSession, IsReportOfOutcomes, Told, outcomes_of, IsJudgement, of_refused, of_read, ended_streams, IsReportOfParts, IsReportOfBundle}
+use Rattle.pd_format.specs.Judgements.{document_refusal, match_refusal, named_place, events_of_traces, recorded_of, printed_possibly, printed_definitely, IsAnswered, IsTracesReport, of_messages, of_cycle, of_answers, IsReportOfSession, IsReportOfResults, RawStream, results_of, IsJudgement, of_refused, of_read, ended_streams, IsReportOfParts, IsReportOfBundle}
 use Rattle.pd_judgement.proofs.DocumentsAreSingle.{one_document_lem, document_not_refused_lem, one_document_fault_lem}
 use Rattle.pd_judgement.proofs.MessageLists.{one_message_list}
 
@@ -32,16 +32,21 @@ not_cycle c cycle none h = let stuck = h.least.0.0 in none stuck.0 stuck.1
 
 -- ---- answers
 
-one_answer : (names : List ProcessNames) (recorded : Recorded) (width : ℕ) (asked : NamedPredicate) (a b : Answer) → IsAnswered names recorded width asked a → IsAnswered names recorded width asked b → a ≡ b
+one_answer : (names : List ProcessNames) (recorded : Recorded) (width : ℕ) (asked : NamedPredicate) (a b : Answer)
+    → IsAnswered names recorded width asked a → IsAnswered names recorded width asked b → a ≡ b
 one_answer names recorded width asked a b p q =
     let name : a.name ≡ b.name = p.name ∙ sym q.name in
     let possibly : a.possibly ≡ b.possibly =
-    p.possibly_told ∙ (ap possibly_of (one_possibly_answer recorded.events (test_of recorded asked.predicate) width p.possibly q.possibly p.possibly_right q.possibly_right) ∙ sym q.possibly_told) in
+    p.possibly_reported ∙ (ap printed_possibly (one_possibly_answer recorded.events (test_of recorded asked.predicate)
+    width p.possibly q.possibly p.possibly_right q.possibly_right) ∙ sym q.possibly_reported) in
     let definitely : a.definitely ≡ b.definitely =
-    p.definitely_told ∙ (ap (definitely_of names) (one_definitely_answer recorded.events (test_of recorded asked.predicate) width p.definitely q.definitely p.definitely_right q.definitely_right) ∙ sym q.definitely_told) in
+    p.definitely_reported ∙ (ap (printed_definitely names)
+    (one_definitely_answer recorded.events (test_of recorded asked.predicate) width p.definitely q.definitely
+    p.definitely_right q.definitely_right) ∙ sym q.definitely_reported) in
     λ i. record { name = name i; possibly = possibly i; definitely = definitely i }
 
-one_answer_each : (names : List ProcessNames) (recorded : Recorded) (width : ℕ) (asked : List NamedPredicate) (a b : List Answer)
+one_answer_each : (names : List ProcessNames) (recorded : Recorded) (width : ℕ) (asked : List NamedPredicate)
+    (a b : List Answer)
     → AllZip (IsAnswered names recorded width) asked a → AllZip (IsAnswered names recorded width) asked b → a ≡ b
 one_answer_each names recorded width [] [] [] p q = refl
 one_answer_each names recorded width [] [] (y ∷ b) p q = absurd q
@@ -55,44 +60,67 @@ one_answer_each names recorded width (w ∷ asked) (x ∷ a) (y ∷ b) p q =
 
 -- ---- reports
 
-one_traces_report : (document : Document) (traces : List Trace) (a b : Report) → IsTracesReport document traces a → IsTracesReport document traces b → a ≡ b
-one_traces_report document traces a b (of_messages f p) (of_messages g q) = ap (λ fault. Refused (match_refusal document.names fault)) (one_fault (events_of_traces traces) f g p q)
-one_traces_report document traces a b (of_messages f p) (of_cycle cycle lawful q) = absurd (not_lawful (events_of_traces traces) f lawful p)
-one_traces_report document traces a b (of_messages f p) (of_answers messages answers well is each) = absurd (not_lawful (events_of_traces traces) f well.messages p)
-one_traces_report document traces a b (of_cycle cycle lawful p) (of_messages g q) = absurd (not_lawful (events_of_traces traces) g lawful q)
+one_traces_report : (document : Document) (traces : List Trace) (a b : Report) → IsTracesReport document traces a
+    → IsTracesReport document traces b → a ≡ b
+one_traces_report document traces a b (of_messages f p) (of_messages g q) =
+    ap (λ fault. Refused (match_refusal document.names fault)) (one_fault (events_of_traces traces) f g p q)
+one_traces_report document traces a b (of_messages f p) (of_cycle cycle lawful q) =
+    absurd (not_lawful (events_of_traces traces) f lawful p)
+one_traces_report document traces a b (of_messages f p) (of_answers messages answers well is each) =
+    absurd (not_lawful (events_of_traces traces) f well.messages p)
+one_traces_report document traces a b (of_cycle cycle lawful p) (of_messages g q) =
+    absurd (not_lawful (events_of_traces traces) g lawful q)
 one_traces_report document traces a b (of_cycle cycle lawful p) (of_cycle other lawful' q) =
-    ap (λ places. Refused (Cycle (map (named_place document.names) places))) (one_cycle (events_of_traces traces) cycle other lawful p q)
-one_traces_report document traces a b (of_cycle cycle lawful p) (of_answers messages answers well is each) = absurd (not_cycle (events_of_traces traces) cycle well.no_cycle p)
-one_traces_report document traces a b (of_answers messages answers well is each) (of_messages g q) = absurd (not_lawful (events_of_traces traces) g well.messages q)
-one_traces_report document traces a b (of_answers messages answers well is each) (of_cycle other lawful' q) = absurd (not_cycle (events_of_traces traces) other well.no_cycle q)
-one_traces_report document traces a b (of_answers messages answers well is each) (of_answers messages' answers' well' is' each') =
+    ap (λ places. Refused (Cycle (map (named_place document.names) places)))
+    (one_cycle (events_of_traces traces) cycle other lawful p q)
+one_traces_report document traces a b (of_cycle cycle lawful p) (of_answers messages answers well is each) =
+    absurd (not_cycle (events_of_traces traces) cycle well.no_cycle p)
+one_traces_report document traces a b (of_answers messages answers well is each) (of_messages g q) =
+    absurd (not_lawful (events_of_traces traces) g well.messages q)
+one_traces_report document traces a b (of_answers messages answers well is each) (of_cycle other lawful' q) =
+    absurd (not_cycle (events_of_traces traces) other well.no_cycle q)
+one_traces_report document traces a b (of_answers messages answers well is each)
+    (of_answers messages' answers' well' is' each') =
     let lists : messages ≡ messages' = one_message_list (events_of_traces traces) messages messages' is is' in
-    let same : answers ≡ answers' = one_answer_each document.names (recorded_of document traces) document.width document.predicates answers answers' each each' in
+    let same : answers ≡ answers' =
+    one_answer_each document.names (recorded_of document traces) document.width document.predicates answers answers'
+    each each' in
     λ i. Judged (length document.names) (total (events_of_traces traces)) (length (lists i)) (same i)
 
-pub one_report_of_outcomes_lem : (document : Document) (streams : ℕ) (outcomes : List Outcome) (a b : Report) → IsReportOfOutcomes document streams outcomes a → IsReportOfOutcomes document streams outcomes b → a ≡ b
+pub one_report_of_outcomes_lem : (document : Document) (streams : ℕ) (outcomes : List StreamResult) (a b : Report)
+    → IsReportOfResults document streams outcomes a → IsReportOfResults document streams outcomes b → a ≡ b
 one_report_of_outcomes_lem document streams outcomes a b = go (session document.names streams outcomes)
   where
-    go : (r : Result (List Trace) SessionFault) → IsReportOfSession document r a → IsReportOfSession document r b → a ≡ b
+    go : (r : Result (List Trace) SessionFault) → IsReportOfSession document r a → IsReportOfSession document r b
+        → a ≡ b
     go (Err fault) p q = p ∙ sym q
     go (Ok traces) p q = one_traces_report document traces a b p q
 
-pub one_judgement : (bytes : List ℕ) (streams : List Told) (a b : Report) → IsJudgement bytes streams a → IsJudgement bytes streams b → a ≡ b
-one_judgement bytes streams a b (of_refused f p e) (of_refused g q e') = e ∙ (ap (λ fault. Refused (document_refusal fault)) (one_document_fault_lem bytes f g p q) ∙ sym e')
-one_judgement bytes streams a b (of_refused f p e) (of_read document q r) = absurd (document_not_refused_lem bytes document f q p)
-one_judgement bytes streams a b (of_read document p r) (of_refused g q e) = absurd (document_not_refused_lem bytes document g p q)
+pub one_judgement : (bytes : List ℕ) (streams : List RawStream) (a b : Report) → IsJudgement bytes streams a
+    → IsJudgement bytes streams b → a ≡ b
+one_judgement bytes streams a b (of_refused f p e) (of_refused g q e') =
+    e ∙ (ap (λ fault. Refused (document_refusal fault)) (one_document_fault_lem bytes f g p q) ∙ sym e')
+one_judgement bytes streams a b (of_refused f p e) (of_read document q r) =
+    absurd (document_not_refused_lem bytes document f q p)
+one_judgement bytes streams a b (of_read document p r) (of_refused g q e) =
+    absurd (document_not_refused_lem bytes document g p q)
 one_judgement bytes streams a b (of_read document p r) (of_read other q s) =
     let same : other ≡ document = one_document_lem bytes other document q p in
-    let moved : IsReportOfOutcomes document (length streams) (outcomes_of document.names streams) b = subst (λ (d : Document). IsReportOfOutcomes d (length streams) (outcomes_of d.names streams) b) same s in
-    one_report_of_outcomes_lem document (length streams) (outcomes_of document.names streams) a b r moved
+    let moved : IsReportOfResults document (length streams) (results_of document.names streams) b =
+    subst (λ (d : Document). IsReportOfResults d (length streams) (results_of d.names streams) b) same s in
+    one_report_of_outcomes_lem document (length streams) (results_of document.names streams) a b r moved
 
-pub one_report_of_bundle_lem : (bytes : List ℕ) (a b : Report) → IsReportOfBundle bytes a → IsReportOfBundle bytes b → a ≡ b
+pub one_report_of_bundle_lem : (bytes : List ℕ) (a b : Report) → IsReportOfBundle bytes a → IsReportOfBundle bytes b
+    → a ≡ b
 one_report_of_bundle_lem bytes a b = go (parts_of bytes)
   where
     go : (parts : List (List ℕ)) → IsReportOfParts parts a → IsReportOfParts parts b → a ≡ b
     go [] p q = absurd p
     go (document ∷ streams) p q = one_judgement document (ended_streams streams) a b p q
 
-pub not_judged_and_refused : (bytes : List ℕ) (processes events messages : ℕ) (answers : List Answer) (refusal : Refusal) → IsReportOfBundle bytes (Judged processes events messages answers) → IsReportOfBundle bytes (Refused refusal) → ⊥
+pub not_judged_and_refused : (bytes : List ℕ) (processes events messages : ℕ) (answers : List Answer)
+    (refusal : Refusal) → IsReportOfBundle bytes (Judged processes events messages answers)
+    → IsReportOfBundle bytes (Refused refusal) → ⊥
 not_judged_and_refused bytes processes events messages answers refusal p q =
-    let same : Judged processes events messages answers ≡ Refused refusal = one_report_of_bundle_lem bytes (Judged processes events messages answers) (Refused refusal) p q in cc
+    let same : Judged processes events messages answers ≡ Refused refusal =
+    one_report_of_bundle_lem bytes (Judged processes events messages answers) (Refused refusal) p q in cc

@@ -12,7 +12,7 @@ use Rattle.pd_format.specs.Readings.{Trace}
 use Rattle.pd_format.specs.Documents.{Document, NamedPredicate, IsDocument}
 use Rattle.pd_format.specs.Sessions.{session}
 use Rattle.pd_format.specs.Reports.{Possibly, Definitely, Answer, Refusal, Report, Judged, Refused, IsReport, IsNoReport, spaced}
-use Rattle.pd_format.specs.Judgements.{Told, outcomes_of, events_of_traces, recorded_of, name_of_process, IsJudgement}
+use Rattle.pd_format.specs.Judgements.{RawStream, results_of, events_of_traces, recorded_of, name_of_process, IsJudgement}
 use Rattle.pd_format.specs.OtherTexts.{Verdict, Good, Bad, Unchecked, Checked, Finding, NotRead, OfRefusal, OfSession, finding_lines, possibly_verdict, definitely_verdict}
 
 -- ---- evidence
@@ -22,24 +22,29 @@ abbrev pub IsGoodCut : Computation → (List ℕ → Bool) → List ℕ → Type
 IsGoodCut c test cut = IsConsistent c cut × (test cut ≡ true)
 
 -- the names are those of the processes of an observation with no satisfying cut
-pub record IsGoodPath (names : List ProcessNames) (c : Computation) (test : List ℕ → Bool) (told : List (List ℕ)) : Type 0 where
+pub record IsGoodPath (names : List ProcessNames) (c : Computation) (test : List ℕ → Bool) (reported : List (List ℕ)) :
+    Type 0 where
   pub path : List ℕ
-  pub named : told ≡ map (name_of_process names) path
+  pub named : reported ≡ map (name_of_process names) path
   pub avoids : IsAvoidingObservation c test path
 
 -- the verdicts on one answer's evidence: good exactly where it shows what it is printed for
-pub record IsChecked (names : List ProcessNames) (c : Computation) (test : List ℕ → Bool) (answer : Answer) (checked : Checked) : Type 0 where
+pub record IsChecked (names : List ProcessNames) (c : Computation) (test : List ℕ
+    → Bool) (answer : Answer) (checked : Checked) : Type 0 where
   pub cut_is_good : Bool
   pub path_is_good : Bool
   pub name : checked.name ≡ answer.name
   pub possibly : checked.possibly ≡ possibly_verdict (λ _. cut_is_good) answer.possibly
   pub cut_right : (cut : List ℕ) → answer.possibly ≡ Possibly.Yes cut → IsTrue cut_is_good ↔ IsGoodCut c test cut
   pub definitely : checked.definitely ≡ definitely_verdict (λ _. path_is_good) answer.definitely
-  pub path_right : (told : List (List ℕ)) → answer.definitely ≡ Definitely.No told → IsTrue path_is_good ↔ IsGoodPath names c test told
+  pub path_right : (reported : List (List ℕ)) → answer.definitely ≡ Definitely.No reported → IsTrue path_is_good
+      ↔ IsGoodPath names c test reported
 
 -- an answer, under the predicate in whose place it stands
 abbrev pub IsCheckedFor : Document → List Trace → NamedPredicate × Answer → Checked → Type 0
-IsCheckedFor document traces stands checked = IsChecked document.names (events_of_traces traces) (test_of (recorded_of document traces) stands.0.predicate) stands.1 checked
+IsCheckedFor document traces stands checked =
+    IsChecked document.names (events_of_traces traces) (test_of (recorded_of document traces) stands.0.predicate)
+    stands.1 checked
 
 -- ---- the finding
 
@@ -50,35 +55,48 @@ abbrev pub names_answered : List Answer → List (List ℕ)
 names_answered answers = map (λ (answer : Answer). answer.name) answers
 
 -- The verdicts on answers, if their names are those of the document's predicates, in their order.
-pub data IsAnswersFinding (document : Document) (traces : List Trace) (answers : List Answer) : Option (List Checked) → Type 0 where
+pub data IsAnswersFinding (document : Document) (traces : List Trace) (answers : List Answer) : Option (List Checked)
+    → Type 0 where
   of_other_names : ¬ (names_answered answers ≡ names_asked document) → IsAnswersFinding document traces answers None
-  of_verdicts : (verdicts : List Checked) → names_answered answers ≡ names_asked document → AllZip (IsCheckedFor document traces) (zip document.predicates answers) verdicts → IsAnswersFinding document traces answers (Some verdicts)
+  of_verdicts : (verdicts : List Checked) → names_answered answers ≡ names_asked document
+      → AllZip (IsCheckedFor document traces) (zip document.predicates answers) verdicts
+      → IsAnswersFinding document traces answers (Some verdicts)
 
 -- a document's bytes and the streams hold a well-formed session
-pub record IsSessionOf (bytes : List ℕ) (streams : List Told) (document : Document) (traces : List Trace) (messages : List (Place × Place)) : Type 0 where
+pub record IsSessionOf (bytes : List ℕ) (streams : List RawStream) (document : Document) (traces : List Trace)
+    (messages : List (Place × Place)) : Type 0 where
   pub read : IsDocument bytes document
-  pub joined : session document.names (length streams) (outcomes_of document.names streams) ≡ Ok traces
+  pub joined : session document.names (length streams) (results_of document.names streams) ≡ Ok traces
   pub formed : IsWellFormed (events_of_traces traces)
   pub are_messages : IsMessageList (events_of_traces traces) messages
 
 -- the report's counts are those of the session
 abbrev pub AreCounts : Document → List Trace → List (Place × Place) → (processes events matched : ℕ) → Type 0
-AreCounts document traces messages processes events matched = (processes ≡ length document.names) × (events ≡ total (events_of_traces traces)) × (matched ≡ length messages)
+AreCounts document traces messages processes events matched = (processes ≡ length document.names)
+    × (events ≡ total (events_of_traces traces)) × (matched ≡ length messages)
 
--- What a check of a report's bytes finds, where the document's bytes and the streams are these: the report isn't read; the
--- session is refused, and the report is that refusal or not; the session is well formed, and the report is a refusal; or the
--- report's counts and answers are judged.
-pub data IsFinding (bytes report : List ℕ) (streams : List Told) : Finding → Type 0 where
+-- What a check of a report's bytes finds, where the document's bytes and the streams are these: the report isn't read;
+-- the session is refused, and the report is that refusal or not; the session is well formed, and the report is a
+-- refusal; or the report's counts and answers are judged.
+pub data IsFinding (bytes report : List ℕ) (streams : List RawStream) : Finding → Type 0 where
   of_unread : (line : ℕ) → IsNoReport report line → IsFinding bytes report streams (NotRead line)
-  of_refused_session : (claimed : Report) (refusal : Refusal) (good : Bool) → IsReport report claimed → IsJudgement bytes streams (Refused refusal) → (IsTrue good ↔ (claimed ≡ Refused refusal)) → IsFinding bytes report streams (OfRefusal good)
-  of_refusal : (refusal : Refusal) (document : Document) (traces : List Trace) (messages : List (Place × Place)) → IsReport report (Refused refusal) → IsSessionOf bytes streams document traces messages → IsFinding bytes report streams (OfRefusal false)
-  of_session : (processes events matched : ℕ) (answers : List Answer) (document : Document) (traces : List Trace) (messages : List (Place × Place)) (good : Bool) (found : Option (List Checked)) → IsReport report (Judged processes events matched answers) → IsSessionOf bytes streams document traces messages → (IsTrue good ↔ AreCounts document traces messages processes events matched) → IsAnswersFinding document traces answers found → IsFinding bytes report streams (OfSession good found)
+  of_refused_session : (claimed : Report) (refusal : Refusal) (good : Bool) → IsReport report claimed
+      → IsJudgement bytes streams (Refused refusal) → (IsTrue good ↔ (claimed ≡ Refused refusal))
+      → IsFinding bytes report streams (OfRefusal good)
+  of_refusal : (refusal : Refusal) (document : Document) (traces : List Trace) (messages : List (Place × Place))
+      → IsReport report (Refused refusal) → IsSessionOf bytes streams document traces messages
+      → IsFinding bytes report streams (OfRefusal false)
+  of_session : (processes events matched : ℕ) (answers : List Answer) (document : Document) (traces : List Trace)
+      (messages : List (Place × Place)) (good : Bool) (found : Option (List Checked))
+      → IsReport report (Judged processes events matched answers) → IsSessionOf bytes streams document traces messages
+      → (IsTrue good ↔ AreCounts document traces messages processes events matched)
+      → IsAnswersFinding document traces answers found → IsFinding bytes report streams (OfSession good found)
 
 -- ---- a finding with nothing bad
 
 -- the line's last word is `bad`
 abbrev pub EndsBad : List ℕ → Type 0
-EndsBad line = (front : List ℕ) × (line ≡ front ++ codes " bad")
+EndsBad line = (prefix : List ℕ) × (line ≡ prefix ++ codes " bad")
 
 -- the line tells that the report isn't read
 abbrev pub TellsUnread : List ℕ → Type 0
@@ -112,4 +130,5 @@ CleanIsClean = (finding : Finding) → IsTrue (is_clean finding) ↔ IsClean fin
 
 -- a check finds one thing
 abbrev pub OneFinding : Type 0
-OneFinding = (bytes report : List ℕ) (streams : List Told) (a b : Finding) → IsFinding bytes report streams a → IsFinding bytes report streams b → a ≡ b
+OneFinding = (bytes report : List ℕ) (streams : List RawStream) (a b : Finding) → IsFinding bytes report streams a
+    → IsFinding bytes report streams b → a ≡ b

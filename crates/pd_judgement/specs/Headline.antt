@@ -1,4 +1,4 @@
--- What a report says of the computation behind it, in the words of cuts and observations: where each level is narrow no
+-- What a report says of the computation after it, in the words of cuts and observations: where each level is narrow no
 -- answer is unknown, and each is the truth.
 use Rattle.std.specs.Prelude.{◌≡◌, ℕ, ◌≤◌, Bool, true, ◌↔◌, List, ◌∷◌, length, map, sum, Ok}
 use Rattle.std.specs.List.{AllZip}
@@ -15,45 +15,54 @@ use Rattle.pd_format.specs.Documents.{Document, NamedPredicate, IsDocument}
 use Rattle.pd_format.specs.Sessions.{session}
 use Rattle.pd_format.specs.Reports.{Possibly, Definitely, Answer, Report, Judged}
 use Rattle.pd_format.specs.Bundles.{parts_of}
-use Rattle.pd_format.specs.Judgements.{name_of_process, events_of_traces, recorded_of, IsTracesReport, ended_streams, outcomes_of, IsReportOfBundle}
+use Rattle.pd_format.specs.Judgements.{name_of_process, events_of_traces, recorded_of, IsTracesReport, ended_streams, results_of, IsReportOfBundle}
 
 -- no level has more cuts than the width: the list of all its cuts is no longer
 abbrev pub IsNarrow : Computation → ℕ → Type 0
 IsNarrow c width = (k : ℕ) → (cuts : List (List ℕ)) × IsListOf (IsOfLevel c k) cuts × (length cuts ≤ width)
 
--- The answer is the truth about the test of cuts: Possibly is yes exactly where some consistent cut satisfies, and no exactly
--- where none does; Definitely is yes exactly where every observation passes through such a cut, and no exactly where not all do.
-pub record SaysTruly (names : List ProcessNames) (c : Computation) (test : List ℕ → Bool) (answer : Answer) : Type 0 where
+-- The answer is the truth about the test of cuts: Possibly is yes exactly where some consistent cut satisfies, and no
+-- exactly where none does; Definitely is yes exactly where every observation passes through such a cut, and no exactly
+-- where not all do.
+pub record SaysTruly (names : List ProcessNames) (c : Computation) (test : List ℕ → Bool) (answer : Answer) :
+    Type 0 where
   pub possibly_yes : ((cut : List ℕ) × (answer.possibly ≡ Possibly.Yes cut)) ↔ observations.Possibly c test
   pub possibly_no : (answer.possibly ≡ Possibly.No) ↔ (¬ observations.Possibly c test)
   pub definitely_yes : ((level : ℕ) × (answer.definitely ≡ Definitely.Yes level)) ↔ observations.Definitely c test
-  pub definitely_no : ((told : List (List ℕ)) × (answer.definitely ≡ Definitely.No told)) ↔ (¬ observations.Definitely c test)
+  pub definitely_no : ((reported : List (List ℕ)) × (answer.definitely ≡ Definitely.No reported))
+      ↔ (¬ observations.Definitely c test)
   -- the cut printed is consistent and satisfies
   pub cut_satisfies : (cut : List ℕ) → answer.possibly ≡ Possibly.Yes cut → IsConsistent c cut × (test cut ≡ true)
   -- the names printed are those of the processes of an observation with no satisfying cut
-  pub path_avoids : (told : List (List ℕ)) → answer.definitely ≡ Definitely.No told → (path : List ℕ) × (told ≡ map (name_of_process names) path) × IsAvoidingObservation c test path
+  pub path_avoids : (reported : List (List ℕ)) → answer.definitely ≡ Definitely.No reported → (path : List ℕ)
+      × (reported ≡ map (name_of_process names) path) × IsAvoidingObservation c test path
   -- Definitely yes never stands beside Possibly no
   pub no_clash : (level : ℕ) → answer.definitely ≡ Definitely.Yes level → ¬ (answer.possibly ≡ Possibly.No)
   -- the cut printed has at most as many events as the level printed
-  pub below : (cut : List ℕ) (level : ℕ) → answer.possibly ≡ Possibly.Yes cut → answer.definitely ≡ Definitely.Yes level → sum cut ≤ level
+  pub below : (cut : List ℕ) (level : ℕ) → answer.possibly ≡ Possibly.Yes cut → answer.definitely ≡ Definitely.Yes level
+      → sum cut ≤ level
 
 -- under the name of the predicate that is asked, the truth about it
 abbrev pub AnswersTruly : Document → List Trace → NamedPredicate → Answer → Type 0
 AnswersTruly document traces asked answer =
-    (answer.name ≡ asked.name) × SaysTruly document.names (events_of_traces traces) (test_of (recorded_of document traces) asked.predicate) answer
+    (answer.name ≡ asked.name) × SaysTruly document.names (events_of_traces traces)
+    (test_of (recorded_of document traces) asked.predicate) answer
 
--- The report counts the processes, the events and the messages, and answers each predicate of the document truly, in their order.
+-- The report counts the processes, the events and the messages, and answers each predicate of the document truly, in
+-- their order.
 pub record TellsTruth (document : Document) (traces : List Trace) (report : Report) : Type 0 where
   pub messages : List (Place × Place)
   pub answers : List Answer
-  pub told : report ≡ Judged (length document.names) (total (events_of_traces traces)) (length messages) answers
+  pub reported : report ≡ Judged (length document.names) (total (events_of_traces traces)) (length messages) answers
   pub are_messages : IsMessageList (events_of_traces traces) messages
   pub truly : AllZip (AnswersTruly document traces) document.predicates answers
 
 -- A report of traces that make a well-formed computation with no level over the width tells the truth.
 abbrev pub Headline : Type 0
 Headline =
-    (document : Document) (traces : List Trace) (report : Report) → IsWellFormed (events_of_traces traces) → IsNarrow (events_of_traces traces) document.width → IsTracesReport document traces report → TellsTruth document traces report
+    (document : Document) (traces : List Trace) (report : Report) → IsWellFormed (events_of_traces traces)
+    → IsNarrow (events_of_traces traces) document.width → IsTracesReport document traces report
+    → TellsTruth document traces report
 
 -- The bytes of a bundle hold this document, and streams that make a session with these traces.
 pub record HoldsSession (bytes : List ℕ) (document : Document) (traces : List Trace) : Type 0 where
@@ -61,9 +70,11 @@ pub record HoldsSession (bytes : List ℕ) (document : Document) (traces : List 
   pub streams : List (List ℕ)
   pub parts : parts_of bytes ≡ first ∷ streams
   pub read : IsDocument first document
-  pub joined : session document.names (length streams) (outcomes_of document.names (ended_streams streams)) ≡ Ok traces
+  pub joined : session document.names (length streams) (results_of document.names (ended_streams streams)) ≡ Ok traces
 
 -- The report of a bundle whose session is well formed, with no level over the width, tells the truth.
 abbrev pub HeadlineOfBundle : Type 0
 HeadlineOfBundle =
-    (bytes : List ℕ) (document : Document) (traces : List Trace) (report : Report) → HoldsSession bytes document traces → IsWellFormed (events_of_traces traces) → IsNarrow (events_of_traces traces) document.width → IsReportOfBundle bytes report → TellsTruth document traces report
+    (bytes : List ℕ) (document : Document) (traces : List Trace) (report : Report) → HoldsSession bytes document traces
+    → IsWellFormed (events_of_traces traces) → IsNarrow (events_of_traces traces) document.width
+    → IsReportOfBundle bytes report → TellsTruth document traces report

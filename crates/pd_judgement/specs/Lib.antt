@@ -1,3 +1,4 @@
 pub mod Headline
 pub mod OneReport
 pub mod Findings
+pub mod Writes

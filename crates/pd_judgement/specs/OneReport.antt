@@ -1,9 +1,9 @@
 -- What is one: the document of bytes, the fault that they are refused with, and the report of a bundle.
 use Rattle.std.specs.Prelude.{◌≡◌, ℕ, List}
 use Rattle.pd_format.specs.Documents.{Document, DocumentFault, IsDocument, IsRefusedDocument}
-use Rattle.pd_format.specs.Sessions.{Outcome}
+use Rattle.pd_format.specs.Sessions.{StreamResult}
 use Rattle.pd_format.specs.Reports.{Answer, Refusal, Report, Judged, Refused}
-use Rattle.pd_format.specs.Judgements.{IsReportOfOutcomes, IsReportOfBundle}
+use Rattle.pd_format.specs.Judgements.{IsReportOfResults, IsReportOfBundle}
 
 -- bytes are one document
 abbrev pub OneDocument : Type 0
@@ -11,15 +11,18 @@ OneDocument = (bytes : List ℕ) (a b : Document) → IsDocument bytes a → IsD
 
 -- no bytes are a document and refused
 abbrev pub DocumentNotRefused : Type 0
-DocumentNotRefused = (bytes : List ℕ) (document : Document) (fault : DocumentFault) → IsDocument bytes document → IsRefusedDocument bytes fault → ⊥
+DocumentNotRefused = (bytes : List ℕ) (document : Document) (fault : DocumentFault) → IsDocument bytes document
+    → IsRefusedDocument bytes fault → ⊥
 
 -- bytes are refused with one fault
 abbrev pub OneDocumentFault : Type 0
-OneDocumentFault = (bytes : List ℕ) (f g : DocumentFault) → IsRefusedDocument bytes f → IsRefusedDocument bytes g → f ≡ g
+OneDocumentFault = (bytes : List ℕ) (f g : DocumentFault) → IsRefusedDocument bytes f → IsRefusedDocument bytes g
+    → f ≡ g
 
 -- a document and the outcomes of its streams have one report
-abbrev pub OneReportOfOutcomes : Type 0
-OneReportOfOutcomes = (document : Document) (streams : ℕ) (outcomes : List Outcome) (a b : Report) → IsReportOfOutcomes document streams outcomes a → IsReportOfOutcomes document streams outcomes b → a ≡ b
+abbrev pub OneReportOfResults : Type 0
+OneReportOfResults = (document : Document) (streams : ℕ) (outcomes : List StreamResult) (a b : Report)
+    → IsReportOfResults document streams outcomes a → IsReportOfResults document streams outcomes b → a ≡ b
 
 -- a bundle has one report
 abbrev pub OneReportOfBundle : Type 0
@@ -28,4 +31,6 @@ OneReportOfBundle = (bytes : List ℕ) (a b : Report) → IsReportOfBundle bytes
 -- no bundle is judged and refused
 abbrev pub NotJudgedAndRefused : Type 0
 NotJudgedAndRefused =
-    (bytes : List ℕ) (processes events messages : ℕ) (answers : List Answer) (refusal : Refusal) → IsReportOfBundle bytes (Judged processes events messages answers) → IsReportOfBundle bytes (Refused refusal) → ⊥
+    (bytes : List ℕ) (processes events messages : ℕ) (answers : List Answer) (refusal : Refusal)
+    → IsReportOfBundle bytes (Judged processes events messages answers) → IsReportOfBundle bytes (Refused refusal)
+    → ⊥

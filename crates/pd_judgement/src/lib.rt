@@ -1,9 +1,9 @@
-//! Laws of the judgement. A bundle has at most one report: bytes are at most one document, or are refused with one fault,
-//! and never both; a document and what its streams tell have at most one report. And a report of a computation of which no
-//! level is over the width says the truth of each predicate. A check finds at most one thing, which is clean exactly
-//! where its text tells of nothing bad and of no report that isn't read.
-//! The definitions stand in `pd_format`, and the statements in `specs/`. Each function here has no code: its contract is a
-//! law, which is proved for all bytes.
+//! Laws of the judgement. A bundle has at most one report: bytes are at most one document, or are refused with one
+//! fault, and never both; a document and what its streams tell have at most one report. And a report of a computation
+//! of which no level is over the width says the truth of each predicate. A check finds at most one thing, which is
+//! clean exactly where its text tells of nothing bad and of no report that isn't read. The definitions stand in
+//! `pd_format`, and the statements in `specs/`. Each function here has no code: its contract is a law, which is proved
+//! for all bytes.
 #![tactic(auto)]
 
 ghost use Rattle.pd_judgement.specs.Findings.{CleanIsClean, OneFinding};
@@ -12,7 +12,7 @@ ghost use Rattle.pd_judgement.specs.OneReport.{
   OneDocument,
   DocumentNotRefused,
   OneDocumentFault,
-  OneReportOfOutcomes,
+  OneReportOfResults,
   OneReportOfBundle,
   NotJudgedAndRefused,
 };
@@ -25,8 +25,8 @@ pub fn one_document()
 {}
 
 /// A document and the outcomes of its streams have one report.
-pub fn one_report_of_outcomes()
-    ensures { OneReportOfOutcomes }
+pub fn one_report_of_results()
+    ensures { OneReportOfResults }
 {}
 
 /// A bundle has one report, so none is both judged and refused.
@@ -35,8 +35,8 @@ pub fn one_report_of_bundle()
     ensures judged_or_refused { NotJudgedAndRefused }
 {}
 
-/// A report of a narrow computation says the truth of each predicate: whether some consistent cut satisfies it, and whether
-/// every observation passes through such a cut; and it prints a satisfying cut or an avoiding observation.
+/// A report of a narrow computation says the truth of each predicate: whether some consistent cut satisfies it, and
+/// whether every observation passes through such a cut; and it prints a satisfying cut or an avoiding observation.
 pub fn headline()
     ensures { Headline }
 {}
@@ -46,7 +46,8 @@ pub fn headline_of_bundle()
     ensures { HeadlineOfBundle }
 {}
 
-/// A finding is clean exactly where no line of its text ends with the word `bad`, and none tells that the report isn't read.
+/// A finding is clean exactly where no line of its text ends with the word `bad`, and none tells that the report isn't
+/// read.
 pub fn clean_is_clean()
     ensures { CleanIsClean }
 {}

@@ -29,28 +29,33 @@ key_below [] small = rw (pow-zero) (omega arith)
 key_below (x ∷ xs) small =
     let rest : key_of xs < 65536 ^ length xs = key_below xs (all_rest x xs small) in
     let here : x < 65536 = small 0 0 (omega arith) in
-    let most : (x + 1) * 65536 ^ length xs ≤ 65536 * 65536 ^ length xs = mul-le-mul_right (65536 ^ length xs) (omega arith) in
+    let most : (x + 1) * 65536 ^ length xs ≤ 65536 * 65536 ^ length xs =
+    mul-le-mul_right (65536 ^ length xs) (omega arith) in
     rw (pow-suc 65536 (length xs)) (omega arith)
 
 pub digits-key : (xs : List ℕ) → AreDigits xs → digits (length xs) (key_of xs) ≡ xs
 digits-key [] small = refl
 digits-key (x ∷ xs) small =
     let rest : key_of xs < 65536 ^ length xs = key_below xs (all_rest x xs small) in
-    let high : (x * 65536 ^ length xs + key_of xs) / 65536 ^ length xs ≡ x = div-mul-add x (65536 ^ length xs) (key_of xs) rest in
-    let low : (x * 65536 ^ length xs + key_of xs) % 65536 ^ length xs ≡ key_of xs = mod-mul-add x (65536 ^ length xs) (key_of xs) rest in
+    let high : (x * 65536 ^ length xs + key_of xs) / 65536 ^ length xs ≡ x =
+    div-mul-add x (65536 ^ length xs) (key_of xs) rest in
+    let low : (x * 65536 ^ length xs + key_of xs) % 65536 ^ length xs ≡ key_of xs =
+    mod-mul-add x (65536 ^ length xs) (key_of xs) rest in
     rw (high, low) (ap (λ (ys : List ℕ). x ∷ ys) (digits-key xs (all_rest x xs small)))
 
 pub digits_are : (n key : ℕ) → key < 65536 ^ n → AreDigits (digits n key)
 digits_are zero key lt = λ k d in_. absurd (omega arith)
 digits_are (suc n) key lt =
     all_cons (key / 65536 ^ n) (digits n (key % 65536 ^ n))
-    (div_below key (65536 ^ n) 65536 (weight_pos n) (let lt' : key < 65536 ^ n * 65536 = rw (pow-suc) at lt in omega arith))
+    (div_below key (65536 ^ n) 65536 (weight_pos n) (let lt' : key < 65536 ^ n * 65536 = rw (pow-suc) at lt in
+    omega arith))
     (digits_are n (key % 65536 ^ n) (mod_below key (65536 ^ n) (weight_pos n)))
 
 pub key-digits : (n key : ℕ) → key < 65536 ^ n → key_of (digits n key) ≡ key
 key-digits zero key lt = let lt' : key < 1 = rw (pow-zero) at lt in omega arith
 key-digits (suc n) key lt =
-    let low : key_of (digits n (key % 65536 ^ n)) ≡ key % 65536 ^ n = key-digits n (key % 65536 ^ n) (mod_below key (65536 ^ n) (weight_pos n)) in
+    let low : key_of (digits n (key % 65536 ^ n)) ≡ key % 65536 ^ n =
+    key-digits n (key % 65536 ^ n) (mod_below key (65536 ^ n) (weight_pos n)) in
     let split : key / 65536 ^ n * 65536 ^ n + key % 65536 ^ n ≡ key = div-add-mod' key (65536 ^ n) in
     rw (length-digits n (key % 65536 ^ n), low) split
 
@@ -58,9 +63,12 @@ key-digits (suc n) key lt =
 pub lex-digits : (n j k : ℕ) → k < 65536 ^ n → j < k → LexBelow (digits n j) (digits n k)
 lex-digits zero j k lt below = let lt' : k < 1 = rw (pow-zero) at lt in absurd (omega arith)
 lex-digits (suc n) j k lt below =
-    go (lex-digits n (j % 65536 ^ n) (k % 65536 ^ n) (mod_below k (65536 ^ n) (weight_pos n))) (cases_order (j / 65536 ^ n) (k / 65536 ^ n))
+    go (lex-digits n (j % 65536 ^ n) (k % 65536 ^ n) (mod_below k (65536 ^ n) (weight_pos n)))
+    (cases_order (j / 65536 ^ n) (k / 65536 ^ n))
   where
-    go : (j % 65536 ^ n < k % 65536 ^ n → LexBelow (digits n (j % 65536 ^ n)) (digits n (k % 65536 ^ n))) → (j / 65536 ^ n ≡ k / 65536 ^ n) ⊎ ((j / 65536 ^ n < k / 65536 ^ n) ⊎ (k / 65536 ^ n < j / 65536 ^ n)) → LexBelow (digits (suc n) j) (digits (suc n) k)
+    go : (j % 65536 ^ n < k % 65536 ^ n → LexBelow (digits n (j % 65536 ^ n)) (digits n (k % 65536 ^ n)))
+        → (j / 65536 ^ n ≡ k / 65536 ^ n) ⊎ ((j / 65536 ^ n < k / 65536 ^ n) ⊎ (k / 65536 ^ n < j / 65536 ^ n))
+        → LexBelow (digits (suc n) j) (digits (suc n) k)
     go later (inl same) =
         let split : j / 65536 ^ n * 65536 ^ n + j % 65536 ^ n ≡ j = div-add-mod' j (65536 ^ n) in
         let other : k / 65536 ^ n * 65536 ^ n + k % 65536 ^ n ≡ k = div-add-mod' k (65536 ^ n) in
@@ -71,11 +79,13 @@ lex-digits (suc n) j k lt below =
         let split : j / 65536 ^ n * 65536 ^ n + j % 65536 ^ n ≡ j = div-add-mod' j (65536 ^ n) in
         let other : k / 65536 ^ n * 65536 ^ n + k % 65536 ^ n ≡ k = div-add-mod' k (65536 ^ n) in
         let small : k % 65536 ^ n < 65536 ^ n = mod_below k (65536 ^ n) (weight_pos n) in
-        let high : (k / 65536 ^ n + 1) * 65536 ^ n ≤ j / 65536 ^ n * 65536 ^ n = mul-le-mul_right (65536 ^ n) (omega arith) in
+        let high : (k / 65536 ^ n + 1) * 65536 ^ n ≤ j / 65536 ^ n * 65536 ^ n =
+        mul-le-mul_right (65536 ^ n) (omega arith) in
         absurd (omega arith)
 
 -- one more of one count adds the weight of its digit
-pub key_one_more : (xs : List ℕ) (p : ℕ) → p < length xs → key_of (one_more xs p) ≡ key_of xs + 65536 ^ (length xs - 1 - p)
+pub key_one_more : (xs : List ℕ) (p : ℕ) → p < length xs
+    → key_of (one_more xs p) ≡ key_of xs + 65536 ^ (length xs - 1 - p)
 key_one_more [] p lt = absurd (omega arith)
 key_one_more (x ∷ xs) zero lt =
     let at : length (x ∷ xs) - 1 - 0 ≡ length xs = omega arith in
@@ -96,7 +106,8 @@ key_push (y ∷ xs) x =
 
 pub digits_push : (xs : List ℕ) (x : ℕ) → AreDigits xs → x < 65536 → AreDigits (xs ++ x ∷ [])
 digits_push [] x small lt = all_cons x [] lt (λ k d in_. absurd (omega arith))
-digits_push (y ∷ xs) x small lt = all_cons y (xs ++ x ∷ []) (small 0 0 (omega arith)) (digits_push xs x (all_rest y xs small) lt)
+digits_push (y ∷ xs) x small lt =
+    all_cons y (xs ++ x ∷ []) (small 0 0 (omega arith)) (digits_push xs x (all_rest y xs small) lt)
 
 -- the lowest digit stands at the end
 pub low_digit : (n key : ℕ) → key < 65536 ^ suc n → digits (suc n) key ≡ digits n (key / 65536) ++ (key % 65536) ∷ []
@@ -104,14 +115,22 @@ low_digit n key lt =
     let lt' : key < 65536 ^ n * 65536 = rw (pow-suc) at lt in
     let high : key / 65536 < 65536 ^ n = div_below key 65536 (65536 ^ n) (omega arith) lt' in
     let low : key % 65536 < 65536 = mod_below key 65536 (omega arith) in
-    let small : AreDigits (digits n (key / 65536) ++ (key % 65536) ∷ []) = digits_push (digits n (key / 65536)) (key % 65536) (digits_are n (key / 65536) high) low in
-    let many : length (digits n (key / 65536) ++ (key % 65536) ∷ []) ≡ suc n = length-append (digits n (key / 65536)) ((key % 65536) ∷ []) ∙ omega (arith, length-digits n (key / 65536)) in
-    let whole : key_of (digits n (key / 65536) ++ (key % 65536) ∷ []) ≡ key = key_push (digits n (key / 65536)) (key % 65536) ∙ (rw (key-digits n (key / 65536) high) (div-add-mod' key 65536)) in
-    let back : digits (length (digits n (key / 65536) ++ (key % 65536) ∷ [])) (key_of (digits n (key / 65536) ++ (key % 65536) ∷ [])) ≡ digits n (key / 65536) ++ (key % 65536) ∷ [] = digits-key (digits n (key / 65536) ++ (key % 65536) ∷ []) small in
-    sym (ap (λ (m : ℕ). digits m key) many) ∙ (sym (ap (λ (k : ℕ). digits (length (digits n (key / 65536) ++ (key % 65536) ∷ [])) k) whole) ∙ back)
+    let small : AreDigits (digits n (key / 65536) ++ (key % 65536) ∷ []) =
+    digits_push (digits n (key / 65536)) (key % 65536) (digits_are n (key / 65536) high) low in
+    let many : length (digits n (key / 65536) ++ (key % 65536) ∷ []) ≡ suc n =
+    length-append (digits n (key / 65536)) ((key % 65536) ∷ []) ∙ omega (arith, length-digits n (key / 65536)) in
+    let whole : key_of (digits n (key / 65536) ++ (key % 65536) ∷ []) ≡ key =
+    key_push (digits n (key / 65536)) (key % 65536)
+    ∙ (rw (key-digits n (key / 65536) high) (div-add-mod' key 65536)) in
+    let back : digits (length (digits n (key / 65536) ++ (key % 65536) ∷ []))
+    (key_of (digits n (key / 65536) ++ (key % 65536) ∷ [])) ≡ digits n (key / 65536) ++ (key % 65536) ∷ [] =
+    digits-key (digits n (key / 65536) ++ (key % 65536) ∷ []) small in
+    sym (ap (λ (m : ℕ). digits m key) many)
+    ∙ (sym (ap (λ (k : ℕ). digits (length (digits n (key / 65536) ++ (key % 65536) ∷ [])) k) whole) ∙ back)
 
--- what is behind a place that is written
-pub drop-take-set : (xs : List ℕ) (p n v : ℕ) → p < n → p < length xs → drop p (take n (set xs p v)) ≡ v ∷ drop (suc p) (take n xs)
+-- what is after a place that is written
+pub drop-take-set : (xs : List ℕ) (p n v : ℕ) → p < n → p < length xs
+    → drop p (take n (set xs p v)) ≡ v ∷ drop (suc p) (take n xs)
 drop-take-set [] p n v lt in_ = absurd (omega arith)
 drop-take-set (x ∷ xs) p zero v lt in_ = absurd (omega arith)
 drop-take-set (x ∷ xs) zero (suc n) v lt in_ = refl
@@ -135,39 +154,48 @@ pub weight_le : (i j : ℕ) → i ≤ j → 65536 ^ i ≤ 65536 ^ j
 weight_le i j le = let pos : 0 < 65536 = omega arith in pow-le-pow_right pos le
 
 -- there is room for one more digit
-pub key_room : (counts : List ℕ) (i : ℕ) → i < length counts → length counts ≤ 8 → AreDigits (take i counts) → key_of (take i counts) < 65536 ^ 7
+pub key_room : (counts : List ℕ) (i : ℕ) → i < length counts → length counts ≤ 8 → AreDigits (take i counts)
+    → key_of (take i counts) < 65536 ^ 7
 key_room counts i lt few small =
     let many : length (take i counts) ≡ i = length-take-le i counts (omega arith) in
     let below : key_of (take i counts) < 65536 ^ length (take i counts) = key_below (take i counts) small in
-    let below_i : key_of (take i counts) < 65536 ^ i = subst (λ (n : ℕ). key_of (take i counts) < 65536 ^ n) many below in
+    let below_i : key_of (take i counts) < 65536 ^ i =
+    subst (λ (n : ℕ). key_of (take i counts) < 65536 ^ n) many below in
     let most : 65536 ^ i ≤ 65536 ^ 7 = weight_le i 7 (omega arith) in
     omega arith
 
-pub pack_more : (counts : List ℕ) (i : ℕ) → i < length counts → get_or counts i 0 ≤ 65535 → AreDigits (take i counts) → AreDigits (take (i + 1) counts)
+pub pack_more : (counts : List ℕ) (i : ℕ) → i < length counts → get_or counts i 0 ≤ 65535 → AreDigits (take i counts)
+    → AreDigits (take (i + 1) counts)
 pack_more counts i lt le small =
     rw (take_more counts i 0 lt) (digits_push (take i counts) (get_or counts i 0) small (omega arith))
 
-pub key_more : (counts : List ℕ) (i : ℕ) → i < length counts → key_of (take (i + 1) counts) ≡ key_of (take i counts) * 65536 + get_or counts i 0
+pub key_more : (counts : List ℕ) (i : ℕ) → i < length counts
+    → key_of (take (i + 1) counts) ≡ key_of (take i counts) * 65536 + get_or counts i 0
 key_more counts i lt = rw (take_more counts i 0 lt) (key_push (take i counts) (get_or counts i 0))
 
 -- one digit more is taken off
-pub unpack_more : (n p rest : ℕ) (counts whole : List ℕ) → 0 < p → p ≤ n → n ≤ length counts → rest < 65536 ^ p → digits p rest ++ drop p (take n counts) ≡ whole → (rest / 65536 < 65536 ^ (p - 1)) × (digits (p - 1) (rest / 65536) ++ drop (p - 1) (take n (set counts (p - 1) (rest % 65536))) ≡ whole)
+pub unpack_more : (n p rest : ℕ) (counts whole : List ℕ) → 0 < p → p ≤ n → n ≤ length counts → rest < 65536 ^ p
+    → digits p rest ++ drop p (take n counts) ≡ whole → (rest / 65536 < 65536 ^ (p - 1))
+    × (digits (p - 1) (rest / 65536) ++ drop (p - 1) (take n (set counts (p - 1) (rest % 65536))) ≡ whole)
 unpack_more n zero rest counts whole pos le many below so_far = absurd (omega arith)
 unpack_more n (suc p) rest counts whole pos le many below so_far =
     let before : suc p - 1 ≡ p = omega arith in
     let lt : rest < 65536 ^ p * 65536 = rw (pow-suc) at below in
-    let written : drop p (take n (set counts p (rest % 65536))) ≡ (rest % 65536) ∷ drop (suc p) (take n counts) = drop-take-set counts p n (rest % 65536) (omega arith) (omega arith) in
+    let written : drop p (take n (set counts p (rest % 65536))) ≡ (rest % 65536) ∷ drop (suc p) (take n counts) =
+    drop-take-set counts p n (rest % 65536) (omega arith) (omega arith) in
     let low : digits (suc p) rest ≡ digits p (rest / 65536) ++ (rest % 65536) ∷ [] = low_digit p rest below in
     rw before (
       div_below rest 65536 (65536 ^ p) (omega arith) lt,
-      rw written (sym (append_assoc (digits p (rest / 65536)) ((rest % 65536) ∷ []) (drop (suc p) (take n counts))) ∙ (ap (λ (xs : List ℕ). xs ++ drop (suc p) (take n counts)) (sym low) ∙ so_far)),
+      rw written (sym (append_assoc (digits p (rest / 65536)) ((rest % 65536) ∷ []) (drop (suc p) (take n counts)))
+          ∙ (ap (λ (xs : List ℕ). xs ++ drop (suc p) (take n counts)) (sym low) ∙ so_far)),
     )
 
 -- one more event of a process adds its weight to the number of a cut
 pub more_is : (n key p : ℕ) → p < n → key < 65536 ^ n → key_of (one_more (digits n key) p) ≡ key + 65536 ^ (n - 1 - p)
 more_is n key p within below =
     let many : length (digits n key) ≡ n = length-digits n key in
-    let step : key_of (one_more (digits n key) p) ≡ key_of (digits n key) + 65536 ^ (length (digits n key) - 1 - p) = key_one_more (digits n key) p (omega arith) in
+    let step : key_of (one_more (digits n key) p) ≡ key_of (digits n key) + 65536 ^ (length (digits n key) - 1 - p) =
+    key_one_more (digits n key) p (omega arith) in
     step ∙ rw (many, key-digits n key below) refl
 
 -- 65536 is 2 ^ 16
@@ -178,7 +206,8 @@ weight_two (suc i) =
     rw (next, pow-suc 65536 i, pow-add 2 (16 * i) 16, weight_two i) (omega arith)
 
 -- a digit is read by a shift
-pub digit_at : (n key p : ℕ) → p < n → key < 65536 ^ n → get_or (digits n key) p 0 ≡ key / 2 ^ (16 * (n - 1 - p)) % 65536
+pub digit_at : (n key p : ℕ) → p < n → key < 65536 ^ n
+    → get_or (digits n key) p 0 ≡ key / 2 ^ (16 * (n - 1 - p)) % 65536
 digit_at zero key p within below = absurd (omega arith)
 digit_at (suc n) key p within below =
     ap (λ (counts : List ℕ). get_or counts p 0) (low_digit n key below) ∙ go (digit_at n (key / 65536) p) (cases_lt p n)
@@ -186,15 +215,21 @@ digit_at (suc n) key p within below =
     many : length (digits n (key / 65536)) ≡ n
     many = length-digits n (key / 65536)
 
-    go : (p < n → key / 65536 < 65536 ^ n → get_or (digits n (key / 65536)) p 0 ≡ key / 65536 / 2 ^ (16 * (n - 1 - p)) % 65536) → (p < n) ⊎ (n ≤ p) → get_or (digits n (key / 65536) ++ (key % 65536) ∷ []) p 0 ≡ key / 2 ^ (16 * (suc n - 1 - p)) % 65536
+    go : (p < n → key / 65536 < 65536 ^ n → get_or (digits n (key / 65536)) p 0
+        ≡ key / 65536 / 2 ^ (16 * (n - 1 - p)) % 65536) → (p < n) ⊎ (n ≤ p)
+        → get_or (digits n (key / 65536) ++ (key % 65536) ∷ []) p 0 ≡ key / 2 ^ (16 * (suc n - 1 - p)) % 65536
     go higher (inl lt) =
         let lt' : key < 65536 ^ n * 65536 = rw (pow-suc) at below in
-        let rest : get_or (digits n (key / 65536)) p 0 ≡ key / 65536 / 2 ^ (16 * (n - 1 - p)) % 65536 = higher lt (div_below key 65536 (65536 ^ n) (omega arith) lt') in
+        let rest : get_or (digits n (key / 65536)) p 0 ≡ key / 65536 / 2 ^ (16 * (n - 1 - p)) % 65536 =
+        higher lt (div_below key 65536 (65536 ^ n) (omega arith) lt') in
         let shifts : 16 + 16 * (n - 1 - p) ≡ 16 * (suc n - 1 - p) = omega arith in
-        let both : key / 65536 / 2 ^ (16 * (n - 1 - p)) ≡ key / 2 ^ (16 + 16 * (n - 1 - p)) = shr-shr key 16 (16 * (n - 1 - p)) in
-        get_or_append_left (digits n (key / 65536)) ((key % 65536) ∷ []) 0 p (rw many lt) ∙ (rest ∙ (ap (λ (m : ℕ). m % 65536) both ∙ ap (λ (k : ℕ). key / 2 ^ k % 65536) shifts))
+        let both : key / 65536 / 2 ^ (16 * (n - 1 - p)) ≡ key / 2 ^ (16 + 16 * (n - 1 - p)) =
+        shr-shr key 16 (16 * (n - 1 - p)) in
+        get_or_append_left (digits n (key / 65536)) ((key % 65536) ∷ []) 0 p (rw many lt)
+        ∙ (rest ∙ (ap (λ (m : ℕ). m % 65536) both ∙ ap (λ (k : ℕ). key / 2 ^ k % 65536) shifts))
     go higher (inr le) =
         let none : p - n ≡ 0 = omega arith in
         let shift : 16 * (suc n - 1 - p) ≡ 0 = omega arith in
         let whole : key / 2 ^ 0 ≡ key = omega arith in
-        rw shift (get_or-append_right (digits n (key / 65536)) ((key % 65536) ∷ []) n p 0 many le ∙ (ap (λ (k : ℕ). get_or ((key % 65536) ∷ []) k 0) none ∙ ap (λ (m : ℕ). m % 65536) (sym whole)))
+        rw shift (get_or-append_right (digits n (key / 65536)) ((key % 65536) ∷ []) n p 0 many le
+        ∙ (ap (λ (k : ℕ). get_or ((key % 65536) ∷ []) k 0) none ∙ ap (λ (m : ℕ). m % 65536) (sym whole)))

@@ -16,11 +16,13 @@ use Rattle.pd_level.proofs.Keys.{get_or_same, digits-key, key-digits, digits_are
 use Rattle.pd_level.proofs.Merges.{contains_at}
 use Rattle.pd_level.proofs.Steps.{cut_digits, cut_below}
 
-pub contains_cuts : (n : ℕ) (keys cut : List ℕ) → Contains (cuts_of n keys) cut → (key : ℕ) × Contains keys key × (digits n key ≡ cut)
+pub contains_cuts : (n : ℕ) (keys cut : List ℕ) → Contains (cuts_of n keys) cut → (key : ℕ) × Contains keys key
+    × (digits n key ≡ cut)
 contains_cuts n [] cut (k, lt, at) = absurd (omega arith)
 contains_cuts n (key ∷ keys) cut (zero, lt, at) = (key, (0, omega arith, refl), at)
 contains_cuts n (key ∷ keys) cut (suc k, lt, at) =
-    let w : (other : ℕ) × Contains keys other × (digits n other ≡ cut) = contains_cuts n keys cut (k, omega arith, at) in
+    let w : (other : ℕ) × Contains keys other × (digits n other ≡ cut) =
+    contains_cuts n keys cut (k, omega arith, at) in
     (w.0, (suc w.1.0, omega (arith, w.1.1), w.1.2), w.2)
 
 pub cuts_contain : (n : ℕ) (keys : List ℕ) (key : ℕ) → Contains keys key → Contains (cuts_of n keys) (digits n key)
@@ -33,18 +35,22 @@ cuts_contain n (other ∷ keys) key (suc k, lt, at) =
 pub length-cuts : (n : ℕ) (keys : List ℕ) → length (cuts_of n keys) ≡ length keys
 length-cuts n keys = length-map keys (digits n)
 
-pub cut_at : (n : ℕ) (keys : List ℕ) (i : ℕ) (d : List ℕ) → i < length keys → get_or (cuts_of n keys) i d ≡ digits n (get_or keys i 0)
+pub cut_at : (n : ℕ) (keys : List ℕ) (i : ℕ) (d : List ℕ) → i < length keys
+    → get_or (cuts_of n keys) i d ≡ digits n (get_or keys i 0)
 cut_at n keys i d lt = get_or-map (digits n) keys i 0 d lt
 
 -- a key that is read is that of the cut there
-pub cut_read : (n : ℕ) (keys : List ℕ) (i key : ℕ) → i < length keys → key ≡ get_or keys i key → slice_get (cuts_of n keys) i ≡ Some (digits n key)
+pub cut_read : (n : ℕ) (keys : List ℕ) (i key : ℕ) → i < length keys → key ≡ get_or keys i key
+    → slice_get (cuts_of n keys) i ≡ Some (digits n key)
 cut_read n [] i key lt is = absurd (omega arith)
 cut_read n (other ∷ keys) zero key lt is = ap (λ (k : ℕ). Some (digits n k)) (sym is)
 cut_read n (other ∷ keys) (suc i) key lt is = cut_read n keys i key (omega arith) is
 
-pub consistent_read : (c : Computation) (n : ℕ) (keys : List ℕ) (i key : ℕ) → All (IsConsistent c) (cuts_of n keys) → i < length keys → key ≡ get_or keys i key → IsConsistent c (digits n key)
+pub consistent_read : (c : Computation) (n : ℕ) (keys : List ℕ) (i key : ℕ) → All (IsConsistent c) (cuts_of n keys)
+    → i < length keys → key ≡ get_or keys i key → IsConsistent c (digits n key)
 consistent_read c n keys i key all lt is =
-    let at : get_or (cuts_of n keys) i [] ≡ digits n key = cut_at n keys i [] lt ∙ ap (digits n) (get_or_same keys i 0 key lt ∙ sym is) in
+    let at : get_or (cuts_of n keys) i [] ≡ digits n key =
+    cut_at n keys i [] lt ∙ ap (digits n) (get_or_same keys i 0 key lt ∙ sym is) in
     subst (λ (cut : List ℕ). IsConsistent c cut) at (all i [] (omega (arith, length-cuts n keys)))
 
 -- the cuts of ascending keys ascend
@@ -53,37 +59,51 @@ cuts_ascend n [] are = tt
 cuts_ascend n (x ∷ []) are = tt
 cuts_ascend n (x ∷ y ∷ keys) are = (
   lex-digits n x y (are.below 1 (omega arith)) (are.ascending 0 1 (omega arith) (omega arith)),
-  cuts_ascend n (y ∷ keys) (record { below = λ i lt. are.below (suc i) (omega arith); ascending = λ i j lt in_. are.ascending (suc i) (suc j) (omega arith) (omega arith) }),
+  cuts_ascend n (y ∷ keys) (record {
+    below = λ i lt. are.below (suc i) (omega arith);
+    ascending =
+        λ i j lt in_. are.ascending (suc i) (suc j) (omega arith) (omega arith);
+  }),
 )
 
 -- where there is a cut there are as many counts as processes
-pub process_count : (c : Computation) (n : ℕ) (keys : List ℕ) (i : ℕ) → All (IsConsistent c) (cuts_of n keys) → i < length keys → n ≡ length c
+pub process_count : (c : Computation) (n : ℕ) (keys : List ℕ) (i : ℕ) → All (IsConsistent c) (cuts_of n keys)
+    → i < length keys → n ≡ length c
 process_count c n keys i all lt =
-    let ok : IsConsistent c (digits n (get_or keys i 0)) = subst (λ (cut : List ℕ). IsConsistent c cut) (cut_at n keys i [] lt) (all i [] (omega (arith, length-cuts n keys))) in
+    let ok : IsConsistent c (digits n (get_or keys i 0)) =
+    subst (λ (cut : List ℕ). IsConsistent c cut) (cut_at n keys i [] lt)
+    (all i [] (omega (arith, length-cuts n keys))) in
     sym (length-digits n (get_or keys i 0)) ∙ ok.fits.one_each
 
-pub cuts_same : (c : Computation) (n : ℕ) (keys : List ℕ) → All (IsConsistent c) (cuts_of n keys) → cuts_of n keys ≡ cuts_of (length c) keys
+pub cuts_same : (c : Computation) (n : ℕ) (keys : List ℕ) → All (IsConsistent c) (cuts_of n keys)
+    → cuts_of n keys ≡ cuts_of (length c) keys
 cuts_same c n [] all = refl
 cuts_same c n (key ∷ keys) all =
     ap (λ (m : ℕ). cuts_of m (key ∷ keys)) (process_count c n (key ∷ keys) 0 all (omega arith))
 
-pub are_cuts : (c : Computation) (n : ℕ) (keys : List ℕ) → AreKeys n keys → All (IsConsistent c) (cuts_of n keys) → AreCuts c keys
+pub are_cuts : (c : Computation) (n : ℕ) (keys : List ℕ) → AreKeys n keys → All (IsConsistent c) (cuts_of n keys)
+    → AreCuts c keys
 are_cuts c n keys are all = record {
   are_keys = record {
     below = λ i lt. subst (λ (m : ℕ). get_or keys i 0 < 65536 ^ m) (process_count c n keys i all lt) (are.below i lt);
     ascending = are.ascending;
   };
   consistent = λ i lt.
-      let ok : IsConsistent c (digits n (get_or keys i 0)) = subst (λ (cut : List ℕ). IsConsistent c cut) (cut_at n keys i [] lt) (all i [] (omega (arith, length-cuts n keys))) in
+      let ok : IsConsistent c (digits n (get_or keys i 0)) =
+      subst (λ (cut : List ℕ). IsConsistent c cut) (cut_at n keys i [] lt)
+      (all i [] (omega (arith, length-cuts n keys))) in
       subst (λ (m : ℕ). IsConsistent c (digits m (get_or keys i 0))) (process_count c n keys i all lt) ok;
 }
 
 -- the next keys
-pub next_keys : (c : Computation) (keys next : List ℕ) → ((q : ℕ) → event_count c q ≤ 10000) → Ascending next → ((x : ℕ) → Contains next x ↔ ((p : ℕ) × (p < length c) × IsMoreBy c keys p x)) → AreKeys (length c) next
+pub next_keys : (c : Computation) (keys next : List ℕ) → ((q : ℕ) → event_count c q ≤ 10000) → Ascending next
+    → ((x : ℕ) → Contains next x ↔ ((p : ℕ) × (p < length c) × IsMoreBy c keys p x)) → AreKeys (length c) next
 next_keys c keys next small asc just = record {
   below = λ i lt.
-      let w : (p : ℕ) × (p < length c) × IsMoreBy c keys p (get_or next i 0) = (just (get_or next i 0)).0 (i, lt, got next i (get_or next i 0) lt) in
-      let below : key_of (one_more (digits (length c) w.2.0) w.0) < 65536 ^ length c = cut_below c (one_more (digits (length c) w.2.0) w.0) small w.2.2 in
+      let w : (p : ℕ) × (p < length c) × IsMoreBy c keys p (get_or next i 0) =
+      (just (get_or next i 0)).0 (i, lt, got next i (get_or next i 0) lt) in
+      let below : key_of (one_more (digits (length c) w.2.0) w.0) < 65536 ^ length c =
+      cut_below c (one_more (digits (length c) w.2.0) w.0) small w.2.2 in
       subst (λ (x : ℕ). x < 65536 ^ length c) (sym w.2.3) below;
   ascending = asc;
 }
@@ -94,22 +114,32 @@ next_keys c keys next small asc just = record {
     got (x ∷ xs) (suc i) d lt = got xs i d (omega arith)
 
 -- and their cuts are those of the next level
-pub next_list : (c : Computation) (n : ℕ) (keys next : List ℕ) → ((q : ℕ) → event_count c q ≤ 10000) → All (IsConsistent c) (cuts_of n keys) → AreKeys (length c) next → ((x : ℕ) → Contains next x ↔ ((p : ℕ) × (p < length c) × IsMoreBy c keys p x)) → IsListOf (IsNextOf c (cuts_of n keys)) (cuts_of (length c) next)
+pub next_list : (c : Computation) (n : ℕ) (keys next : List ℕ) → ((q : ℕ) → event_count c q ≤ 10000)
+    → All (IsConsistent c) (cuts_of n keys) → AreKeys (length c) next
+    → ((x : ℕ) → Contains next x ↔ ((p : ℕ) × (p < length c) × IsMoreBy c keys p x))
+    → IsListOf (IsNextOf c (cuts_of n keys)) (cuts_of (length c) next)
 next_list c n keys next small all are just = record {
   ascending = cuts_ascend (length c) next are;
-  just = λ cut. subst (λ (cuts : List (List ℕ)). Contains (cuts_of (length c) next) cut ↔ IsNextOf c cuts cut) (sym (cuts_same c n keys all)) (to cut, from cut);
+  just = λ cut. subst (λ (cuts : List (List ℕ)). Contains (cuts_of (length c) next) cut
+      ↔ IsNextOf c cuts cut) (sym (cuts_same c n keys all)) (to cut, from cut);
 }
   where
     back : (cut : List ℕ) → IsConsistent c cut → digits (length c) (key_of cut) ≡ cut
-    back cut ok = subst (λ (m : ℕ). digits m (key_of cut) ≡ cut) ok.fits.one_each (digits-key cut (cut_digits c cut small ok))
+    back cut ok =
+        subst (λ (m : ℕ). digits m (key_of cut) ≡ cut) ok.fits.one_each (digits-key cut (cut_digits c cut small ok))
 
     to : (cut : List ℕ) → Contains (cuts_of (length c) next) cut → IsNextOf c (cuts_of (length c) keys) cut
     to cut has =
         let w : (key : ℕ) × Contains next key × (digits (length c) key ≡ cut) = contains_cuts (length c) next cut has in
         let v : (p : ℕ) × (p < length c) × IsMoreBy c keys p w.0 = (just w.0).0 w.1 in
-        let is : cut ≡ one_more (digits (length c) v.2.0) v.0 = sym w.2 ∙ (ap (digits (length c)) v.2.3 ∙ back (one_more (digits (length c) v.2.0) v.0) v.2.2) in (
+        let is : cut ≡ one_more (digits (length c) v.2.0) v.0 =
+        sym w.2 ∙ (ap (digits (length c)) v.2.3 ∙ back (one_more (digits (length c) v.2.0) v.0) v.2.2) in (
           subst (λ (x : List ℕ). IsConsistent c x) (sym is) v.2.2,
-          (digits (length c) v.2.0, cuts_contain (length c) keys v.2.0 v.2.1, (v.0, omega (arith, v.1, length-digits (length c) v.2.0), is)),
+          (
+            digits (length c) v.2.0,
+            cuts_contain (length c) keys v.2.0 v.2.1,
+            (v.0, omega (arith, v.1, length-digits (length c) v.2.0), is),
+          ),
         )
 
     from : (cut : List ℕ) → IsNextOf c (cuts_of (length c) keys) cut → Contains (cuts_of (length c) next) cut
@@ -117,8 +147,19 @@ next_list c n keys next small all are just = record {
         let w : (key : ℕ) × Contains keys key × (digits (length c) key ≡ old) = contains_cuts (length c) keys old has in
         let made : cut ≡ one_more (digits (length c) w.0) p = is ∙ ap (λ (x : List ℕ). one_more x p) (sym w.2) in
         let within : p < length c = omega (arith, ap length w.2, length-digits (length c) w.0) in
-        let in_ : Contains next (key_of cut) = (just (key_of cut)).1 (p, within, (w.0, w.1, subst (λ (x : List ℕ). IsConsistent c x) made ok, ap key_of made)) in
-        subst (λ (x : List ℕ). Contains (cuts_of (length c) next) x) (back cut ok) (cuts_contain (length c) next (key_of cut) in_)
+        let in_ : Contains next (key_of cut) =
+        (just (key_of cut)).1 (
+          p,
+          within,
+          (
+            w.0,
+            w.1,
+            subst (λ (x : List ℕ). IsConsistent c x) made ok,
+            ap key_of made,
+          ),
+        ) in
+        subst (λ (x : List ℕ). Contains (cuts_of (length c) next) x) (back cut ok)
+        (cuts_contain (length c) next (key_of cut) in_)
 
 -- level 0
 pub first_kept : (n : ℕ) → n ≤ 8 → IsKept n (0 ∷ [])
@@ -132,7 +173,8 @@ first_kept n few = record {
     go (suc i) lt = absurd (omega arith)
 
 -- a cut is there where its key is
-pub contains_key : (n : ℕ) (keys counts : List ℕ) (key : ℕ) → AreKeys n keys → length counts ≡ n → AreDigits counts → key ≡ key_of counts → Contains (cuts_of n keys) counts ↔ Contains keys key
+pub contains_key : (n : ℕ) (keys counts : List ℕ) (key : ℕ) → AreKeys n keys → length counts ≡ n → AreDigits counts
+    → key ≡ key_of counts → Contains (cuts_of n keys) counts ↔ Contains keys key
 contains_key n keys counts key are many small is = (to, from)
   where
     to : Contains (cuts_of n keys) counts → Contains keys key
@@ -144,7 +186,8 @@ contains_key n keys counts key are many small is = (to, from)
 
     from : Contains keys key → Contains (cuts_of n keys) counts
     from has =
-        let same : digits n key ≡ counts = ap (digits n) is ∙ subst (λ (m : ℕ). digits m (key_of counts) ≡ counts) many (digits-key counts small) in
+        let same : digits n key ≡ counts =
+        ap (digits n) is ∙ subst (λ (m : ℕ). digits m (key_of counts) ≡ counts) many (digits-key counts small) in
         subst (λ (x : List ℕ). Contains (cuts_of n keys) x) same (cuts_contain n keys key has)
 
 pub contains_long : (n : ℕ) (keys counts : List ℕ) → Contains (cuts_of n keys) counts → length counts ≡ n
@@ -152,7 +195,8 @@ contains_long n keys counts has =
     let w : (key : ℕ) × Contains keys key × (digits n key ≡ counts) = contains_cuts n keys counts has in
     ap length (sym w.2) ∙ length-digits n w.0
 
-pub contains_small : (n : ℕ) (keys counts : List ℕ) → AreKeys n keys → Contains (cuts_of n keys) counts → AreDigits counts
+pub contains_small : (n : ℕ) (keys counts : List ℕ) → AreKeys n keys → Contains (cuts_of n keys) counts
+    → AreDigits counts
 contains_small n keys counts are has =
     let w : (key : ℕ) × Contains keys key × (digits n key ≡ counts) = contains_cuts n keys counts has in
     let at : (i : ℕ) × (i < length keys) × (get_or keys i 0 ≡ w.0) = contains_at keys w.0 w.1 in
@@ -160,7 +204,8 @@ contains_small n keys counts are has =
     subst AreDigits w.2 (digits_are n w.0 below)
 
 -- what a search among ascending keys answers
-pub found : (keys : List ℕ) (key : ℕ) (r : Result ℕ ℕ) → IsBinarySearchResult (λ y. nat_cmp y key) keys r → Ascending keys → IsTrue (is_ok r) ↔ Contains keys key
+pub found : (keys : List ℕ) (key : ℕ) (r : Result ℕ ℕ) → IsBinarySearchResult (λ y. nat_cmp y key) keys r
+    → Ascending keys → IsTrue (is_ok r) ↔ Contains keys key
 found keys key r search_is asc = go r (searched keys key r search_is rising)
   where
     rising : (i j : ℕ) → i ≤ j → j < length keys → get_or keys i 0 ≤ get_or keys j 0
@@ -168,9 +213,12 @@ found keys key r search_is asc = go r (searched keys key r search_is rising)
       where
         by : (i < j) ⊎ (j ≤ i) → get_or keys i 0 ≤ get_or keys j 0
         by (inl less) = let h : get_or keys i 0 < get_or keys j 0 = asc i j less lt in omega arith
-        by (inr same) = let e : i ≡ j = omega arith in let f : get_or keys i 0 ≡ get_or keys j 0 = ap (λ (k : ℕ). get_or keys k 0) e in omega arith
+        by (inr same) = let e : i ≡ j = omega arith in let f : get_or keys i 0 ≡ get_or keys j 0 =
+            ap (λ (k : ℕ). get_or keys k 0) e in omega arith
 
-    go : (s : Result ℕ ℕ) → MatchResult s (λ i. (i < length keys) × (get_or keys i 0 ≡ key)) (λ i. (i ≤ length keys) × ((k : ℕ) → k < i → get_or keys k 0 < key) × ((k : ℕ) → i ≤ k → k < length keys → key < get_or keys k 0)) → IsTrue (is_ok s) ↔ Contains keys key
+    go : (s : Result ℕ ℕ) → MatchResult s (λ i. (i < length keys) × (get_or keys i 0 ≡ key)) (λ i. (i ≤ length keys)
+        × ((k : ℕ) → k < i → get_or keys k 0 < key) × ((k : ℕ) → i ≤ k → k < length keys → key < get_or keys k 0))
+        → IsTrue (is_ok s) ↔ Contains keys key
     go (Ok i) w = (λ _. (i, w.0, get_or_same keys i key 0 w.0 ∙ w.1), λ _. refl)
     go (Err i) w = (λ t. absurd (false≢true t), λ has. absurd (miss (contains_at keys key has)))
       where

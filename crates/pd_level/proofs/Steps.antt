@@ -5,10 +5,11 @@ use Rattle.pd_model.specs.Events.{Computation, event_count}
 use Rattle.pd_model.specs.Cuts.{IsConsistent, one_more}
 use Rattle.pd_level.specs.Keys.{key_of, digits, AreDigits, Ascending, AreCuts, IsMoreBy}
 use Rattle.pd_level.proofs.Keys.{more_is, get_or_same, key_below, weight_le}
-use Rattle.pd_level.proofs.Merges.{front_more, push_iff, ascending_push}
+use Rattle.pd_level.proofs.Merges.{prefix_more, push_iff, ascending_push}
 
 -- consistent counts are digits
-pub cut_digits : (c : Computation) (cut : List ℕ) → ((q : ℕ) → event_count c q ≤ 10000) → IsConsistent c cut → AreDigits cut
+pub cut_digits : (c : Computation) (cut : List ℕ) → ((q : ℕ) → event_count c q ≤ 10000) → IsConsistent c cut
+    → AreDigits cut
 cut_digits c cut small ok k d lt =
     let same : get_or cut k d ≡ get_or cut k 0 = get_or_same cut k d 0 lt in
     let within : get_or cut k 0 ≤ event_count c k = ok.fits.within k in
@@ -16,7 +17,8 @@ cut_digits c cut small ok k d lt =
     omega arith
 
 -- and their number has as many digits as there are processes
-pub cut_below : (c : Computation) (cut : List ℕ) → ((q : ℕ) → event_count c q ≤ 10000) → IsConsistent c cut → key_of cut < 65536 ^ length c
+pub cut_below : (c : Computation) (cut : List ℕ) → ((q : ℕ) → event_count c q ≤ 10000) → IsConsistent c cut
+    → key_of cut < 65536 ^ length c
 cut_below c cut small ok =
     subst (λ (n : ℕ). key_of cut < 65536 ^ n) ok.fits.one_each (key_below cut (cut_digits c cut small ok))
 
@@ -31,14 +33,19 @@ abbrev pub MakesCut : Computation → List ℕ → ℕ → ℕ → Type 0
 MakesCut c keys p i = IsConsistent c (one_more (digits (length c) (get_or keys i 0)) p)
 
 -- the number of the cut that is made fits
-pub room : (c : Computation) (keys : List ℕ) (p i : ℕ) → ((q : ℕ) → event_count c q ≤ 10000) → AreCuts c keys → p < length c → length c ≤ 8 → i < length keys → MakesCut c keys p i → get_or keys i 0 + 65536 ^ (length c - 1 - p) < 65536 ^ 8
+pub room : (c : Computation) (keys : List ℕ) (p i : ℕ) → ((q : ℕ) → event_count c q ≤ 10000) → AreCuts c keys
+    → p < length c → length c ≤ 8 → i < length keys → MakesCut c keys p i → get_or keys i 0 + 65536 ^ (length c - 1 - p)
+    < 65536 ^ 8
 room c keys p i small cuts within few lt makes =
-    let made : key_of (one_more (digits (length c) (get_or keys i 0)) p) ≡ get_or keys i 0 + 65536 ^ (length c - 1 - p) = more_is (length c) (get_or keys i 0) p within (cuts.are_keys.below i lt) in
-    let below : key_of (one_more (digits (length c) (get_or keys i 0)) p) < 65536 ^ length c = cut_below c (one_more (digits (length c) (get_or keys i 0)) p) small makes in
+    let made : key_of (one_more (digits (length c) (get_or keys i 0)) p) ≡ get_or keys i 0
+    + 65536 ^ (length c - 1 - p) = more_is (length c) (get_or keys i 0) p within (cuts.are_keys.below i lt) in
+    let below : key_of (one_more (digits (length c) (get_or keys i 0)) p) < 65536 ^ length c =
+    cut_below c (one_more (digits (length c) (get_or keys i 0)) p) small makes in
     let most : 65536 ^ length c ≤ 65536 ^ 8 = weight_le (length c) 8 few in
     omega arith
 
-pub step_no : (c : Computation) (keys : List ℕ) (p i : ℕ) (more : List ℕ) → AreCuts c keys → i < length keys → (MakesCut c keys p i → ⊥) → IsMoreSo c keys p i more → IsMoreSo c keys p (i + 1) more
+pub step_no : (c : Computation) (keys : List ℕ) (p i : ℕ) (more : List ℕ) → AreCuts c keys → i < length keys
+    → (MakesCut c keys p i → ⊥) → IsMoreSo c keys p i more → IsMoreSo c keys p (i + 1) more
 step_no c keys p i more cuts lt fails m = record {
   ascending = m.ascending;
   just = λ x. (λ has. to x ((m.just x).0 has), λ w. (m.just x).1 (from x w));
@@ -49,39 +56,52 @@ step_no c keys p i more cuts lt fails m = record {
 }
   where
     to : (x : ℕ) → IsMoreBy c (take i keys) p x → IsMoreBy c (take (i + 1) keys) p x
-    to x w = (w.0, (front_more keys i w.0 lt).1 (inl w.1), w.2, w.3)
+    to x w = (w.0, (prefix_more keys i w.0 lt).1 (inl w.1), w.2, w.3)
 
     from : (x : ℕ) → IsMoreBy c (take (i + 1) keys) p x → IsMoreBy c (take i keys) p x
-    from x w = go ((front_more keys i w.0 lt).0 w.1)
+    from x w = go ((prefix_more keys i w.0 lt).0 w.1)
       where
         go : Contains (take i keys) w.0 ⊎ (get_or keys i 0 ≡ w.0) → IsMoreBy c (take i keys) p x
         go (inl old) = (w.0, old, w.2, w.3)
-        go (inr e) = absurd (fails (subst (λ (key : ℕ). IsConsistent c (one_more (digits (length c) key) p)) (sym e) w.2))
+        go (inr e) =
+            absurd (fails (subst (λ (key : ℕ). IsConsistent c (one_more (digits (length c) key) p)) (sym e) w.2))
 
-pub step_yes : (c : Computation) (keys : List ℕ) (p i : ℕ) (more : List ℕ) → AreCuts c keys → p < length c → i < length keys → MakesCut c keys p i → IsMoreSo c keys p i more → IsMoreSo c keys p (i + 1) (more ++ (get_or keys i 0 + 65536 ^ (length c - 1 - p)) ∷ [])
+pub step_yes : (c : Computation) (keys : List ℕ) (p i : ℕ) (more : List ℕ) → AreCuts c keys → p < length c
+    → i < length keys → MakesCut c keys p i → IsMoreSo c keys p i more
+    → IsMoreSo c keys p (i + 1) (more ++ (get_or keys i 0 + 65536 ^ (length c - 1 - p)) ∷ [])
 step_yes c keys p i more cuts within lt makes m = record {
-  ascending = ascending_push more (get_or keys i 0 + 65536 ^ (length c - 1 - p)) m.ascending (λ x has. m.later x has lt);
-  just = λ x. (λ has. to x ((push_iff more (get_or keys i 0 + 65536 ^ (length c - 1 - p)) x).0 has), λ w. (push_iff more (get_or keys i 0 + 65536 ^ (length c - 1 - p)) x).1 (from x w));
-  later = λ x has next. after x (cuts.are_keys.ascending i (i + 1) (omega arith) next) ((push_iff more (get_or keys i 0 + 65536 ^ (length c - 1 - p)) x).0 has);
+  ascending =
+      ascending_push more (get_or keys i 0 + 65536 ^ (length c - 1 - p)) m.ascending (λ x has. m.later x has lt);
+  just = λ x. (
+    λ has. to x ((push_iff more (get_or keys i 0 + 65536 ^ (length c - 1 - p)) x).0 has),
+    λ w. (push_iff more (get_or keys i 0 + 65536 ^ (length c - 1 - p)) x).1 (from x w),
+  );
+  later = λ x has next. after x (cuts.are_keys.ascending i (i + 1) (omega arith) next)
+      ((push_iff more (get_or keys i 0 + 65536 ^ (length c - 1 - p)) x).0 has);
 }
   where
     made : key_of (one_more (digits (length c) (get_or keys i 0)) p) ≡ get_or keys i 0 + 65536 ^ (length c - 1 - p)
     made = more_is (length c) (get_or keys i 0) p within (cuts.are_keys.below i lt)
 
-    after : (x : ℕ) → get_or keys i 0 < get_or keys (i + 1) 0 → Contains more x ⊎ (get_or keys i 0 + 65536 ^ (length c - 1 - p) ≡ x) → x < get_or keys (i + 1) 0 + 65536 ^ (length c - 1 - p)
-    after x up (inl old) = let before : x < get_or keys i 0 + 65536 ^ (length c - 1 - p) = m.later x old lt in omega arith
+    after : (x : ℕ) → get_or keys i 0 < get_or keys (i + 1) 0 → Contains more x
+        ⊎ (get_or keys i 0 + 65536 ^ (length c - 1 - p) ≡ x) → x < get_or keys (i + 1) 0 + 65536 ^ (length c - 1 - p)
+    after x up (inl old) = let before : x < get_or keys i 0 + 65536 ^ (length c - 1 - p) = m.later x old lt in
+        omega arith
     after x up (inr e) = omega arith
 
-    to : (x : ℕ) → Contains more x ⊎ (get_or keys i 0 + 65536 ^ (length c - 1 - p) ≡ x) → IsMoreBy c (take (i + 1) keys) p x
+    to : (x : ℕ) → Contains more x ⊎ (get_or keys i 0 + 65536 ^ (length c - 1 - p) ≡ x)
+        → IsMoreBy c (take (i + 1) keys) p x
     to x (inl old) =
         let w : IsMoreBy c (take i keys) p x = (m.just x).0 old in
-        (w.0, (front_more keys i w.0 lt).1 (inl w.1), w.2, w.3)
-    to x (inr e) = (get_or keys i 0, (front_more keys i (get_or keys i 0) lt).1 (inr refl), makes, sym e ∙ sym made)
+        (w.0, (prefix_more keys i w.0 lt).1 (inl w.1), w.2, w.3)
+    to x (inr e) = (get_or keys i 0, (prefix_more keys i (get_or keys i 0) lt).1 (inr refl), makes, sym e ∙ sym made)
 
-    from : (x : ℕ) → IsMoreBy c (take (i + 1) keys) p x → Contains more x ⊎ (get_or keys i 0 + 65536 ^ (length c - 1 - p) ≡ x)
-    from x w = go ((front_more keys i w.0 lt).0 w.1)
+    from : (x : ℕ) → IsMoreBy c (take (i + 1) keys) p x → Contains more x
+        ⊎ (get_or keys i 0 + 65536 ^ (length c - 1 - p) ≡ x)
+    from x w = go ((prefix_more keys i w.0 lt).0 w.1)
       where
-        go : Contains (take i keys) w.0 ⊎ (get_or keys i 0 ≡ w.0) → Contains more x ⊎ (get_or keys i 0 + 65536 ^ (length c - 1 - p) ≡ x)
+        go : Contains (take i keys) w.0 ⊎ (get_or keys i 0 ≡ w.0) → Contains more x
+            ⊎ (get_or keys i 0 + 65536 ^ (length c - 1 - p) ≡ x)
         go (inl old) = inl ((m.just x).1 (w.0, old, w.2, w.3))
         go (inr e) = inr (sym made ∙ (ap (λ (key : ℕ). key_of (one_more (digits (length c) key) p)) e ∙ sym w.3))
 
@@ -91,16 +111,22 @@ pub record IsMoreUpTo (c : Computation) (keys : List ℕ) (p : ℕ) (more : List
   pub just : (x : ℕ) → Contains more x ↔ ((q : ℕ) × (q < p) × IsMoreBy c keys q x)
 
 -- process 0 alone
-pub first_one : (c : Computation) (keys more : List ℕ) → Ascending more → ((x : ℕ) → Contains more x ↔ IsMoreBy c keys 0 x) → IsMoreUpTo c keys 1 more
+pub first_one : (c : Computation) (keys more : List ℕ) → Ascending more
+    → ((x : ℕ) → Contains more x ↔ IsMoreBy c keys 0 x) → IsMoreUpTo c keys 1 more
 first_one c keys more asc just = record {
   ascending = asc;
-  just = λ x. (λ has. (0, omega arith, (just x).0 has), λ w. (just x).1 (subst (λ (q : ℕ). IsMoreBy c keys q x) (zero_is w.0 w.1) w.2));
+  just = λ x. (
+    λ has. (0, omega arith, (just x).0 has),
+    λ w. (just x).1 (subst (λ (q : ℕ). IsMoreBy c keys q x) (zero_is w.0 w.1) w.2),
+  );
 }
   where
     zero_is : (q : ℕ) → q < 1 → q ≡ 0
     zero_is q lt = omega arith
 
-pub up_to_more : (c : Computation) (keys : List ℕ) (p : ℕ) (more by_one both : List ℕ) → IsMoreUpTo c keys p more → ((x : ℕ) → Contains by_one x ↔ IsMoreBy c keys p x) → Ascending both → ((x : ℕ) → Contains both x ↔ (Contains more x ⊎ Contains by_one x)) → IsMoreUpTo c keys (p + 1) both
+pub up_to_more : (c : Computation) (keys : List ℕ) (p : ℕ) (more by_one both : List ℕ) → IsMoreUpTo c keys p more
+    → ((x : ℕ) → Contains by_one x ↔ IsMoreBy c keys p x) → Ascending both
+    → ((x : ℕ) → Contains both x ↔ (Contains more x ⊎ Contains by_one x)) → IsMoreUpTo c keys (p + 1) both
 up_to_more c keys p more by_one both old one asc just = record {
   ascending = asc;
   just = λ x. (λ has. to x ((just x).0 has), λ w. (just x).1 (from x w));

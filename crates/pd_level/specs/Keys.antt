@@ -39,4 +39,5 @@ pub record AreCuts (c : Computation) (keys : List ℕ) : Type 0 where
 -- one more event of process p makes this cut of one of those
 abbrev pub IsMoreBy : Computation → List ℕ → ℕ → ℕ → Type 0
 IsMoreBy c keys p x =
-    (key : ℕ) × Contains keys key × IsConsistent c (one_more (digits (length c) key) p) × (x ≡ key_of (one_more (digits (length c) key) p))
+    (key : ℕ) × Contains keys key × IsConsistent c (one_more (digits (length c) key) p)
+    × (x ≡ key_of (one_more (digits (length c) key) p))

@@ -6,12 +6,14 @@ ghost use Rattle.std.specs.Prelude.{◌^◌, ◌<◌, ◌↔◌, IsTrue, length}
 use super::key::digit;
 use pd_clock::{Computation, Place};
 
-/// Whether one more event of process `p` leaves a cut: where there is one, and it is no receipt or its send is in the cut.
+/// Whether one more event of process `p` leaves a cut: where there is one, and it is no receipt or its send is in the
+/// cut.
 pub(crate) fn can_add(computation: &Computation<'_>, key: u128, p: usize) -> bool
     requires within { p < length computation.now.events }
     requires below { key < 65536 ^ length computation.now.events }
     requires cut { IsConsistent computation.now.events (digits (length computation.now.events) key) }
-    ensures { IsTrue result ↔ IsConsistent computation.now.events (one_more (digits (length computation.now.events) key) p) }
+    ensures { IsTrue result ↔ IsConsistent computation.now.events
+        (one_more (digits (length computation.now.events) key) p) }
 {
     computation.limits();
     let processes = computation.processes();

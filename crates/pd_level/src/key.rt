@@ -17,7 +17,7 @@ pub(crate) fn pack(counts: &[u64]) -> Option<u128>
     Some(key)
 }
 
-/// The counts of which a number is made, in front of zeros.
+/// The counts of which a number is made, before zeros.
 pub(crate) fn unpack(key: u128, processes: usize) -> [u64; 8]
     requires few { processes ≤ 8 }
     requires below { key < 65536 ^ processes }

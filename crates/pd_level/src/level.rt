@@ -3,7 +3,7 @@ ghost use Rattle.pd_model.specs.Answers.{IsListOf, MoreThan};
 ghost use Rattle.pd_model.specs.Cuts.{IsConsistent, IsNextOf, empty_cut};
 ghost use Rattle.pd_model.specs.Predicates.{test_of};
 ghost use Rattle.pd_level.specs.Levels.{kept_by};
-ghost use Rattle.pd_pred.specs.Views.{predicate_of};
+ghost use Rattle.pd_pred.specs.Views.{predicate_view};
 ghost use Rattle.std.specs.Prelude.{◌≡◌, ◌+◌, ◌<◌, ◌≤◌, ◌==◌, ◌↔◌, All, Contains, IfOk, IfSome, IsTrue, List, [], ◌∷◌, Some, length, min, slice_get};
 
 use super::LevelFault;
@@ -49,11 +49,11 @@ impl Level {
         })
     }
 
-    /// The cuts that have one event more than one of the level's, in lexicographic order: at most `width` of them. The number
-    /// stays at the greatest `u64` once it is there.
+    /// The cuts that have one event more than one of the level's, in lexicographic order: at most `width` of them. The
+    /// number stays at the greatest `u64` once it is there.
     ///
-    /// `Wide` says that there are more, and `Memory` that an allocation was refused. The level itself stays as it is. No process
-    /// may have more than 10,000 events, so that each count is a digit.
+    /// `Wide` says that there are more, and `Memory` that an allocation was refused. The level itself stays as it is.
+    /// No process may have more than 10,000 events, so that each count is a digit.
     pub fn next(
         alloc: Global,
         computation: &Computation<'_>,
@@ -113,7 +113,8 @@ impl Level {
     pub fn holds(&self, computation: &Computation<'_>, pred: &Pred, i: usize) -> bool
         requires within { i < length self.now.cuts }
         requires cuts { All (IsConsistent computation.now.events) self.now.cuts }
-        ensures { IfSome (slice_get self.now.cuts i) (λ cut. result ≡ test_of computation.now (predicate_of pred.now) cut) }
+        ensures { IfSome (slice_get self.now.cuts i) (λ cut. result
+            ≡ test_of computation.now (predicate_view pred.now) cut) }
     {
         let state = KeyState::new(computation, self.keys[i], self.processes);
         pred.holds(&state)
@@ -133,8 +134,8 @@ impl Level {
         }
     }
 
-    /// Keeps the cuts whose mark is the one that is wanted, in their order. There is one mark for each cut. The number stays,
-    /// and no memory is taken.
+    /// Keeps the cuts whose mark is the one that is wanted, in their order. There is one mark for each cut. The number
+    /// stays, and no memory is taken.
     pub fn keep(&mut self, marks: &[bool], wanted: bool)
         requires { length marks.now ≡ length self.old.cuts }
         ensures cuts { self.new.cuts ≡ kept_by wanted marks.now self.old.cuts }

@@ -20,7 +20,8 @@ fn more_by(
     requires small { (q : ℕ) → event_count computation.now.events q ≤ 10000 }
     requires cuts { AreCuts computation.now.events keys.now }
     ensures ascending { IfOk result (λ more. Ascending more.items) }
-    ensures just { IfOk result (λ more. (x : ℕ) → Contains more.items x ↔ IsMoreBy computation.now.events keys.now p x) }
+    ensures just { IfOk result (λ more. (x : ℕ) → Contains more.items x ↔ IsMoreBy computation.now.events keys.now p x)
+        }
 {
     computation.limits();
     let added = weight(computation.processes(), p);
@@ -42,7 +43,8 @@ pub(crate) fn more_by_any(
     requires small { (q : ℕ) → event_count computation.now.events q ≤ 10000 }
     requires cuts { AreCuts computation.now.events keys.now }
     ensures ascending { IfOk result (λ more. Ascending more.items) }
-    ensures just { IfOk result (λ more. (x : ℕ) → Contains more.items x ↔ ((p : ℕ) × (p < length computation.now.events) × IsMoreBy computation.now.events keys.now p x)) }
+    ensures just { IfOk result (λ more. (x : ℕ) → Contains more.items x
+        ↔ ((p : ℕ) × (p < length computation.now.events) × IsMoreBy computation.now.events keys.now p x)) }
 {
     computation.limits();
     let mut more = more_by(alloc, computation, keys, 0)?;

@@ -11,8 +11,8 @@ use Rattle.pd_model.specs.Messages.{IsMessage, IsMessageList}
 use Rattle.pd_model.proofs.Chains.{event_from_kind}
 use Rattle.pd_model.proofs.Consistency.{process_in_range}
 use Rattle.pd_match.specs.declared.place.Place.{Place}
-use Rattle.pd_match.specs.Views.{place_seen}
-use Rattle.pd_match.specs.Noted.{event_place, items_in, kept, row_of, sender_at, sender_told}
+use Rattle.pd_match.specs.Views.{place_view}
+use Rattle.pd_match.specs.Noted.{event_place, items_in, kept, row_at, sender_at, sender_view}
 use Rattle.pd_match.specs.Progress.{PairsBefore, RowTells, RowsTell}
 use Rattle.pd_match.proofs.Places.{before_more, before_next, before_next_process, before_process_end, here_before_next, none_before_first, each_before_end}
 
@@ -20,7 +20,8 @@ use Rattle.pd_match.proofs.Places.{before_more, before_next, before_next_process
 receipt_event : (c : Computation) (d e : events.Place) → IsMessage c d e → IsEvent c e
 receipt_event c d e m = event_from_kind c e (Receive m.0) m.2
 
-linked_push : {A : Type 0} (R : A → A → Type 0) (xs : List A) (y : A) → Linked R xs → ((x : A) → Contains xs x → R x y) → Linked R (xs ++ y ∷ [])
+linked_push : {A : Type 0} (R : A → A → Type 0) (xs : List A) (y : A) → Linked R xs → ((x : A) → Contains xs x → R x y)
+    → Linked R (xs ++ y ∷ [])
 linked_push R [] y l h = tt
 linked_push R (x ∷ []) y l h = (h x (Contains-get_or (x ∷ []) 0 x (omega arith)), tt)
 linked_push R (x ∷ z ∷ rest) y l h =
@@ -33,58 +34,92 @@ append_none (x ∷ xs) = ap (λ ys. x ∷ ys) (append_none xs)
 pub pairs_first : (c : Computation) → PairsBefore c (event_place 0 0) []
 pairs_first c = record {
   ascending = tt;
-  just = λ d e. (λ w. absurd (let lt : w.0 < 0 = w.1 in omega arith), λ m. absurd (none_before_first c e (receipt_event c d e m.0) m.1));
+  just = λ d e. (
+    λ w. absurd (let lt : w.0 < 0 = w.1 in omega arith),
+    λ m. absurd (none_before_first c e (receipt_event c d e m.0) m.1),
+  );
 }
 
-pub pairs_process : (c : Computation) (p : ℕ) (pairs : List (events.Place × events.Place)) → PairsBefore c (event_place p (event_count c p)) pairs → PairsBefore c (event_place (suc p) 0) pairs
+pub pairs_process : (c : Computation) (p : ℕ) (pairs : List (events.Place × events.Place))
+    → PairsBefore c (event_place p (event_count c p)) pairs → PairsBefore c (event_place (suc p) 0) pairs
 pairs_process c p pairs so_far = record {
   ascending = so_far.ascending;
-  just = λ d e. (λ w. let m = (so_far.just d e).0 w in (m.0, before_next_process c e p m.1), λ m. (so_far.just d e).1 (m.0, before_process_end c e p (receipt_event c d e m.0) m.1));
+  just = λ d e. (
+    λ w. let m = (so_far.just d e).0 w in (m.0, before_next_process c e p m.1),
+    λ m. (so_far.just d e).1 (m.0, before_process_end c e p (receipt_event c d e m.0) m.1),
+  );
 }
 
-pub pairs_all : (c : Computation) (pairs : List (events.Place × events.Place)) → PairsBefore c (event_place (length c) 0) pairs → IsMessageList c pairs
+pub pairs_all : (c : Computation) (pairs : List (events.Place × events.Place))
+    → PairsBefore c (event_place (length c) 0) pairs → IsMessageList c pairs
 pairs_all c pairs so_far = record {
   ascending = so_far.ascending;
-  just = λ d e. (λ w. ((so_far.just d e).0 w).0, λ m. (so_far.just d e).1 (m, each_before_end c e (receipt_event c d e m)));
+  just = λ d e. (
+    λ w. ((so_far.just d e).0 w).0,
+    λ m. (so_far.just d e).1 (m, each_before_end c e (receipt_event c d e m)),
+  );
 }
 
-module _ (c : Computation) (p n : ℕ) (pairs : List (events.Place × events.Place)) (so_far : PairsBefore c (event_place p n) pairs) where
+module _ (c : Computation) (p n : ℕ) (pairs : List (events.Place × events.Place))
+    (so_far : PairsBefore c (event_place p n) pairs) where
   after_none : ((d : events.Place) → ¬ IsMessage c d (event_place p n)) → PairsBefore c (event_place p (suc n)) pairs
   after_none none = record {
     ascending = so_far.ascending;
-    just = λ d e. (λ w. let m = (so_far.just d e).0 w in (m.0, before_more e p n m.1), λ m. (so_far.just d e).1 (m.0, go d e m.0 (before_next e p n m.1)));
+    just = λ d e. (
+      λ w. let m = (so_far.just d e).0 w in (m.0, before_more e p n m.1),
+      λ m. (so_far.just d e).1 (m.0, go d e m.0 (before_next e p n m.1)),
+    );
   }
     where
-      go : (d e : events.Place) → IsMessage c d e → IsBefore e (event_place p n) ⊎ (e ≡ event_place p n) → IsBefore e (event_place p n)
+      go : (d e : events.Place) → IsMessage c d e → IsBefore e (event_place p n) ⊎ (e ≡ event_place p n)
+          → IsBefore e (event_place p n)
       go d e m (inl b) = b
       go d e m (inr at) = absurd (none d (subst (λ f. IsMessage c d f) at m))
 
-  after_some : (send : events.Place) → ((d : events.Place) → (Some send ≡ Some d) ↔ IsMessage c d (event_place p n)) → PairsBefore c (event_place p (suc n)) (pairs ++ (send, event_place p n) ∷ [])
+  after_some : (send : events.Place) → ((d : events.Place) → (Some send ≡ Some d) ↔ IsMessage c d (event_place p n))
+      → PairsBefore c (event_place p (suc n)) (pairs ++ (send, event_place p n) ∷ [])
   after_some send is = record {
-    ascending = linked_push (λ (earlier later : events.Place × events.Place). IsBefore earlier.1 later.1) pairs (send, event_place p n) so_far.ascending (λ x w. ((so_far.just x.0 x.1).0 w).1);
-    just = λ d e. (λ w. from d e (Contains-push_cases pairs (send, event_place p n) (d, e) w), λ m. to d e m.0 (before_next e p n m.1));
+    ascending = linked_push (λ (earlier later : events.Place × events.Place). IsBefore earlier.1 later.1) pairs (
+      send,
+      event_place p n,
+    ) so_far.ascending (λ x w. ((so_far.just x.0 x.1).0 w).1);
+    just = λ d e. (
+      λ w. from d e (Contains-push_cases pairs (send, event_place p n) (d, e) w),
+      λ m. to d e m.0 (before_next e p n m.1),
+    );
   }
     where
-      from : (d e : events.Place) → Contains pairs (d, e) ⊎ (◌≡◌ {A = events.Place × events.Place} (send, event_place p n) (d, e)) → IsMessage c d e × IsBefore e (event_place p (suc n))
+      from : (d e : events.Place) → Contains pairs (d, e)
+          ⊎ (◌≡◌ {A = events.Place × events.Place} (send, event_place p n) (d, e)) → IsMessage c d e
+          × IsBefore e (event_place p (suc n))
       from d e (inl w) = let m = (so_far.just d e).0 w in (m.0, before_more e p n m.1)
       from d e (inr at) =
           let first : send ≡ d = ap (λ (x : events.Place × events.Place). x.0) at in
-          let second : event_place p n ≡ e = ap (λ (x : events.Place × events.Place). x.1) at in
-          (subst (λ f. IsMessage c d f) second ((is d).0 (ap Some first)), subst (λ f. IsBefore f (event_place p (suc n))) second (here_before_next p n))
+          let second : event_place p n ≡ e = ap (λ (x : events.Place × events.Place). x.1) at in (
+            subst (λ f. IsMessage c d f) second ((is d).0 (ap Some first)),
+            subst (λ f. IsBefore f (event_place p (suc n))) second (here_before_next p n),
+          )
 
-      to : (d e : events.Place) → IsMessage c d e → IsBefore e (event_place p n) ⊎ (e ≡ event_place p n) → Contains (pairs ++ (send, event_place p n) ∷ []) (d, e)
+      to : (d e : events.Place) → IsMessage c d e → IsBefore e (event_place p n) ⊎ (e ≡ event_place p n)
+          → Contains (pairs ++ (send, event_place p n) ∷ []) (d, e)
       to d e m (inl b) =
           Contains-append_left pairs ((send, event_place p n) ∷ []) (d, e) ((so_far.just d e).1 (m, b))
       to d e m (inr at) =
           let one : send ≡ d = same_Some _ _ ((is d).1 (subst (λ f. IsMessage c d f) at m)) in
-          subst (λ x. Contains (pairs ++ (send, event_place p n) ∷ []) x) (let both : ◌≡◌ {A = events.Place × events.Place} (send, event_place p n) (d, e) = cc in both) (Contains-push pairs (send, event_place p n))
+          subst (λ x. Contains (pairs ++ (send, event_place p n) ∷ []) x)
+          (let both : ◌≡◌ {A = events.Place × events.Place} (send, event_place p n) (d, e) =
+          cc in both) (Contains-push pairs (send, event_place p n))
 
-  pub pairs_next : (sender : Option events.Place) → ((d : events.Place) → (sender ≡ Some d) ↔ IsMessage c d (event_place p n)) → PairsBefore c (event_place p (suc n)) (pairs ++ kept sender (event_place p n))
+  pub pairs_next : (sender : Option events.Place)
+      → ((d : events.Place) → (sender ≡ Some d) ↔ IsMessage c d (event_place p n))
+      → PairsBefore c (event_place p (suc n)) (pairs ++ kept sender (event_place p n))
   pairs_next None is =
-      subst (PairsBefore c (event_place p (suc n))) (sym (append_none pairs)) (after_none (λ d m. let w : None ≡ Some d = (is d).1 m in cc))
+      subst (PairsBefore c (event_place p (suc n))) (sym (append_none pairs))
+      (after_none (λ d m. let w : None ≡ Some d = (is d).1 m in cc))
   pairs_next (Some send) is = after_some send is
 
-get_push_before : {A : Type 0} (xs : List A) (x : A) (k : ℕ) → k < length xs → slice_get (xs ++ x ∷ []) k ≡ slice_get xs k
+get_push_before : {A : Type 0} (xs : List A) (x : A) (k : ℕ) → k < length xs
+    → slice_get (xs ++ x ∷ []) k ≡ slice_get xs k
 get_push_before [] x k lt = absurd (omega arith)
 get_push_before (y ∷ xs) x zero lt = refl
 get_push_before (y ∷ xs) x (suc k) lt = get_push_before xs x k (omega arith)
@@ -101,62 +136,81 @@ length_push xs x n e = length-append xs (x ∷ []) ∙ (add-one (length xs) ∙ 
 pub row_first : (c : Computation) (p : ℕ) → RowTells c p [] 0
 row_first c p = record { same = refl; tells = λ k send lt. absurd (omega arith) }
 
-pub row_next : (c : Computation) (p n : ℕ) (row : List (Option Place)) (sender : Option Place) → RowTells c p row n → ((d : events.Place) → (option_map place_seen sender ≡ Some d) ↔ IsMessage c d (event_place p n)) → RowTells c p (row ++ sender ∷ []) (suc n)
+pub row_next : (c : Computation) (p n : ℕ) (row : List (Option Place)) (sender : Option Place) → RowTells c p row n
+    → ((d : events.Place) → (option_map place_view sender ≡ Some d) ↔ IsMessage c d (event_place p n))
+    → RowTells c p (row ++ sender ∷ []) (suc n)
 row_next c p n row sender so_far is = record {
   same = length_push row sender n so_far.same;
   tells = λ k send lt. go k send (cases_lt k n) lt;
 }
   where
-    go : (k : ℕ) (send : events.Place) → (k < n) ⊎ (n ≤ k) → k < suc n → (sender_told (slice_get (row ++ sender ∷ []) k) ≡ Some send) ↔ IsMessage c send (event_place p k)
+    go : (k : ℕ) (send : events.Place) → (k < n) ⊎ (n ≤ k) → k < suc n
+        → (sender_view (slice_get (row ++ sender ∷ []) k) ≡ Some send) ↔ IsMessage c send (event_place p k)
     go k send (inl lt) top =
         let within : k < length row = let same : length row ≡ n = so_far.same in omega arith in
-        subst (λ o. (sender_told o ≡ Some send) ↔ IsMessage c send (event_place p k)) (sym (get_push_before row sender k within)) (so_far.tells k send lt)
+        subst (λ o. (sender_view o ≡ Some send) ↔ IsMessage c send (event_place p k))
+        (sym (get_push_before row sender k within)) (so_far.tells k send lt)
     go k send (inr le) top =
         let here : k ≡ n = omega arith in
         let last : k ≡ length row = here ∙ sym so_far.same in
-        subst (λ o. (sender_told o ≡ Some send) ↔ IsMessage c send (event_place p k)) (sym (get_push_last row sender k last)) (subst (λ j. (option_map place_seen sender ≡ Some send) ↔ IsMessage c send (event_place p j)) (sym here) (is send))
+        subst (λ o. (sender_view o ≡ Some send) ↔ IsMessage c send (event_place p k))
+        (sym (get_push_last row sender k last)) (subst (λ j. (option_map place_view sender ≡ Some send)
+        ↔ IsMessage c send (event_place p j)) (sym here) (is send))
 
 pub rows_first : (c : Computation) → RowsTell c [] 0
 rows_first c = record { same = refl; tell = λ q lt. absurd (omega arith) }
 
-pub rows_next : (c : Computation) (p : ℕ) (rows : List (Vec (Option Place) Global)) (row : Vec (Option Place) Global) → RowsTell c rows p → RowTells c p row.items (event_count c p) → RowsTell c (rows ++ row ∷ []) (suc p)
+pub rows_next : (c : Computation) (p : ℕ) (rows : List (Vec (Option Place) Global)) (row : Vec (Option Place) Global)
+    → RowsTell c rows p → RowTells c p row.items (event_count c p) → RowsTell c (rows ++ row ∷ []) (suc p)
 rows_next c p rows row so_far is = record {
   same = length_push rows row p so_far.same;
   tell = λ q lt. go q (cases_lt q p) lt;
 }
   where
-    go : (q : ℕ) → (q < p) ⊎ (p ≤ q) → q < suc p → RowTells c q (row_of (rows ++ row ∷ []) q) (event_count c q)
+    go : (q : ℕ) → (q < p) ⊎ (p ≤ q) → q < suc p → RowTells c q (row_at (rows ++ row ∷ []) q) (event_count c q)
     go q (inl lt) top =
         let within : q < length rows = let same : length rows ≡ p = so_far.same in omega arith in
-        subst (λ o. RowTells c q (items_in o) (event_count c q)) (sym (get_push_before rows row q within)) (so_far.tell q lt)
+        subst (λ o. RowTells c q (items_in o) (event_count c q)) (sym (get_push_before rows row q within))
+        (so_far.tell q lt)
     go q (inr le) top =
         let here : q ≡ p = omega arith in
         let last : q ≡ length rows = here ∙ sym so_far.same in
-        subst (λ o. RowTells c q (items_in o) (event_count c q)) (sym (get_push_last rows row q last)) (subst (λ j. RowTells c j row.items (event_count c j)) (sym here) is)
+        subst (λ o. RowTells c q (items_in o) (event_count c q)) (sym (get_push_last rows row q last))
+        (subst (λ j. RowTells c j row.items (event_count c j)) (sym here) is)
 
 -- the whole table has the sender of each receipt, and none elsewhere
 module _ (c : Computation) (rows : List (Vec (Option Place) Global)) (whole : RowsTell c rows (length c)) where
-  told_none : (q n : ℕ) (send : events.Place) → sender_at rows (place q n) ≡ None → ¬ IsEvent c (place q n) → (sender_at rows (place q n) ≡ Some send) ↔ IsMessage c send (place q n)
-  told_none q n send none not =
+  reported_none : (q n : ℕ) (send : events.Place) → sender_at rows (place q n) ≡ None → ¬ IsEvent c (place q n)
+      → (sender_at rows (place q n) ≡ Some send) ↔ IsMessage c send (place q n)
+  reported_none q n send none not =
       (λ e. let w : None ≡ Some send = sym none ∙ e in cc, λ m. absurd (not (receipt_event c send (place q n) m)))
 
-  pub table_tells : (q n : ℕ) (send : events.Place) → (sender_at rows (place q n) ≡ Some send) ↔ IsMessage c send (place q n)
-  table_tells q zero send = told_none q zero send refl (λ is. let w : 1 ≤ 0 = is.0 in omega arith)
+  pub table_tells : (q n : ℕ) (send : events.Place) → (sender_at rows (place q n) ≡ Some send)
+      ↔ IsMessage c send (place q n)
+  table_tells q zero send = reported_none q zero send refl (λ is. let w : 1 ≤ 0 = is.0 in omega arith)
   table_tells q (suc k) send = in_row (cases_lt q (length c))
     where
-      at_index : q < length c → (k < event_count c q) ⊎ (event_count c q ≤ k) → (sender_at rows (place q (suc k)) ≡ Some send) ↔ IsMessage c send (place q (suc k))
+      at_index : q < length c → (k < event_count c q) ⊎ (event_count c q ≤ k)
+          → (sender_at rows (place q (suc k)) ≡ Some send) ↔ IsMessage c send (place q (suc k))
       at_index there (inl lt) = (whole.tell q there).tells k send lt
       at_index there (inr le) =
-          let few : length (row_of rows q) ≡ event_count c q = (whole.tell q there).same in
-          told_none q (suc k) send (ap sender_told (slice_get_past (row_of rows q) k (let past : length (row_of rows q) ≤ k = omega arith in past))) (λ is. let w : suc k ≤ event_count c q = is.1 in omega arith)
+          let few : length (row_at rows q) ≡ event_count c q = (whole.tell q there).same in
+          reported_none q (suc k) send (ap sender_view
+          (slice_get_past (row_at rows q) k (let past : length (row_at rows q) ≤ k = omega arith in past)))
+          (λ is. let w : suc k ≤ event_count c q = is.1 in omega arith)
 
-      in_row : (q < length c) ⊎ (length c ≤ q) → (sender_at rows (place q (suc k)) ≡ Some send) ↔ IsMessage c send (place q (suc k))
+      in_row : (q < length c) ⊎ (length c ≤ q) → (sender_at rows (place q (suc k)) ≡ Some send)
+          ↔ IsMessage c send (place q (suc k))
       in_row (inl there) = at_index there (cases_lt k (event_count c q))
       in_row (inr past) =
-          let none : slice_get rows q ≡ None = slice_get_past rows q (let same : length rows ≡ length c = whole.same in omega arith) in
-          told_none q (suc k) send (ap (λ o. sender_told (slice_get (items_in o) k)) none ∙ ap sender_told (slice_get_past [] k (omega arith))) (λ is. let w : q < length c = process_in_range c (place q (suc k)) is in omega arith)
+          let none : slice_get rows q ≡ None =
+          slice_get_past rows q (let same : length rows ≡ length c = whole.same in omega arith) in
+          reported_none q (suc k) send (ap (λ o. sender_view (slice_get (items_in o) k)) none
+          ∙ ap sender_view (slice_get_past [] k (omega arith))) (λ is. let w : q < length c =
+          process_in_range c (place q (suc k)) is in omega arith)
 
-  pub table_agrees : (pairs : List (events.Place × events.Place)) → IsMessageList c pairs → (send receipt : events.Place) → Contains pairs (send, receipt) ↔ (sender_at rows receipt ≡ Some send)
+  pub table_agrees : (pairs : List (events.Place × events.Place)) → IsMessageList c pairs
+      → (send receipt : events.Place) → Contains pairs (send, receipt) ↔ (sender_at rows receipt ≡ Some send)
   table_agrees pairs all send receipt =
-      let told = table_tells receipt.process receipt.number send in
-      (λ w. told.1 ((all.just send receipt).0 w), λ e. (all.just send receipt).1 (told.0 e))
+      let reported = table_tells receipt.process receipt.number send in
+      (λ w. reported.1 ((all.just send receipt).0 w), λ e. (all.just send receipt).1 (reported.0 e))

@@ -23,7 +23,8 @@ before_more d p n (inr (e, h)) = inr (e, omega arith)
 pub here_before_next : (p n : ℕ) → IsBefore (event_place p n) (event_place p (suc n))
 here_before_next p n = inr (refl, omega arith)
 
-pub before_next : (d : Place) (p n : ℕ) → IsBefore d (event_place p (suc n)) → IsBefore d (event_place p n) ⊎ (d ≡ event_place p n)
+pub before_next : (d : Place) (p n : ℕ) → IsBefore d (event_place p (suc n)) → IsBefore d (event_place p n)
+    ⊎ (d ≡ event_place p n)
 before_next d p n (inl h) = inl (inl h)
 before_next d p n (inr (e, h)) = go (cases_lt d.number (suc n))
   where
@@ -32,12 +33,14 @@ before_next d p n (inr (e, h)) = go (cases_lt d.number (suc n))
     go (inr l) = inr (same_place d (event_place p n) e (omega arith))
 
 -- what is before the end of a process is before the next process
-pub before_next_process : (c : Computation) (d : Place) (p : ℕ) → IsBefore d (event_place p (event_count c p)) → IsBefore d (event_place (suc p) 0)
+pub before_next_process : (c : Computation) (d : Place) (p : ℕ) → IsBefore d (event_place p (event_count c p))
+    → IsBefore d (event_place (suc p) 0)
 before_next_process c d p (inl h) = inl (omega arith)
 before_next_process c d p (inr (e, h)) = inl (omega arith)
 
 -- and so is an event
-pub before_process_end : (c : Computation) (d : Place) (p : ℕ) → IsEvent c d → IsBefore d (event_place (suc p) 0) → IsBefore d (event_place p (event_count c p))
+pub before_process_end : (c : Computation) (d : Place) (p : ℕ) → IsEvent c d → IsBefore d (event_place (suc p) 0)
+    → IsBefore d (event_place p (event_count c p))
 before_process_end c d p is (inl h) = go (cases_lt d.process p)
   where
     go : (d.process < p) ⊎ (p ≤ d.process) → IsBefore d (event_place p (event_count c p))

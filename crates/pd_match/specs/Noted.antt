@@ -8,7 +8,7 @@ use Rattle.pd_model.specs.Events as events
 use Rattle.pd_model.specs.Messages.{IsBadReceipt}
 use Rattle.pd_model.specs.Messages as messages
 use Rattle.pd_match.specs.declared.place.Place.{Place}
-use Rattle.pd_match.specs.Views.{place_seen}
+use Rattle.pd_match.specs.Views.{place_view}
 
 -- the place of a process's event with this index, which is counted from 0
 abbrev pub event_place : ℕ → ℕ → events.Place
@@ -16,9 +16,10 @@ event_place p n = place p (suc n)
 
 -- the place that a map has for an id
 abbrev pub place_noted : {S : Type 0} → IndexMap (Bor (List ℕ)) Place S → List ℕ → Option events.Place
-place_noted places id = option_map place_seen (get_by (λ k. bytes_eq id k.now) places)
+place_noted places id = option_map place_view (get_by (λ k. bytes_eq id k.now) places)
 
--- Each id that stands in an event of this sort before this place is noted, with the place of the event, and no other id is.
+-- Each id that stands in an event of this sort before this place is noted, with the place of the event, and no other id
+-- is.
 abbrev pub HasBefore : (List ℕ → Kind) → Computation → events.Place → (List ℕ → Option events.Place) → Type 0
 HasBefore sort c here noted =
     (id : List ℕ) (d : events.Place) → (noted id ≡ Some d) ↔ ((kind_at c d ≡ Some (sort id)) × IsBefore d here)
@@ -31,15 +32,16 @@ HasAll sort c noted = (id : List ℕ) (d : events.Place) → (noted id ≡ Some 
 abbrev pub NoneBadBefore : Computation → events.Place → Type 0
 NoneBadBefore c here = (d : events.Place) → IsBefore d here → ¬ IsBadReceipt c d
 
--- The fault that is told of a receipt: whether its id is sent, and whether it is received before, says which.
-abbrev pub IsToldOf : Option events.Place → Option events.Place → events.Place → Option messages.Fault → Type 0
-IsToldOf sent received here None = Unit {0}
-IsToldOf sent received here (Some (messages.SendTwice e)) = ⊥
-IsToldOf sent received here (Some (messages.Orphan e)) = (e ≡ here) × (sent ≡ None)
-IsToldOf sent received here (Some (messages.SelfMessage e)) =
+-- The fault that is reported of a receipt: whether its id is sent, and whether it is received before, says which.
+abbrev pub IsReportedOf : Option events.Place → Option events.Place → events.Place → Option messages.Fault → Type 0
+IsReportedOf sent received here None = Unit {0}
+IsReportedOf sent received here (Some (messages.SendTwice e)) = ⊥
+IsReportedOf sent received here (Some (messages.Orphan e)) = (e ≡ here) × (sent ≡ None)
+IsReportedOf sent received here (Some (messages.SelfMessage e)) =
     (e ≡ here) × ((send : events.Place) × (sent ≡ Some send) × (send.process ≡ here.process))
-IsToldOf sent received here (Some (messages.ReceivedTwice e)) =
-    (e ≡ here) × ((send : events.Place) × (sent ≡ Some send) × (send.process ≢ here.process)) × (is_some received ≡ true)
+IsReportedOf sent received here (Some (messages.ReceivedTwice e)) =
+    (e ≡ here) × ((send : events.Place) × (sent ≡ Some send) × (send.process ≢ here.process))
+    × (is_some received ≡ true)
 
 -- the pair of a receipt and its send, if there is one
 abbrev pub kept : Option events.Place → events.Place → List (events.Place × events.Place)
@@ -51,13 +53,13 @@ abbrev pub items_in : Option (Vec (Option Place) Global) → List (Option Place)
 items_in None = []
 items_in (Some row) = row.items
 
-abbrev pub row_of : List (Vec (Option Place) Global) → ℕ → List (Option Place)
-row_of rows p = items_in (slice_get rows p)
+abbrev pub row_at : List (Vec (Option Place) Global) → ℕ → List (Option Place)
+row_at rows p = items_in (slice_get rows p)
 
-abbrev pub sender_told : Option (Option Place) → Option events.Place
-sender_told None = None
-sender_told (Some sender) = option_map place_seen sender
+abbrev pub sender_view : Option (Option Place) → Option events.Place
+sender_view None = None
+sender_view (Some sender) = option_map place_view sender
 
 -- the sender that a table of senders has for a receipt
 abbrev pub sender_at : List (Vec (Option Place) Global) → events.Place → Option events.Place
-sender_at rows receipt = sender_told (numbered (row_of rows receipt.process) receipt.number)
+sender_at rows receipt = sender_view (numbered (row_at rows receipt.process) receipt.number)

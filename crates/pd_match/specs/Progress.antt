@@ -5,15 +5,18 @@ use Rattle.pd_model.specs.Events.{Computation, Receive, IsBefore, Linked, event_
 use Rattle.pd_model.specs.Events as events
 use Rattle.pd_model.specs.Messages.{IsMessage}
 use Rattle.pd_match.specs.declared.place.Place.{Place}
-use Rattle.pd_match.specs.Noted.{HasBefore, NoneBadBefore, event_place, row_of, sender_told}
+use Rattle.pd_match.specs.Noted.{HasBefore, NoneBadBefore, event_place, row_at, sender_view}
 
 -- The pairs are the messages whose receipts stand before this place, in the order of the receipts.
-pub record PairsBefore (c : Computation) (here : events.Place) (pairs : List (events.Place × events.Place)) : Type 0 where
+pub record PairsBefore (c : Computation) (here : events.Place) (pairs : List (events.Place × events.Place)) :
+    Type 0 where
   pub ascending : Linked (λ (earlier later : events.Place × events.Place). IsBefore earlier.1 later.1) pairs
-  pub just : (send receipt : events.Place) → Contains pairs (send, receipt) ↔ (IsMessage c send receipt × IsBefore receipt here)
+  pub just : (send receipt : events.Place) → Contains pairs (send, receipt)
+      ↔ (IsMessage c send receipt × IsBefore receipt here)
 
 -- the receipts before this place are noted, none is at fault, and the pairs are theirs
-pub record MatchedBefore (c : Computation) (here : events.Place) (received : List ℕ → Option events.Place) (pairs : List (events.Place × events.Place)) : Type 0 where
+pub record MatchedBefore (c : Computation) (here : events.Place) (received : List ℕ
+    → Option events.Place) (pairs : List (events.Place × events.Place)) : Type 0 where
   pub noted : HasBefore Receive c here received
   pub good : NoneBadBefore c here
   pub matched : PairsBefore c here pairs
@@ -21,9 +24,10 @@ pub record MatchedBefore (c : Computation) (here : events.Place) (received : Lis
 -- the row has the sends of the first so many events of the process
 pub record RowTells (c : Computation) (p : ℕ) (row : List (Option Place)) (n : ℕ) : Type 0 where
   pub same : length row ≡ n
-  pub tells : (k : ℕ) (send : events.Place) → k < n → (sender_told (slice_get row k) ≡ Some send) ↔ IsMessage c send (event_place p k)
+  pub tells : (k : ℕ) (send : events.Place) → k < n → (sender_view (slice_get row k) ≡ Some send)
+      ↔ IsMessage c send (event_place p k)
 
 -- the rows are those of the first so many processes, whole
 pub record RowsTell (c : Computation) (rows : List (Vec (Option Place) Global)) (p : ℕ) : Type 0 where
   pub same : length rows ≡ p
-  pub tell : (q : ℕ) → q < p → RowTells c q (row_of rows q) (event_count c q)
+  pub tell : (q : ℕ) → q < p → RowTells c q (row_at rows q) (event_count c q)

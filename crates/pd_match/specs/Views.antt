@@ -6,19 +6,19 @@ use Rattle.pd_match.specs.declared.place.Place.{Place}
 use Rattle.pd_match.specs.declared.fault.MatchFault.{MatchFault}
 use Rattle.pd_match.specs.declared.fault.MatchFault.TheVariants as faults
 
-abbrev pub place_seen : Place → events.Place
-place_seen place = record { process = place.process; number = place.number }
+abbrev pub place_view : Place → events.Place
+place_view place = record { process = place.process; number = place.number }
 
-abbrev pub pair_seen : Place × Place → events.Place × events.Place
-pair_seen pair = (place_seen pair.0, place_seen pair.1)
+abbrev pub pair_view : Place × Place → events.Place × events.Place
+pair_view pair = (place_view pair.0, place_view pair.1)
 
-abbrev pub pairs_seen : List (Place × Place) → List (events.Place × events.Place)
-pairs_seen pairs = map pair_seen pairs
+abbrev pub pairs_view : List (Place × Place) → List (events.Place × events.Place)
+pairs_view pairs = map pair_view pairs
 
--- the fault that is told, if it isn't want of memory
-abbrev pub fault_seen : MatchFault → Option messages.Fault
-fault_seen (faults.SendTwice place) = Some (messages.SendTwice (place_seen place))
-fault_seen (faults.Orphan place) = Some (messages.Orphan (place_seen place))
-fault_seen (faults.SelfMessage place) = Some (messages.SelfMessage (place_seen place))
-fault_seen (faults.ReceivedTwice place) = Some (messages.ReceivedTwice (place_seen place))
-fault_seen faults.Memory = None
+-- the fault that is reported, if it isn't out of memory
+abbrev pub match_fault_view : MatchFault → Option messages.Fault
+match_fault_view (faults.SendTwice place) = Some (messages.SendTwice (place_view place))
+match_fault_view (faults.Orphan place) = Some (messages.Orphan (place_view place))
+match_fault_view (faults.SelfMessage place) = Some (messages.SelfMessage (place_view place))
+match_fault_view (faults.ReceivedTwice place) = Some (messages.ReceivedTwice (place_view place))
+match_fault_view faults.Memory = None

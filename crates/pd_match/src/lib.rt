@@ -1,11 +1,12 @@
 //! The messages of a session: which send each receipt has.
 //!
-//! Traces are matched by the ids of their sends and receipts. Where every id is sent once, and received at most once by another
-//! process, the messages are the pairs of a send and its receipt. Otherwise the first fault is told, in the order of places.
+//! Traces are matched by the ids of their sends and receipts. Where every id is sent once, and received at most once by
+//! another process, the messages are the pairs of a send and its receipt. Otherwise the first fault is reported, in the
+//! order of places.
 //!
-//! Two passes go over the events, in the order of places. The first notes where each id is sent, and stops where one is sent
-//! again. The second looks up the send of each receipt, and stops at the first receipt at fault. An id is looked up in a hash
-//! map, so the time is linear in the number of events.
+//! Two passes go over the events, in the order of places. The first notes where each id is sent, and stops where one is
+//! sent again. The second looks up the send of each receipt, and stops at the first receipt at fault. An id is looked
+//! up in a hash map, so the time is linear in the number of events.
 //!
 //! - `place`: where an event stands
 //! - `fault`: why the events can't be matched

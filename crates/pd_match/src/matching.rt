@@ -1,6 +1,6 @@
 //! Matches sends and receipts.
-ghost use Rattle.pd_events.specs.Views.{computation_of};
-ghost use Rattle.pd_match.specs.Views.{fault_seen};
+ghost use Rattle.pd_events.specs.Views.{computation_view};
+ghost use Rattle.pd_match.specs.Views.{match_fault_view};
 ghost use Rattle.pd_model.specs.Messages.{HasLawfulMessages, IsMessageList, IsReported};
 ghost use Rattle.std.specs.Prelude.{IfErr, IfOk, IfSome};
 
@@ -13,15 +13,16 @@ use std::alloc::Global;
 use std::hash::{BuildHasher, BuildHasherDefault, FoldHasher, RandomState};
 use std::random::RandomSource;
 
-/// Matches sends and receipts. Ids are looked up in maps that hash as told.
+/// Matches sends and receipts. Ids are looked up in maps that hash as reported.
 fn match_by<S: BuildHasher + Copy + Drop>(
     alloc: Global,
     traces: &[Trace],
     hasher: S,
 ) -> Result<Matched, MatchFault>
-    ensures lawful { IfOk result (λ matched. HasLawfulMessages (computation_of traces.now)) }
-    ensures messages { IfOk result (λ matched. IsMessageList (computation_of traces.now) matched) }
-    ensures fault { IfErr result (λ told. IfSome (fault_seen told) (λ fault. IsReported (computation_of traces.now) fault)) }
+    ensures lawful { IfOk result (λ matched. HasLawfulMessages (computation_view traces.now)) }
+    ensures messages { IfOk result (λ matched. IsMessageList (computation_view traces.now) matched) }
+    ensures fault { IfErr result (λ reported.
+        IfSome (match_fault_view reported) (λ fault. IsReported (computation_view traces.now) fault)) }
 {
     let sends = sends_of(alloc, traces, hasher)?;
     let mut received = IndexMap::with_hasher(alloc, hasher);
@@ -33,19 +34,22 @@ fn match_by<S: BuildHasher + Copy + Drop>(
     Ok(Matched::new(pairs, senders))
 }
 
-/// Matches the sends and receipts of traces, which stand in the order of the processes: each receipt with the send that has its
-/// id. Ids are looked up in a map that is hashed with keys from the system, or with fixed ones where it gives none.
+/// Matches the sends and receipts of traces, which stand in the order of the processes: each receipt with the send that
+/// has its id. Ids are looked up in a map that is hashed with keys from the system, or with fixed ones where it gives
+/// none.
 ///
 /// # Errors
-/// The first send whose id is sent at an earlier place; where there is none, the first receipt that is at fault; or `Memory`.
+/// The first send whose id is sent at an earlier place; where there is none, the first receipt that is at fault; or
+/// `Memory`.
 pub fn match_messages<R: RandomSource>(
     rt: &R,
     alloc: Global,
     traces: &[Trace],
 ) -> Result<Matched, MatchFault>
-    ensures lawful { IfOk result (λ matched. HasLawfulMessages (computation_of traces.now)) }
-    ensures messages { IfOk result (λ matched. IsMessageList (computation_of traces.now) matched) }
-    ensures fault { IfErr result (λ told. IfSome (fault_seen told) (λ fault. IsReported (computation_of traces.now) fault)) }
+    ensures lawful { IfOk result (λ matched. HasLawfulMessages (computation_view traces.now)) }
+    ensures messages { IfOk result (λ matched. IsMessageList (computation_view traces.now) matched) }
+    ensures fault { IfErr result (λ reported.
+        IfSome (match_fault_view reported) (λ fault. IsReported (computation_view traces.now) fault)) }
 {
     match RandomState::new(rt) {
         Ok(keys) => match_by(alloc, traces, keys),

@@ -1,6 +1,6 @@
 //! Notes at which places ids stand.
 ghost use Rattle.pd_match.specs.Noted.{place_noted};
-ghost use Rattle.pd_match.specs.Views.{place_seen};
+ghost use Rattle.pd_match.specs.Views.{place_view};
 ghost use Rattle.std.specs.Map.{update};
 ghost use Rattle.std.specs.Prelude.{◌≡◌, ℕ, IfOk, List, OnOk, Some, bytes_eq, is_some};
 
@@ -16,7 +16,9 @@ pub(crate) fn note<'a, S: BuildHasher>(
     here: Place,
 ) -> Result<bool, AllocError>
     ensures before { IfOk result (λ before. before ≡ is_some (place_noted places.old id.now)) }
-    ensures noted { OnOk result ((other : List ℕ) → place_noted places.new other ≡ update bytes_eq (place_noted places.old) id.now (Some (place_seen here)) other) }
+    ensures noted { OnOk result ((other : List ℕ)
+        → place_noted places.new other ≡ update bytes_eq (place_noted places.old) id.now (Some (place_view here)) other)
+            }
 {
     Ok(places.insert(id, here)?.is_some())
 }

@@ -1,6 +1,6 @@
 //! Where an event stands.
 ghost use Rattle.pd_match.specs.Noted.{event_place};
-ghost use Rattle.pd_match.specs.Views.{place_seen};
+ghost use Rattle.pd_match.specs.Views.{place_view};
 ghost use Rattle.std.specs.Prelude.{◌≡◌, ◌<◌, ◌^◌};
 
 /// Where an event stands. Places are ordered by process, then by number.
@@ -16,7 +16,7 @@ impl Place {
     /// The place of the event at this index among those of its process.
     pub(crate) fn of_event(process: usize, index: usize) -> Place
         requires { index < 2 ^ 63 }
-        ensures { place_seen result ≡ event_place process index }
+        ensures { place_view result ≡ event_place process index }
     {
         Place {
             process,

@@ -1,8 +1,8 @@
 //! The second pass, over the receipts.
-ghost use Rattle.pd_events.specs.Views.{computation_of};
-ghost use Rattle.pd_match.specs.Noted.{HasAll, HasBefore, IsToldOf, NoneBadBefore, event_place, kept, place_noted};
+ghost use Rattle.pd_events.specs.Views.{computation_view};
+ghost use Rattle.pd_match.specs.Noted.{HasAll, HasBefore, IsReportedOf, NoneBadBefore, event_place, kept, place_noted};
 ghost use Rattle.pd_match.specs.Progress.{MatchedBefore, RowTells};
-ghost use Rattle.pd_match.specs.Views.{fault_seen, pairs_seen, place_seen};
+ghost use Rattle.pd_match.specs.Views.{match_fault_view, pairs_view, place_view};
 ghost use Rattle.pd_model.specs.Events as events;
 ghost use Rattle.pd_model.specs.Events.{Receive, Send, event_count};
 ghost use Rattle.pd_model.specs.Messages.{IsMessage, IsReported};
@@ -23,11 +23,15 @@ fn match_receipt<'a, S: BuildHasher>(
     id: &'a str,
     here: Place,
 ) -> Result<Place, MatchFault>
-    ensures sender { IfOk result (λ send. place_noted sends.now id.now ≡ Some (place_seen send)) }
+    ensures sender { IfOk result (λ send. place_noted sends.now id.now ≡ Some (place_view send)) }
     ensures apart { IfOk result (λ send. send.process ≢ here.process) }
     ensures fresh { OnOk result (place_noted received.old id.now ≡ None) }
-    ensures noted { OnOk result ((other : List ℕ) → place_noted received.new other ≡ update bytes_eq (place_noted received.old) id.now (Some (place_seen here)) other) }
-    ensures fault { IfErr result (λ told. IsToldOf (place_noted sends.now id.now) (place_noted received.old id.now) (place_seen here) (fault_seen told)) }
+    ensures noted { OnOk result ((other : List ℕ)
+        → place_noted received.new other ≡ update bytes_eq (place_noted received.old) id.now (Some (place_view here))
+        other) }
+    ensures fault { IfErr result (λ reported.
+        IsReportedOf (place_noted sends.now id.now) (place_noted received.old id.now) (place_view here)
+        (match_fault_view reported)) }
 {
     match sends.get(id) {
         None => Err(MatchFault::Orphan(here)),
@@ -52,14 +56,17 @@ fn sender_of<'a, S: BuildHasher>(
     received: &mut IndexMap<&'a str, Place, S>,
 ) -> Result<Option<Place>, MatchFault>
     requires process { p < length traces.now }
-    requires event { n < event_count (computation_of traces.now) p }
-    requires sent { HasAll Send (computation_of traces.now) (place_noted sends.now) }
-    requires before { HasBefore Receive (computation_of traces.now) (event_place p n) (place_noted received.old) }
-    requires good { NoneBadBefore (computation_of traces.now) (event_place p n) }
-    ensures sender { IfOk result (λ sender. (send : events.Place) → (option_map place_seen sender ≡ Some send) ↔ IsMessage (computation_of traces.now) send (event_place p n)) }
-    ensures noted { OnOk result (HasBefore Receive (computation_of traces.now) (event_place p (suc n)) (place_noted received.new)) }
-    ensures good { OnOk result (NoneBadBefore (computation_of traces.now) (event_place p (suc n))) }
-    ensures fault { IfErr result (λ told. IfSome (fault_seen told) (λ fault. IsReported (computation_of traces.now) fault)) }
+    requires event { n < event_count (computation_view traces.now) p }
+    requires sent { HasAll Send (computation_view traces.now) (place_noted sends.now) }
+    requires before { HasBefore Receive (computation_view traces.now) (event_place p n) (place_noted received.old) }
+    requires good { NoneBadBefore (computation_view traces.now) (event_place p n) }
+    ensures sender { IfOk result (λ sender. (send : events.Place) → (option_map place_view sender ≡ Some send)
+        ↔ IsMessage (computation_view traces.now) send (event_place p n)) }
+    ensures noted { OnOk result (HasBefore Receive (computation_view traces.now) (event_place p (suc n))
+        (place_noted received.new)) }
+    ensures good { OnOk result (NoneBadBefore (computation_view traces.now) (event_place p (suc n))) }
+    ensures fault { IfErr result (λ reported.
+        IfSome (match_fault_view reported) (λ fault. IsReported (computation_view traces.now) fault)) }
 {
     match &traces[p].events[n].kind {
         EventKind::Recv(id) => {
@@ -76,7 +83,8 @@ fn keep(
     sender: Option<Place>,
     receipt: Place,
 ) -> Result<(), AllocError>
-    ensures { OnOk result (pairs_seen pairs.new.items ≡ pairs_seen pairs.old.items ++ kept (option_map place_seen sender) (place_seen receipt)) }
+    ensures { OnOk result (pairs_view pairs.new.items ≡ pairs_view pairs.old.items
+        ++ kept (option_map place_view sender) (place_view receipt)) }
 {
     if let Some(send) = sender {
         pairs.push((send, receipt))?;
@@ -94,11 +102,15 @@ pub(crate) fn senders_in<'a, S: BuildHasher>(
     pairs: &mut Vec<(Place, Place)>,
 ) -> Result<Vec<Option<Place>>, MatchFault>
     requires process { p < length traces.now }
-    requires sent { HasAll Send (computation_of traces.now) (place_noted sends.now) }
-    requires before { MatchedBefore (computation_of traces.now) (event_place p 0) (place_noted received.old) (pairs_seen pairs.old.items) }
-    ensures after { OnOk result (MatchedBefore (computation_of traces.now) (event_place (suc p) 0) (place_noted received.new) (pairs_seen pairs.new.items)) }
-    ensures row { IfOk result (λ row. RowTells (computation_of traces.now) p row.items (event_count (computation_of traces.now) p)) }
-    ensures fault { IfErr result (λ told. IfSome (fault_seen told) (λ fault. IsReported (computation_of traces.now) fault)) }
+    requires sent { HasAll Send (computation_view traces.now) (place_noted sends.now) }
+    requires before { MatchedBefore (computation_view traces.now) (event_place p 0) (place_noted received.old)
+        (pairs_view pairs.old.items) }
+    ensures after { OnOk result (MatchedBefore (computation_view traces.now) (event_place (suc p) 0)
+        (place_noted received.new) (pairs_view pairs.new.items)) }
+    ensures row { IfOk result (λ row. RowTells (computation_view traces.now) p row.items
+        (event_count (computation_view traces.now) p)) }
+    ensures fault { IfErr result (λ reported.
+        IfSome (match_fault_view reported) (λ fault. IsReported (computation_view traces.now) fault)) }
 {
     let mut row = Vec::new(alloc);
     for n in 0..traces[p].events.len() {

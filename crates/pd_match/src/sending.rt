@@ -1,7 +1,7 @@
 //! The first pass, over the sends.
-ghost use Rattle.pd_events.specs.Views.{computation_of};
+ghost use Rattle.pd_events.specs.Views.{computation_view};
 ghost use Rattle.pd_match.specs.Noted.{HasAll, HasBefore, event_place, place_noted};
-ghost use Rattle.pd_match.specs.Views.{fault_seen};
+ghost use Rattle.pd_match.specs.Views.{match_fault_view};
 ghost use Rattle.pd_model.specs.Events.{Send, event_count};
 ghost use Rattle.pd_model.specs.Messages.{IsReported};
 ghost use Rattle.std.specs.Prelude.{◌<◌, IfErr, IfOk, IfSome, OnOk, length, suc};
@@ -21,10 +21,12 @@ fn note_send<'a, S: BuildHasher>(
     sends: &mut IndexMap<&'a str, Place, S>,
 ) -> Result<(), MatchFault>
     requires process { p < length traces.now }
-    requires event { n < event_count (computation_of traces.now) p }
-    requires before { HasBefore Send (computation_of traces.now) (event_place p n) (place_noted sends.old) }
-    ensures noted { OnOk result (HasBefore Send (computation_of traces.now) (event_place p (suc n)) (place_noted sends.new)) }
-    ensures fault { IfErr result (λ told. IfSome (fault_seen told) (λ fault. IsReported (computation_of traces.now) fault)) }
+    requires event { n < event_count (computation_view traces.now) p }
+    requires before { HasBefore Send (computation_view traces.now) (event_place p n) (place_noted sends.old) }
+    ensures noted { OnOk result (HasBefore Send (computation_view traces.now) (event_place p (suc n))
+        (place_noted sends.new)) }
+    ensures fault { IfErr result (λ reported.
+        IfSome (match_fault_view reported) (λ fault. IsReported (computation_view traces.now) fault)) }
 {
     if let EventKind::Send(id) = &traces[p].events[n].kind {
         let here = Place::of_event(p, n);
@@ -42,9 +44,11 @@ fn note_sends<'a, S: BuildHasher>(
     sends: &mut IndexMap<&'a str, Place, S>,
 ) -> Result<(), MatchFault>
     requires process { p < length traces.now }
-    requires before { HasBefore Send (computation_of traces.now) (event_place p 0) (place_noted sends.old) }
-    ensures noted { OnOk result (HasBefore Send (computation_of traces.now) (event_place (suc p) 0) (place_noted sends.new)) }
-    ensures fault { IfErr result (λ told. IfSome (fault_seen told) (λ fault. IsReported (computation_of traces.now) fault)) }
+    requires before { HasBefore Send (computation_view traces.now) (event_place p 0) (place_noted sends.old) }
+    ensures noted { OnOk result (HasBefore Send (computation_view traces.now) (event_place (suc p) 0)
+        (place_noted sends.new)) }
+    ensures fault { IfErr result (λ reported.
+        IfSome (match_fault_view reported) (λ fault. IsReported (computation_view traces.now) fault)) }
 {
     for n in 0..traces[p].events.len() {
         note_send(traces, p, n, sends)?;
@@ -61,8 +65,9 @@ pub(crate) fn sends_of<'a, S: BuildHasher + Drop>(
     traces: &'a [Trace],
     hasher: S,
 ) -> Result<IndexMap<&'a str, Place, S>, MatchFault>
-    ensures noted { IfOk result (λ sends. HasAll Send (computation_of traces.now) (place_noted sends)) }
-    ensures fault { IfErr result (λ told. IfSome (fault_seen told) (λ fault. IsReported (computation_of traces.now) fault)) }
+    ensures noted { IfOk result (λ sends. HasAll Send (computation_view traces.now) (place_noted sends)) }
+    ensures fault { IfErr result (λ reported.
+        IfSome (match_fault_view reported) (λ fault. IsReported (computation_view traces.now) fault)) }
 {
     let mut sends = IndexMap::with_hasher(alloc, hasher);
     for p in 0..traces.len() {

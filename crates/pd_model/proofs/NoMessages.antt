@@ -33,7 +33,8 @@ later c local d e (inr m) = absurd (no_message c local d e m)
 
 grows : (c : Computation) → HasLocalEvents c → (d e : Place) → HappenedBefore c d e → d.number < e.number
 grows c local d e h =
-    happens_elim c e (λ f. f.number < e.number) (λ f s. (later c local f e s).3) (λ f g s r lt. let s' : f.number < g.number = (later c local f g s).3 in omega arith) d h
+    happens_elim c e (λ f. f.number < e.number) (λ f s. (later c local f e s).3) (λ f g s r lt. let s' : f.number
+    < g.number = (later c local f g s).3 in omega arith) d h
 
 pub local_well_formed : (c : Computation) → HasLocalEvents c → IsWellFormed c
 local_well_formed c local = record {
@@ -47,7 +48,8 @@ local_no_message c local = record {
   just = λ d e. (λ w. absurd (let lt : w.0 < 0 = w.1 in omega arith), λ m. absurd (no_message c local d e m));
 }
 
-pub local_consistent : (c : Computation) → HasLocalEvents c → (counts : List ℕ) → FitsProcesses c counts → IsConsistent c counts
+pub local_consistent : (c : Computation) → HasLocalEvents c → (counts : List ℕ) → FitsProcesses c counts
+    → IsConsistent c counts
 local_consistent c local counts fits = record {
   fits = fits;
   closed = λ e f h has. closed_from_steps c (Includes counts) (λ d g s w. step d g (later c local d g s) w) e f h has;

@@ -19,4 +19,5 @@ LocalHasNoMessage = (c : Computation) → HasLocalEvents c → IsMessageList c [
 
 -- All counts that fit are consistent.
 abbrev pub LocalIsConsistent : Type 0
-LocalIsConsistent = (c : Computation) → HasLocalEvents c → (counts : List ℕ) → FitsProcesses c counts → IsConsistent c counts
+LocalIsConsistent = (c : Computation) → HasLocalEvents c → (counts : List ℕ) → FitsProcesses c counts
+    → IsConsistent c counts

@@ -1,5 +1,5 @@
-//! The model of the monitor: what a computation, a cut, an observation and an answer are, with the laws that hold of them.
-//! Each function here has no code. Its contract is a law, which is proved for every computation.
+//! The model of the monitor: what a computation, a cut, an observation and an answer are, with the laws that hold of
+//! them. Each function here has no code. Its contract is a law, which is proved for every computation.
 #![tactic(auto)]
 
 ghost use Rattle.pd_model.specs.Examples.{BothAtOnce, NoReceiptAlone, AvoidedUpToTwo, CycleOfReceipts};
@@ -29,7 +29,8 @@ pub fn cycles()
     ensures single { OneCycle }
 {}
 
-/// Where every event is local there is no message, the computation is well formed, and all counts that fit are consistent.
+/// Where every event is local there is no message, the computation is well formed, and all counts that fit are
+/// consistent.
 pub fn local_events()
     ensures well_formed { LocalIsWellFormed }
     ensures no_message { LocalHasNoMessage }

@@ -3,8 +3,8 @@ ghost use Rattle.pd_model.specs.Answers.{IsPossiblyAnswer};
 ghost use Rattle.pd_model.specs.Cuts.{IsConsistent, total};
 ghost use Rattle.pd_model.specs.Order.{HasNoCycle};
 ghost use Rattle.pd_model.specs.Predicates.{test_of};
-ghost use Rattle.pd_possibly.specs.Answers.{answer_of, IsFirstIn};
-ghost use Rattle.pd_pred.specs.Views.{predicate_of};
+ghost use Rattle.pd_possibly.specs.Answers.{possibly_answer_view, IsFirstIn};
+ghost use Rattle.pd_pred.specs.Views.{predicate_view};
 ghost use Rattle.std.specs.Prelude.{◌≡◌, ◌+◌, ◌^◌, ◌<◌, ◌≤◌, false, All, IfOk, IfNone, IfSome, length};
 
 use super::PossiblyAnswer;
@@ -13,8 +13,8 @@ use pd_level::{Gate, Level, LevelFault};
 use pd_pred::Pred;
 use std::alloc::{AllocError, Global};
 
-/// The answer for a predicate over a computation, under a bound on the width of the levels, from 1 on. `workers`, from 1 to
-/// 16, and the gate change nothing yet.
+/// The answer for a predicate over a computation, under a bound on the width of the levels, from 1 on. `workers`, from
+/// 1 to 16, and the gate change nothing yet.
 ///
 /// Source: Cooper and Marzullo, Consistent Detection of Global Predicates, 1991.
 pub fn possibly<G: Gate + Sync>(
@@ -27,7 +27,8 @@ pub fn possibly<G: Gate + Sync>(
 ) -> Result<PossiblyAnswer, AllocError>
     requires acyclic { HasNoCycle computation.now.events }
     requires wide { 1 ≤ width }
-    ensures { IfOk result (λ answer. IsPossiblyAnswer computation.now.events (test_of computation.now (predicate_of pred.now)) width (answer_of answer)) }
+    ensures { IfOk result (λ answer. IsPossiblyAnswer computation.now.events
+        (test_of computation.now (predicate_view pred.now)) width (possibly_answer_view answer)) }
 {
     // the laws that the proof uses
     pd_model::levels();
@@ -56,8 +57,9 @@ fn first_satisfying(
     level: &Level,
 ) -> Option<Cut>
     requires { All (IsConsistent computation.now.events) level.now.cuts }
-    ensures found { IfSome result (IsFirstIn (test_of computation.now (predicate_of pred.now)) level.now.cuts) }
-    ensures none { IfNone result (All (λ cut. test_of computation.now (predicate_of pred.now) cut ≡ false) level.now.cuts) }
+    ensures found { IfSome result (IsFirstIn (test_of computation.now (predicate_view pred.now)) level.now.cuts) }
+    ensures none { IfNone result (All (λ cut. test_of computation.now (predicate_view pred.now) cut ≡ false)
+        level.now.cuts) }
 {
     for i in 0..level.len() {
         if level.holds(computation, pred, i) {

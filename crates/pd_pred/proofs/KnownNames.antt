@@ -10,16 +10,17 @@ use Rattle.pd_format.proofs.Prefixes.{walk-append, can_of_begins}
 use Rattle.pd_pred.specs.Building.{IsKnown}
 use Rattle.pd_pred.specs.Placement.{IsWellPlaced}
 
--- a walk that comes to the end comes over each front
-front_walks : (front back : List Token) → walk start (front ++ back) ≡ Some AtEnd → is_some (walk start front) ≡ true
-front_walks front back h = go (walk start front) (sym (walk-append start front back) ∙ h)
+-- a walk that comes to the end comes over each prefix
+prefix_walks : (prefix back : List Token) → walk start (prefix ++ back) ≡ Some AtEnd
+    → is_some (walk start prefix) ≡ true
+prefix_walks prefix back h = go (walk start prefix) (sym (walk-append start prefix back) ∙ h)
   where
     go : (o : Option State) → option_and_then (λ later. walk later back) o ≡ Some AtEnd → is_some o ≡ true
     go None e = absurd (cc)
     go (Some s) e = refl
 
-front_goes_on : (front back : List Token) → walk start (front ++ back) ≡ Some AtEnd → CanGoOn front
-front_goes_on front back h = can_of_begins front (front_walks front back h)
+prefix_goes_on : (prefix back : List Token) → walk start (prefix ++ back) ≡ Some AtEnd → CanGoOn prefix
+prefix_goes_on prefix back h = can_of_begins prefix (prefix_walks prefix back h)
 
 -- ---- a split of what tokens are seen as is a split of the tokens
 
@@ -32,7 +33,8 @@ record Split (tokens : List Placed) (before : List Token) (t : Token) (after : L
   here_is : here.token ≡ t
   right_is : tokens_of right ≡ after
 
-split_later : (x : Placed) (tokens : List Placed) (b : Token) (before : List Token) (t : Token) (after : List Token) → x.token ≡ b → Split tokens before t after → Split (x ∷ tokens) (b ∷ before) t after
+split_later : (x : Placed) (tokens : List Placed) (b : Token) (before : List Token) (t : Token) (after : List Token)
+    → x.token ≡ b → Split tokens before t after → Split (x ∷ tokens) (b ∷ before) t after
 split_later x tokens b before t after first rest = record {
   left = x ∷ rest.left;
   here = rest.here;
@@ -43,11 +45,22 @@ split_later x tokens b before t after first rest = record {
   right_is = rest.right_is;
 }
 
-split : (tokens : List Placed) (before : List Token) (t : Token) (after : List Token) → tokens_of tokens ≡ before ++ t ∷ after → Split tokens before t after
+split : (tokens : List Placed) (before : List Token) (t : Token) (after : List Token)
+    → tokens_of tokens ≡ before ++ t ∷ after → Split tokens before t after
 split [] [] t after e = absurd (cc)
 split [] (b ∷ before) t after e = absurd (cc)
-split (x ∷ tokens) [] t after e = record { left = []; here = x; right = tokens; parts = refl; left_is = refl; here_is = cc; right_is = cc }
-split (x ∷ tokens) (b ∷ before) t after e = split_later x tokens b before t after (cc) (split tokens before t after (cc))
+split (x ∷ tokens) [] t after e = record {
+  left = [];
+  here = x;
+  right = tokens;
+  parts = refl;
+  left_is = refl;
+  here_is =
+      cc;
+  right_is = cc;
+}
+split (x ∷ tokens) (b ∷ before) t after e =
+    split_later x tokens b before t after (cc) (split tokens before t after (cc))
 
 -- ---- the names
 
@@ -55,26 +68,50 @@ is_there : {A : Type 0} (o : Option A) → ¬ (o ≡ None) → (x : A) × (o ≡
 is_there None n = absurd (n refl)
 is_there (Some x) n = (x, refl)
 
-no_unknown_name : (names : List ProcessNames) (tokens : List Placed) (before after : List Token) (t : Token) → IsWellPlaced names tokens → tokens_of tokens ≡ before ++ t ∷ after → ¬ (IsUnknownName names before t)
+no_unknown_name : (names : List ProcessNames) (tokens : List Placed) (before after : List Token) (t : Token)
+    → IsWellPlaced names tokens → tokens_of tokens ≡ before ++ t ∷ after → ¬ (IsUnknownName names before t)
 no_unknown_name names tokens before after t placed e =
     let s = split tokens before t after e in
     λ unknown. placed s.left s.here s.right s.parts (UnknownName, rw (s.left_is, s.here_is) unknown)
 
-process_is_there : (names : List ProcessNames) (tokens : List Placed) (before after : List Token) (process var : List ℕ) → walk start (tokens_of tokens) ≡ Some AtEnd → IsWellPlaced names tokens → tokens_of tokens ≡ before ++ Word process ∷ Dot ∷ Word var ∷ after → (p : ℕ) × (process_named names process ≡ Some p)
+process_is_there : (names : List ProcessNames) (tokens : List Placed) (before after : List Token) (process var : List ℕ)
+    → walk start (tokens_of tokens) ≡ Some AtEnd → IsWellPlaced names tokens
+    → tokens_of tokens ≡ before ++ Word process ∷ Dot ∷ Word var ∷ after
+    → (p : ℕ) × (process_named names process ≡ Some p)
 process_is_there names tokens before after process var h placed e =
-    let whole : tokens_of tokens ≡ (before ++ Word process ∷ Dot ∷ []) ++ Word var ∷ after = e ∙ sym (append_assoc before (Word process ∷ Dot ∷ []) (Word var ∷ after)) in
-    let fits = front_goes_on (before ++ Word process ∷ Dot ∷ []) (Word var ∷ after) (sym (ap (walk start) whole) ∙ h) in
-    is_there (process_named names process) (λ none. no_unknown_name names tokens before (Dot ∷ Word var ∷ after) (Word process) placed e (inl (fits, none)))
+    let whole : tokens_of tokens ≡ (before ++ Word process ∷ Dot ∷ []) ++ Word var ∷ after =
+    e ∙ sym (append_assoc before (Word process ∷ Dot ∷ []) (Word var ∷ after)) in
+    let fits = prefix_goes_on (before ++ Word process ∷ Dot ∷ []) (Word var ∷ after) (sym (ap (walk start) whole) ∙ h)
+    in
+    is_there (process_named names process) (λ none. no_unknown_name names tokens before (Dot ∷ Word var ∷ after)
+    (Word process) placed e (inl (fits, none)))
 
-var_is_there : (names : List ProcessNames) (tokens : List Placed) (before after : List Token) (process var : List ℕ) (p : ℕ) → walk start (tokens_of tokens) ≡ Some AtEnd → IsWellPlaced names tokens → tokens_of tokens ≡ before ++ Word process ∷ Dot ∷ Word var ∷ after → process_named names process ≡ Some p → (v : ℕ) × (var_named names p var ≡ Some v)
+var_is_there : (names : List ProcessNames) (tokens : List Placed) (before after : List Token) (process var : List ℕ)
+    (p : ℕ) → walk start (tokens_of tokens) ≡ Some AtEnd → IsWellPlaced names tokens
+    → tokens_of tokens ≡ before ++ Word process ∷ Dot ∷ Word var ∷ after → process_named names process ≡ Some p
+    → (v : ℕ) × (var_named names p var ≡ Some v)
 var_is_there names tokens before after process var p h placed e found =
-    let front : List Token = before ++ Word process ∷ Dot ∷ [] in
-    let whole : tokens_of tokens ≡ front ++ Word var ∷ after = e ∙ sym (append_assoc before (Word process ∷ Dot ∷ []) (Word var ∷ after)) in
-    let longer : tokens_of tokens ≡ (front ++ Word var ∷ []) ++ after = whole ∙ sym (append_assoc front (Word var ∷ []) after) in
-    let fits = front_goes_on (front ++ Word var ∷ []) after (sym (ap (walk start) longer) ∙ h) in
-    is_there (var_named names p var) (λ none. no_unknown_name names tokens front after (Word var) placed whole (inr (record { front = before; name = process; process = p; behind_dot = refl; fits = fits; is_process = found; is_no_var = none })))
+    let prefix : List Token = before ++ Word process ∷ Dot ∷ [] in
+    let whole : tokens_of tokens ≡ prefix ++ Word var ∷ after =
+    e ∙ sym (append_assoc before (Word process ∷ Dot ∷ []) (Word var ∷ after)) in
+    let longer : tokens_of tokens ≡ (prefix ++ Word var ∷ []) ++ after =
+    whole ∙ sym (append_assoc prefix (Word var ∷ []) after) in
+    let fits = prefix_goes_on (prefix ++ Word var ∷ []) after (sym (ap (walk start) longer) ∙ h) in
+    is_there (var_named names p var) (λ none. no_unknown_name names tokens prefix after (Word var) placed whole
+    (inr (record {
+      prefix = before;
+      name = process;
+      process = p;
+      after_dot = refl;
+      fits = fits;
+      is_process =
+          found;
+      is_no_var = none;
+    })))
 
-pub names_are_known : (names : List ProcessNames) (tokens : List Placed) → walk start (tokens_of tokens) ≡ Some AtEnd → IsWellPlaced names tokens → (before after : List Token) (process var : List ℕ) → tokens_of tokens ≡ before ++ Word process ∷ Dot ∷ Word var ∷ after → IsKnown names process var
+pub names_are_known : (names : List ProcessNames) (tokens : List Placed) → walk start (tokens_of tokens) ≡ Some AtEnd
+    → IsWellPlaced names tokens → (before after : List Token) (process var : List ℕ)
+    → tokens_of tokens ≡ before ++ Word process ∷ Dot ∷ Word var ∷ after → IsKnown names process var
 names_are_known names tokens h placed before after process var e =
     let first = process_is_there names tokens before after process var h placed e in
     let second = var_is_there names tokens before after process var first.0 h placed e first.1 in

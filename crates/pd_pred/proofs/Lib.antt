@@ -9,7 +9,7 @@ pub mod Symbols
 pub mod LexedSoFar
 pub mod Reading
 pub mod ClearNames
-pub mod Fronts
+pub mod Prefixes
 pub mod WalkSteps
 pub mod TermsRead
 pub mod RulesRead

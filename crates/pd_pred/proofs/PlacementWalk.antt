@@ -10,32 +10,50 @@ use Rattle.pd_pred.specs.Placement.{Position, first_position, Steps, IsFaultAt, 
 use Rattle.pd_pred.specs.Tokens.{token_of, placed_of, all_placed}
 use Rattle.pd_pred.specs.declared.error.PredErrorKind.{PredErrorKind}
 use Rattle.pd_pred.specs.declared.token.Placed.{Placed}
-use Rattle.pd_pred.proofs.PlacementFacts.{stands_behind, fault_at, no_fault, well_placed_more, well_placed_nothing}
+use Rattle.pd_pred.proofs.PlacementFacts.{stands_after, fault_at, no_fault, well_placed_more, well_placed_nothing}
 
 -- the tokens round the one at an index
-parts_at : (tokens : List Placed) (i : ℕ) (d : Placed) → i < length tokens → tokens ≡ take i tokens ++ get_or tokens i d ∷ drop (suc i) tokens
+parts_at : (tokens : List Placed) (i : ℕ) (d : Placed) → i < length tokens
+    → tokens ≡ take i tokens ++ get_or tokens i d ∷ drop (suc i) tokens
 parts_at tokens i d h = sym (take-append-drop i tokens) ∙ ap (λ rest. take i tokens ++ rest) (drop-cons tokens i d h)
 
 pub sound_start : (names : List ProcessNames) (place : Position) → place ≡ first_position → IsSoundPlace names place []
-sound_start names place e = rw e (record { stands = record { is_walked = refl; is_open = refl; is_named = tt }; well_placed = well_placed_nothing names })
+sound_start names place e =
+    rw e (record {
+      stands = record { is_walked = refl; is_open = refl; is_named = tt };
+      well_placed =
+          well_placed_nothing names;
+    })
 
 module _ (exact : PrefixesAreWalked) (go_on : WalksGoOn) (height : DepthsAreHeights) (stack_on : StacksGoOn) where
-  sound_more : (names : List ProcessNames) (old new : Position) (tokens : List format.Placed) (t : format.Placed) → IsSoundPlace names old tokens → Steps names old t.token new → IsSoundPlace names new (tokens ++ t ∷ [])
+  sound_more : (names : List ProcessNames) (old new : Position) (tokens : List format.Placed) (t : format.Placed)
+      → IsSoundPlace names old tokens → Steps names old t.token new → IsSoundPlace names new (tokens ++ t ∷ [])
   sound_more names old new tokens t sound steps = record {
-    stands = let s = stands_behind exact go_on height stack_on names old new (tokens_of tokens) t.token sound.stands steps in rw (map-append (λ (u : format.Placed). u.token) tokens (t ∷ [])) s;
-    well_placed = well_placed_more names tokens t sound.well_placed (λ fault. no_fault exact go_on height stack_on names old new (tokens_of tokens) t.token fault sound.stands steps);
+    stands = let s =
+        stands_after exact go_on height stack_on names old new (tokens_of tokens) t.token sound.stands steps in
+        rw (map-append (λ (u : format.Placed). u.token) tokens (t ∷ [])) s;
+    well_placed =
+        well_placed_more names tokens t sound.well_placed (λ fault.
+        no_fault exact go_on height stack_on names old new (tokens_of tokens) t.token fault sound.stands steps);
   }
 
-  -- the place behind one token more
-  pub sound_next : (names : List ProcessNames) (old new : Position) (tokens : List Placed) (i : ℕ) (d : Placed) → i < length tokens → IsSoundPlace names old (all_placed (take i tokens)) → Steps names old (token_of (get_or tokens i d).token) new → IsSoundPlace names new (all_placed (take (i + 1) tokens))
+  -- the place after one token more
+  pub sound_next : (names : List ProcessNames) (old new : Position) (tokens : List Placed) (i : ℕ) (d : Placed)
+      → i < length tokens → IsSoundPlace names old (all_placed (take i tokens))
+      → Steps names old (token_of (get_or tokens i d).token) new
+      → IsSoundPlace names new (all_placed (take (i + 1) tokens))
   sound_next names old new tokens i d h sound steps =
       rw (take_more tokens i d h, map-append placed_of (take i tokens) (get_or tokens i d ∷ []))
       (sound_more names old new (all_placed (take i tokens)) (placed_of (get_or tokens i d)) sound steps)
 
   -- the first misplaced token
-  pub first_fault : (names : List ProcessNames) (place : Position) (tokens : List Placed) (i : ℕ) (d : Placed) (kind : PredErrorKind) → i < length tokens → IsSoundPlace names place (all_placed (take i tokens)) → IsFaultAt names place (token_of (get_or tokens i d).token) kind → IsFirstMisplaced names (all_placed tokens) (record { kind = kind; at = (get_or tokens i d).at })
+  pub first_fault : (names : List ProcessNames) (place : Position) (tokens : List Placed) (i : ℕ) (d : Placed)
+      (kind : PredErrorKind) → i < length tokens → IsSoundPlace names place (all_placed (take i tokens))
+      → IsFaultAt names place (token_of (get_or tokens i d).token) kind
+      → IsFirstMisplaced names (all_placed tokens) (record { kind = kind; at = (get_or tokens i d).at })
   first_fault names place tokens i d kind h sound fault =
-      let f = fault_at exact go_on height stack_on names place (tokens_of (all_placed (take i tokens))) (token_of (get_or tokens i d).token) kind sound.stands fault in
+      let f = fault_at exact go_on height stack_on names place (tokens_of (all_placed (take i tokens)))
+      (token_of (get_or tokens i d).token) kind sound.stands fault in
       record {
         fault = f.0;
         is_fault = f.1;
@@ -43,9 +61,10 @@ module _ (exact : PrefixesAreWalked) (go_on : WalksGoOn) (height : DepthsAreHeig
         token = token_of (get_or tokens i d).token;
         after = all_placed (drop (suc i) tokens);
         first = record {
-          parts = ap all_placed (parts_at tokens i d h) ∙ map-append placed_of (take i tokens) (get_or tokens i d ∷ drop (suc i) tokens);
+          parts = ap all_placed (parts_at tokens i d h)
+              ∙ map-append placed_of (take i tokens) (get_or tokens i d ∷ drop (suc i) tokens);
           here = (f.0, f.2);
-          none_before = λ front y back e. sound.well_placed front y back e;
+          none_before = λ prefix y back e. sound.well_placed prefix y back e;
         };
         stands = f.2;
       }

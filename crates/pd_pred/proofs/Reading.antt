@@ -2,7 +2,7 @@
 use Rattle.std.proofs.Common.{ℕ, ◌+◌, ◌<◌, ◌≤◌, List, [], ◌∷◌, ◌++◌, length, ◌∙◌, ap, arith, length-append}
 use Rattle.std.proofs.lemmas.List.{length-map}
 use Rattle.pd_format.specs.Tokens.{Token, End, Placed, placed, Lexes, AreTokens, IsSpelling}
-use Rattle.pd_format.specs.PredicateTexts.{text_limit}
+use Rattle.pd_format.specs.Limits.{predicate_byte_limit}
 use Rattle.pd_pred.specs.Tokens.{placed_of, all_placed}
 use Rattle.pd_pred.specs.declared.token.Placed.{Placed as Code}
 use Rattle.pd_pred.proofs.Symbols.{not_empty}
@@ -11,7 +11,8 @@ some_bytes : (spelling : List ℕ) (t : Token) → IsSpelling spelling t → 0 <
 some_bytes [] t h = absurd (not_empty t h)
 some_bytes (x ∷ spelling) t h = omega arith
 
-few_lexed : (at : ℕ) (bytes : List ℕ) (tokens : List Placed) (end : ℕ) (rest : List ℕ) → Lexes at bytes tokens end rest → length tokens ≤ length bytes
+few_lexed : (at : ℕ) (bytes : List ℕ) (tokens : List Placed) (end : ℕ) (rest : List ℕ) → Lexes at bytes tokens end rest
+    → length tokens ≤ length bytes
 few_lexed at bytes [] end rest l = omega arith
 few_lexed at bytes (t ∷ tokens) end rest l =
     let later = few_lexed (t.at + length l.1) l.2 tokens end rest l.8 in
@@ -21,7 +22,8 @@ few_lexed at bytes (t ∷ tokens) end rest l =
     omega arith
 
 -- a text has no more tokens than bytes, and the end
-pub few_tokens : (text : List ℕ) (items : List Code) → length text ≤ text_limit → AreTokens text (all_placed items) → length items ≤ 4097
+pub few_tokens : (text : List ℕ) (items : List Code) → length text ≤ predicate_byte_limit → AreTokens text (all_placed items)
+    → length items ≤ 4097
 few_tokens text items short l =
     let few = few_lexed 1 text l.0 (length text + 1) [] l.2 in
     let whole = ap length l.1 ∙ length-append l.0 (placed (length text + 1) End ∷ []) in

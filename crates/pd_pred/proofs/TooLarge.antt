@@ -1,4 +1,4 @@
--- The first number that is too large, found from the front.
+-- The first number that is too large, found from the prefix.
 use Rattle.std.proofs.Common.{◌≡◌, ℕ, ◌+◌, ◌<◌, ◌≤◌, Bool, true, false, List, [], ◌∷◌, ◌++◌, length, drop, get_or, refl, sym, ◌∙◌, ap, subst}
 use Rattle.std.proofs.lemmas.List.{at_drop_more, at_drop_all}
 use Rattle.std.specs.Prelude.{Option, Some, None, MatchOption, if◌then◌else◌}
@@ -17,38 +17,60 @@ no_number : NumbersFit []
 no_number [] t after e h = cc
 no_number (x ∷ before) t after e h = cc
 
-fits_more : (t : Placed) (rest : List Placed) → is_too_large t.token rest ≡ false → NumbersFit rest → NumbersFit (t ∷ rest)
+fits_more : (t : Placed) (rest : List Placed) → is_too_large t.token rest ≡ false → NumbersFit rest
+    → NumbersFit (t ∷ rest)
 fits_more t rest fits others [] u after e h =
     let same : t ≡ u = cc in
-    let behind : rest ≡ after = cc in
-    let good : is_too_large u.token after ≡ false = rw (← same, ← behind) fits in cc
+    let following : rest ≡ after = cc in
+    let good : is_too_large u.token after ≡ false = rw (← same, ← following) fits in cc
 fits_more t rest fits others (x ∷ before) u after e h = others before u after (cc) h
 
 first_here : (t : Placed) (rest : List Placed) → is_too_large t.token rest ≡ true → IsFirstTooLarge (t ∷ rest) t.at
-first_here t rest large = record { before = []; token = t.token; after = rest; first = record { parts = refl; here = large; none_before = λ front y back e. absurd (none front y back e) } }
+first_here t rest large =
+    record {
+      before = [];
+      token = t.token;
+      after = rest;
+      first =
+          record { parts = refl; here = large; none_before = λ prefix y back e. absurd (none prefix y back e) };
+    }
   where
-    none : (front : List Placed) (y : Placed) (back : List Placed) → [] ≡ front ++ y ∷ back → ⊥
+    none : (prefix : List Placed) (y : Placed) (back : List Placed) → [] ≡ prefix ++ y ∷ back → ⊥
     none [] y back e = cc
-    none (x ∷ front) y back e = cc
+    none (x ∷ prefix) y back e = cc
 
-first_later : (t : Placed) (rest : List Placed) (at : ℕ) → is_too_large t.token rest ≡ false → IsFirstTooLarge rest at → IsFirstTooLarge (t ∷ rest) at
-first_later t rest at fits f = record { before = t ∷ f.before; token = f.token; after = f.after; first = record { parts = ap (λ z. t ∷ z) f.first.parts; here = f.first.here; none_before = none } }
+first_later : (t : Placed) (rest : List Placed) (at : ℕ) → is_too_large t.token rest ≡ false → IsFirstTooLarge rest at
+    → IsFirstTooLarge (t ∷ rest) at
+first_later t rest at fits f = record {
+  before = t ∷ f.before;
+  token = f.token;
+  after = f.after;
+  first =
+      record { parts = ap (λ z. t ∷ z) f.first.parts; here = f.first.here; none_before = none };
+}
   where
-    none : (front : List Placed) (y : Placed) (back : List Placed) → t ∷ f.before ≡ front ++ y ∷ back → IsTooLarge front y (back ++ (record { at = at; token = f.token }) ∷ f.after) → ⊥
+    none : (prefix : List Placed) (y : Placed) (back : List Placed) → t ∷ f.before ≡ prefix ++ y ∷ back
+        → IsTooLarge prefix y (back ++ (record { at = at; token = f.token }) ∷ f.after) → ⊥
     none [] y back e h =
         let same : t ≡ y = cc in
-        let behind : f.before ≡ back = cc in
-        let good : is_too_large t.token (f.before ++ (record { at = at; token = f.token }) ∷ f.after) ≡ false = rw (← f.first.parts) fits in
-        let bad : is_too_large y.token (f.before ++ (record { at = at; token = f.token }) ∷ f.after) ≡ true = rw behind h in
-        let worse : is_too_large t.token (f.before ++ (record { at = at; token = f.token }) ∷ f.after) ≡ true = rw same bad in
+        let following : f.before ≡ back = cc in
+        let good : is_too_large t.token (f.before ++ (record { at = at; token = f.token }) ∷ f.after) ≡ false =
+        rw (← f.first.parts) fits in
+        let bad : is_too_large y.token (f.before ++ (record { at = at; token = f.token }) ∷ f.after) ≡ true =
+        rw following h in
+        let worse : is_too_large t.token (f.before ++ (record { at = at; token = f.token }) ∷ f.after) ≡ true =
+        rw same bad in
         cc
-    none (x ∷ front) y back e h = f.first.none_before front y back (cc) h
+    none (x ∷ prefix) y back e h = f.first.none_before prefix y back (cc) h
 
-pub too_large_at_is : (tokens : List Placed) → MatchOption (too_large_at tokens) (NumbersFit tokens) (IsFirstTooLarge tokens)
+pub too_large_at_is : (tokens : List Placed)
+    → MatchOption (too_large_at tokens) (NumbersFit tokens) (IsFirstTooLarge tokens)
 too_large_at_is [] = no_number
 too_large_at_is (t ∷ rest) = go (is_too_large t.token rest) refl (too_large_at rest) (too_large_at_is rest)
   where
-    go : (b : Bool) → is_too_large t.token rest ≡ b → (r : Option ℕ) → MatchOption r (NumbersFit rest) (IsFirstTooLarge rest) → MatchOption (if b then Some t.at else r) (NumbersFit (t ∷ rest)) (IsFirstTooLarge (t ∷ rest))
+    go : (b : Bool) → is_too_large t.token rest ≡ b → (r : Option ℕ)
+        → MatchOption r (NumbersFit rest) (IsFirstTooLarge rest)
+        → MatchOption (if b then Some t.at else r) (NumbersFit (t ∷ rest)) (IsFirstTooLarge (t ∷ rest))
     go true e r ih = first_here t rest e
     go false e None ih = fits_more t rest e ih
     go false e (Some at) ih = first_later t rest at e ih
@@ -63,12 +85,18 @@ first_where_some tokens at e =
     let P : Option ℕ → Type 0 = λ r. MatchOption r (NumbersFit tokens) (IsFirstTooLarge tokens) in
     subst P e (too_large_at_is tokens)
 
--- the program's tokens, from the front up to the first too large
-pub found_at : (tokens : List Code) (i : ℕ) (d : Code) → i < length tokens → too_large_at (all_placed (drop i tokens)) ≡ too_large_at (all_placed tokens) → true ≡ is_too_large (token_of (get_or tokens i d).token) (all_placed (drop (i + 1) tokens)) → too_large_at (all_placed tokens) ≡ Some (get_or tokens i d).at
+-- the program's tokens, from the prefix up to the first too large
+pub found_at : (tokens : List Code) (i : ℕ) (d : Code) → i < length tokens → too_large_at (all_placed (drop i tokens))
+    ≡ too_large_at (all_placed tokens) → true
+    ≡ is_too_large (token_of (get_or tokens i d).token) (all_placed (drop (i + 1) tokens))
+    → too_large_at (all_placed tokens) ≡ Some (get_or tokens i d).at
 found_at tokens i d h so_far large =
     let step = at_drop_more (λ (rest : List Code). too_large_at (all_placed rest)) tokens i d h in
-    let here : too_large_at (all_placed (get_or tokens i d ∷ drop (i + 1) tokens)) ≡ Some (get_or tokens i d).at = rw (← large) refl in
+    let here : too_large_at (all_placed (get_or tokens i d ∷ drop (i + 1) tokens)) ≡ Some (get_or tokens i d).at =
+    rw (← large) refl in
     sym so_far ∙ step ∙ here
 
-pub none_found : (tokens : List Code) (i : ℕ) → length tokens ≤ i → too_large_at (all_placed (drop i tokens)) ≡ too_large_at (all_placed tokens) → too_large_at (all_placed tokens) ≡ None
-none_found tokens i h so_far = sym so_far ∙ at_drop_all (λ (rest : List Code). too_large_at (all_placed rest)) tokens i h
+pub none_found : (tokens : List Code) (i : ℕ) → length tokens ≤ i → too_large_at (all_placed (drop i tokens))
+    ≡ too_large_at (all_placed tokens) → too_large_at (all_placed tokens) ≡ None
+none_found tokens i h so_far =
+    sym so_far ∙ at_drop_all (λ (rest : List Code). too_large_at (all_placed rest)) tokens i h

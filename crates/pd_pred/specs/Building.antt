@@ -1,4 +1,4 @@
--- What is read from the front of tokens, and where a walk over them is then.
+-- What is read from the prefix of tokens, and where a walk over them is then.
 use Rattle.std.specs.Prelude.{◌≡◌, ℕ, ◌<◌, ◌≤◌, Bool, true, false, IsFalse, List, [], ◌∷◌, ◌++◌, length, Some}
 use Rattle.std.specs.Str.{bytes_eq}
 use Rattle.pd_model.specs.Predicates.{Term, Sign, Plus, Minus, Predicate}
@@ -6,15 +6,15 @@ use Rattle.pd_format.specs.Names.{ProcessNames, process_named, var_named}
 use Rattle.pd_format.specs.Tokens.{Token, Word, Digits, Relates, Dot, Signs}
 use Rattle.pd_format.specs.PredicateTexts.{tokens_of, NumbersFit, is_star}
 use Rattle.pd_format.specs.Grammar.{NamedBy, SpellsTerm, SpellsSum, Rule, Spells}
-use Rattle.pd_format.specs.PrefixWalk.{Side, Mode, AtTerm, AtOperand, BehindTerm, BehindOperand, Inside, AtEnd, walk}
+use Rattle.pd_format.specs.PrefixWalk.{Side, Mode, AtTerm, AtOperand, AfterTerm, AfterOperand, Inside, AtEnd, walk}
 use Rattle.pd_pred.specs.Tokens.{all_placed, token_of}
 use Rattle.pd_pred.specs.declared.token.Placed.{Placed}
 
 -- the tokens of the grammar that these stand for
-abbrev pub seen : List Placed → List Token
-seen tokens = tokens_of (all_placed tokens)
+abbrev pub tokens_view : List Placed → List Token
+tokens_view tokens = tokens_of (all_placed tokens)
 
--- ---- what stands at the front
+-- ---- what stands at the prefix
 
 -- the first token is this one, and the rest follows it
 pub record Follows (token : Token) (tokens rest : List Placed) : Type 0 where
@@ -66,7 +66,7 @@ abbrev pub begins_with_relation : List Token → Bool
 begins_with_relation [] = false
 begins_with_relation (t ∷ rest) = is_relation t
 
--- the tokens behind a first minus
+-- the tokens after a first minus
 abbrev pub without_minus : List Token → List Token
 without_minus [] = []
 without_minus (Signs Minus ∷ rest) = rest
@@ -75,7 +75,7 @@ without_minus (t ∷ rest) = t ∷ rest
 -- The sign of a first term: a minus that is written, or else a plus that isn't.
 abbrev pub IsFirstSign : Sign → List Placed → List Placed → Type 0
 IsFirstSign Minus tokens rest = Follows (Signs Minus) tokens rest
-IsFirstSign Plus tokens rest = (tokens ≡ rest) × IsFalse (begins_with_sign (seen tokens))
+IsFirstSign Plus tokens rest = (tokens ≡ rest) × IsFalse (begins_with_sign (tokens_view tokens))
 
 -- ---- where a walk is
 
@@ -99,32 +99,36 @@ IsKnown names process var = (p v : ℕ) × (process_named names process ≡ Some
 
 -- each reference is known, no number is too large, and there are few tokens
 pub record AreReadable (names : List ProcessNames) (tokens : List Placed) : Type 0 where
-  pub known : (before after : List Token) (process var : List ℕ) → seen tokens ≡ before ++ Word process ∷ Dot ∷ Word var ∷ after → IsKnown names process var
+  pub known : (before after : List Token) (process var : List ℕ) → tokens_view tokens ≡ before ++ Word process ∷ Dot
+      ∷ Word var ∷ after → IsKnown names process var
   pub fit : NumbersFit (all_placed tokens)
   pub few : length tokens ≤ 4097
 
 -- ---- what is read
 
 -- a term
-pub record IsTermRead (names : List ProcessNames) (from : Side → Mode) (tokens rest : List Placed) (term : Term) : Type 0 where
-  pub front : List Placed
-  pub parts : tokens ≡ front ++ rest
+pub record IsTermRead (names : List ProcessNames) (from : Side → Mode) (tokens rest : List Placed) (term : Term) :
+    Type 0 where
+  pub prefix : List Placed
+  pub parts : tokens ≡ prefix ++ rest
   pub fewer : length rest < length tokens
-  pub spells : SpellsTerm (NamedBy names) (seen front) term
-  pub goes_on : (side : Side) → GoesOn (from side) (seen tokens) (BehindTerm side) (seen rest)
+  pub spells : SpellsTerm (NamedBy names) (tokens_view prefix) term
+  pub goes_on : (side : Side) → GoesOn (from side) (tokens_view tokens) (AfterTerm side) (tokens_view rest)
 
 -- a sum
 pub record IsSumRead (names : List ProcessNames) (tokens rest : List Placed) (terms : List (Sign × Term)) : Type 0 where
-  pub front : List Placed
-  pub parts : tokens ≡ front ++ rest
+  pub prefix : List Placed
+  pub parts : tokens ≡ prefix ++ rest
   pub fewer : length rest < length tokens
-  pub spells : SpellsSum (NamedBy names) (seen front) terms
-  pub goes_on : (side : Side) → GoesOn (AtTerm side) (without_minus (seen tokens)) (BehindTerm side) (seen rest)
+  pub spells : SpellsSum (NamedBy names) (tokens_view prefix) terms
+  pub goes_on : (side : Side) → GoesOn (AtTerm side) (without_minus (tokens_view tokens)) (AfterTerm side)
+      (tokens_view rest)
 
 -- a predicate by a rule of the grammar
-pub record IsRead (names : List ProcessNames) (rule : Rule) (tokens rest : List Placed) (predicate : Predicate) : Type 0 where
-  pub front : List Placed
-  pub parts : tokens ≡ front ++ rest
+pub record IsRead (names : List ProcessNames) (rule : Rule) (tokens rest : List Placed) (predicate : Predicate) :
+    Type 0 where
+  pub prefix : List Placed
+  pub parts : tokens ≡ prefix ++ rest
   pub fewer : length rest < length tokens
-  pub spells : Spells (NamedBy names) rule (seen front) predicate
-  pub goes_on : GoesOn AtOperand (seen tokens) BehindOperand (seen rest)
+  pub spells : Spells (NamedBy names) rule (tokens_view prefix) predicate
+  pub goes_on : GoesOn AtOperand (tokens_view tokens) AfterOperand (tokens_view rest)

@@ -8,7 +8,7 @@ abbrev pub IsLexErrorOf : List ℕ → LexError → Type 0
 IsLexErrorOf text (Stray at) = IsStray text at
 IsLexErrorOf text Memory = Unit {0}
 
--- the rest is what follows all spaces and tabs at the front of the bytes
+-- the rest is what follows all spaces and tabs at the prefix of the bytes
 pub record SkipsSpaces (bytes rest : List ℕ) : Type 0 where
   pub spaces : List ℕ
   pub are_spaces : AreSpaces spaces
@@ -28,4 +28,5 @@ SpellsNoToken bytes = (token : Token) → ¬ (IsSpelling bytes token)
 
 -- the first two bytes are no token
 abbrev pub BeginsNoDouble : List ℕ → Type 0
-BeginsNoDouble bytes = (first second : ℕ) (rest : List ℕ) → bytes ≡ first ∷ second ∷ rest → SpellsNoToken (first ∷ second ∷ [])
+BeginsNoDouble bytes = (first second : ℕ) (rest : List ℕ) → bytes ≡ first ∷ second ∷ rest
+    → SpellsNoToken (first ∷ second ∷ [])

@@ -6,34 +6,34 @@ use Rattle.pd_pred.specs.declared.state.WordKind.TheVariants.{Negates, Joins, Tr
 use Rattle.pd_pred.specs.declared.state.Side.{Side}
 use Rattle.pd_pred.specs.declared.state.Side.TheVariants.{Left, Right}
 use Rattle.pd_pred.specs.declared.state.Mode.{Mode}
-use Rattle.pd_pred.specs.declared.state.Mode.TheVariants.{AtOperand, AtSum, AtTerm, BehindNumber, BehindStar, BehindName, BehindDot, BehindTerm, BehindOperand}
+use Rattle.pd_pred.specs.declared.state.Mode.TheVariants.{AtOperand, AtSum, AtTerm, AfterNumber, AfterStar, AfterName, AfterDot, AfterTerm, AfterOperand}
 use Rattle.pd_pred.specs.declared.state.State.{State}
 use Rattle.pd_pred.specs.declared.state.State.TheVariants.{Inside, AtEnd}
 
-abbrev pub kind_of : WordKind → walk.WordKind
-kind_of Negates = walk.ANot
-kind_of Joins = walk.AJoin
-kind_of Truth = walk.ATruth
-kind_of Name = walk.AName
+abbrev pub word_kind_view : WordKind → walk.WordKind
+word_kind_view Negates = walk.ANot
+word_kind_view Joins = walk.AJoin
+word_kind_view Truth = walk.ATruth
+word_kind_view Name = walk.AName
 
-abbrev pub side_of : Side → walk.Side
-side_of Left = walk.OnLeft
-side_of Right = walk.OnRight
+abbrev pub side_view : Side → walk.Side
+side_view Left = walk.OnLeft
+side_view Right = walk.OnRight
 
-abbrev pub mode_of : Mode → walk.Mode
-mode_of AtOperand = walk.AtOperand
-mode_of AtSum = walk.AtSum
-mode_of (AtTerm side) = walk.AtTerm (side_of side)
-mode_of (BehindNumber side) = walk.BehindNumber (side_of side)
-mode_of (BehindStar side) = walk.BehindStar (side_of side)
-mode_of (BehindName side) = walk.BehindName (side_of side)
-mode_of (BehindDot side) = walk.BehindDot (side_of side)
-mode_of (BehindTerm side) = walk.BehindTerm (side_of side)
-mode_of BehindOperand = walk.BehindOperand
+abbrev pub mode_view : Mode → walk.Mode
+mode_view AtOperand = walk.AtOperand
+mode_view AtSum = walk.AtSum
+mode_view (AtTerm side) = walk.AtTerm (side_view side)
+mode_view (AfterNumber side) = walk.AfterNumber (side_view side)
+mode_view (AfterStar side) = walk.AfterStar (side_view side)
+mode_view (AfterName side) = walk.AfterName (side_view side)
+mode_view (AfterDot side) = walk.AfterDot (side_view side)
+mode_view (AfterTerm side) = walk.AfterTerm (side_view side)
+mode_view AfterOperand = walk.AfterOperand
 
-abbrev pub state_of : State → walk.State
-state_of (Inside mode parens) = walk.Inside (mode_of mode) parens
-state_of AtEnd = walk.AtEnd
+abbrev pub parser_state_view : State → walk.State
+parser_state_view (Inside mode parens) = walk.Inside (mode_view mode) parens
+parser_state_view AtEnd = walk.AtEnd
 
 -- how many parentheses are open in a state
 abbrev pub open_parens : walk.State → ℕ

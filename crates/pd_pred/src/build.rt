@@ -1,15 +1,15 @@
 //! The syntax tree of tokens that were checked before.
 //!
-//! Each function reads one rule of the grammar from the front of the tokens, as long as it can be, and gives the rest back.
-//! The tokens are known to be a predicate's, so what can't stand there is never met.
+//! Each function reads one rule of the grammar from the prefix of the tokens, as long as it can be, and gives the rest
+//! back. The tokens are known to be a predicate's, so what can't stand there is never met.
 ghost use Rattle.pd_format.specs.Grammar.{NamedBy, OrRule, AndRule, NotRule, SpellsWhole};
 ghost use Rattle.pd_format.specs.PredicateTexts.{NumbersFit, tokens_of};
-ghost use Rattle.pd_format.specs.PrefixWalk.{AtEnd, AtOperand, AtTerm, BehindStar, OnLeft, start, walk};
+ghost use Rattle.pd_format.specs.PrefixWalk.{AtEnd, AtOperand, AtTerm, AfterStar, OnLeft, start, walk};
 ghost use Rattle.pd_format.specs.Tokens.{Digits, Relates, Signs, Star, Word};
 ghost use Rattle.pd_model.specs.Predicates.{Variable};
 ghost use Rattle.pd_pred.specs.Beginnings.{BeginsAs};
 ghost use Rattle.pd_pred.specs.Building.{
-  seen,
+  tokens_view,
   Follows,
   IsFirstSign,
   begins_with_any_word,
@@ -62,14 +62,14 @@ fn disjunction<'a>(
     tokens: &'a [Placed<'a>],
 ) -> Result<(Tree, &'a [Placed<'a>]), AllocError>
     requires readable { AreReadable names.now tokens.now }
-    requires leads { Leads AtOperand (seen tokens.now) }
+    requires leads { Leads AtOperand (tokens_view tokens.now) }
     ensures read { IfOk result (λ built. IsRead names.now OrRule tokens.now built.1.now (tree_of built.0)) }
-    ensures stops_at_and { IfOk result (λ built. IsFalse (begins_with_word (codes "and") (seen built.1.now))) }
-    ensures stops_at_or { IfOk result (λ built. IsFalse (begins_with_word (codes "or") (seen built.1.now))) }
+    ensures stops_at_and { IfOk result (λ built. IsFalse (begins_with_word (codes "and") (tokens_view built.1.now))) }
+    ensures stops_at_or { IfOk result (λ built. IsFalse (begins_with_word (codes "or") (tokens_view built.1.now))) }
 {
     let (mut tree, mut rest) = conjunction(alloc, names, tokens)?;
-    while let Some(behind) = after_word(rest, "or") {
-        let (right, later) = conjunction(alloc, names, behind)?;
+    while let Some(following) = after_word(rest, "or") {
+        let (right, later) = conjunction(alloc, names, following)?;
         let left = Box::new(alloc, tree)?;
         let right = Box::new(alloc, right)?;
         tree = Tree::Or(left, right);
@@ -86,13 +86,13 @@ fn conjunction<'a>(
     tokens: &'a [Placed<'a>],
 ) -> Result<(Tree, &'a [Placed<'a>]), AllocError>
     requires readable { AreReadable names.now tokens.now }
-    requires leads { Leads AtOperand (seen tokens.now) }
+    requires leads { Leads AtOperand (tokens_view tokens.now) }
     ensures read { IfOk result (λ built. IsRead names.now AndRule tokens.now built.1.now (tree_of built.0)) }
-    ensures stops_at_and { IfOk result (λ built. IsFalse (begins_with_word (codes "and") (seen built.1.now))) }
+    ensures stops_at_and { IfOk result (λ built. IsFalse (begins_with_word (codes "and") (tokens_view built.1.now))) }
 {
     let (mut tree, mut rest) = operand(alloc, names, tokens)?;
-    while let Some(behind) = after_word(rest, "and") {
-        let (right, later) = operand(alloc, names, behind)?;
+    while let Some(following) = after_word(rest, "and") {
+        let (right, later) = operand(alloc, names, following)?;
         let left = Box::new(alloc, tree)?;
         let right = Box::new(alloc, right)?;
         tree = Tree::And(left, right);
@@ -109,16 +109,16 @@ fn operand<'a>(
     tokens: &'a [Placed<'a>],
 ) -> Result<(Tree, &'a [Placed<'a>]), AllocError>
     requires readable { AreReadable names.now tokens.now }
-    requires leads { Leads AtOperand (seen tokens.now) }
+    requires leads { Leads AtOperand (tokens_view tokens.now) }
     ensures { IfOk result (λ built. IsRead names.now NotRule tokens.now built.1.now (tree_of built.0)) }
 {
     match beginning_of(tokens) {
         Beginning::Paren(inside) => {
             let (tree, closing) = disjunction(alloc, names, inside)?;
-            Ok((tree, behind_first(closing)))
+            Ok((tree, after_first(closing)))
         }
-        Beginning::Negation(behind) => {
-            let (operand, rest) = operand(alloc, names, behind)?;
+        Beginning::Negation(following) => {
+            let (operand, rest) = operand(alloc, names, following)?;
             let operand = Box::new(alloc, operand)?;
             Ok((Tree::Not(operand), rest))
         }
@@ -142,9 +142,9 @@ enum Beginning<'a> {
     Comparison,
 }
 
-/// How the operand at the front of the tokens begins.
+/// How the operand at the prefix of the tokens begins.
 fn beginning_of<'a>(tokens: &'a [Placed<'a>]) -> Beginning<'a>
-    requires { Leads AtOperand (seen tokens.now) }
+    requires { Leads AtOperand (tokens_view tokens.now) }
     ensures { BeginsAs tokens.now result }
 {
     let Some((first, rest)) = tokens.split_first() else {
@@ -169,13 +169,14 @@ fn comparison<'a>(
     tokens: &'a [Placed<'a>],
 ) -> Result<(Tree, &'a [Placed<'a>]), AllocError>
     requires readable { AreReadable names.now tokens.now }
-    requires leads { Leads (AtTerm OnLeft) (without_minus (seen tokens.now)) }
-    requires begins { GoesOn AtOperand (seen tokens.now) (AtTerm OnLeft) (without_minus (seen tokens.now)) }
+    requires leads { Leads (AtTerm OnLeft) (without_minus (tokens_view tokens.now)) }
+    requires begins { GoesOn AtOperand (tokens_view tokens.now) (AtTerm OnLeft) (without_minus (tokens_view tokens.now))
+        }
     ensures { IfOk result (λ built. IsRead names.now NotRule tokens.now built.1.now (tree_of built.0)) }
 {
     let (left, related) = sum(alloc, names, tokens)?;
-    let (comparison, behind) = after_comparison(related);
-    let (right, rest) = sum(alloc, names, behind)?;
+    let (comparison, following) = after_comparison(related);
+    let (right, rest) = sum(alloc, names, following)?;
     let tree = Tree::Compare {
         left,
         comparison,
@@ -191,16 +192,16 @@ fn sum<'a>(
     tokens: &'a [Placed<'a>],
 ) -> Result<(Sum, &'a [Placed<'a>]), AllocError>
     requires readable { AreReadable names.now tokens.now }
-    requires leads { LeadsOnSide AtTerm (without_minus (seen tokens.now)) }
+    requires leads { LeadsOnSide AtTerm (without_minus (tokens_view tokens.now)) }
     ensures read { IfOk result (λ built. IsSumRead names.now tokens.now built.1.now (sum_of built.0)) }
-    ensures stops { IfOk result (λ built. IsFalse (begins_with_sign (seen built.1.now))) }
+    ensures stops { IfOk result (λ built. IsFalse (begins_with_sign (tokens_view built.1.now))) }
 {
-    let (sign, behind) = first_sign(tokens);
-    let (first, mut rest) = term(names, behind);
+    let (sign, following) = first_sign(tokens);
+    let (first, mut rest) = term(names, following);
     let mut terms = Vec::new(alloc);
     terms.push(SignedTerm { sign, term: first })?;
-    while let Some((sign, behind)) = after_sign(rest) {
-        let (next, later) = term(names, behind);
+    while let Some((sign, following)) = after_sign(rest) {
+        let (next, later) = term(names, following);
         terms.push(SignedTerm { sign, term: next })?;
         rest = later;
     }
@@ -209,7 +210,7 @@ fn sum<'a>(
 
 /// The sign of a sum's first term, and what follows it.
 fn first_sign<'a>(tokens: &'a [Placed<'a>]) -> (Sign, &'a [Placed<'a>])
-    requires { LeadsOnSide AtTerm (without_minus (seen tokens.now)) }
+    requires { LeadsOnSide AtTerm (without_minus (tokens_view tokens.now)) }
     ensures { IsFirstSign (sign_of result.0) tokens.now result.1.now }
 {
     match after_sign(tokens) {
@@ -221,15 +222,15 @@ fn first_sign<'a>(tokens: &'a [Placed<'a>]) -> (Sign, &'a [Placed<'a>])
 /// A number, a variable, or a number times a variable.
 fn term<'a>(names: &Names, tokens: &'a [Placed<'a>]) -> (Term, &'a [Placed<'a>])
     requires readable { AreReadable names.now tokens.now }
-    requires leads { LeadsOnSide AtTerm (seen tokens.now) }
+    requires leads { LeadsOnSide AtTerm (tokens_view tokens.now) }
     ensures { IsTermRead names.now AtTerm tokens.now result.1.now (term_of result.0) }
 {
-    let Some((number, behind)) = after_number(tokens) else {
+    let Some((number, following)) = after_number(tokens) else {
         let (process, var, rest) = reference(names, tokens);
         return (Term::Variable { process, var }, rest);
     };
-    let Some(factored) = after_star(behind) else {
-        return (Term::Number(number), behind);
+    let Some(factored) = after_star(following) else {
+        return (Term::Number(number), following);
     };
     let (process, var, rest) = reference(names, factored);
     let term = Term::Times {
@@ -243,11 +244,11 @@ fn term<'a>(names: &Names, tokens: &'a [Placed<'a>]) -> (Term, &'a [Placed<'a>])
 /// The numbers of the process and the variable that the tokens name.
 fn reference<'a>(names: &Names, tokens: &'a [Placed<'a>]) -> (usize, usize, &'a [Placed<'a>])
     requires readable { AreReadable names.now tokens.now }
-    requires leads { LeadsOnSide BehindStar (seen tokens.now) }
-    ensures { IsTermRead names.now BehindStar tokens.now result.2.now (Variable result.0 result.1) }
+    requires leads { LeadsOnSide AfterStar (tokens_view tokens.now) }
+    ensures { IsTermRead names.now AfterStar tokens.now result.2.now (Variable result.0 result.1) }
 {
     let (process, dotted) = after_name(tokens);
-    let (var, rest) = after_name(behind_first(dotted));
+    let (var, rest) = after_name(after_first(dotted));
     let Some(process) = names.find(process) else {
         unreachable!()
     };
@@ -259,7 +260,8 @@ fn reference<'a>(names: &Names, tokens: &'a [Placed<'a>]) -> (usize, usize, &'a 
 
 /// What follows the word, if the tokens begin with it.
 fn after_word<'a>(tokens: &'a [Placed<'a>], word: &str) -> Option<&'a [Placed<'a>]>
-    ensures { MatchOption result (IsFalse (begins_with_word word.now (seen tokens.now))) (λ rest. Follows (Word word.now) tokens.now rest.now) }
+    ensures { MatchOption result (IsFalse (begins_with_word word.now (tokens_view tokens.now))) (λ rest.
+        Follows (Word word.now) tokens.now rest.now) }
 {
     let (first, rest) = tokens.split_first()?;
     match first.token {
@@ -270,7 +272,8 @@ fn after_word<'a>(tokens: &'a [Placed<'a>], word: &str) -> Option<&'a [Placed<'a
 
 /// The sign and what follows it, if the tokens begin with one.
 fn after_sign<'a>(tokens: &'a [Placed<'a>]) -> Option<(Sign, &'a [Placed<'a>])>
-    ensures { MatchOption result (IsFalse (begins_with_sign (seen tokens.now))) (λ signed. Follows (Signs (sign_of signed.0)) tokens.now signed.1.now) }
+    ensures { MatchOption result (IsFalse (begins_with_sign (tokens_view tokens.now))) (λ signed.
+        Follows (Signs (sign_of signed.0)) tokens.now signed.1.now) }
 {
     let (first, rest) = tokens.split_first()?;
     match first.token {
@@ -282,7 +285,8 @@ fn after_sign<'a>(tokens: &'a [Placed<'a>]) -> Option<(Sign, &'a [Placed<'a>])>
 /// The number and what follows it, if the tokens begin with one.
 fn after_number<'a>(tokens: &'a [Placed<'a>]) -> Option<(u64, &'a [Placed<'a>])>
     requires { NumbersFit (all_placed tokens.now) }
-    ensures { MatchOption result (IsFalse (begins_with_number (seen tokens.now))) (λ numbered. Follows (Digits numbered.0) tokens.now numbered.1.now) }
+    ensures { MatchOption result (IsFalse (begins_with_number (tokens_view tokens.now))) (λ numbered.
+        Follows (Digits numbered.0) tokens.now numbered.1.now) }
 {
     let (first, rest) = tokens.split_first()?;
     match first.token {
@@ -293,7 +297,8 @@ fn after_number<'a>(tokens: &'a [Placed<'a>]) -> Option<(u64, &'a [Placed<'a>])>
 
 /// What follows `*`, if the tokens begin with it.
 fn after_star<'a>(tokens: &'a [Placed<'a>]) -> Option<&'a [Placed<'a>]>
-    ensures { MatchOption result (IsFalse (begins_with_star (seen tokens.now))) (λ rest. Follows Star tokens.now rest.now) }
+    ensures { MatchOption result (IsFalse (begins_with_star (tokens_view tokens.now))) (λ rest.
+        Follows Star tokens.now rest.now) }
 {
     let (first, rest) = tokens.split_first()?;
     match first.token {
@@ -302,9 +307,9 @@ fn after_star<'a>(tokens: &'a [Placed<'a>]) -> Option<&'a [Placed<'a>]>
     }
 }
 
-/// The word at the front of the tokens, and what follows it.
+/// The word at the prefix of the tokens, and what follows it.
 fn after_name<'a>(tokens: &'a [Placed<'a>]) -> (&'a str, &'a [Placed<'a>])
-    requires { IsTrue (begins_with_any_word (seen tokens.now)) }
+    requires { IsTrue (begins_with_any_word (tokens_view tokens.now)) }
     ensures { Follows (Word result.0.now) tokens.now result.1.now }
 {
     let Some((first, rest)) = tokens.split_first() else {
@@ -316,9 +321,9 @@ fn after_name<'a>(tokens: &'a [Placed<'a>]) -> (&'a str, &'a [Placed<'a>])
     (name, rest)
 }
 
-/// The comparison at the front of the tokens, and what follows it.
+/// The comparison at the prefix of the tokens, and what follows it.
 fn after_comparison<'a>(tokens: &'a [Placed<'a>]) -> (Comparison, &'a [Placed<'a>])
-    requires { IsTrue (begins_with_relation (seen tokens.now)) }
+    requires { IsTrue (begins_with_relation (tokens_view tokens.now)) }
     ensures { Follows (Relates (comparison_of result.0)) tokens.now result.1.now }
 {
     let Some((first, rest)) = tokens.split_first() else {
@@ -331,7 +336,7 @@ fn after_comparison<'a>(tokens: &'a [Placed<'a>]) -> (Comparison, &'a [Placed<'a
 }
 
 /// What follows the first token.
-fn behind_first<'a>(tokens: &'a [Placed<'a>]) -> &'a [Placed<'a>]
+fn after_first<'a>(tokens: &'a [Placed<'a>]) -> &'a [Placed<'a>]
     requires { 0 < length tokens.now }
     ensures { (first : Placed) × (tokens.now ≡ first ∷ result.now) }
 {

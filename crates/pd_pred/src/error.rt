@@ -8,7 +8,7 @@ pub enum PredErrorKind {
     Long,
     /// A byte begins no token and is neither space nor tab.
     Character,
-    /// A number is over 9223372036854775807, or over 2147483647 with `*` behind it.
+    /// A number is over 9223372036854775807, or over 2147483647 with `*` after it.
     Number,
     /// A token with which the tokens so far begin no predicate.
     Expected,
@@ -30,7 +30,7 @@ pub struct PredError {
 }
 
 impl PredError {
-    /// The refusal for want of memory.
+    /// The refusal because memory ran out.
     pub const MEMORY: PredError = PredError {
         kind: PredErrorKind::Memory,
         at: 0,

@@ -48,7 +48,8 @@ fn term_value<V: Values>(term: Term, values: &V) -> i128
 
 /// The value of a term with its sign.
 fn signed_value<V: Values>(signed: SignedTerm, values: &V) -> i128
-    ensures value { result ≡ model.signed (sign_of signed.sign) (model.term_value (V.state values.now) (term_of signed.term)) }
+    ensures value { result ≡ model.signed (sign_of signed.sign)
+        (model.term_value (V.state values.now) (term_of signed.term)) }
     ensures bound { unsigned_abs result < 2 ^ 95 }
 {
     let value = term_value(signed.term, values);

@@ -127,7 +127,8 @@ fn single_symbol(byte: u8) -> Option<Token<'static>>
 fn double_symbol(first: u8, second: u8) -> Option<Token<'static>>
     requires no_letter { IsFalse (format.is_letter first) }
     requires no_digit { IsFalse (format.is_digit first) }
-    ensures { MatchOption result (SpellsNoToken (first ∷ second ∷ [])) (λ token. IsSpelling (first ∷ second ∷ []) (token_of token)) }
+    ensures { MatchOption result (SpellsNoToken (first ∷ second ∷ [])) (λ token.
+        IsSpelling (first ∷ second ∷ []) (token_of token)) }
 {
     match (first, second) {
         (b'=', b'=') => Some(Token::Relates(Comparison::Equals)),
@@ -142,7 +143,8 @@ fn double_symbol(first: u8, second: u8) -> Option<Token<'static>>
 fn first_double(text: &str) -> Option<(Token<'_>, &str)>
     requires no_letter { IsFalse (format.is_letter (slice_index text.now 0)) }
     requires no_digit { IsFalse (format.is_digit (slice_index text.now 0)) }
-    ensures { MatchOption result (BeginsNoDouble text.now) (λ found. IsFirstToken text.now (token_of found.0) found.1.now) }
+    ensures { MatchOption result (BeginsNoDouble text.now) (λ found.
+        IsFirstToken text.now (token_of found.0) found.1.now) }
 {
     let &[first, second, ..] = text.as_bytes() else {
         return None;
@@ -156,7 +158,8 @@ fn first_single(text: &str) -> Option<(Token<'_>, &str)>
     requires no_letter { IsFalse (format.is_letter (slice_index text.now 0)) }
     requires no_digit { IsFalse (format.is_digit (slice_index text.now 0)) }
     requires no_double { BeginsNoDouble text.now }
-    ensures { MatchOption result (BeginsNoToken text.now) (λ found. IsFirstToken text.now (token_of found.0) found.1.now) }
+    ensures { MatchOption result (BeginsNoToken text.now) (λ found.
+        IsFirstToken text.now (token_of found.0) found.1.now) }
 {
     let first = *text.as_bytes().first()?;
     let token = single_symbol(first)?;
@@ -165,7 +168,8 @@ fn first_single(text: &str) -> Option<(Token<'_>, &str)>
 
 /// The token that the text begins with, and what follows it.
 fn first_token(text: &str) -> Option<(Token<'_>, &str)>
-    ensures { MatchOption result (BeginsNoToken text.now) (λ found. IsFirstToken text.now (token_of found.0) found.1.now) }
+    ensures { MatchOption result (BeginsNoToken text.now) (λ found.
+        IsFirstToken text.now (token_of found.0) found.1.now) }
 {
     let first = *text.as_bytes().first()?;
     if is_letter(first) {

@@ -1,7 +1,7 @@
 //! The predicate language: names that a predicate may speak of, the reader of its text, and what it means at a state.
 //!
 //! A text is read exactly where it is a predicate of the grammar over the session's names; otherwise the first fault is
-//! told with its byte. A predicate is evaluated over whole numbers without bound, and takes no memory for it.
+//! reported with its byte. A predicate is evaluated over whole numbers without bound, and takes no memory for it.
 //!
 //! - `names`: the processes of a session and their variables
 //! - `values`: where the values of variables come from

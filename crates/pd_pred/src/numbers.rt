@@ -11,7 +11,7 @@ use super::token::{Placed, Token};
 /// The greatest number in a text.
 const MAX_NUMBER: u64 = 9_223_372_036_854_775_807;
 
-/// The greatest number with a `*` behind it.
+/// The greatest number with a `*` after it.
 const MAX_FACTOR: u64 = 2_147_483_647;
 
 /// What a digit counts for.

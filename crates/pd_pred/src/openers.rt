@@ -48,7 +48,7 @@ impl Openers {
         self.stack.is_full()
     }
 
-    /// What is open behind one token more.
+    /// What is open after one token more.
     pub(crate) fn read(&mut self, token: Token<'_>)
         requires { IsTrue (opens (token_of token)) → length (open_in self.old) < 64 }
         ensures { open_in self.new ≡ opened (open_in self.old) (token_of token.entry) }

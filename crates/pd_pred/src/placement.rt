@@ -10,9 +10,9 @@ ghost use Rattle.pd_pred.specs.Placement.{
   Steps,
   first_position,
   position_of,
-  process_behind,
+  process_after,
 };
-ghost use Rattle.pd_pred.specs.States.{open_parens, state_of};
+ghost use Rattle.pd_pred.specs.States.{open_parens, parser_state_view};
 ghost use Rattle.pd_pred.specs.Tokens.{all_placed, token_of};
 ghost use Rattle.std.specs.Prelude.{◌≡◌, ◌+◌, ◌<◌, ◌≤◌, [], ◌∷◌, ◌++◌, List, Some, IfErr, IfSome, OnOk, IfNone};
 
@@ -26,7 +26,7 @@ pub(crate) fn first_misplaced(names: &Names, tokens: &[Placed<'_>]) -> Option<Pr
     ensures misplaced { IfSome result
         (λ error. IsFirstMisplaced names.now (all_placed tokens.now) error) }
     ensures well_placed { IfNone result (IsWellPlaced names.now (all_placed tokens.now)) }
-    ensures ends { IfNone result ((front : List FormatToken) → tokens_of (all_placed tokens.now) ≡ front ++ End ∷ [] →
+    ensures ends { IfNone result ((prefix : List FormatToken) → tokens_of (all_placed tokens.now) ≡ prefix ++ End ∷ [] →
         walk start (tokens_of (all_placed tokens.now)) ≡ Some AtEnd) }
 {
     pd_format::prefixes_are_walked();
@@ -43,7 +43,7 @@ pub(crate) fn first_misplaced(names: &Names, tokens: &[Placed<'_>]) -> Option<Pr
     None
 }
 
-/// A place behind tokens of which none is misplaced.
+/// A place after tokens of which none is misplaced.
 #[derive(Drop)]
 struct Place {
     state: State,
@@ -67,21 +67,21 @@ impl Place {
         }
     }
 
-    /// Goes behind one token more, or tells what is wrong with it there.
+    /// Goes after one token more, or tells what is wrong with it there.
     fn read(&mut self, names: &Names, token: Token<'_>) -> Result<(), PredErrorKind>
-        requires few { open_parens (state_of self.old.state) < usize.MAX }
-        requires in_names { IsInNames names.now (state_of self.old.state) self.old.process }
+        requires few { open_parens (parser_state_view self.old.state) < usize.MAX }
+        requires in_names { IsInNames names.now (parser_state_view self.old.state) self.old.process }
         ensures ok { OnOk result
             (Steps names.now (position_of self.old) (token_of token.entry) (position_of self.new)) }
         ensures few { OnOk result
-            (open_parens (state_of self.new.state) ≤ open_parens (state_of self.old.state) + 1) }
+            (open_parens (parser_state_view self.new.state) ≤ open_parens (parser_state_view self.old.state) + 1) }
         ensures err { IfErr result
             (λ kind. IsFaultAt names.now (position_of self.old) (token_of token.entry) kind) }
     {
         let Some(state) = step(self.state, token) else {
             return Err(PredErrorKind::Expected);
         };
-        let Some(process) = self.process_behind(names, state, token) else {
+        let Some(process) = self.process_after(names, state, token) else {
             return Err(PredErrorKind::UnknownName);
         };
         if is_opener(token) && self.openers.is_full() {
@@ -93,12 +93,13 @@ impl Place {
         Ok(())
     }
 
-    /// The process that the last name refers to behind this token, which leads to this state; none where the token is an
+    /// The process that the last name refers to after this token, which leads to this state; none where the token is an
     /// unknown name.
-    fn process_behind(&self, names: &Names, state: State, token: Token<'_>) -> Option<usize>
-        requires { IsInNames names.now (state_of self.now.state) self.now.process }
+    fn process_after(&self, names: &Names, state: State, token: Token<'_>) -> Option<usize>
+        requires { IsInNames names.now (parser_state_view self.now.state) self.now.process }
         ensures { result
-            ≡ process_behind names.now (state_of self.now.state) self.now.process (state_of state) (token_of token.entry) }
+            ≡ process_after names.now (parser_state_view self.now.state) self.now.process (parser_state_view state)
+            (token_of token.entry) }
     {
         let Token::Word(word) = token else {
             return Some(self.process);
@@ -106,7 +107,7 @@ impl Place {
         match (self.state, state) {
             (
                 State::Inside {
-                    mode: Mode::BehindDot(_),
+                    mode: Mode::AfterDot(_),
                     ..
                 },
                 _,
@@ -114,7 +115,7 @@ impl Place {
             (
                 _,
                 State::Inside {
-                    mode: Mode::BehindName(_),
+                    mode: Mode::AfterName(_),
                     ..
                 },
             ) => names.find(word),

@@ -1,7 +1,7 @@
 //! The predicate itself.
 ghost use Rattle.pd_format.specs.PredicateTexts.{IsPredicate};
 ghost use Rattle.pd_model.specs.Predicates.{holds_at};
-ghost use Rattle.pd_pred.specs.Views.{IsErrorOf, predicate_of};
+ghost use Rattle.pd_pred.specs.Views.{IsErrorOf, predicate_view};
 ghost use Rattle.std.specs.Prelude.{◌≡◌, IfOk, IfErr};
 
 use super::build::build;
@@ -26,9 +26,9 @@ impl Pred {
     /// The predicate that the text spells over these names.
     ///
     /// # Errors
-    /// The first fault of the text with its byte, or want of memory.
+    /// The first fault of the text with its byte, or out of memory.
     pub fn parse(alloc: Global, names: &Names, text: &str) -> Result<Pred, PredError>
-        ensures ok { IfOk result (λ pred. IsPredicate names.now text.now (predicate_of pred)) }
+        ensures ok { IfOk result (λ pred. IsPredicate names.now text.now (predicate_view pred)) }
         ensures err { IfErr result (λ error. IsErrorOf names.now text.now error) }
     {
         if text.len() > MAX_LEN {
@@ -62,7 +62,7 @@ impl Pred {
 
     /// Whether the predicate is true at the state. It takes no memory.
     pub fn holds<V: Values>(&self, values: &V) -> bool
-        ensures { result ≡ holds_at (V.state values.now) (predicate_of self.now) }
+        ensures { result ≡ holds_at (V.state values.now) (predicate_view self.now) }
     {
         holds(&self.tree, values)
     }

@@ -1,6 +1,6 @@
 //! What may stand next among a predicate's tokens.
 ghost use Rattle.pd_format.specs.PrefixWalk as walk;
-ghost use Rattle.pd_pred.specs.States.{kind_of, mode_of, open_parens, side_of, state_of};
+ghost use Rattle.pd_pred.specs.States.{word_kind_view, mode_view, open_parens, side_view, parser_state_view};
 ghost use Rattle.pd_pred.specs.Tokens.{token_of};
 ghost use Rattle.std.specs.Prelude.{◌≡◌, ◌+◌, ◌<◌, ◌≤◌, IfSome};
 ghost use Rattle.std.specs.Option.{option_map};
@@ -35,20 +35,20 @@ pub(crate) enum Mode {
     AtOperand,
     /// The sum on the right of a comparison.
     AtSum,
-    /// A term, behind a sign.
+    /// A term, after a sign.
     AtTerm(Side),
     /// `*`, or what may follow a term.
-    BehindNumber(Side),
-    /// The name of a process, behind `*`.
-    BehindStar(Side),
-    /// The dot behind the name of a process.
-    BehindName(Side),
+    AfterNumber(Side),
+    /// The name of a process, after `*`.
+    AfterStar(Side),
+    /// The dot after the name of a process.
+    AfterName(Side),
     /// The name of a variable.
-    BehindDot(Side),
+    AfterDot(Side),
     /// A sign, on the left a comparison sign, and on the right what may follow an operand.
-    BehindTerm(Side),
+    AfterTerm(Side),
     /// `and`, `or`, `)` or the end.
-    BehindOperand,
+    AfterOperand,
 }
 
 /// Where a reader of tokens is.
@@ -56,13 +56,13 @@ pub(crate) enum Mode {
 pub(crate) enum State {
     /// In a predicate, inside so many open parentheses.
     Inside { mode: Mode, parens: usize },
-    /// Behind the end.
+    /// After the end.
     AtEnd,
 }
 
 /// What this word is.
 pub(crate) fn word_kind(word: &str) -> WordKind
-    ensures { kind_of result ≡ walk.word_kind word.now }
+    ensures { word_kind_view result ≡ walk.word_kind word.now }
 {
     match word {
         "and" | "or" => WordKind::Joins,
@@ -72,12 +72,12 @@ pub(crate) fn word_kind(word: &str) -> WordKind
     }
 }
 
-/// The state behind the token, if the token may stand there.
+/// The state after the token, if the token may stand there.
 pub(crate) fn step(state: State, token: Token<'_>) -> Option<State>
-    requires { open_parens (state_of state) < usize.MAX }
-    ensures value { option_map state_of result ≡ walk.step (state_of state) (token_of token.entry) }
+    requires { open_parens (parser_state_view state) < usize.MAX }
+    ensures value { option_map parser_state_view result ≡ walk.step (parser_state_view state) (token_of token.entry) }
     ensures bound { IfSome result
-        (λ later. open_parens (state_of later) ≤ open_parens (state_of state) + 1) }
+        (λ later. open_parens (parser_state_view later) ≤ open_parens (parser_state_view state) + 1) }
 {
     let State::Inside { mode, parens } = state else {
         return None;
@@ -86,28 +86,28 @@ pub(crate) fn step(state: State, token: Token<'_>) -> Option<State>
         Mode::AtOperand => at_operand(parens, token),
         Mode::AtSum => at_sum(parens, token),
         Mode::AtTerm(side) => at_term(side, parens, token),
-        Mode::BehindNumber(side) => behind_number(side, parens, token),
-        Mode::BehindStar(side) => at_name(Mode::BehindName(side), parens, token),
-        Mode::BehindName(side) => at_dot(side, parens, token),
-        Mode::BehindDot(side) => at_name(Mode::BehindTerm(side), parens, token),
-        Mode::BehindTerm(side) => behind_term(side, parens, token),
-        Mode::BehindOperand => behind_operand(parens, token),
+        Mode::AfterNumber(side) => after_number(side, parens, token),
+        Mode::AfterStar(side) => at_name(Mode::AfterName(side), parens, token),
+        Mode::AfterName(side) => at_dot(side, parens, token),
+        Mode::AfterDot(side) => at_name(Mode::AfterTerm(side), parens, token),
+        Mode::AfterTerm(side) => after_term(side, parens, token),
+        Mode::AfterOperand => after_operand(parens, token),
     }
 }
 
 fn at_operand(parens: usize, token: Token<'_>) -> Option<State>
     requires { parens < usize.MAX }
-    ensures value { option_map state_of result ≡ walk.operand_next parens (token_of token.entry) }
-    ensures bound { IfSome result (λ later. open_parens (state_of later) ≤ parens + 1) }
+    ensures value { option_map parser_state_view result ≡ walk.operand_next parens (token_of token.entry) }
+    ensures bound { IfSome result (λ later. open_parens (parser_state_view later) ≤ parens + 1) }
 {
     let (mode, parens) = match token {
         Token::Word(word) => match word_kind(word) {
             WordKind::Negates => (Mode::AtOperand, parens),
-            WordKind::Truth => (Mode::BehindOperand, parens),
-            WordKind::Name => (Mode::BehindName(Side::Left), parens),
+            WordKind::Truth => (Mode::AfterOperand, parens),
+            WordKind::Name => (Mode::AfterName(Side::Left), parens),
             WordKind::Joins => return None,
         },
-        Token::Digits(_) => (Mode::BehindNumber(Side::Left), parens),
+        Token::Digits(_) => (Mode::AfterNumber(Side::Left), parens),
         Token::OpenParen => (Mode::AtOperand, parens + 1),
         Token::Signs(Sign::Minus) => (Mode::AtTerm(Side::Left), parens),
         _ => return None,
@@ -116,8 +116,8 @@ fn at_operand(parens: usize, token: Token<'_>) -> Option<State>
 }
 
 fn at_sum(parens: usize, token: Token<'_>) -> Option<State>
-    ensures value { option_map state_of result ≡ walk.sum_next parens (token_of token.entry) }
-    ensures bound { IfSome result (λ later. open_parens (state_of later) ≤ parens) }
+    ensures value { option_map parser_state_view result ≡ walk.sum_next parens (token_of token.entry) }
+    ensures bound { IfSome result (λ later. open_parens (parser_state_view later) ≤ parens) }
 {
     match token {
         Token::Signs(Sign::Minus) => Some(State::Inside {
@@ -129,38 +129,38 @@ fn at_sum(parens: usize, token: Token<'_>) -> Option<State>
 }
 
 fn at_term(side: Side, parens: usize, token: Token<'_>) -> Option<State>
-    ensures value { option_map state_of result
-        ≡ walk.term_next (side_of side) parens (token_of token.entry) }
-    ensures bound { IfSome result (λ later. open_parens (state_of later) ≤ parens) }
+    ensures value { option_map parser_state_view result
+        ≡ walk.term_next (side_view side) parens (token_of token.entry) }
+    ensures bound { IfSome result (λ later. open_parens (parser_state_view later) ≤ parens) }
 {
     match token {
         Token::Digits(_) => Some(State::Inside {
-            mode: Mode::BehindNumber(side),
+            mode: Mode::AfterNumber(side),
             parens,
         }),
-        _ => at_name(Mode::BehindName(side), parens, token),
+        _ => at_name(Mode::AfterName(side), parens, token),
     }
 }
 
-fn behind_number(side: Side, parens: usize, token: Token<'_>) -> Option<State>
-    ensures value { option_map state_of result
-        ≡ walk.behind_number_next (side_of side) parens (token_of token.entry) }
-    ensures bound { IfSome result (λ later. open_parens (state_of later) ≤ parens) }
+fn after_number(side: Side, parens: usize, token: Token<'_>) -> Option<State>
+    ensures value { option_map parser_state_view result
+        ≡ walk.after_number_next (side_view side) parens (token_of token.entry) }
+    ensures bound { IfSome result (λ later. open_parens (parser_state_view later) ≤ parens) }
 {
     match token {
         Token::Star => Some(State::Inside {
-            mode: Mode::BehindStar(side),
+            mode: Mode::AfterStar(side),
             parens,
         }),
-        _ => behind_term(side, parens, token),
+        _ => after_term(side, parens, token),
     }
 }
 
 /// A name leads to the mode, and nothing else does.
 fn at_name(mode: Mode, parens: usize, token: Token<'_>) -> Option<State>
-    ensures value { option_map state_of result
-        ≡ walk.name_next (mode_of mode) parens (token_of token.entry) }
-    ensures bound { IfSome result (λ later. open_parens (state_of later) ≤ parens) }
+    ensures value { option_map parser_state_view result
+        ≡ walk.name_next (mode_view mode) parens (token_of token.entry) }
+    ensures bound { IfSome result (λ later. open_parens (parser_state_view later) ≤ parens) }
 {
     match token {
         Token::Word(word) => match word_kind(word) {
@@ -172,23 +172,23 @@ fn at_name(mode: Mode, parens: usize, token: Token<'_>) -> Option<State>
 }
 
 fn at_dot(side: Side, parens: usize, token: Token<'_>) -> Option<State>
-    ensures value { option_map state_of result
-        ≡ walk.dot_next (side_of side) parens (token_of token.entry) }
-    ensures bound { IfSome result (λ later. open_parens (state_of later) ≤ parens) }
+    ensures value { option_map parser_state_view result
+        ≡ walk.dot_next (side_view side) parens (token_of token.entry) }
+    ensures bound { IfSome result (λ later. open_parens (parser_state_view later) ≤ parens) }
 {
     match token {
         Token::Dot => Some(State::Inside {
-            mode: Mode::BehindDot(side),
+            mode: Mode::AfterDot(side),
             parens,
         }),
         _ => None,
     }
 }
 
-fn behind_term(side: Side, parens: usize, token: Token<'_>) -> Option<State>
-    ensures value { option_map state_of result
-        ≡ walk.behind_term_next (side_of side) parens (token_of token.entry) }
-    ensures bound { IfSome result (λ later. open_parens (state_of later) ≤ parens) }
+fn after_term(side: Side, parens: usize, token: Token<'_>) -> Option<State>
+    ensures value { option_map parser_state_view result
+        ≡ walk.after_term_next (side_view side) parens (token_of token.entry) }
+    ensures bound { IfSome result (λ later. open_parens (parser_state_view later) ≤ parens) }
 {
     match (token, side) {
         (Token::Signs(_), _) => Some(State::Inside {
@@ -200,14 +200,14 @@ fn behind_term(side: Side, parens: usize, token: Token<'_>) -> Option<State>
             parens,
         }),
         (_, Side::Left) => None,
-        (_, Side::Right) => behind_operand(parens, token),
+        (_, Side::Right) => after_operand(parens, token),
     }
 }
 
-fn behind_operand(parens: usize, token: Token<'_>) -> Option<State>
-    ensures value { option_map state_of result
-        ≡ walk.behind_operand_next parens (token_of token.entry) }
-    ensures bound { IfSome result (λ later. open_parens (state_of later) ≤ parens) }
+fn after_operand(parens: usize, token: Token<'_>) -> Option<State>
+    ensures value { option_map parser_state_view result
+        ≡ walk.after_operand_next parens (token_of token.entry) }
+    ensures bound { IfSome result (λ later. open_parens (parser_state_view later) ≤ parens) }
 {
     match token {
         Token::Word(word) => match word_kind(word) {
@@ -218,7 +218,7 @@ fn behind_operand(parens: usize, token: Token<'_>) -> Option<State>
             _ => None,
         },
         Token::CloseParen if parens > 0 => Some(State::Inside {
-            mode: Mode::BehindOperand,
+            mode: Mode::AfterOperand,
             parens: parens - 1,
         }),
         Token::End if parens == 0 => Some(State::AtEnd),

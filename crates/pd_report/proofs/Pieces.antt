@@ -18,7 +18,8 @@ word_first : (c : ℕ) (w rest : List ℕ) → Lacks c w → pieces c (w ++ c �
 word_first c [] rest h = slice_split-cons_yes (λ b. b == c) c rest (same_byte c)
 word_first c (x ∷ w) rest h =
     let parts = and_parts (not (x == c)) (list_all (λ b. not (b == c)) w) h in
-    slice_split-cons_no (λ b. b == c) x (w ++ c ∷ rest) (not_true (x == c) parts.0) ∙ ap (onto_first x) (word_first c w rest parts.1)
+    slice_split-cons_no (λ b. b == c) x (w ++ c ∷ rest) (not_true (x == c) parts.0)
+    ∙ ap (onto_first x) (word_first c w rest parts.1)
 
 word_last : (c : ℕ) (w : List ℕ) → Lacks c w → pieces c w ≡ w ∷ []
 word_last c [] h = refl
@@ -26,12 +27,14 @@ word_last c (x ∷ w) h =
     let parts = and_parts (not (x == c)) (list_all (λ b. not (b == c)) w) h in
     slice_split-cons_no (λ b. b == c) x w (not_true (x == c) parts.0) ∙ ap (onto_first x) (word_last c w parts.1)
 
-pub pieces_join : (c : ℕ) (w : List ℕ) (ws : List (List ℕ)) → AllByRecursion (Lacks c) (w ∷ ws) → pieces c (join_with_byte c (w ∷ ws)) ≡ w ∷ ws
+pub pieces_join : (c : ℕ) (w : List ℕ) (ws : List (List ℕ)) → AllByRecursion (Lacks c) (w ∷ ws)
+    → pieces c (join_with_byte c (w ∷ ws)) ≡ w ∷ ws
 pieces_join c w [] h = word_last c w h.0
 pieces_join c w (v ∷ ws) h = word_first c w (join_with_byte c (v ∷ ws)) h.0 ∙ ap (λ z. w ∷ z) (pieces_join c v ws h.1)
 
 -- bytes that are joined words have these words for pieces
-pub pieces_of_joined : (c : ℕ) (bytes w : List ℕ) (ws : List (List ℕ)) → AllByRecursion (Lacks c) (w ∷ ws) → bytes ≡ join_with_byte c (w ∷ ws) → pieces c bytes ≡ w ∷ ws
+pub pieces_of_joined : (c : ℕ) (bytes w : List ℕ) (ws : List (List ℕ)) → AllByRecursion (Lacks c) (w ∷ ws)
+    → bytes ≡ join_with_byte c (w ∷ ws) → pieces c bytes ≡ w ∷ ws
 pieces_of_joined c bytes w ws h e = ap (pieces c) e ∙ pieces_join c w ws h
 
 -- and the other way round
@@ -53,13 +56,19 @@ word_is_text w h = IsUtf8-from_ascii w (IsAscii-from_all w (all_ascii w h))
 pub number_is_text : (n : ℕ) (w : List ℕ) → n < 2 ^ 64 → w ≡ decimal n → IsUtf8 w
 number_is_text n w h e = IsUtf8-from_ascii w (rw e (IsAscii-decimal n h))
 
-pub any_map : {X Y : Type 0} (test : Y → Bool) (f : X → Y) (xs : List X) → list_any (λ x. test (f x)) xs ≡ list_any test (map f xs)
+pub any_map : {X Y : Type 0} (test : Y → Bool) (f : X → Y) (xs : List X)
+    → list_any (λ x. test (f x)) xs ≡ list_any test (map f xs)
 any_map test f [] = refl
 any_map test f (x ∷ xs) = ap (λ b. test (f x) || b) (any_map test f xs)
 
 -- an event's name and number
-pub place_pieces : (word : List ℕ) (place : NamedPlace) → PlaceIsLawful place → word ≡ place_text place → pieces 35 word ≡ place.name ∷ decimal place.number ∷ []
-place_pieces word place h e = pieces_of_joined 35 word place.name (decimal place.number ∷ []) (in_word_lacks 35 refl place.name (name_in_word place.name h.0), (in_word_lacks 35 refl (decimal place.number) (decimal_in_word place.number h.1), tt)) e
+pub place_pieces : (word : List ℕ) (place : NamedPlace) → PlaceIsLawful place → word ≡ place_text place
+    → pieces 35 word ≡ place.name ∷ decimal place.number ∷ []
+place_pieces word place h e =
+    pieces_of_joined 35 word place.name (decimal place.number ∷ []) (
+      in_word_lacks 35 refl place.name (name_in_word place.name h.0),
+      (in_word_lacks 35 refl (decimal place.number) (decimal_in_word place.number h.1), tt),
+    ) e
 
 pub head_is : (a b : List ℕ) (xs ys : List (List ℕ)) → a ∷ xs ≡ b ∷ ys → a ≡ b
 head_is a b xs ys e = cc

@@ -3,10 +3,10 @@ use Rattle.std.proofs.Common.{◌≡◌, ℕ, List, ◌∷◌, Option, None, Som
 use Rattle.std.specs.Prelude.{codes}
 use Rattle.pd_format.specs.Reports.{Refusal, Spec, Predicate, Streams, Stream, Absent, Match, Cycle, RefusalIsLawful, refusal_words}
 use Rattle.pd_format.proofs.OneReport.{head_word, kind_is, refusal_kind, word_number}
-use Rattle.pd_report.specs.Reading.{at_fault_words, kind_of, stream_fault_words, AtFaultIsLawful, IsOfKind, StreamFaultIsLawful, Tells}
+use Rattle.pd_report.specs.Reading.{at_fault_words, refusal_number, stream_fault_words, AtFaultIsLawful, IsOfKind, StreamFaultIsLawful, Tells}
 use Rattle.pd_report.proofs.Pieces.{tail_is}
 
-same_kind : (r : Refusal) → refusal_kind r ≡ kind_of r
+same_kind : (r : Refusal) → refusal_kind r ≡ refusal_number r
 same_kind (Spec word) = refl
 same_kind (Predicate number word at) = refl
 same_kind Streams = refl
@@ -16,15 +16,25 @@ same_kind (Match word place) = refl
 same_kind (Cycle places) = refl
 
 -- the first word tells the kind
-pub of_kind : {X : Type 0} (view : X → Refusal) (kind : ℕ) (head : List ℕ) (words rest : List (List ℕ)) → word_number head ≡ kind → words ≡ head ∷ rest
-    → (found : Option X) → Tells view refusal_words (IsOfKind kind) (head ∷ rest) found → Tells view refusal_words RefusalIsLawful words found
-of_kind view kind head words rest k cut None h = λ r l e. h r (l, sym (same_kind r) ∙ sym (kind_is r l) ∙ ap (λ ws. word_number (head_word ws)) (sym e ∙ cut) ∙ k) (sym cut ∙ e)
+pub of_kind : {X : Type 0} (view : X → Refusal) (kind : ℕ) (head : List ℕ) (words rest : List (List ℕ))
+    → word_number head ≡ kind → words ≡ head ∷ rest
+    → (found : Option X) → Tells view refusal_words (IsOfKind kind) (head ∷ rest) found
+        → Tells view refusal_words RefusalIsLawful words found
+of_kind view kind head words rest k cut None h =
+    λ r l e. h r (l, sym (same_kind r) ∙ sym (kind_is r l) ∙ ap (λ ws. word_number (head_word ws)) (sym e ∙ cut)
+    ∙ k) (sym cut ∙ e)
 of_kind view kind head words rest k cut (Some x) h = (h.0.0, cut ∙ h.1)
 
 -- words that begin with none of the others
-pub last_kind : {X : Type 0} (view : X → Refusal) (words : List (List ℕ)) → ((rest : List (List ℕ)) → ¬ (words ≡ codes "spec" ∷ rest)) → ((rest : List (List ℕ)) → ¬ (words ≡ codes "predicate" ∷ rest)) → ((rest : List (List ℕ)) → ¬ (words ≡ codes "streams" ∷ rest))
-    → ((rest : List (List ℕ)) → ¬ (words ≡ codes "stream" ∷ rest)) → ((rest : List (List ℕ)) → ¬ (words ≡ codes "absent" ∷ rest)) → ((rest : List (List ℕ)) → ¬ (words ≡ codes "cycle" ∷ rest))
-    → (found : Option X) → Tells view refusal_words (IsOfKind 6) words found → Tells view refusal_words RefusalIsLawful words found
+pub last_kind : {X : Type 0} (view : X → Refusal) (words : List (List ℕ))
+    → ((rest : List (List ℕ)) → ¬ (words ≡ codes "spec" ∷ rest))
+    → ((rest : List (List ℕ)) → ¬ (words ≡ codes "predicate" ∷ rest))
+    → ((rest : List (List ℕ)) → ¬ (words ≡ codes "streams" ∷ rest))
+    → ((rest : List (List ℕ)) → ¬ (words ≡ codes "stream" ∷ rest))
+        → ((rest : List (List ℕ)) → ¬ (words ≡ codes "absent" ∷ rest))
+        → ((rest : List (List ℕ)) → ¬ (words ≡ codes "cycle" ∷ rest))
+    → (found : Option X) → Tells view refusal_words (IsOfKind 6) words found
+        → Tells view refusal_words RefusalIsLawful words found
 last_kind view words a b c d e f (Some x) h = (h.0.0, h.1)
 last_kind view words a b c d e f None h = go
   where
@@ -37,10 +47,14 @@ last_kind view words a b c d e f None h = go
     go (Match word place) l q = h (Match word place) (l, refl) q
     go (Cycle places) l q = f _ q
 
-pub no_predicate : (rest : List (List ℕ)) → ((fault : ℕ × List ℕ × ℕ) → AtFaultIsLawful fault → ¬ (rest ≡ at_fault_words fault)) → (r : Refusal) → IsOfKind 2 r → ¬ (codes "predicate" ∷ rest ≡ refusal_words r)
+pub no_predicate : (rest : List (List ℕ))
+    → ((fault : ℕ × List ℕ × ℕ) → AtFaultIsLawful fault → ¬ (rest ≡ at_fault_words fault)) → (r : Refusal)
+    → IsOfKind 2 r → ¬ (codes "predicate" ∷ rest ≡ refusal_words r)
 no_predicate rest none (Predicate number word at) h e = none (number, word, at) h.0 (tail_is _ _ _ _ e)
 no_predicate rest none _ h e = omega (arith, h.1)
 
-pub no_stream : (rest : List (List ℕ)) → ((fault : ℕ × ℕ × List ℕ) → StreamFaultIsLawful fault → ¬ (rest ≡ stream_fault_words fault)) → (r : Refusal) → IsOfKind 4 r → ¬ (codes "stream" ∷ rest ≡ refusal_words r)
+pub no_stream : (rest : List (List ℕ))
+    → ((fault : ℕ × ℕ × List ℕ) → StreamFaultIsLawful fault → ¬ (rest ≡ stream_fault_words fault)) → (r : Refusal)
+    → IsOfKind 4 r → ¬ (codes "stream" ∷ rest ≡ refusal_words r)
 no_stream rest none (Stream stream line word) h e = none (stream, line, word) h.0 (tail_is _ _ _ _ e)
 no_stream rest none _ h e = omega (arith, h.1)

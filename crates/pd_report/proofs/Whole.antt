@@ -8,7 +8,7 @@ use Rattle.std.proofs.lemmas.List.Splits.{slice_split-cons_yes, slice_split-cons
 use Rattle.pd_format.specs.Lines.{ended_lines, line_feed}
 use Rattle.pd_format.specs.Reports.{Agrees, IsLawful, IsNoReport, IsReport, Report, report_lines, text_of_lines}
 use Rattle.pd_format.proofs.OneReport.{Lacks, and_parts, ended_line, lines_lack, lines_of_text, not_true}
-use Rattle.pd_report.specs.Reading.{pieces, Begins, StopsBehind}
+use Rattle.pd_report.specs.Reading.{pieces, Begins, StopsAfter}
 use Rattle.pd_report.specs.Pairs.{StopsAt}
 use Rattle.pd_report.proofs.Pieces.{joined_of_pieces}
 
@@ -17,7 +17,8 @@ Lines = List (List ℕ)
 
 -- ---- pieces and lines
 
-onto_lacks : (c x : ℕ) (ws : Lines) → (x == c) ≡ false → AllByRecursion (Lacks c) ws → AllByRecursion (Lacks c) (onto_first x ws)
+onto_lacks : (c x : ℕ) (ws : Lines) → (x == c) ≡ false → AllByRecursion (Lacks c) ws
+    → AllByRecursion (Lacks c) (onto_first x ws)
 onto_lacks c x [] e h = (rw e refl, tt)
 onto_lacks c x (w ∷ ws) e h = (rw (e, h.0) refl, h.1)
 
@@ -25,9 +26,12 @@ pieces_lack : (c : ℕ) (bytes : List ℕ) → AllByRecursion (Lacks c) (pieces 
 pieces_lack c [] = (refl, tt)
 pieces_lack c (x ∷ bytes) = go (pieces_lack c bytes) (x == c) refl
   where
-    go : AllByRecursion (Lacks c) (pieces c bytes) → (b : Bool) → (x == c) ≡ b → AllByRecursion (Lacks c) (pieces c (x ∷ bytes))
+    go : AllByRecursion (Lacks c) (pieces c bytes) → (b : Bool) → (x == c) ≡ b
+        → AllByRecursion (Lacks c) (pieces c (x ∷ bytes))
     go rest true e = subst (AllByRecursion (Lacks c)) (sym (slice_split-cons_yes (λ b. b == c) x bytes e)) (refl, rest)
-    go rest false e = subst (AllByRecursion (Lacks c)) (sym (slice_split-cons_no (λ b. b == c) x bytes e)) (onto_lacks c x (pieces c bytes) e rest)
+    go rest false e =
+        subst (AllByRecursion (Lacks c)) (sym (slice_split-cons_no (λ b. b == c) x bytes e))
+        (onto_lacks c x (pieces c bytes) e rest)
 
 joined_lines : (ls : Lines) (last : List ℕ) → join_with_byte 10 (ls ++ last ∷ []) ≡ text_of_lines ls ++ last
 joined_lines [] last = refl
@@ -46,16 +50,19 @@ no_ended (x ∷ last) h =
     let parts = and_parts (not (x == 10)) (list_all (λ b. not (b == 10)) last) h in
     rw (not_true (x == 10) parts.0, no_ended last parts.1) refl
 
-ended_front : (ls : Lines) (rest : List ℕ) → AllByRecursion (Lacks 10) ls → ended_lines (text_of_lines ls ++ rest) ≡ ls ++ ended_lines rest
-ended_front [] rest h = refl
-ended_front (w ∷ ls) rest h =
-    ap ended_lines (append_assoc (w ++ 10 ∷ []) (text_of_lines ls) rest ∙ append_assoc w (10 ∷ []) (text_of_lines ls ++ rest))
+ended_prefix : (ls : Lines) (rest : List ℕ) → AllByRecursion (Lacks 10) ls → ended_lines (text_of_lines ls ++ rest)
+    ≡ ls ++ ended_lines rest
+ended_prefix [] rest h = refl
+ended_prefix (w ∷ ls) rest h =
+    ap ended_lines (append_assoc (w ++ 10 ∷ []) (text_of_lines ls) rest
+    ∙ append_assoc w (10 ∷ []) (text_of_lines ls ++ rest))
     ∙ ended_line w (text_of_lines ls ++ rest) h.0
-    ∙ ap (λ z. w ∷ z) (ended_front ls rest h.1)
+    ∙ ap (λ z. w ∷ z) (ended_prefix ls rest h.1)
 
-fronts_lack : (ls : Lines) (last : List ℕ) → AllByRecursion (Lacks 10) (ls ++ last ∷ []) → AllByRecursion (Lacks 10) ls × Lacks 10 last
-fronts_lack [] last h = (tt, h.0)
-fronts_lack (w ∷ ls) last h = let next = fronts_lack ls last h.1 in ((h.0, next.0), next.1)
+prefixes_lack : (ls : Lines) (last : List ℕ) → AllByRecursion (Lacks 10) (ls ++ last ∷ [])
+    → AllByRecursion (Lacks 10) ls × Lacks 10 last
+prefixes_lack [] last h = (tt, h.0)
+prefixes_lack (w ∷ ls) last h = let next = prefixes_lack ls last h.1 in ((h.0, next.0), next.1)
 
 record IsCut (bytes : List ℕ) (ls : Lines) (last : List ℕ) : Type 0 where
   lack : AllByRecursion (Lacks 10) ls
@@ -64,11 +71,13 @@ record IsCut (bytes : List ℕ) (ls : Lines) (last : List ℕ) : Type 0 where
 
 cut_of : (bytes : List ℕ) (ls : Lines) (last : List ℕ) → pieces 10 bytes ≡ ls ++ last ∷ [] → IsCut bytes ls last
 cut_of bytes ls last e =
-    let lacks = fronts_lack ls last (subst (AllByRecursion (Lacks 10)) e (pieces_lack 10 bytes)) in
-    let whole : bytes ≡ text_of_lines ls ++ last = joined_of_pieces 10 bytes (ls ++ last ∷ []) e ∙ joined_lines ls last in
+    let lacks = prefixes_lack ls last (subst (AllByRecursion (Lacks 10)) e (pieces_lack 10 bytes)) in
+    let whole : bytes ≡ text_of_lines ls ++ last = joined_of_pieces 10 bytes (ls ++ last ∷ []) e
+    ∙ joined_lines ls last in
     record {
       lack = lacks.0;
-      ended = ap ended_lines whole ∙ ended_front ls last lacks.0 ∙ ap (λ z. ls ++ z) (no_ended last lacks.1) ∙ append-nil ls;
+      ended = ap ended_lines whole ∙ ended_prefix ls last lacks.0 ∙ ap (λ z. ls ++ z) (no_ended last lacks.1)
+          ∙ append-nil ls;
       whole = whole;
     }
 
@@ -83,30 +92,33 @@ take_none : (n : ℕ) → take {A = List ℕ} n [] ≡ []
 take_none zero = refl
 take_none (suc n) = refl
 
-two_fronts : (i j : ℕ) (ls : Lines) → i ≤ j → take j ls ≡ take i ls ++ take (j - i) (drop i ls)
-two_fronts zero j ls h = ap (λ n. take n ls) (let same : j ≡ j - 0 = omega arith in same)
-two_fronts (suc i) zero ls h = absurd (omega arith)
-two_fronts (suc i) (suc j) [] h = sym (take_none (suc j - suc i))
-two_fronts (suc i) (suc j) (w ∷ ls) h =
+two_prefixes : (i j : ℕ) (ls : Lines) → i ≤ j → take j ls ≡ take i ls ++ take (j - i) (drop i ls)
+two_prefixes zero j ls h = ap (λ n. take n ls) (let same : j ≡ j - 0 = omega arith in same)
+two_prefixes (suc i) zero ls h = absurd (omega arith)
+two_prefixes (suc i) (suc j) [] h = sym (take_none (suc j - suc i))
+two_prefixes (suc i) (suc j) (w ∷ ls) h =
     let less : suc j - suc i ≡ j - i = omega arith in
-    ap (λ z. w ∷ z) (two_fronts i j ls (omega arith)) ∙ ap (λ n. w ∷ (take i ls ++ take n (drop i ls))) (sym less)
+    ap (λ z. w ∷ z) (two_prefixes i j ls (omega arith)) ∙ ap (λ n. w ∷ (take i ls ++ take n (drop i ls))) (sym less)
 
 texts_on : (ls more : Lines) → text_of_lines (ls ++ more) ≡ text_of_lines ls ++ text_of_lines more
 texts_on ls more = flat_map-append (λ line. line ++ line_feed ∷ []) ls more
 
-agrees : (bytes : List ℕ) (ls : Lines) → ended_lines bytes ≡ ls → (j : ℕ) → j ≤ length ls → Begins (take j ls) → (i : ℕ) → i ≤ j → Agrees bytes i
+agrees : (bytes : List ℕ) (ls : Lines) → ended_lines bytes ≡ ls → (j : ℕ) → j ≤ length ls → Begins (take j ls) → (i : ℕ)
+    → i ≤ j → Agrees bytes i
 agrees bytes ls e j there b i below = record {
   report = b.report;
   lawful = b.lawful;
   are_there = omega (arith, ap length e);
   rest = text_of_lines (take (j - i) (drop i ls) ++ b.rest);
   begins =
-      ap text_of_lines (b.begins ∙ ap (λ z. z ++ b.rest) (two_fronts i j ls below) ∙ append_assoc (take i ls) (take (j - i) (drop i ls)) b.rest)
+      ap text_of_lines (b.begins ∙ ap (λ z. z ++ b.rest) (two_prefixes i j ls below)
+      ∙ append_assoc (take i ls) (take (j - i) (drop i ls)) b.rest)
       ∙ texts_on (take i ls) (take (j - i) (drop i ls) ++ b.rest)
       ∙ ap (λ z. text_of_lines (take i z) ++ text_of_lines (take (j - i) (drop i ls) ++ b.rest)) (sym e);
 }
 
-begins_of : (bytes : List ℕ) (ls : Lines) → AllByRecursion (Lacks 10) ls → ended_lines bytes ≡ ls → (j : ℕ) → Agrees bytes j → Begins (take j ls)
+begins_of : (bytes : List ℕ) (ls : Lines) → AllByRecursion (Lacks 10) ls → ended_lines bytes ≡ ls → (j : ℕ)
+    → Agrees bytes j → Begins (take j ls)
 begins_of bytes ls lack e j a = record {
   report = a.report;
   lawful = a.lawful;
@@ -114,33 +126,46 @@ begins_of bytes ls lack e j a = record {
   begins =
       sym (lines_of_text (report_lines a.report) (lines_lack a.report a.lawful))
       ∙ ap ended_lines (a.begins ∙ ap (λ z. text_of_lines (take j z) ++ a.rest) e)
-      ∙ ended_front (take j ls) a.rest (take_lacks j ls lack);
+      ∙ ended_prefix (take j ls) a.rest (take_lacks j ls lack);
 }
 
 lines_of_report : (bytes : List ℕ) (r : Report) → IsReport bytes r → ended_lines bytes ≡ report_lines r
 lines_of_report bytes r h = ap ended_lines h.1 ∙ lines_of_text (report_lines r) (lines_lack r h.0)
 
 -- lines that stop being a report are no report's
-pub stops : (bytes : List ℕ) (ls : Lines) (last : List ℕ) → pieces 10 bytes ≡ ls ++ last ∷ [] → (j : ℕ) → StopsBehind ls j → IsNoReport bytes (j + 1)
+pub stops : (bytes : List ℕ) (ls : Lines) (last : List ℕ) → pieces 10 bytes ≡ ls ++ last ∷ [] → (j : ℕ)
+    → StopsAfter ls j → IsNoReport bytes (j + 1)
 stops bytes ls last e j s =
     let cut = cut_of bytes ls last e in record {
       no_report = λ r h. s.no_report r h.0 (sym cut.ended ∙ lines_of_report bytes r h);
       before = λ i below. agrees bytes ls cut.ended j s.there s.before i (omega arith);
-      here = λ a. s.here (omega (arith, a.are_there, ap length cut.ended)) (begins_of bytes ls cut.lack cut.ended (j + 1) a);
+      here = λ a. s.here (omega (arith, a.are_there, ap length cut.ended))
+          (begins_of bytes ls cut.lack cut.ended (j + 1) a);
     }
 
 -- a last line without its LF is at fault
-pub unended : (bytes : List ℕ) (ls : Lines) (last : List ℕ) → pieces 10 bytes ≡ ls ++ last ∷ [] → 0 < length last → (r : Report) → IsLawful r → ls ≡ report_lines r → IsNoReport bytes (length ls + 1)
+pub unended : (bytes : List ℕ) (ls : Lines) (last : List ℕ) → pieces 10 bytes ≡ ls ++ last ∷ [] → 0 < length last
+    → (r : Report) → IsLawful r → ls ≡ report_lines r → IsNoReport bytes (length ls + 1)
 unended bytes ls last e some r l same =
     let cut = cut_of bytes ls last e in record {
       no_report = λ s h.
-          let none : last ≡ [] = append_cancel_left (text_of_lines ls) last [] (sym cut.whole ∙ h.1 ∙ ap text_of_lines (sym (lines_of_report bytes s h) ∙ cut.ended) ∙ sym (append-nil (text_of_lines ls))) in
+          let none : last ≡ [] =
+          append_cancel_left (text_of_lines ls) last [] (sym cut.whole ∙ h.1
+          ∙ ap text_of_lines (sym (lines_of_report bytes s h) ∙ cut.ended) ∙ sym (append-nil (text_of_lines ls))) in
           omega (arith, ap length none);
-      before = λ i below. agrees bytes ls cut.ended (length ls) (omega arith) (record { report = r; lawful = l; rest = []; begins = sym same ∙ sym (take_all (length ls) ls (omega arith)) ∙ sym (append-nil (take (length ls) ls)) }) i (omega arith);
+      before = λ i below. agrees bytes ls cut.ended (length ls) (omega arith) (record {
+        report = r;
+        lawful = l;
+        rest =
+            [];
+        begins = sym same ∙ sym (take_all (length ls) ls (omega arith))
+            ∙ sym (append-nil (take (length ls) ls));
+      }) i (omega arith);
       here = λ a. omega (arith, a.are_there, ap length cut.ended);
     }
 
-pub whole_report : (bytes : List ℕ) (ls : Lines) (last : List ℕ) → pieces 10 bytes ≡ ls ++ last ∷ [] → last ≡ [] → (r : Report) → IsLawful r → ls ≡ report_lines r → IsReport bytes r
+pub whole_report : (bytes : List ℕ) (ls : Lines) (last : List ℕ) → pieces 10 bytes ≡ ls ++ last ∷ [] → last ≡ []
+    → (r : Report) → IsLawful r → ls ≡ report_lines r → IsReport bytes r
 whole_report bytes ls last e none r l same =
     let cut = cut_of bytes ls last e in
     (l, cut.whole ∙ ap (λ z. text_of_lines ls ++ z) none ∙ append-nil (text_of_lines ls) ∙ ap text_of_lines same)
@@ -148,7 +173,8 @@ whole_report bytes ls last e none r l same =
 pub at_number : (bytes : List ℕ) (n k : ℕ) → IsNoReport bytes n → n ≡ k → IsNoReport bytes k
 at_number bytes n k h e = subst (IsNoReport bytes) e h
 
-pub stops_at : (bytes : List ℕ) (ls : Lines) (last : List ℕ) → pieces 10 bytes ≡ ls ++ last ∷ [] → (k : ℕ) → StopsAt ls k → IsNoReport bytes k
+pub stops_at : (bytes : List ℕ) (ls : Lines) (last : List ℕ) → pieces 10 bytes ≡ ls ++ last ∷ [] → (k : ℕ)
+    → StopsAt ls k → IsNoReport bytes k
 stops_at bytes ls last e k s = at_number bytes (s.0 + 1) k (stops bytes ls last e s.0 s.2) (sym s.1)
 
 pub empty_is : (xs : List ℕ) → length xs ≡ 0 → xs ≡ []

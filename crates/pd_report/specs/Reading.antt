@@ -7,7 +7,7 @@ use Rattle.std.specs.declared.string.String.{String}
 use Rattle.pd_format.specs.Reports as reports
 use Rattle.pd_format.specs.Reports.{Spec, Predicate, Streams, Stream, Absent, Match, Cycle, IsLawful, RefusalIsLawful, definitely_words, possibly_words, predicate_words, refusal_words, report_lines, spaced, stream_words, Fits, IsName, PossiblyIsLawful}
 use Rattle.pd_format.specs.Lists.{is_one_of}
-use Rattle.pd_report.specs.Views.{possibly_of}
+use Rattle.pd_report.specs.Views.{possibly_view}
 use Rattle.pd_report.specs.declared.possibly.Possibly.{Possibly}
 use denote.Ref.{Bor}
 
@@ -16,17 +16,17 @@ abbrev pub pieces : ℕ → List ℕ → List (List ℕ)
 pieces at bytes = slice_split (λ b. b == at) bytes
 
 -- slices, as the bytes that they hold
-abbrev pub seen : List (Bor (List ℕ)) → List (List ℕ)
-seen slices = map (λ slice. slice.now) slices
+abbrev pub slices_view : List (Bor (List ℕ)) → List (List ℕ)
+slices_view slices = map (λ slice. slice.now) slices
 
 -- A value is found where one that is lawful has this text. Where none has, nothing is found.
 abbrev pub Tells : {X V T : Type 0} → (X → V) → (V → T) → (V → Type 0) → T → Option X → Type 0
-Tells {V = V} view text Lawful told found =
-    MatchOption found ((v : V) → Lawful v → ¬ (told ≡ text v)) (λ x. Lawful (view x) × (told ≡ text (view x)))
+Tells {V = V} view text Lawful reported found =
+    MatchOption found ((v : V) → Lawful v → ¬ (reported ≡ text v)) (λ x. Lawful (view x) × (reported ≡ text (view x)))
 
 -- an answer's first line: the name, and whether the predicate possibly holds
-abbrev pub first_of : String Global × Possibly → List ℕ × reports.Possibly
-first_of line = (string_bytes line.0, possibly_of line.1)
+abbrev pub first_part_view : String Global × Possibly → List ℕ × reports.Possibly
+first_part_view line = (string_bytes line.0, possibly_view line.1)
 
 abbrev pub first_text : List ℕ × reports.Possibly → List ℕ
 first_text line = spaced (line.0 ∷ codes "possibly" ∷ possibly_words line.1)
@@ -40,7 +40,8 @@ second_text name definitely = spaced (name ∷ codes "definitely" ∷ definitely
 
 -- the counts of processes, events and messages
 abbrev pub counts_words : ℕ × ℕ × ℕ → List (List ℕ)
-counts_words counts = codes "session" ∷ decimal counts.0 ∷ codes "processes" ∷ decimal counts.1 ∷ codes "events" ∷ decimal counts.2 ∷ codes "messages" ∷ []
+counts_words counts = codes "session" ∷ decimal counts.0 ∷ codes "processes" ∷ decimal counts.1 ∷ codes "events"
+    ∷ decimal counts.2 ∷ codes "messages" ∷ []
 
 abbrev pub counts_text : ℕ × ℕ × ℕ → List ℕ
 counts_text counts = spaced (counts_words counts)
@@ -72,17 +73,17 @@ abbrev pub refused_text : reports.Refusal → List ℕ
 refused_text refusal = spaced (codes "refused" ∷ refusal_words refusal)
 
 -- which words a refusal has
-abbrev pub kind_of : reports.Refusal → ℕ
-kind_of (Spec word) = 1
-kind_of (Predicate number word at) = 2
-kind_of Streams = 3
-kind_of (Stream stream line word) = 4
-kind_of (Absent name) = 5
-kind_of (Match word place) = 6
-kind_of (Cycle places) = 7
+abbrev pub refusal_number : reports.Refusal → ℕ
+refusal_number (Spec word) = 1
+refusal_number (Predicate number word at) = 2
+refusal_number Streams = 3
+refusal_number (Stream stream line word) = 4
+refusal_number (Absent name) = 5
+refusal_number (Match word place) = 6
+refusal_number (Cycle places) = 7
 
 abbrev pub IsOfKind : ℕ → reports.Refusal → Type 0
-IsOfKind kind refusal = RefusalIsLawful refusal × (kind_of refusal ≡ kind)
+IsOfKind kind refusal = RefusalIsLawful refusal × (refusal_number refusal ≡ kind)
 
 -- some lawful report begins with these lines
 pub record Begins (lines : List (List ℕ)) : Type 0 where
@@ -92,7 +93,7 @@ pub record Begins (lines : List (List ℕ)) : Type 0 where
   pub begins : report_lines report ≡ lines ++ rest
 
 -- The lines are those of no report. Some report begins with so many of them, and if there are more, none with one more.
-pub record StopsBehind (lines : List (List ℕ)) (count : ℕ) : Type 0 where
+pub record StopsAfter (lines : List (List ℕ)) (count : ℕ) : Type 0 where
   pub no_report : (report : reports.Report) → IsLawful report → ¬ (lines ≡ report_lines report)
   pub there : count ≤ length lines
   pub before : Begins (take count lines)

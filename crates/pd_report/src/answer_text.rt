@@ -1,6 +1,6 @@
 //! The lines of answers.
 ghost use Rattle.pd_format.specs.Reports.{answer_lines, definitely_words, path_text, possibly_words, spaced, text_of_lines};
-ghost use Rattle.pd_report.specs.Views.{answer_of, answers_text, definitely_line, definitely_of, names_of, possibly_line, possibly_of};
+ghost use Rattle.pd_report.specs.Views.{answer_view, answers_text, definitely_line, definitely_view, names_view, possibly_line, possibly_view};
 ghost use Rattle.std.specs.Prelude.{◌≡◌, ◌∷◌, ◌++◌, [], OnOk};
 
 use super::answer::Answer;
@@ -11,7 +11,7 @@ use std::alloc::AllocError;
 
 /// Appends the words for whether a predicate possibly holds.
 fn push_possibly(out: &mut Vec<u8>, possibly: &Possibly) -> Result<(), AllocError>
-    ensures { OnOk result (out.new.items ≡ out.old.items ++ spaced (possibly_words (possibly_of possibly.now))) }
+    ensures { OnOk result (out.new.items ≡ out.old.items ++ spaced (possibly_words (possibly_view possibly.now))) }
 {
     match possibly {
         Possibly::Yes(counts) => {
@@ -28,7 +28,7 @@ fn push_possibly(out: &mut Vec<u8>, possibly: &Possibly) -> Result<(), AllocErro
 
 /// Appends a path: names with a comma between each two, or `-` where there is none.
 fn push_path(out: &mut Vec<u8>, path: &[String]) -> Result<(), AllocError>
-    ensures { OnOk result (out.new.items ≡ out.old.items ++ path_text (names_of path.now)) }
+    ensures { OnOk result (out.new.items ≡ out.old.items ++ path_text (names_view path.now)) }
 {
     if path.is_empty() {
         return push_bytes(out, b"-");
@@ -38,7 +38,8 @@ fn push_path(out: &mut Vec<u8>, path: &[String]) -> Result<(), AllocError>
 
 /// Appends the words for whether a predicate definitely holds.
 fn push_definitely(out: &mut Vec<u8>, definitely: &Definitely) -> Result<(), AllocError>
-    ensures { OnOk result (out.new.items ≡ out.old.items ++ spaced (definitely_words (definitely_of definitely.now))) }
+    ensures { OnOk result (out.new.items ≡ out.old.items ++ spaced (definitely_words (definitely_view definitely.now)))
+        }
 {
     match definitely {
         Definitely::Yes(level) => {
@@ -58,7 +59,7 @@ fn push_definitely(out: &mut Vec<u8>, definitely: &Definitely) -> Result<(), All
 
 /// Appends an answer's first line.
 fn push_possibly_line(out: &mut Vec<u8>, answer: &Answer) -> Result<(), AllocError>
-    ensures { OnOk result (out.new.items ≡ out.old.items ++ (possibly_line (answer_of answer.now) ++ 10 ∷ [])) }
+    ensures { OnOk result (out.new.items ≡ out.old.items ++ (possibly_line (answer_view answer.now) ++ 10 ∷ [])) }
 {
     push_bytes(out, answer.name.as_bytes())?;
     push_bytes(out, b" possibly ")?;
@@ -68,7 +69,7 @@ fn push_possibly_line(out: &mut Vec<u8>, answer: &Answer) -> Result<(), AllocErr
 
 /// Appends an answer's second line.
 fn push_definitely_line(out: &mut Vec<u8>, answer: &Answer) -> Result<(), AllocError>
-    ensures { OnOk result (out.new.items ≡ out.old.items ++ (definitely_line (answer_of answer.now) ++ 10 ∷ [])) }
+    ensures { OnOk result (out.new.items ≡ out.old.items ++ (definitely_line (answer_view answer.now) ++ 10 ∷ [])) }
 {
     push_bytes(out, answer.name.as_bytes())?;
     push_bytes(out, b" definitely ")?;
@@ -78,7 +79,7 @@ fn push_definitely_line(out: &mut Vec<u8>, answer: &Answer) -> Result<(), AllocE
 
 /// Appends an answer's two lines.
 fn push_answer(out: &mut Vec<u8>, answer: &Answer) -> Result<(), AllocError>
-    ensures { OnOk result (out.new.items ≡ out.old.items ++ text_of_lines (answer_lines (answer_of answer.now))) }
+    ensures { OnOk result (out.new.items ≡ out.old.items ++ text_of_lines (answer_lines (answer_view answer.now))) }
 {
     push_possibly_line(out, answer)?;
     push_definitely_line(out, answer)

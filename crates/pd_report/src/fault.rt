@@ -8,7 +8,7 @@ pub enum WriteFault {
     /// An allocation was refused. Nothing was written.
     #[error("memory")]
     Memory,
-    /// The writer failed, in whatever way, or took nothing. A front of the text was written, and not all of it.
+    /// The writer failed, in whatever way, or took nothing. A prefix of the text was written, and not all of it.
     #[error("write")]
     Write,
 }

@@ -1,6 +1,6 @@
 //! The fields of a line of text.
 ghost use Rattle.pd_format.specs.Reports.{place_text, with_commas};
-ghost use Rattle.pd_report.specs.Views.{names_of, places_of};
+ghost use Rattle.pd_report.specs.Views.{names_view, named_places_view};
 ghost use Rattle.std.specs.Prelude.{◌≡◌, ◌++◌, decimal, map, OnOk};
 
 use itoa::Buffer;
@@ -44,7 +44,7 @@ pub(crate) fn push_numbers(out: &mut Vec<u8>, numbers: &[u64]) -> Result<(), All
 
 /// Appends names with a comma between each two.
 pub(crate) fn push_names(out: &mut Vec<u8>, names: &[String]) -> Result<(), AllocError>
-    ensures { OnOk result (out.new.items ≡ out.old.items ++ with_commas (names_of names.now)) }
+    ensures { OnOk result (out.new.items ≡ out.old.items ++ with_commas (names_view names.now)) }
 {
     let Some((first, others)) = names.split_first() else {
         return Ok(());
@@ -68,7 +68,8 @@ pub(crate) fn push_place(out: &mut Vec<u8>, name: &str, number: u64) -> Result<(
 
 /// Appends events with a comma between each two.
 pub(crate) fn push_places(out: &mut Vec<u8>, places: &[(String, u64)]) -> Result<(), AllocError>
-    ensures { OnOk result (out.new.items ≡ out.old.items ++ with_commas (map place_text (places_of places.now))) }
+    ensures { OnOk result (out.new.items ≡ out.old.items ++ with_commas (map place_text (named_places_view places.now)))
+        }
 {
     let Some(((name, number), others)) = places.split_first() else {
         return Ok(());

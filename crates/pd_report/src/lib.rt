@@ -1,9 +1,10 @@
 //! The report of a session: as a value, as text, written, and read.
 //!
-//! A report's text is exactly the one that the definitions give; it reaches a writer whole, or the call fails. Bytes are read
-//! as a report exactly where they are its text, and otherwise the first line is told with which they stop being one.
+//! A report's text is exactly the one that the definitions give; it reaches a writer whole, or the call fails. Bytes
+//! are read as a report exactly where they are its text, and otherwise the first line is reported with which they stop
+//! being one.
 //!
-//! - `report`: what is told about a session
+//! - `report`: what is reported about a session
 //! - `answer`: the answer for one predicate
 //! - `possibly`: whether some consistent cut satisfies it
 //! - `definitely`: whether each observation has a cut that satisfies it

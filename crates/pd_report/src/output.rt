@@ -1,6 +1,6 @@
 //! Writes a text, and a report.
 ghost use Rattle.pd_format.specs.Reports.{report_text};
-ghost use Rattle.pd_report.specs.Views.{report_of};
+ghost use Rattle.pd_report.specs.Views.{report_view};
 ghost use Rattle.std.specs.Io.KnownBytes.{Appends, Keeps};
 ghost use Rattle.std.specs.Prelude.{◌≡◌, ◌<◌, ℕ, length, take, Err, OnErr, OnOk, IsOkUnless};
 
@@ -13,11 +13,12 @@ use std::io::Write;
 /// Writes the whole text. It doesn't flush the writer.
 ///
 /// # Errors
-/// `Write`, where the writer fails, in whatever way, or takes nothing. A front of the text was written then, and not all of
-/// it.
+/// `Write`, where the writer fails, in whatever way, or takes nothing. A prefix of the text was written then, and not
+/// all of it.
 pub fn write_all<W: Write>(text: &[u8], writer: &mut W) -> Result<(), WriteFault>
     ensures written { OnOk result (Appends (W.contents writer.old) (W.contents writer.new) text.now) }
-    ensures part { OnErr result ((taken : ℕ) × (taken < length text.now) × Appends (W.contents writer.old) (W.contents writer.new) (take taken text.now)) }
+    ensures part { OnErr result ((taken : ℕ) × (taken < length text.now)
+        × Appends (W.contents writer.old) (W.contents writer.new) (take taken text.now)) }
     ensures err { IsOkUnless result WriteFault.Write }
 {
     let mut taken = 0;
@@ -33,12 +34,13 @@ pub fn write_all<W: Write>(text: &[u8], writer: &mut W) -> Result<(), WriteFault
 /// Writes a report's text. It doesn't flush the writer.
 ///
 /// # Errors
-/// `Memory` leaves nothing written. `Write`, where the writer fails, in whatever way, or takes nothing, leaves a front of the
-/// text written, and not all of it.
+/// `Memory` leaves nothing written. `Write`, where the writer fails, in whatever way, or takes nothing, leaves a prefix
+/// of the text written, and not all of it.
 pub fn write<W: Write>(alloc: Global, report: &Report, writer: &mut W) -> Result<(), WriteFault>
-    ensures written { OnOk result (Appends (W.contents writer.old) (W.contents writer.new) (report_text (report_of report.now))) }
-    ensures part { result ≡ Err WriteFault.Write → (taken : ℕ) × (taken < length (report_text (report_of report.now)))
-        × Appends (W.contents writer.old) (W.contents writer.new) (take taken (report_text (report_of report.now))) }
+    ensures written { OnOk result (Appends (W.contents writer.old) (W.contents writer.new)
+        (report_text (report_view report.now))) }
+    ensures part { result ≡ Err WriteFault.Write → (taken : ℕ) × (taken < length (report_text (report_view report.now)))
+        × Appends (W.contents writer.old) (W.contents writer.new) (take taken (report_text (report_view report.now))) }
     ensures memory { result ≡ Err WriteFault.Memory → Keeps (W.contents writer.old) (W.contents writer.new) }
 {
     let text = text(alloc, report)?;

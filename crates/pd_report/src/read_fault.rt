@@ -6,7 +6,7 @@ use thiserror::Error;
 #[derive(Debug, Drop, Error)]
 pub enum ReportFault {
     /// The bytes are no report: the number, counted from 1, of the first line with which they stop being one. Where the
-    /// text stops too early, it is the number behind the last line's.
+    /// text stops too early, it is the number after the last line's.
     #[error("line {0}")]
     Line(u64),
     /// An allocation was refused. This says nothing about the bytes.

@@ -1,8 +1,8 @@
 //! Reads a report.
 ghost use Rattle.pd_format.specs.Reports.{answer_lines, report_lines, AnswerIsLawful, IsLawful, IsNoReport, IsReport};
-ghost use Rattle.pd_report.specs.Reading.{counts_text, first_text, second_text, seen, CountsFit, FirstIsLawful, StopsBehind};
+ghost use Rattle.pd_report.specs.Reading.{counts_text, first_text, second_text, slices_view, CountsFit, FirstIsLawful, StopsAfter};
 ghost use Rattle.pd_report.specs.Pairs.{AnswersFit, IsPair, StopsAt};
-ghost use Rattle.pd_report.specs.Views.{answer_of, report_of};
+ghost use Rattle.pd_report.specs.Views.{answer_view, report_view};
 ghost use Rattle.pd_report.specs.declared.read_fault.ReportFault.TheVariants.{Line};
 ghost use Rattle.std.specs.List.{AllByRecursion};
 ghost use Rattle.std.specs.Prelude.{◌≡◌, ◌∷◌, ◌+◌, ◌<◌, ◌≤◌, ℕ, List, Err, Ok, flat_map, length, map, IfOk, drop};
@@ -23,7 +23,7 @@ const MAX_ANSWERS: usize = 16;
 #[derive(Drop)]
 enum Pair {
     /// An answer.
-    Told(Answer),
+    Reported(Answer),
     /// The first line is of no answer.
     First,
     /// The first line is, and the second isn't there or doesn't go with it.
@@ -32,7 +32,7 @@ enum Pair {
 
 /// Reads the first two of the lines.
 fn read_pair(alloc: Global, first: &[u8], others: &[&[u8]]) -> Result<Pair, AllocError>
-    ensures { IfOk result (IsPair first.now (seen others.now)) }
+    ensures { IfOk result (IsPair first.now (slices_view others.now)) }
 {
     let Some((name, possibly)) = first_line(alloc, first)? else {
         return Ok(Pair::First);
@@ -43,22 +43,23 @@ fn read_pair(alloc: Global, first: &[u8], others: &[&[u8]]) -> Result<Pair, Allo
     let Some(definitely) = second_line(alloc, &name, second)? else {
         return Ok(Pair::Second);
     };
-    Ok(Pair::Told(Answer {
+    Ok(Pair::Reported(Answer {
         name,
         possibly,
         definitely,
     }))
 }
 
-/// Reads the answers behind the line of these counts.
+/// Reads the answers after the line of these counts.
 fn answers(
     alloc: Global,
     counts: (u64, u64, u64),
     lines: &[&[u8]],
 ) -> Result<Vec<Answer>, ReportFault>
     requires { CountsFit counts }
-    ensures told { IfOk result (λ answers. AnswersFit answers.items × (seen lines.now ≡ flat_map answer_lines (map answer_of answers.items))) }
-    ensures line { (k : ℕ) → result ≡ Err (Line k) → StopsAt (counts_text counts ∷ seen lines.now) k }
+    ensures reported { IfOk result (λ answers. AnswersFit answers.items
+        × (slices_view lines.now ≡ flat_map answer_lines (map answer_view answers.items))) }
+    ensures line { (k : ℕ) → result ≡ Err (Line k) → StopsAt (counts_text counts ∷ slices_view lines.now) k }
 {
     let mut answers = Vec::new(alloc);
     let mut at = 0;
@@ -67,7 +68,7 @@ fn answers(
             return Err(ReportFault::Line(at as u64 + 2));
         }
         match read_pair(alloc, lines[at], &lines[at + 1..])? {
-            Pair::Told(answer) => answers.push(answer)?,
+            Pair::Reported(answer) => answers.push(answer)?,
             Pair::First => return Err(ReportFault::Line(at as u64 + 2)),
             Pair::Second => return Err(ReportFault::Line(at as u64 + 3)),
         }
@@ -82,8 +83,9 @@ fn answers(
 
 /// Reads the lines of a report.
 fn read_lines(alloc: Global, lines: &[&[u8]]) -> Result<Report, ReportFault>
-    ensures told { IfOk result (λ report. IsLawful (report_of report) × (seen lines.now ≡ report_lines (report_of report))) }
-    ensures line { (k : ℕ) → result ≡ Err (Line k) → StopsAt (seen lines.now) k }
+    ensures reported { IfOk result (λ report. IsLawful (report_view report)
+        × (slices_view lines.now ≡ report_lines (report_view report))) }
+    ensures line { (k : ℕ) → result ≡ Err (Line k) → StopsAt (slices_view lines.now) k }
 {
     let Some((first, others)) = lines.split_first() else {
         return Err(ReportFault::Line(1));
@@ -111,11 +113,11 @@ fn read_lines(alloc: Global, lines: &[&[u8]]) -> Result<Report, ReportFault>
 /// Reads a report: the one whose text the bytes are.
 ///
 /// # Errors
-/// `Line`, where they are no report, with the number of the first line, counted from 1 and with its LF, with which they stop
-/// being one. Where the text stops too early, it is the number behind the last line's. `Memory`, where an allocation is
-/// refused.
+/// `Line`, where they are no report, with the number of the first line, counted from 1 and with its LF, with which they
+/// stop being one. Where the text stops too early, it is the number after the last line's. `Memory`, where an
+/// allocation is refused.
 pub fn read(alloc: Global, bytes: &[u8]) -> Result<Report, ReportFault>
-    ensures told { IfOk result (λ report. IsReport bytes.now (report_of report)) }
+    ensures reported { IfOk result (λ report. IsReport bytes.now (report_view report)) }
     ensures line { (k : ℕ) → result ≡ Err (Line k) → IsNoReport bytes.now k }
 {
     let pieces = pieces(alloc, bytes, b'\n')?;

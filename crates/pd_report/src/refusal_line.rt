@@ -1,8 +1,8 @@
 //! Reads the line of a refusal.
 ghost use Rattle.pd_format.specs.Lists.{is_one_of};
 ghost use Rattle.pd_format.specs.Reports.{match_words, place_text, predicate_words, refusal_words, spec_words, stream_words, with_commas, Fits, IsName, PlaceIsLawful, RefusalIsLawful};
-ghost use Rattle.pd_report.specs.Reading.{at_fault_of, at_fault_words, refused_text, seen, stream_fault_of, stream_fault_words, AtFaultIsLawful, IsOfKind, StreamFaultIsLawful, Tells};
-ghost use Rattle.pd_report.specs.Views.{places_of, refusal_of};
+ghost use Rattle.pd_report.specs.Reading.{at_fault_of, at_fault_words, refused_text, slices_view, stream_fault_of, stream_fault_words, AtFaultIsLawful, IsOfKind, StreamFaultIsLawful, Tells};
+ghost use Rattle.pd_report.specs.Views.{named_places_view, refusal_view};
 ghost use Rattle.std.specs.List.{AllByRecursion};
 ghost use Rattle.std.specs.Prelude.{◌≡◌, ◌<◌, ◌∷◌, [], codes, length, map, string_bytes, IfOk, IsTrue};
 
@@ -16,7 +16,8 @@ use std::alloc::{AllocError, Global};
 
 /// The word of a document's fault, as the only word.
 fn spec_fault(alloc: Global, words: &[&[u8]]) -> Result<Option<String>, AllocError>
-    ensures { IfOk result (Tells string_bytes (λ word. word ∷ []) (λ word. IsTrue (is_one_of spec_words word)) (seen words.now)) }
+    ensures { IfOk result (Tells string_bytes (λ word. word ∷ []) (λ word. IsTrue (is_one_of spec_words word))
+        (slices_view words.now)) }
 {
     let Some(word) = single(words) else {
         return Ok(None);
@@ -29,7 +30,7 @@ fn spec_fault(alloc: Global, words: &[&[u8]]) -> Result<Option<String>, AllocErr
 
 /// A predicate's number, counted from 1, the word of its fault, and the byte at fault.
 fn predicate_fault(alloc: Global, words: &[&[u8]]) -> Result<Option<(u64, String, u64)>, AllocError>
-    ensures { IfOk result (Tells at_fault_of at_fault_words AtFaultIsLawful (seen words.now)) }
+    ensures { IfOk result (Tells at_fault_of at_fault_words AtFaultIsLawful (slices_view words.now)) }
 {
     let Some((k, rest)) = counted(words) else {
         return Ok(None);
@@ -57,7 +58,7 @@ fn predicate_fault(alloc: Global, words: &[&[u8]]) -> Result<Option<(u64, String
 
 /// A stream's number, the number of its line at fault, and the word of its fault.
 fn stream_fault(alloc: Global, words: &[&[u8]]) -> Result<Option<(u64, u64, String)>, AllocError>
-    ensures { IfOk result (Tells stream_fault_of stream_fault_words StreamFaultIsLawful (seen words.now)) }
+    ensures { IfOk result (Tells stream_fault_of stream_fault_words StreamFaultIsLawful (slices_view words.now)) }
 {
     let Some((stream, rest)) = counted(words) else {
         return Ok(None);
@@ -79,7 +80,7 @@ fn stream_fault(alloc: Global, words: &[&[u8]]) -> Result<Option<(u64, u64, Stri
 
 /// A name, as the only word.
 fn only_name(alloc: Global, words: &[&[u8]]) -> Result<Option<String>, AllocError>
-    ensures { IfOk result (Tells string_bytes (λ name. name ∷ []) IsName (seen words.now)) }
+    ensures { IfOk result (Tells string_bytes (λ name. name ∷ []) IsName (slices_view words.now)) }
 {
     let Some(word) = single(words) else {
         return Ok(None);
@@ -89,7 +90,8 @@ fn only_name(alloc: Global, words: &[&[u8]]) -> Result<Option<String>, AllocErro
 
 /// Events, at least one, as the only word.
 fn only_places(alloc: Global, words: &[&[u8]]) -> Result<Option<Vec<(String, u64)>>, AllocError>
-    ensures { IfOk result (Tells (λ found. places_of found.items) (λ ps. with_commas (map place_text ps) ∷ []) (λ ps. (0 < length ps) × AllByRecursion PlaceIsLawful ps) (seen words.now)) }
+    ensures { IfOk result (Tells (λ found. named_places_view found.items) (λ ps. with_commas (map place_text ps) ∷ [])
+        (λ ps. (0 < length ps) × AllByRecursion PlaceIsLawful ps) (slices_view words.now)) }
 {
     let Some(word) = single(words) else {
         return Ok(None);
@@ -97,9 +99,9 @@ fn only_places(alloc: Global, words: &[&[u8]]) -> Result<Option<Vec<(String, u64
     places(alloc, word)
 }
 
-/// A refused document, of the words behind `spec`.
+/// A refused document, of the words after `spec`.
 fn spec_refusal(alloc: Global, rest: &[&[u8]]) -> Result<Option<Refusal>, AllocError>
-    ensures { IfOk result (Tells refusal_of refusal_words (IsOfKind 1) (codes "spec" ∷ seen rest.now)) }
+    ensures { IfOk result (Tells refusal_view refusal_words (IsOfKind 1) (codes "spec" ∷ slices_view rest.now)) }
 {
     let Some(word) = spec_fault(alloc, rest)? else {
         return Ok(None);
@@ -107,9 +109,9 @@ fn spec_refusal(alloc: Global, rest: &[&[u8]]) -> Result<Option<Refusal>, AllocE
     Ok(Some(Refusal::Spec(word)))
 }
 
-/// A refused predicate, of the words behind `predicate`.
+/// A refused predicate, of the words after `predicate`.
 fn predicate_refusal(alloc: Global, rest: &[&[u8]]) -> Result<Option<Refusal>, AllocError>
-    ensures { IfOk result (Tells refusal_of refusal_words (IsOfKind 2) (codes "predicate" ∷ seen rest.now)) }
+    ensures { IfOk result (Tells refusal_view refusal_words (IsOfKind 2) (codes "predicate" ∷ slices_view rest.now)) }
 {
     let Some((k, word, at)) = predicate_fault(alloc, rest)? else {
         return Ok(None);
@@ -117,9 +119,9 @@ fn predicate_refusal(alloc: Global, rest: &[&[u8]]) -> Result<Option<Refusal>, A
     Ok(Some(Refusal::Predicate { k, word, at }))
 }
 
-/// Too many streams, of the words behind `streams`.
+/// Too many streams, of the words after `streams`.
 fn streams_refusal(rest: &[&[u8]]) -> Option<Refusal>
-    ensures { Tells refusal_of refusal_words (IsOfKind 3) (codes "streams" ∷ seen rest.now) result }
+    ensures { Tells refusal_view refusal_words (IsOfKind 3) (codes "streams" ∷ slices_view rest.now) result }
 {
     if rest.is_empty() {
         Some(Refusal::Streams)
@@ -128,9 +130,9 @@ fn streams_refusal(rest: &[&[u8]]) -> Option<Refusal>
     }
 }
 
-/// A refused stream, of the words behind `stream`.
+/// A refused stream, of the words after `stream`.
 fn stream_refusal(alloc: Global, rest: &[&[u8]]) -> Result<Option<Refusal>, AllocError>
-    ensures { IfOk result (Tells refusal_of refusal_words (IsOfKind 4) (codes "stream" ∷ seen rest.now)) }
+    ensures { IfOk result (Tells refusal_view refusal_words (IsOfKind 4) (codes "stream" ∷ slices_view rest.now)) }
 {
     let Some((stream, line, word)) = stream_fault(alloc, rest)? else {
         return Ok(None);
@@ -138,9 +140,9 @@ fn stream_refusal(alloc: Global, rest: &[&[u8]]) -> Result<Option<Refusal>, Allo
     Ok(Some(Refusal::Stream { stream, line, word }))
 }
 
-/// A process without a stream, of the words behind `absent`.
+/// A process without a stream, of the words after `absent`.
 fn absent_refusal(alloc: Global, rest: &[&[u8]]) -> Result<Option<Refusal>, AllocError>
-    ensures { IfOk result (Tells refusal_of refusal_words (IsOfKind 5) (codes "absent" ∷ seen rest.now)) }
+    ensures { IfOk result (Tells refusal_view refusal_words (IsOfKind 5) (codes "absent" ∷ slices_view rest.now)) }
 {
     let Some(name) = only_name(alloc, rest)? else {
         return Ok(None);
@@ -148,9 +150,9 @@ fn absent_refusal(alloc: Global, rest: &[&[u8]]) -> Result<Option<Refusal>, Allo
     Ok(Some(Refusal::Absent(name)))
 }
 
-/// A causal cycle, of the words behind `cycle`.
+/// A causal cycle, of the words after `cycle`.
 fn cycle_refusal(alloc: Global, rest: &[&[u8]]) -> Result<Option<Refusal>, AllocError>
-    ensures { IfOk result (Tells refusal_of refusal_words (IsOfKind 7) (codes "cycle" ∷ seen rest.now)) }
+    ensures { IfOk result (Tells refusal_view refusal_words (IsOfKind 7) (codes "cycle" ∷ slices_view rest.now)) }
 {
     let Some(places) = only_places(alloc, rest)? else {
         return Ok(None);
@@ -160,7 +162,7 @@ fn cycle_refusal(alloc: Global, rest: &[&[u8]]) -> Result<Option<Refusal>, Alloc
 
 /// A send or a receive that matches none.
 fn match_refusal(alloc: Global, words: &[&[u8]]) -> Result<Option<Refusal>, AllocError>
-    ensures { IfOk result (Tells refusal_of refusal_words (IsOfKind 6) (seen words.now)) }
+    ensures { IfOk result (Tells refusal_view refusal_words (IsOfKind 6) (slices_view words.now)) }
 {
     let Some((word, rest)) = words.split_first() else {
         return Ok(None);
@@ -180,7 +182,7 @@ fn match_refusal(alloc: Global, words: &[&[u8]]) -> Result<Option<Refusal>, Allo
 
 /// A refusal's words.
 fn refusal(alloc: Global, words: &[&[u8]]) -> Result<Option<Refusal>, AllocError>
-    ensures { IfOk result (Tells refusal_of refusal_words RefusalIsLawful (seen words.now)) }
+    ensures { IfOk result (Tells refusal_view refusal_words RefusalIsLawful (slices_view words.now)) }
 {
     if let Some(rest) = after(words, "spec") {
         return spec_refusal(alloc, rest);
@@ -205,7 +207,7 @@ fn refusal(alloc: Global, words: &[&[u8]]) -> Result<Option<Refusal>, AllocError
 
 /// The refusal, where the line tells one.
 pub(crate) fn refused_line(alloc: Global, line: &[u8]) -> Result<Option<Refusal>, AllocError>
-    ensures { IfOk result (Tells refusal_of refused_text RefusalIsLawful line.now) }
+    ensures { IfOk result (Tells refusal_view refused_text RefusalIsLawful line.now) }
 {
     let words = pieces(alloc, line, b' ')?;
     let Some(rest) = after(&words, "refused") else {

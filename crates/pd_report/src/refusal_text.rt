@@ -1,6 +1,6 @@
 //! The words of a refusal.
 ghost use Rattle.pd_format.specs.Reports.{Predicate as RefusedPredicate, Stream as RefusedStream, refusal_words, spaced};
-ghost use Rattle.pd_report.specs.Views.{refusal_of};
+ghost use Rattle.pd_report.specs.Views.{refusal_view};
 ghost use Rattle.std.specs.Prelude.{◌≡◌, ◌++◌, OnOk};
 
 use super::fields::{push_bytes, push_number, push_place, push_places};
@@ -21,7 +21,8 @@ fn push_predicate(out: &mut Vec<u8>, k: u64, word: &str, at: u64) -> Result<(), 
 
 /// Appends the words for a refused stream.
 fn push_stream(out: &mut Vec<u8>, stream: u64, line: u64, word: &str) -> Result<(), AllocError>
-    ensures { OnOk result (out.new.items ≡ out.old.items ++ spaced (refusal_words (RefusedStream stream line word.now))) }
+    ensures { OnOk result (out.new.items ≡ out.old.items ++ spaced (refusal_words (RefusedStream stream line word.now)))
+        }
 {
     push_bytes(out, b"stream ")?;
     push_number(out, stream)?;
@@ -33,7 +34,7 @@ fn push_stream(out: &mut Vec<u8>, stream: u64, line: u64, word: &str) -> Result<
 
 /// Appends a refusal's words.
 pub(crate) fn push_refusal(out: &mut Vec<u8>, refusal: &Refusal) -> Result<(), AllocError>
-    ensures { OnOk result (out.new.items ≡ out.old.items ++ spaced (refusal_words (refusal_of refusal.now))) }
+    ensures { OnOk result (out.new.items ≡ out.old.items ++ spaced (refusal_words (refusal_view refusal.now))) }
 {
     match refusal {
         Refusal::Spec(word) => {

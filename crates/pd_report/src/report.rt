@@ -1,8 +1,8 @@
-//! What is told about a session.
+//! What is reported about a session.
 use super::answer::Answer;
 use super::refusal::Refusal;
 
-/// What is told about a session.
+/// What is reported about a session.
 #[derive(Debug, Drop)]
 pub enum Report {
     /// The session is lawful, and each predicate has its answer.

@@ -1,6 +1,6 @@
 //! A report's text.
 ghost use Rattle.pd_format.specs.Reports.{report_text};
-ghost use Rattle.pd_report.specs.Views.{report_of, session_text};
+ghost use Rattle.pd_report.specs.Views.{report_view, session_text};
 ghost use Rattle.std.specs.Prelude.{◌≡◌, ◌++◌, OnOk, IfOk};
 
 use super::answer_text::push_answers;
@@ -32,7 +32,7 @@ fn push_session(
 /// # Errors
 /// Where memory runs out.
 pub fn text(alloc: Global, report: &Report) -> Result<Vec<u8>, AllocError>
-    ensures { IfOk result (λ text. text.items ≡ report_text (report_of report.now)) }
+    ensures { IfOk result (λ text. text.items ≡ report_text (report_view report.now)) }
 {
     let mut out = Vec::new(alloc);
     match report {

@@ -1,5 +1,5 @@
 //! Compares refusals.
-ghost use Rattle.pd_report.specs.Views.{place_of, places_of, refusal_of};
+ghost use Rattle.pd_report.specs.Views.{named_place_view, named_places_view, refusal_view};
 ghost use Rattle.std.specs.Prelude.{◌≡◌, ◌↔◌, IsTrue};
 
 use super::refusal::Refusal;
@@ -13,14 +13,14 @@ fn same_text(a: &str, b: &str) -> bool
 
 /// Whether these are the same event.
 fn same_place(a: &(String, u64), b: &(String, u64)) -> bool
-    ensures { IsTrue result ↔ (place_of a.now ≡ place_of b.now) }
+    ensures { IsTrue result ↔ (named_place_view a.now ≡ named_place_view b.now) }
 {
     same_text(&a.0, &b.0) && a.1 == b.1
 }
 
 /// Whether these are the same events.
 fn same_places(a: &[(String, u64)], b: &[(String, u64)]) -> bool
-    ensures { IsTrue result ↔ (places_of a.now ≡ places_of b.now) }
+    ensures { IsTrue result ↔ (named_places_view a.now ≡ named_places_view b.now) }
 {
     if a.len() != b.len() {
         return false;
@@ -35,7 +35,7 @@ fn same_places(a: &[(String, u64)], b: &[(String, u64)]) -> bool
 
 /// Whether two refusals tell the same.
 pub fn same_refusal(a: &Refusal, b: &Refusal) -> bool
-    ensures { IsTrue result ↔ (refusal_of a.now ≡ refusal_of b.now) }
+    ensures { IsTrue result ↔ (refusal_view a.now ≡ refusal_view b.now) }
 {
     match (a, b) {
         (Refusal::Spec(a), Refusal::Spec(b)) => same_text(a, b),

@@ -1,15 +1,16 @@
 //! Reads the line that counts what a session has.
 ghost use Rattle.pd_format.specs.Reports.{Fits};
-ghost use Rattle.pd_report.specs.Reading.{counts_text, counts_words, seen, CountsFit, Tells};
+ghost use Rattle.pd_report.specs.Reading.{counts_text, counts_words, slices_view, CountsFit, Tells};
 ghost use Rattle.std.specs.Prelude.{◌≡◌, ◌∷◌, ℕ, List, MatchOption, decimal, IfOk};
 
 use super::words::{after, counted, pieces};
 use std::alloc::{AllocError, Global};
 
-/// The number that the words begin with and that this word follows, and the words behind both.
+/// The number that the words begin with and that this word follows, and the words after both.
 fn labelled<'w, 'a>(words: &'w [&'a [u8]], label: &str) -> Option<(u64, &'w [&'a [u8]])>
-    ensures { MatchOption result ((n : ℕ) (rest : List (List ℕ)) → Fits n → ¬ (seen words.now ≡ decimal n ∷ label.now ∷ rest))
-        (λ found. Fits found.0 × (seen words.now ≡ decimal found.0 ∷ label.now ∷ seen found.1.now)) }
+    ensures { MatchOption result ((n : ℕ) (rest : List (List ℕ)) → Fits n
+        → ¬ (slices_view words.now ≡ decimal n ∷ label.now ∷ rest))
+        (λ found. Fits found.0 × (slices_view words.now ≡ decimal found.0 ∷ label.now ∷ slices_view found.1.now)) }
 {
     let Some((number, rest)) = counted(words) else {
         return None;
@@ -22,7 +23,7 @@ fn labelled<'w, 'a>(words: &'w [&'a [u8]], label: &str) -> Option<(u64, &'w [&'a
 
 /// The counts of processes, events and messages.
 fn session_counts(words: &[&[u8]]) -> Option<(u64, u64, u64)>
-    ensures { Tells (λ counts. counts) counts_words CountsFit (seen words.now) result }
+    ensures { Tells (λ counts. counts) counts_words CountsFit (slices_view words.now) result }
 {
     let Some(rest) = after(words, "session") else {
         return None;

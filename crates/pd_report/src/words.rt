@@ -2,7 +2,7 @@
 ghost use Rattle.pd_format.specs.Lists.{is_one_of as is_one_of_texts};
 ghost use Rattle.pd_format.specs.Names.{is_in_word};
 ghost use Rattle.pd_format.specs.Reports.{match_words, predicate_words, spec_words, stream_words, Fits, IsName};
-ghost use Rattle.pd_report.specs.Reading.{pieces as pieces_of, seen, Tells};
+ghost use Rattle.pd_report.specs.Reading.{pieces as pieces_of, slices_view, Tells};
 ghost use Rattle.std.specs.List.{list_all};
 ghost use Rattle.std.specs.Prelude.{◌≡◌, ◌∷◌, [], ℕ, List, MatchOption, true, decimal, string_bytes, IfOk, ◌↔◌, IsTrue, false};
 
@@ -12,7 +12,7 @@ use std::alloc::{AllocError, Global};
 
 /// The pieces between these bytes.
 pub(crate) fn pieces(alloc: Global, bytes: &[u8], at: u8) -> Result<Vec<&[u8]>, AllocError>
-    ensures { IfOk result (λ found. seen found.items ≡ pieces_of at bytes.now) }
+    ensures { IfOk result (λ found. slices_view found.items ≡ pieces_of at bytes.now) }
 {
     bytes.split(|byte| *byte == at).collect(alloc)
 }
@@ -27,7 +27,7 @@ pub(crate) fn is(word: &[u8], text: &str) -> bool
 
 /// Whether the bytes are one of these texts.
 pub(crate) fn is_one_of(word: &[u8], texts: &[&str]) -> bool
-    ensures { result ≡ is_one_of_texts (seen texts.now) word.now }
+    ensures { result ≡ is_one_of_texts (slices_view texts.now) word.now }
 {
     texts.iter().any(|text| word == text.as_bytes())
 }
@@ -149,9 +149,10 @@ fn is_decimal(word: &[u8], number: u64) -> bool
     word == buffer.format(number).as_bytes()
 }
 
-/// The words behind this one.
+/// The words after this one.
 pub(crate) fn after<'w, 'a>(words: &'w [&'a [u8]], text: &str) -> Option<&'w [&'a [u8]]>
-    ensures { MatchOption result ((rest : List (List ℕ)) → ¬ (seen words.now ≡ text.now ∷ rest)) (λ rest. seen words.now ≡ text.now ∷ seen rest.now) }
+    ensures { MatchOption result ((rest : List (List ℕ)) → ¬ (slices_view words.now ≡ text.now ∷ rest)) (λ rest.
+        slices_view words.now ≡ text.now ∷ slices_view rest.now) }
 {
     let Some((first, rest)) = words.split_first() else {
         return None;
@@ -161,7 +162,8 @@ pub(crate) fn after<'w, 'a>(words: &'w [&'a [u8]], text: &str) -> Option<&'w [&'
 
 /// The word, if it is the only one.
 pub(crate) fn single<'a>(words: &[&'a [u8]]) -> Option<&'a [u8]>
-    ensures { MatchOption result ((word : List ℕ) → ¬ (seen words.now ≡ word ∷ [])) (λ word. seen words.now ≡ word.now ∷ []) }
+    ensures { MatchOption result ((word : List ℕ) → ¬ (slices_view words.now ≡ word ∷ [])) (λ word.
+        slices_view words.now ≡ word.now ∷ []) }
 {
     let Some((first, rest)) = words.split_first() else {
         return None;
@@ -169,9 +171,11 @@ pub(crate) fn single<'a>(words: &[&'a [u8]]) -> Option<&'a [u8]>
     if rest.is_empty() { Some(*first) } else { None }
 }
 
-/// The number that the words begin with, and the words behind it.
+/// The number that the words begin with, and the words after it.
 pub(crate) fn counted<'w, 'a>(words: &'w [&'a [u8]]) -> Option<(u64, &'w [&'a [u8]])>
-    ensures { MatchOption result ((n : ℕ) (rest : List (List ℕ)) → Fits n → ¬ (seen words.now ≡ decimal n ∷ rest)) (λ found. Fits found.0 × (seen words.now ≡ decimal found.0 ∷ seen found.1.now)) }
+    ensures { MatchOption result ((n : ℕ) (rest : List (List ℕ)) → Fits n
+        → ¬ (slices_view words.now ≡ decimal n ∷ rest)) (λ found. Fits found.0
+        × (slices_view words.now ≡ decimal found.0 ∷ slices_view found.1.now)) }
 {
     let Some((first, rest)) = words.split_first() else {
         return None;

@@ -38,7 +38,8 @@ fn is_one_more_than_any(cut: Cut, others: &[Cut]) -> bool {
     false
 }
 
-/// The avoiding cuts of a level: its cuts that don't satisfy and, but for level 0, are one event more than an avoiding one.
+/// The avoiding cuts of a level: its cuts that don't satisfy and, but for level 0, are one event more than an avoiding
+/// one.
 fn avoiding_cuts(
     alloc: Global,
     session: &Session,
@@ -87,7 +88,8 @@ fn step_back(cut: Cut, below: &[Cut]) -> Option<usize> {
     None
 }
 
-/// The processes of the steps from the empty cut to this one, chosen from this one backward among the avoiding cuts below.
+/// The processes of the steps from the empty cut to this one, chosen from this one backward among the avoiding cuts
+/// below.
 fn avoiding_steps(alloc: Global, levels: &[Vec<Cut>], full: Cut) -> Result<Vec<usize>, AllocError> {
     let mut steps = Vec::new(alloc);
     let mut cut = full;

@@ -204,8 +204,8 @@ fn reader_of(stream: &str, calls: usize) -> SlowReader<'_> {
     }
 }
 
-/// What a check of a report writes to a writer with so much room, and whether it tells that nothing is bad. The streams are
-/// read a byte a call.
+/// What a check of a report writes to a writer with so much room, and whether it tells that nothing is bad. The streams
+/// are read a byte a call.
 fn found(
     rt: &HostRuntime,
     lines: &[&str],
@@ -259,7 +259,7 @@ fn reports_are_good_for_their_sessions(rt: HostRuntime) -> Result<(), Fail> {
     Ok(())
 }
 
-/// The writer is full behind each byte of the finding in turn, and then fails or takes nothing.
+/// The writer is full after each byte of the finding in turn, and then fails or takes nothing.
 #[test]
 fn findings_that_cannot_be_written(rt: HostRuntime) -> Result<(), Fail> {
     for row in CHECKED.iter().take(8) {
@@ -267,8 +267,8 @@ fn findings_that_cannot_be_written(rt: HostRuntime) -> Result<(), Fail> {
         for full in [Full::Fails, Full::Idles] {
             for room in 0..finding.len() {
                 let mut writer = SlowWriter::new(rt.alloc(), room, full)?;
-                let told = found(&rt, row.lines, row.report.as_bytes(), &mut writer)?;
-                assert!(rt; matches!(&told, Err(EngineFault::Write)));
+                let reported = found(&rt, row.lines, row.report.as_bytes(), &mut writer)?;
+                assert!(rt; matches!(&reported, Err(EngineFault::Write)));
                 assert_eq!(rt; writer.taken.as_slice(), &finding[..room]);
             }
         }
@@ -276,7 +276,7 @@ fn findings_that_cannot_be_written(rt: HostRuntime) -> Result<(), Fail> {
     Ok(())
 }
 
-/// The reader of the second stream fails behind each of its bytes in turn.
+/// The reader of the second stream fails after each of its bytes in turn.
 #[test]
 fn streams_that_cannot_be_read(rt: HostRuntime) -> Result<(), Fail> {
     let alloc = rt.alloc();

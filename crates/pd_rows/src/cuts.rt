@@ -32,7 +32,7 @@ pub(crate) fn full(session: &Session) -> Cut {
     [a.len, b.len, c.len]
 }
 
-/// The variable's value behind this many events.
+/// The variable's value after this many events.
 fn value(process: &Process, events: usize) -> i64 {
     let mut value = process.initial;
     for set in process.sets.iter().take(events) {
@@ -66,7 +66,7 @@ fn holds(predicate: &Predicate, state: [i64; MOST_PROCESSES]) -> bool {
     }
 }
 
-/// Whether the state behind these events satisfies the predicate.
+/// Whether the state after these events satisfies the predicate.
 pub(crate) fn satisfies(session: &Session, predicate: &Predicate, cut: Cut) -> bool {
     let [a, b, c] = &session.processes;
     let [i, j, k] = cut;

@@ -20,7 +20,8 @@ const TRAP: &str =
     r#""predicates":[{"name":"trap","text":"a.x == 1 and b.y == 1 or a.x == 0 and b.y == 2"}]"#;
 
 const LEAD: &str =
-    r#""predicates":[{"name":"lead","text":"a.n == 1 and b.n + c.n < 2"},{"name":"hasty","text":"a.n == 1 and b.n + c.n < 1"},{"name":"calm","text":"a.n + b.n + c.n < 9"}]"#;
+    r#""predicates":[{"name":"lead","text":"a.n == 1 and b.n + c.n < 2"},{"name":"hasty","text":"a.n == 1 and b.n + c.n
+        < 1"},{"name":"calm","text":"a.n + b.n + c.n < 9"}]"#;
 
 const X2: &str = "{\"set\":{\"x\":2}}\n";
 

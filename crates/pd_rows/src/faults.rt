@@ -48,7 +48,7 @@ fn failed_reads(rt: HostRuntime) -> Result<(), Fail> {
     Ok(())
 }
 
-/// The writer is full behind each byte of the report in turn, and then fails or takes nothing.
+/// The writer is full after each byte of the report in turn, and then fails or takes nothing.
 #[test]
 fn failed_writes(rt: HostRuntime) -> Result<(), Fail> {
     let alloc = rt.alloc();

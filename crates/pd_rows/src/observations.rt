@@ -26,8 +26,8 @@ const TOLD: [(&str, usize); 3] = [
     (" definitely no ", 10),
 ];
 
-/// The cut behind these steps, each named by the process of its event.
-fn cut_behind(steps: &[usize]) -> Cut {
+/// The cut after these steps, each named by the process of its event.
+fn cut_after(steps: &[usize]) -> Cut {
     let mut cut = [0usize; MOST_PROCESSES];
     for process in steps {
         if let Some(count) = cut.get_mut(*process) {
@@ -48,7 +48,7 @@ fn push_longer(
     for process in 0..MOST_PROCESSES {
         let mut next = steps.to_vec(alloc)?;
         next.push(process)?;
-        if is_consistent(session, before, cut_behind(&next)) {
+        if is_consistent(session, before, cut_after(&next)) {
             longer.push(next)?;
         }
     }
@@ -86,7 +86,7 @@ fn observations(
 /// The level of the first satisfying cut of an observation.
 fn first_satisfying(session: &Session, predicate: &Predicate, steps: &[usize]) -> Option<usize> {
     for level in 0..=steps.len() {
-        if satisfies(session, predicate, cut_behind(&steps[..level])) {
+        if satisfies(session, predicate, cut_after(&steps[..level])) {
             return Some(level);
         }
     }
@@ -154,7 +154,7 @@ fn definite_lines(alloc: Global, report: &str) -> Result<String, AllocError> {
 fn all_observations(rt: HostRuntime) -> Result<(), Fail> {
     let alloc = rt.alloc();
     let mut numbers = Numbers(1991);
-    let mut told = String::new(alloc);
+    let mut reported = String::new(alloc);
     for _ in 0..SESSIONS {
         let mut session = make_session(&mut numbers);
         session.width = WIDE;
@@ -166,11 +166,11 @@ fn all_observations(rt: HostRuntime) -> Result<(), Fail> {
             let (_, found) = judged(&rt, bundle.as_bytes())?;
             let found = definite_lines(alloc, str::from_utf8(&found)?)?;
             assert_eq!(rt; found, want, "{bundle}");
-            told.push_str(&want)?;
+            reported.push_str(&want)?;
         }
     }
     for (part, least) in TOLD {
-        let lines = lines_with(&told, part);
+        let lines = lines_with(&reported, part);
         assert!(rt; least <= lines, "{lines} lines with {part}");
     }
     Ok(())

@@ -181,7 +181,7 @@ pub(crate) fn lines_with(text: &str, part: &str) -> usize {
 #[test]
 fn all_counts(rt: HostRuntime) -> Result<(), Fail> {
     let mut numbers = Numbers(1991);
-    let mut told = String::new(rt.alloc());
+    let mut reported = String::new(rt.alloc());
     for _ in 0..SESSIONS {
         let session = make_session(&mut numbers);
         let bundle = bundle(rt.alloc(), &session)?;
@@ -189,11 +189,11 @@ fn all_counts(rt: HostRuntime) -> Result<(), Fail> {
         let want = report(rt.alloc(), &session)?;
         assert_eq!(rt; str::from_utf8(&found)?, want.as_str(), "{bundle}");
         if !want.contains(" 0 messages") {
-            told.push_str(&want)?;
+            reported.push_str(&want)?;
         }
     }
     for (part, least) in TOLD {
-        let lines = lines_with(&told, part);
+        let lines = lines_with(&reported, part);
         assert!(rt; least <= lines, "{lines} lines with {part}");
     }
     Ok(())

@@ -166,10 +166,10 @@ fn join(row: &mut [bool; PLACES], other: &[bool; PLACES]) {
 fn go_through(table: &mut Table, middle: usize)
     requires { middle < 12 }
 {
-    let behind = table[middle];
+    let following = table[middle];
     for row in table.iter_mut() {
         if row[middle] {
-            join(row, &behind);
+            join(row, &following);
         }
     }
 }
@@ -237,8 +237,8 @@ fn place_in(places: &[usize], process: usize) -> Option<usize> {
     None
 }
 
-/// The cycle that is reported, where some event happened before itself: the places that are taken from the least stuck one
-/// until a process comes again, from that process on.
+/// The cycle that is reported, where some event happened before itself: the places that are taken from the least stuck
+/// one until a process comes again, from that process on.
 pub(crate) fn cycle(
     alloc: Global,
     kinds: &Kinds,

@@ -14,7 +14,7 @@ pub(crate) struct SlowReader<'a> {
     pub bytes: &'a [u8],
     /// How many calls don't fail.
     pub calls: usize,
-    /// How the calls behind them fail.
+    /// How the calls after them fail.
     pub failure: ErrorKind,
 }
 

@@ -102,14 +102,15 @@ fn feed_in_turns(core: &mut Core<'_>, case: &Case) -> Result<(), AllocError>
     core.step(0, Input::End)
 }
 
-/// Hands over the first stream in two pieces, of which the second begins at this byte, with the second stream between them.
+/// Hands over the first stream in two pieces, of which the second begins at this byte, with the second stream between
+/// them.
 fn feed_cut(core: &mut Core<'_>, case: &Case, cut: usize) -> Result<(), AllocError>
     requires { length core.old ≡ 2 }
     ensures { length core.new ≡ 2 }
 {
     let first = case.first.as_bytes();
-    let (front, back) = first.split_at(cut.min(first.len()));
-    core.step(0, Input::Piece(front))?;
+    let (prefix, back) = first.split_at(cut.min(first.len()));
+    core.step(0, Input::Piece(prefix))?;
     core.step(1, Input::Piece(case.second.as_bytes()))?;
     core.step(0, Input::Piece(back))?;
     core.step(0, Input::End)?;

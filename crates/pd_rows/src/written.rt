@@ -4,7 +4,7 @@ use super::sessions::{Comparator, Comparison, Joint, Predicate, Process, Session
 use std::alloc::{AllocError, Global};
 use std::fmt::Write;
 
-/// The sign of a term, which is the first one or stands behind another.
+/// The sign of a term, which is the first one or stands after another.
 fn sign_of(factor: i64, first: bool) -> &'static str {
     if factor < 0 {
         "-"

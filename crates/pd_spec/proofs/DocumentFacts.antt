@@ -3,12 +3,13 @@ use Rattle.std.proofs.Common.{◌≡◌, ℕ, ◌<◌, ◌≤◌, List, Option, 
 use Rattle.std.specs.Prelude.{MatchOption}
 use Rattle.std.proofs.lemmas.Bool.{lt-ltb, le-ltb}
 use Rattle.serde_json.specs.Data.{Data}
-use Rattle.pd_format.specs.Documents.{Outline, Document, IsDocument, HasRefusedPredicate, outline_of, outline_fault, outline_of_bytes, outline_of_json, checked_outline, document_limit, names_of}
+use Rattle.pd_format.specs.Documents.{Outline, Document, IsDocument, HasRefusedPredicate, outline_of, outline_fault, outline_of_bytes, outline_of_json, checked_outline, names_of_outline}
+use Rattle.pd_format.specs.Limits.{document_byte_limit}
 use Rattle.pd_format.specs.Documents as faults
 use Rattle.pd_format.specs.Lists.{unless}
 use Rattle.pd_format.specs.PredicateTexts.{PredicateFault}
 use Rattle.pd_format.specs.Records.{json_value}
-use Rattle.pd_pred.specs.Views.{fault_of}
+use Rattle.pd_pred.specs.Views.{predicate_fault_view}
 use Rattle.pd_spec.specs.DocumentParts.{IsDocumentOf}
 use Rattle.pd_spec.specs.Faults.{IsMemoryOr, Tells}
 use Rattle.pd_spec.specs.Predicates.{IsFaultAmong, IsRefusedAmong}
@@ -16,61 +17,80 @@ use Rattle.pd_spec.specs.Views.{IsFaultOf}
 use Rattle.pd_spec.specs.declared.fault.SpecFault.{SpecFault}
 use Rattle.pd_spec.specs.declared.fault.SpecFault.TheVariants as kinds
 
-pub long_bytes : (bytes : List ℕ) → document_limit < length bytes → outline_of_bytes bytes ≡ Err faults.Long
+pub long_bytes : (bytes : List ℕ) → document_byte_limit < length bytes → outline_of_bytes bytes ≡ Err faults.Long
 unfolding outline_of_bytes
-long_bytes bytes long = rw (lt-ltb document_limit (length bytes) long) refl
+long_bytes bytes long = rw (lt-ltb document_byte_limit (length bytes) long) refl
 
-short_bytes : (bytes : List ℕ) → length bytes ≤ document_limit → outline_of_bytes bytes ≡ outline_of_json (json_value bytes)
+short_bytes : (bytes : List ℕ) → length bytes ≤ document_byte_limit
+    → outline_of_bytes bytes ≡ outline_of_json (json_value bytes)
 unfolding outline_of_bytes
-short_bytes bytes short = rw (le-ltb document_limit (length bytes) short) refl
+short_bytes bytes short = rw (le-ltb document_byte_limit (length bytes) short) refl
 
-no_json : (bytes : List ℕ) → length bytes ≤ document_limit → json_value bytes ≡ None → outline_of_bytes bytes ≡ Err faults.Json
+no_json : (bytes : List ℕ) → length bytes ≤ document_byte_limit → json_value bytes ≡ None
+    → outline_of_bytes bytes ≡ Err faults.Json
 no_json bytes short none = short_bytes bytes short ∙ ap outline_of_json none
 
-no_shape : (bytes : List ℕ) (value : Data) → length bytes ≤ document_limit → json_value bytes ≡ Some value → outline_of value ≡ None → outline_of_bytes bytes ≡ Err faults.Shape
+no_shape : (bytes : List ℕ) (value : Data) → length bytes ≤ document_byte_limit → json_value bytes ≡ Some value
+    → outline_of value ≡ None → outline_of_bytes bytes ≡ Err faults.Shape
 no_shape bytes value short is none = short_bytes bytes short ∙ (ap outline_of_json is ∙ ap checked_outline none)
 
-with_shape : (bytes : List ℕ) (value : Data) (outline : Outline) → length bytes ≤ document_limit → json_value bytes ≡ Some value → outline_of value ≡ Some outline
+with_shape : (bytes : List ℕ) (value : Data) (outline : Outline) → length bytes ≤ document_byte_limit
+    → json_value bytes ≡ Some value → outline_of value ≡ Some outline
     → outline_of_bytes bytes ≡ unless (outline_fault outline) outline
-with_shape bytes value outline short is shape = short_bytes bytes short ∙ (ap outline_of_json is ∙ ap checked_outline shape)
+with_shape bytes value outline short is shape =
+    short_bytes bytes short ∙ (ap outline_of_json is ∙ ap checked_outline shape)
 
-pub sound_bytes : (bytes : List ℕ) (value : Data) (outline : Outline) → length bytes ≤ document_limit → json_value bytes ≡ Some value → outline_of value ≡ Some outline → outline_fault outline ≡ None
+pub sound_bytes : (bytes : List ℕ) (value : Data) (outline : Outline) → length bytes ≤ document_byte_limit
+    → json_value bytes ≡ Some value → outline_of value ≡ Some outline → outline_fault outline ≡ None
     → outline_of_bytes bytes ≡ Ok outline
-sound_bytes bytes value outline short is shape none = with_shape bytes value outline short is shape ∙ ap (λ fault. unless fault outline) none
+sound_bytes bytes value outline short is shape none = with_shape bytes value outline short is shape
+    ∙ ap (λ fault. unless fault outline) none
 
-pub json_fault : (bytes : List ℕ) (fault : SpecFault) → length bytes ≤ document_limit → IsMemoryOr fault kinds.Json (json_value bytes ≡ None) → IsFaultOf bytes fault
+pub json_fault : (bytes : List ℕ) (fault : SpecFault) → length bytes ≤ document_byte_limit
+    → IsMemoryOr fault kinds.Json (json_value bytes ≡ None) → IsFaultOf bytes fault
 json_fault bytes fault short (inl memory) = rw memory tt
-json_fault bytes fault short (inr told) = rw told.0 (no_json bytes short told.1)
+json_fault bytes fault short (inr reported) = rw reported.0 (no_json bytes short reported.1)
 
-pub shape_fault : (bytes : List ℕ) (value : Data) (fault : SpecFault) → length bytes ≤ document_limit → json_value bytes ≡ Some value → IsMemoryOr fault kinds.Shape (outline_of value ≡ None) → IsFaultOf bytes fault
+pub shape_fault : (bytes : List ℕ) (value : Data) (fault : SpecFault) → length bytes ≤ document_byte_limit
+    → json_value bytes ≡ Some value → IsMemoryOr fault kinds.Shape (outline_of value ≡ None) → IsFaultOf bytes fault
 shape_fault bytes value fault short is (inl memory) = rw memory tt
-shape_fault bytes value fault short is (inr told) = rw told.0 (no_shape bytes value short is told.1)
+shape_fault bytes value fault short is (inr reported) = rw reported.0 (no_shape bytes value short is reported.1)
 
-refused_with : (bytes : List ℕ) (outline : Outline) (fault : faults.DocumentFault) → outline_of_bytes bytes ≡ unless (outline_fault outline) outline → outline_fault outline ≡ Some fault → outline_of_bytes bytes ≡ Err fault
-refused_with bytes outline fault e told = e ∙ ap (λ o. unless o outline) told
+refused_with : (bytes : List ℕ) (outline : Outline) (fault : faults.DocumentFault)
+    → outline_of_bytes bytes ≡ unless (outline_fault outline) outline → outline_fault outline ≡ Some fault
+    → outline_of_bytes bytes ≡ Err fault
+refused_with bytes outline fault e reported = e ∙ ap (λ o. unless o outline) reported
 
-tells_fault : (bytes : List ℕ) (outline : Outline) (fault : SpecFault) → outline_of_bytes bytes ≡ unless (outline_fault outline) outline → Tells fault (outline_fault outline) → IsFaultOf bytes fault
-tells_fault bytes outline kinds.Long e told = refused_with bytes outline faults.Long e told
-tells_fault bytes outline kinds.Json e told = refused_with bytes outline faults.Json e told
-tells_fault bytes outline kinds.Shape e told = refused_with bytes outline faults.Shape e told
-tells_fault bytes outline kinds.Processes e told = refused_with bytes outline faults.Processes e told
-tells_fault bytes outline kinds.Name e told = refused_with bytes outline faults.Name e told
-tells_fault bytes outline kinds.NameTwice e told = refused_with bytes outline faults.NameTwice e told
-tells_fault bytes outline kinds.Vars e told = refused_with bytes outline faults.Vars e told
-tells_fault bytes outline kinds.Predicates e told = refused_with bytes outline faults.Predicates e told
-tells_fault bytes outline kinds.Width e told = refused_with bytes outline faults.Width e told
-tells_fault bytes outline (kinds.Predicate number error) e told = cc
-tells_fault bytes outline kinds.Memory e told = tt
+tells_fault : (bytes : List ℕ) (outline : Outline) (fault : SpecFault)
+    → outline_of_bytes bytes ≡ unless (outline_fault outline) outline → Tells fault (outline_fault outline)
+    → IsFaultOf bytes fault
+tells_fault bytes outline kinds.Long e reported = refused_with bytes outline faults.Long e reported
+tells_fault bytes outline kinds.Json e reported = refused_with bytes outline faults.Json e reported
+tells_fault bytes outline kinds.Shape e reported = refused_with bytes outline faults.Shape e reported
+tells_fault bytes outline kinds.Processes e reported = refused_with bytes outline faults.Processes e reported
+tells_fault bytes outline kinds.Name e reported = refused_with bytes outline faults.Name e reported
+tells_fault bytes outline kinds.NameTwice e reported = refused_with bytes outline faults.NameTwice e reported
+tells_fault bytes outline kinds.Vars e reported = refused_with bytes outline faults.Vars e reported
+tells_fault bytes outline kinds.Predicates e reported = refused_with bytes outline faults.Predicates e reported
+tells_fault bytes outline kinds.Width e reported = refused_with bytes outline faults.Width e reported
+tells_fault bytes outline (kinds.Predicate number error) e reported = cc
+tells_fault bytes outline kinds.Memory e reported = tt
 
-pub outline_fault_told : (bytes : List ℕ) (value : Data) (outline : Outline) (fault : SpecFault) → length bytes ≤ document_limit → json_value bytes ≡ Some value → outline_of value ≡ Some outline
+pub outline_fault_reported : (bytes : List ℕ) (value : Data) (outline : Outline) (fault : SpecFault)
+    → length bytes ≤ document_byte_limit → json_value bytes ≡ Some value → outline_of value ≡ Some outline
     → Tells fault (outline_fault outline) → IsFaultOf bytes fault
-outline_fault_told bytes value outline fault short is shape told = tells_fault bytes outline fault (with_shape bytes value outline short is shape) told
+outline_fault_reported bytes value outline fault short is shape reported =
+    tells_fault bytes outline fault (with_shape bytes value outline short is shape) reported
 
-pub predicate_fault : (bytes : List ℕ) (outline : Outline) (fault : SpecFault) → outline_of_bytes bytes ≡ Ok outline → IsFaultAmong (names_of outline) outline.predicates fault → IsFaultOf bytes fault
-predicate_fault bytes outline kinds.Memory sound told = tt
-predicate_fault bytes outline (kinds.Predicate number error) sound told = go (fault_of error.kind) told
+pub predicate_fault : (bytes : List ℕ) (outline : Outline) (fault : SpecFault) → outline_of_bytes bytes ≡ Ok outline
+    → IsFaultAmong (names_of_outline outline) outline.predicates fault → IsFaultOf bytes fault
+predicate_fault bytes outline kinds.Memory sound reported = tt
+predicate_fault bytes outline (kinds.Predicate number error) sound reported =
+    go (predicate_fault_view error.kind) reported
   where
-    go : (o : Option PredicateFault) → MatchOption o ⊥ (λ fault. IsRefusedAmong (names_of outline) outline.predicates number fault error.at) → MatchOption o ⊥ (λ fault. HasRefusedPredicate bytes number fault error.at)
+    go : (o : Option PredicateFault) → MatchOption o ⊥ (λ fault.
+        IsRefusedAmong (names_of_outline outline) outline.predicates number fault error.at)
+        → MatchOption o ⊥ (λ fault. HasRefusedPredicate bytes number fault error.at)
     go None h = h
     go (Some fault) h =
         record {
@@ -84,8 +104,17 @@ predicate_fault bytes outline (kinds.Predicate number error) sound told = go (fa
           stands = h.stands;
           none_before = h.none_before;
         }
-predicate_fault bytes outline _ sound told = absurd told
+predicate_fault bytes outline _ sound reported = absurd reported
 
-pub document_of_bytes : (bytes : List ℕ) (outline : Outline) (document : Document) → outline_of_bytes bytes ≡ Ok outline → IsDocumentOf outline document → IsDocument bytes document
+pub document_of_bytes : (bytes : List ℕ) (outline : Outline) (document : Document) → outline_of_bytes bytes ≡ Ok outline
+    → IsDocumentOf outline document → IsDocument bytes document
 document_of_bytes bytes outline document sound is =
-    record { outline = outline; sound = sound; names = is.names; initial = is.initial; width = is.width; predicates = is.predicates }
+    record {
+      outline = outline;
+      sound = sound;
+      names = is.names;
+      initial = is.initial;
+      width = is.width;
+      predicates =
+          is.predicates;
+    }

@@ -15,24 +15,32 @@ pub onto_nothing : {A : Type 0} (rest : Option (List A)) → onto [] rest ≡ re
 onto_nothing None = refl
 onto_nothing (Some others) = refl
 
-onto_more : {A : Type 0} (done : List A) (x : A) (rest : Option (List A)) → onto done (option_map (λ others. x ∷ others) rest) ≡ onto (done ++ x ∷ []) rest
+onto_more : {A : Type 0} (done : List A) (x : A) (rest : Option (List A))
+    → onto done (option_map (λ others. x ∷ others) rest) ≡ onto (done ++ x ∷ []) rest
 onto_more done x None = refl
 onto_more done x (Some others) = ap Some (sym (append_assoc done (x ∷ []) others))
 
-from_here : (items : List Value) (i : ℕ) (value : Value) → i < length items → value ≡ get_or items i value → drop i items ≡ value ∷ drop (i + 1) items
+from_here : (items : List Value) (i : ℕ) (value : Value) → i < length items → value ≡ get_or items i value
+    → drop i items ≡ value ∷ drop (i + 1) items
 from_here items i value h e = rw (add-one, drop-cons items i value) (ap (λ first. first ∷ drop (suc i) items) (sym e))
 
 -- one item more
-pub each_more : {A B : Type 0} (f : Data → Option A) (seen : B → A) (items : List Value) (i : ℕ) (value : Value) (done new : List B) (made : B) → i < length items → value ≡ get_or items i value
-    → Some (seen made) ≡ f (view value) → new ≡ done ++ made ∷ [] → onto (map seen done) (each f (items_view (drop i items))) ≡ onto (map seen new) (each f (items_view (drop (i + 1) items)))
+pub each_more : {A B : Type 0} (f : Data → Option A) (seen : B → A) (items : List Value) (i : ℕ) (value : Value)
+    (done new : List B) (made : B) → i < length items → value ≡ get_or items i value
+    → Some (seen made) ≡ f (view value) → new ≡ done ++ made ∷ []
+    → onto (map seen done) (each f (items_view (drop i items)))
+    ≡ onto (map seen new) (each f (items_view (drop (i + 1) items)))
 each_more f seen items i value done new made h at e pushed =
-    rw (from_here items i value h at, ← e, pushed, map-append) (onto_more (map seen done) (seen made) (each f (items_view (drop (i + 1) items))))
+    rw (from_here items i value h at, ← e, pushed, map-append)
+    (onto_more (map seen done) (seen made) (each f (items_view (drop (i + 1) items))))
 
 -- an item of which nothing is made
-pub each_none : {A : Type 0} (f : Data → Option A) (items : List Value) (i : ℕ) (value : Value) (done : List A) → i < length items → value ≡ get_or items i value → None ≡ f (view value)
+pub each_none : {A : Type 0} (f : Data → Option A) (items : List Value) (i : ℕ) (value : Value) (done : List A)
+    → i < length items → value ≡ get_or items i value → None ≡ f (view value)
     → onto done (each f (items_view (drop i items))) ≡ None
 each_none f items i value done h at e = rw (from_here items i value h at, ← e) refl
 
 -- no item is left
-pub each_all : {A : Type 0} (f : Data → Option A) (items : List Value) (i : ℕ) (done : List A) → length items ≤ i → onto done (each f (items_view (drop i items))) ≡ Some done
+pub each_all : {A : Type 0} (f : Data → Option A) (items : List Value) (i : ℕ) (done : List A) → length items ≤ i
+    → onto done (each f (items_view (drop i items))) ≡ Some done
 each_all f items i done h = rw (drop_all i items h, append-nil) refl

@@ -5,7 +5,7 @@ use Rattle.std.specs.List.{list_all, AllZip}
 use Rattle.std.proofs.lemmas.Bool.{leb-true}
 use Rattle.std.proofs.lemmas.List.{length-map}
 use Rattle.serde_json.specs.Data.{Data, Members, no_members, member}
-use Rattle.pd_format.specs.Documents.{Outline, DocumentFault, IsNamedPredicate, outline_fault, is_within, has_twice, process_names, predicate_names, vars_fit, width_fits, is_width, natural, names_of, initial_of, width_of}
+use Rattle.pd_format.specs.Documents.{Outline, DocumentFault, IsNamedPredicate, outline_fault, is_within, has_twice, process_names, predicate_names, vars_fit, width_fits, is_width, natural, names_of_outline, initial_of, width_of}
 use Rattle.pd_format.specs.Names.{ProcessNames, is_name}
 use Rattle.pd_format.specs.Records.{keys, values, whole_number}
 use Rattle.pd_spec.specs.Named.{named_of}
@@ -26,7 +26,8 @@ both_false true b e = absurd (true≢false e)
 both_false false b e = (refl, e)
 
 -- the first of two faults applies no more than the others
-none_applies : (b : Bool) (fault : DocumentFault) (rest : Option DocumentFault) → (if b then Some fault else rest) ≡ None → (b ≡ false) × (rest ≡ None)
+none_applies : (b : Bool) (fault : DocumentFault) (rest : Option DocumentFault) → (if b then Some fault else rest)
+    ≡ None → (b ≡ false) × (rest ≡ None)
 none_applies true fault rest e = cc
 none_applies false fault rest e = (refl, e)
 
@@ -61,29 +62,42 @@ pub processes_once : (outline : Outline) → outline_fault outline ≡ None → 
 processes_once outline e = (both_false _ _ (faultless outline e).once).0
 
 within : (low high n : ℕ) → is_within low high n ≡ true → (low ≤ n) × (n ≤ high)
-within low high n e = let parts = both_true (nat_le low n) (nat_le n high) e in (leb-true low n parts.0, leb-true n high parts.1)
+within low high n e = let parts = both_true (nat_le low n) (nat_le n high) e in
+    (leb-true low n parts.0, leb-true n high parts.1)
 
-few_vars : (processes : List (List ℕ × Members)) → list_all vars_fit processes ≡ true → list_all (λ (process : ProcessNames). nat_le (length process.vars) 16) (map entry_in processes) ≡ true
+few_vars : (processes : List (List ℕ × Members)) → list_all vars_fit processes ≡ true
+    → list_all (λ (process : ProcessNames). nat_le (length process.vars) 16) (map entry_in processes) ≡ true
 few_vars [] e = refl
 few_vars (process ∷ processes) e =
     let parts = both_true (vars_fit process) (list_all vars_fit processes) e in
-    let few = both_true (nat_le (length (keys process.1)) 16) (list_all (λ value. is_some (whole_number value)) (values process.1)) parts.0 in
+    let few =
+    both_true (nat_le (length (keys process.1)) 16)
+    (list_all (λ value. is_some (whole_number value)) (values process.1)) parts.0 in
     rw (few.0, few_vars processes parts.1) refl
 
 as_many : (members : Members) → length (values members) ≡ length (keys members)
 as_many no_members = refl
 as_many (member key value others) = ap (λ n. suc n) (as_many others)
 
-same_lengths : (processes : List (List ℕ × Members)) → lengths (map row_in processes) ≡ lengths (vars_of_each (map entry_in processes))
+same_lengths : (processes : List (List ℕ × Members))
+    → lengths (map row_in processes) ≡ lengths (vars_of_each (map entry_in processes))
 same_lengths [] = refl
-same_lengths (process ∷ processes) = rw (length-map (values process.1) (λ value. unwrap_or (whole_number value) (pos 0)), as_many process.1, same_lengths processes) refl
+same_lengths (process ∷ processes) =
+    rw (
+      length-map (values process.1) (λ value. unwrap_or (whole_number value) (pos 0)),
+      as_many process.1,
+      same_lengths processes,
+    ) refl
 
-named_processes : (processes : List (List ℕ × Members)) → list_all is_name (map (λ (process : List ℕ × Members). process.0) processes) ≡ list_all (λ (process : ProcessNames). is_name process.name) (map entry_in processes)
+named_processes : (processes : List (List ℕ × Members))
+    → list_all is_name (map (λ (process : List ℕ × Members). process.0) processes)
+    ≡ list_all (λ (process : ProcessNames). is_name process.name) (map entry_in processes)
 named_processes [] = refl
 named_processes (process ∷ processes) = ap (λ b. is_name process.0 && b) (named_processes processes)
 
 named_vars : (processes : List (List ℕ × Members))
-    → list_all (λ (process : List ℕ × Members). list_all is_name (keys process.1)) processes ≡ list_all (λ (process : ProcessNames). list_all is_name process.vars) (map entry_in processes)
+    → list_all (λ (process : List ℕ × Members). list_all is_name (keys process.1)) processes
+    ≡ list_all (λ (process : ProcessNames). list_all is_name process.vars) (map entry_in processes)
 named_vars [] = refl
 named_vars (process ∷ processes) = ap (λ b. list_all is_name (keys process.1) && b) (named_vars processes)
 
@@ -91,13 +105,15 @@ width_within : (width : Option Data) → width_fits width ≡ true → (1 ≤ wi
 width_within None e = (omega arith, omega arith)
 width_within (Some value) e = go (whole_number value) e
   where
-    go : (whole : Option ℤ) → unwrap_or (option_map is_width whole) false ≡ true → (1 ≤ unwrap_or (option_map natural whole) 4096) × (unwrap_or (option_map natural whole) 4096 ≤ 65536)
+    go : (whole : Option ℤ) → unwrap_or (option_map is_width whole) false ≡ true
+        → (1 ≤ unwrap_or (option_map natural whole) 4096) × (unwrap_or (option_map natural whole) 4096 ≤ 65536)
     go None fits = absurd (true≢false (sym fits))
     go (Some (pos n)) fits = within 1 65536 n fits
     go (Some (negsuc n)) fits = absurd (true≢false (sym fits))
 
 -- the parts of its document are sound
-pub sound_of : (outline : Outline) → outline_fault outline ≡ None → IsSound (names_of outline) (initial_of outline) (predicate_names outline) (width_of outline.width)
+pub sound_of : (outline : Outline) → outline_fault outline ≡ None
+    → IsSound (names_of_outline outline) (initial_of outline) (predicate_names outline) (width_of outline.width)
 sound_of outline e =
     let clear = faultless outline e in
     let processes = within 1 8 (length outline.processes) clear.processes in
@@ -120,8 +136,10 @@ sound_of outline e =
     }
 
 -- the parsed predicates have the names that are written
-pub parsed_names : (names : List ProcessNames) (written : List (List ℕ × List ℕ)) (parsed : List NamedPred) → AllZip (IsNamedPredicate names) written (map named_of parsed)
-    → map (λ (predicate : NamedPred). string_bytes predicate.name) parsed ≡ map (λ (predicate : List ℕ × List ℕ). predicate.0) written
+pub parsed_names : (names : List ProcessNames) (written : List (List ℕ × List ℕ)) (parsed : List NamedPred)
+    → AllZip (IsNamedPredicate names) written (map named_of parsed)
+    → map (λ (predicate : NamedPred). string_bytes predicate.name) parsed
+    ≡ map (λ (predicate : List ℕ × List ℕ). predicate.0) written
 parsed_names names [] [] all = refl
 parsed_names names [] (predicate ∷ parsed) all = absurd all
 parsed_names names (one ∷ written) [] all = absurd all

@@ -7,7 +7,8 @@ use Rattle.serde_json.specs.Data.{Data}
 use Rattle.serde_json.specs.Read.{read}
 use Rattle.pd_format.specs.Records.{json_value}
 
-pub json_value-some : (bytes : List ℕ) (value : Data) → IsUtf8 bytes → read bytes ≡ Some value → json_value bytes ≡ Some value
+pub json_value-some : (bytes : List ℕ) (value : Data) → IsUtf8 bytes → read bytes ≡ Some value
+    → json_value bytes ≡ Some value
 json_value-some bytes value utf8 e = rw (is_utf8-from_IsUtf8 bytes utf8) e
 
 pub json_value-none : (bytes : List ℕ) → (IsUtf8 bytes → read bytes ≡ None) → json_value bytes ≡ None

@@ -6,24 +6,24 @@ use Rattle.pd_spec.specs.declared.fault.SpecFault.TheVariants as kinds
 use Rattle.pd_spec.specs.declared.fault.SpecFault.{SpecFault}
 use Rattle.pd_spec.specs.declared.fault.SpecFault.TheVariants.{Memory}
 
--- the fault is want of memory, or it is this one and the fact holds
+-- the fault is out of memory, or it is this one and the fact holds
 abbrev pub IsMemoryOr : SpecFault → SpecFault → Type 0 → Type 0
 IsMemoryOr fault other P = (fault ≡ Memory) ⊎ ((fault ≡ other) × P)
 
 -- the fault that a fault of the program tells, but for those in predicates
-abbrev pub told_by : SpecFault → Option DocumentFault
-told_by kinds.Long = Some faults.Long
-told_by kinds.Json = Some faults.Json
-told_by kinds.Shape = Some faults.Shape
-told_by kinds.Processes = Some faults.Processes
-told_by kinds.Name = Some faults.Name
-told_by kinds.NameTwice = Some faults.NameTwice
-told_by kinds.Vars = Some faults.Vars
-told_by kinds.Predicates = Some faults.Predicates
-told_by kinds.Width = Some faults.Width
-told_by (kinds.Predicate number error) = None
-told_by kinds.Memory = None
+abbrev pub reported_by : SpecFault → Option DocumentFault
+reported_by kinds.Long = Some faults.Long
+reported_by kinds.Json = Some faults.Json
+reported_by kinds.Shape = Some faults.Shape
+reported_by kinds.Processes = Some faults.Processes
+reported_by kinds.Name = Some faults.Name
+reported_by kinds.NameTwice = Some faults.NameTwice
+reported_by kinds.Vars = Some faults.Vars
+reported_by kinds.Predicates = Some faults.Predicates
+reported_by kinds.Width = Some faults.Width
+reported_by (kinds.Predicate number error) = None
+reported_by kinds.Memory = None
 
 -- the fault tells what the answer is, or that memory ran out
 abbrev pub Tells : SpecFault → Option DocumentFault → Type 0
-Tells fault answer = MatchOption (told_by fault) (fault ≡ Memory) (λ told. answer ≡ Some told)
+Tells fault answer = MatchOption (reported_by fault) (fault ≡ Memory) (λ reported. answer ≡ Some reported)

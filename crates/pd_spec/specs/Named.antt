@@ -1,8 +1,8 @@
 -- What a predicate with its name stands for.
 use Rattle.std.specs.Prelude.{string_bytes}
 use Rattle.pd_format.specs.Documents.{NamedPredicate}
-use Rattle.pd_pred.specs.Views.{predicate_of}
+use Rattle.pd_pred.specs.Views.{predicate_view}
 use Rattle.pd_spec.specs.declared.named.NamedPred.{NamedPred}
 
 abbrev pub named_of : NamedPred → NamedPredicate
-named_of predicate = record { name = string_bytes predicate.name; predicate = predicate_of predicate.pred }
+named_of predicate = record { name = string_bytes predicate.name; predicate = predicate_view predicate.pred }

@@ -19,19 +19,26 @@ process_in = named_object (codes "vars") as_object
 abbrev pub predicate_in : Data → Option (List ℕ × List ℕ)
 predicate_in = named_object (codes "text") as_str
 
-abbrev pub process_seen : ProcessOutline → List ℕ × Members
-process_seen process = (process.name.now, members_view process.vars.now.entries)
+abbrev pub process_view : ProcessOutline → List ℕ × Members
+process_view process = (process.name.now, members_view process.vars.now.entries)
 
-abbrev pub predicate_seen : PredicateOutline → List ℕ × List ℕ
-predicate_seen predicate = (predicate.name.now, predicate.text.now)
+abbrev pub predicate_outline_view : PredicateOutline → List ℕ × List ℕ
+predicate_outline_view predicate = (predicate.name.now, predicate.text.now)
 
-abbrev pub outline_seen : Parts → Outline
-outline_seen outline = record { processes = map process_seen outline.processes.items; predicates = map predicate_seen outline.predicates.items; width = option_map (λ value. view value.now) outline.width }
+abbrev pub outline_view : Parts → Outline
+outline_view outline = record {
+  processes = map process_view outline.processes.items;
+  predicates =
+      map predicate_outline_view outline.predicates.items;
+  width = option_map (λ value. view value.now) outline.width;
+}
 
 -- each process, each variable and each predicate has a name that is one
 abbrev pub has_names : Outline → Bool
 has_names outline =
-    list_all is_name (process_names outline) && list_all (λ (process : List ℕ × Members). list_all is_name (keys process.1)) outline.processes && list_all is_name (predicate_names outline)
+    list_all is_name (process_names outline)
+    && list_all (λ (process : List ℕ × Members). list_all is_name (keys process.1)) outline.processes
+    && list_all is_name (predicate_names outline)
 
 -- ---- the names and the initial values
 

@@ -3,15 +3,17 @@ use Rattle.std.specs.Prelude.{◌≡◌, ℕ, ◌+◌, List, ◌∷◌, ◌++◌
 use Rattle.std.specs.List.{AllByRecursion}
 use Rattle.pd_model.specs.Predicates.{Predicate}
 use Rattle.pd_format.specs.Names.{ProcessNames}
-use Rattle.pd_format.specs.PredicateTexts.{PredicateFault, IsPredicate, IsRefused}
-use Rattle.pd_pred.specs.Views.{fault_of}
+use Rattle.pd_format.specs.PredicateTexts.{PredicateFault, IsPredicate, IsRefusedPredicate}
+use Rattle.pd_pred.specs.Views.{predicate_fault_view}
 use Rattle.pd_spec.specs.declared.fault.SpecFault.{SpecFault}
 use Rattle.pd_spec.specs.declared.fault.SpecFault.TheVariants as kinds
 
 -- the fault tells why this predicate's text is refused, or that memory ran out
 abbrev pub IsFaultIn : List ProcessNames → List ℕ × List ℕ → ℕ → SpecFault → Type 0
 IsFaultIn names written number kinds.Memory = Unit {0}
-IsFaultIn names written number (kinds.Predicate k error) = (k ≡ number) × MatchOption (fault_of error.kind) ⊥ (λ fault. IsRefused names written.1 fault error.at)
+IsFaultIn names written number (kinds.Predicate k error) =
+    (k ≡ number) × MatchOption (predicate_fault_view error.kind) ⊥ (λ fault.
+    IsRefusedPredicate names written.1 fault error.at)
 IsFaultIn names written number _ = ⊥
 
 -- the text is a predicate
@@ -19,17 +21,19 @@ abbrev pub IsSomePredicate : List ProcessNames → List ℕ × List ℕ → Type
 IsSomePredicate names written = (predicate : Predicate) × IsPredicate names written.1 predicate
 
 -- the predicate of this number is refused, and those before it aren't
-pub record IsRefusedAmong (names : List ProcessNames) (written : List (List ℕ × List ℕ)) (number : ℕ) (fault : PredicateFault) (at : ℕ) : Type 0 where
+pub record IsRefusedAmong (names : List ProcessNames) (written : List (List ℕ × List ℕ)) (number : ℕ)
+    (fault : PredicateFault) (at : ℕ) : Type 0 where
   pub before : List (List ℕ × List ℕ)
   pub refused : List ℕ × List ℕ
   pub after : List (List ℕ × List ℕ)
   pub parts : written ≡ before ++ refused ∷ after
   pub place : number ≡ length before + 1
-  pub stands : IsRefused names refused.1 fault at
+  pub stands : IsRefusedPredicate names refused.1 fault at
   pub none_before : AllByRecursion (IsSomePredicate names) before
 
 -- the fault tells the first predicate that is refused, or that memory ran out
 abbrev pub IsFaultAmong : List ProcessNames → List (List ℕ × List ℕ) → SpecFault → Type 0
 IsFaultAmong names written kinds.Memory = Unit {0}
-IsFaultAmong names written (kinds.Predicate number error) = MatchOption (fault_of error.kind) ⊥ (λ fault. IsRefusedAmong names written number fault error.at)
+IsFaultAmong names written (kinds.Predicate number error) =
+    MatchOption (predicate_fault_view error.kind) ⊥ (λ fault. IsRefusedAmong names written number fault error.at)
 IsFaultAmong names written _ = ⊥

@@ -11,8 +11,10 @@ lengths rows = map (λ row. length row) rows
 abbrev pub vars_of_each : List ProcessNames → List (List (List ℕ))
 vars_of_each names = map (λ (process : ProcessNames). process.vars) names
 
--- The processes and their variables, the rows of initial values, the predicates' names and the width are those of a document.
-pub record IsSound (names : List ProcessNames) (initial : List (List ℤ)) (predicates : List (List ℕ)) (width : ℕ) : Type 0 where
+-- The processes and their variables, the rows of initial values, the predicates' names and the width are those of a
+-- document.
+pub record IsSound (names : List ProcessNames) (initial : List (List ℤ)) (predicates : List (List ℕ)) (width : ℕ) :
+    Type 0 where
   pub some_process : 1 ≤ length names
   pub few_processes : length names ≤ 8
   pub few_vars : IsTrue (list_all (λ (process : ProcessNames). nat_le (length process.vars) 16) names)

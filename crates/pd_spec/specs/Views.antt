@@ -2,14 +2,20 @@
 use Rattle.std.specs.Prelude.{ℕ, List, map, MatchOption}
 use Rattle.pd_format.specs.Documents.{Document, IsRefusedDocument}
 use Rattle.pd_format.specs.Documents as faults
-use Rattle.pd_pred.specs.Views.{fault_of}
+use Rattle.pd_pred.specs.Views.{predicate_fault_view}
 use Rattle.pd_spec.specs.declared.fault.SpecFault.{SpecFault}
 use Rattle.pd_spec.specs.declared.fault.SpecFault.TheVariants as kinds
 use Rattle.pd_spec.specs.declared.spec.Spec.{Spec}
 use Rattle.pd_spec.specs.Named.{named_of}
 
-abbrev pub document_of : Spec → Document
-document_of spec = record { names = spec.names; initial = map (λ row. row.items) spec.initial.items; predicates = map named_of spec.predicates.items; width = spec.width }
+abbrev pub document_view : Spec → Document
+document_view spec = record {
+  names = spec.names;
+  initial = map (λ row. row.items) spec.initial.items;
+  predicates =
+      map named_of spec.predicates.items;
+  width = spec.width;
+}
 
 -- the fault tells why the bytes are refused, or that memory ran out
 abbrev pub IsFaultOf : List ℕ → SpecFault → Type 0
@@ -22,5 +28,7 @@ IsFaultOf bytes kinds.NameTwice = IsRefusedDocument bytes faults.NameTwice
 IsFaultOf bytes kinds.Vars = IsRefusedDocument bytes faults.Vars
 IsFaultOf bytes kinds.Predicates = IsRefusedDocument bytes faults.Predicates
 IsFaultOf bytes kinds.Width = IsRefusedDocument bytes faults.Width
-IsFaultOf bytes (kinds.Predicate number error) = MatchOption (fault_of error.kind) ⊥ (λ fault. IsRefusedDocument bytes (faults.InPredicate number fault error.at))
+IsFaultOf bytes (kinds.Predicate number error) =
+    MatchOption (predicate_fault_view error.kind) ⊥ (λ fault.
+    IsRefusedDocument bytes (faults.InPredicate number fault error.at))
 IsFaultOf bytes kinds.Memory = Unit {0}

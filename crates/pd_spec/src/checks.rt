@@ -8,7 +8,7 @@ ghost use Rattle.pd_format.specs.Documents.{has_twice, is_within, outline_fault,
 ghost use Rattle.pd_format.specs.Names.{is_name};
 ghost use Rattle.pd_format.specs.Records.{whole_number};
 ghost use Rattle.pd_spec.specs.Faults.{Tells};
-ghost use Rattle.pd_spec.specs.Outlines.{process_seen, predicate_seen, outline_seen, has_names};
+ghost use Rattle.pd_spec.specs.Outlines.{process_view, predicate_outline_view, outline_view, has_names};
 
 use super::SpecFault;
 use super::name::is_name;
@@ -51,14 +51,15 @@ fn predicate_names<'a>(
 }
 
 fn processes_have_twice(alloc: Global, processes: &[ProcessOutline]) -> Result<bool, AllocError>
-    ensures { IfOk result (λ twice. twice ≡ has_twice (map (λ process. process.0) (map process_seen processes.now))) }
+    ensures { IfOk result (λ twice. twice ≡ has_twice (map (λ process. process.0) (map process_view processes.now))) }
 {
     let names = process_names(alloc, processes)?;
     has_twice(alloc, &names)
 }
 
 fn predicates_have_twice(alloc: Global, predicates: &[PredicateOutline]) -> Result<bool, AllocError>
-    ensures { IfOk result (λ twice. twice ≡ has_twice (map (λ predicate. predicate.0) (map predicate_seen predicates.now))) }
+    ensures { IfOk result (λ twice. twice
+        ≡ has_twice (map (λ predicate. predicate.0) (map predicate_outline_view predicates.now))) }
 {
     let names = predicate_names(alloc, predicates)?;
     has_twice(alloc, &names)
@@ -77,7 +78,8 @@ fn processes_are_named(processes: &[ProcessOutline]) -> bool
 }
 
 fn vars_are_named(processes: &[ProcessOutline]) -> bool
-    ensures { result ≡ list_all (λ process. list_all (λ key. is_name (string_bytes key)) (keys process.vars.now)) processes.now }
+    ensures { result ≡ list_all (λ process. list_all (λ key. is_name (string_bytes key)) (keys process.vars.now))
+        processes.now }
 {
     processes.iter().all(|process| are_var_names(process.vars))
 }
@@ -95,13 +97,13 @@ fn are_whole_numbers(vars: &Map<String, Value>) -> bool
 }
 
 fn vars_fit(process: &ProcessOutline) -> bool
-    ensures { result ≡ vars_fit (process_seen process.now) }
+    ensures { result ≡ vars_fit (process_view process.now) }
 {
     process.vars.len() <= VAR_LIMIT && are_whole_numbers(process.vars)
 }
 
 fn all_vars_fit(processes: &[ProcessOutline]) -> bool
-    ensures { result ≡ list_all (λ process. vars_fit (process_seen process)) processes.now }
+    ensures { result ≡ list_all (λ process. vars_fit (process_view process)) processes.now }
 {
     processes.iter().all(|process| vars_fit(process))
 }
@@ -120,13 +122,13 @@ fn width_fits(width: Option<&Value>) -> bool
 
 impl Outline<'_> {
     fn processes_fit(&self) -> bool
-        ensures { result ≡ is_within 1 8 (length (outline_seen self.now).processes) }
+        ensures { result ≡ is_within 1 8 (length (outline_view self.now).processes) }
     {
         1 <= self.processes.len() && self.processes.len() <= PROCESS_LIMIT
     }
 
     fn is_named(&self) -> bool
-        ensures { result ≡ has_names (outline_seen self.now) }
+        ensures { result ≡ has_names (outline_view self.now) }
     {
         processes_are_named(&self.processes)
             && vars_are_named(&self.processes)
@@ -134,7 +136,9 @@ impl Outline<'_> {
     }
 
     fn has_name_twice(&self, alloc: Global) -> Result<bool, AllocError>
-        ensures { IfOk result (λ twice. twice ≡ (has_twice (process_names (outline_seen self.now)) || has_twice (predicate_names (outline_seen self.now)))) }
+        ensures { IfOk result (λ twice. twice
+            ≡ (has_twice (process_names (outline_view self.now))
+            || has_twice (predicate_names (outline_view self.now)))) }
     {
         if processes_have_twice(alloc, &self.processes)? {
             return Ok(true);
@@ -143,13 +147,13 @@ impl Outline<'_> {
     }
 
     fn vars_fit(&self) -> bool
-        ensures { result ≡ list_all vars_fit (outline_seen self.now).processes }
+        ensures { result ≡ list_all vars_fit (outline_view self.now).processes }
     {
         all_vars_fit(&self.processes)
     }
 
     fn predicates_fit(&self) -> bool
-        ensures { result ≡ is_within 1 16 (length (outline_seen self.now).predicates) }
+        ensures { result ≡ is_within 1 16 (length (outline_view self.now).predicates) }
     {
         1 <= self.predicates.len() && self.predicates.len() <= PREDICATE_LIMIT
     }
@@ -157,10 +161,10 @@ impl Outline<'_> {
     /// Whether the outline has no fault.
     ///
     /// # Errors
-    /// The first fault of the outline, or want of memory.
+    /// The first fault of the outline, or out of memory.
     pub(crate) fn check(&self, alloc: Global) -> Result<(), SpecFault>
-        ensures ok { OnOk result (outline_fault (outline_seen self.now) ≡ None) }
-        ensures err { IfErr result (λ fault. Tells fault (outline_fault (outline_seen self.now))) }
+        ensures ok { OnOk result (outline_fault (outline_view self.now) ≡ None) }
+        ensures err { IfErr result (λ fault. Tells fault (outline_fault (outline_view self.now))) }
     {
         if !self.processes_fit() {
             return Err(SpecFault::Processes);

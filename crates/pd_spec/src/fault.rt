@@ -23,7 +23,7 @@ pub enum SpecFault {
     Predicates,
     /// A width that is no whole number from 1 to 65,536.
     Width,
-    /// The text of this predicate, counted from 1, is refused with this error. The error is never want of memory.
+    /// The text of this predicate, counted from 1, is refused with this error. The error is never out of memory.
     Predicate(u64, PredError),
     /// Memory ran out.
     Memory,

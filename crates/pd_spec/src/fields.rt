@@ -17,7 +17,8 @@ fn is_one_of(texts: &[&str], text: &str) -> bool
 }
 
 fn keys_are_among(names: &[&str], fields: &Map<String, Value>) -> bool
-    ensures { result ≡ list_all (λ key. list_any (λ other. bytes_eq (string_bytes key) other.now) names.now) (keys fields.now) }
+    ensures { result ≡ list_all (λ key. list_any (λ other. bytes_eq (string_bytes key) other.now) names.now)
+        (keys fields.now) }
 {
     fields.keys().all(|key| is_one_of(names, key.as_str()))
 }
@@ -48,14 +49,16 @@ pub(crate) fn object_at<'a>(
     fields: &'a Map<String, Value>,
     name: &str,
 ) -> Option<&'a Map<String, Value>>
-    ensures { option_map (λ object. members_view object.now.entries) result ≡ field name.now as_object (members_view fields.now.entries) }
+    ensures { option_map (λ object. members_view object.now.entries) result
+        ≡ field name.now as_object (members_view fields.now.entries) }
 {
     value_at(fields, name)?.as_object()
 }
 
 /// The array that stands at this field, if one does.
 pub(crate) fn array_at<'a>(fields: &'a Map<String, Value>, name: &str) -> Option<&'a Vec<Value>>
-    ensures { option_map (λ array. items_view array.now.items) result ≡ field name.now as_array (members_view fields.now.entries) }
+    ensures { option_map (λ array. items_view array.now.items) result
+        ≡ field name.now as_array (members_view fields.now.entries) }
 {
     value_at(fields, name)?.as_array()
 }

@@ -7,10 +7,11 @@ use super::SpecFault;
 use serde_json::{Category, Value};
 use std::alloc::Global;
 
-/// The value that the bytes are in JSON. Bytes that are none are told as `Json`.
+/// The value that the bytes are in JSON. Bytes that are none are reported as `Json`.
 pub(crate) fn value_of(alloc: Global, bytes: &[u8]) -> Result<Value, SpecFault>
     ensures ok { IfOk result (λ value. json_value bytes.now ≡ Some (view value)) }
-    ensures err { IfErr result (λ fault. (fault ≡ SpecFault.Memory) ⊎ ((fault ≡ SpecFault.Json) × (json_value bytes.now ≡ None))) }
+    ensures err { IfErr result (λ fault. (fault ≡ SpecFault.Memory)
+        ⊎ ((fault ≡ SpecFault.Json) × (json_value bytes.now ≡ None))) }
 {
     match Value::from_slice(alloc, bytes) {
         Ok(value) => Ok(value),

@@ -1,8 +1,8 @@
-//! The session document: a JSON object with the fields `processes`, `predicates` and, if it is there, `width`. A process
-//! has a `name`, and in `vars` its variables with their initial values; a predicate has a `name` and a `text`.
+//! The session document: a JSON object with the fields `processes`, `predicates` and, if it is there, `width`. A
+//! process has a `name`, and in `vars` its variables with their initial values; a predicate has a `name` and a `text`.
 //!
 //! `Spec::read` answers `Ok` exactly with the document that the bytes are, and otherwise with the first fault that
-//! applies. Only want of memory is told without a claim about the bytes. A `Spec` keeps the bounds of its parts as a
+//! applies. Only out of memory is reported without a claim about the bytes. A `Spec` keeps the bounds of its parts as a
 //! ghost field, on which callers rely.
 //!
 //! - `spec`: the document, and its reader

@@ -3,7 +3,7 @@ ghost use Rattle.std.specs.Prelude.{◌≡◌, IfOk, IfErr, Some, None, map, opt
 ghost use Rattle.serde_json.specs.View.{view, items_view};
 ghost use Rattle.pd_format.specs.Documents.{each, outline_of};
 ghost use Rattle.pd_spec.specs.Faults.{IsMemoryOr};
-ghost use Rattle.pd_spec.specs.Outlines.{process_in, predicate_in, process_seen, predicate_seen, outline_seen};
+ghost use Rattle.pd_spec.specs.Outlines.{process_in, predicate_in, process_view, predicate_outline_view, outline_view};
 
 use super::SpecFault;
 use super::fields::{array_at, has_only, object_at, text_at, value_at};
@@ -33,7 +33,7 @@ pub(crate) struct Outline<'a> {
 }
 
 fn process_outline(value: &Value) -> Option<ProcessOutline<'_>>
-    ensures { option_map process_seen result ≡ process_in (view value.now) }
+    ensures { option_map process_view result ≡ process_in (view value.now) }
 {
     let fields = value.as_object()?;
     if !has_only(&["name", "vars"], fields) {
@@ -45,7 +45,7 @@ fn process_outline(value: &Value) -> Option<ProcessOutline<'_>>
 }
 
 fn predicate_outline(value: &Value) -> Option<PredicateOutline<'_>>
-    ensures { option_map predicate_seen result ≡ predicate_in (view value.now) }
+    ensures { option_map predicate_outline_view result ≡ predicate_in (view value.now) }
 {
     let fields = value.as_object()?;
     if !has_only(&["name", "text"], fields) {
@@ -57,8 +57,10 @@ fn predicate_outline(value: &Value) -> Option<PredicateOutline<'_>>
 }
 
 fn process_outlines(alloc: Global, items: &[Value]) -> Result<Vec<ProcessOutline<'_>>, SpecFault>
-    ensures ok { IfOk result (λ processes. each process_in (items_view items.now) ≡ Some (map process_seen processes.items)) }
-    ensures err { IfErr result (λ fault. IsMemoryOr fault SpecFault.Shape (each process_in (items_view items.now) ≡ None)) }
+    ensures ok { IfOk result (λ processes. each process_in (items_view items.now)
+        ≡ Some (map process_view processes.items)) }
+    ensures err { IfErr result (λ fault. IsMemoryOr fault SpecFault.Shape (each process_in (items_view items.now)
+        ≡ None)) }
 {
     let mut processes = Vec::new(alloc);
     for item in items {
@@ -74,8 +76,10 @@ fn predicate_outlines(
     alloc: Global,
     items: &[Value],
 ) -> Result<Vec<PredicateOutline<'_>>, SpecFault>
-    ensures ok { IfOk result (λ predicates. each predicate_in (items_view items.now) ≡ Some (map predicate_seen predicates.items)) }
-    ensures err { IfErr result (λ fault. IsMemoryOr fault SpecFault.Shape (each predicate_in (items_view items.now) ≡ None)) }
+    ensures ok { IfOk result (λ predicates. each predicate_in (items_view items.now)
+        ≡ Some (map predicate_outline_view predicates.items)) }
+    ensures err { IfErr result (λ fault. IsMemoryOr fault SpecFault.Shape (each predicate_in (items_view items.now)
+        ≡ None)) }
 {
     let mut predicates = Vec::new(alloc);
     for item in items {
@@ -88,9 +92,9 @@ fn predicate_outlines(
 }
 
 impl<'a> Outline<'a> {
-    /// The outline of the document that the value is. A value of another shape is told as `Shape`.
+    /// The outline of the document that the value is. A value of another shape is reported as `Shape`.
     pub(crate) fn read(alloc: Global, value: &'a Value) -> Result<Outline<'a>, SpecFault>
-        ensures ok { IfOk result (λ outline. outline_of (view value.now) ≡ Some (outline_seen outline)) }
+        ensures ok { IfOk result (λ outline. outline_of (view value.now) ≡ Some (outline_view outline)) }
         ensures err { IfErr result (λ fault. IsMemoryOr fault SpecFault.Shape (outline_of (view value.now) ≡ None)) }
     {
         let fields = value.as_object().ok_or(SpecFault::Shape)?;

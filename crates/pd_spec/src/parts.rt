@@ -2,9 +2,9 @@
 ghost use Rattle.std.specs.Prelude.{◌≡◌, ◌++◌, IfOk, false, map, string_bytes};
 ghost use Rattle.std.specs.BTreeMap.{keys, values};
 ghost use Rattle.serde_json.specs.View.{view};
-ghost use Rattle.pd_format.specs.Documents.{has_twice, initial_of, names_of, process_names};
+ghost use Rattle.pd_format.specs.Documents.{has_twice, initial_of, names_of_outline, process_names};
 ghost use Rattle.pd_pred.specs.Names.{entry, entries};
-ghost use Rattle.pd_spec.specs.Outlines.{process_seen, outline_seen, entry_in, row_in, initial_value, HasDistinctVars, AllHaveDistinctVars, AreDistinctTexts};
+ghost use Rattle.pd_spec.specs.Outlines.{process_view, outline_view, entry_in, row_in, initial_value, HasDistinctVars, AllHaveDistinctVars, AreDistinctTexts};
 
 use super::outline::{Outline, ProcessOutline};
 use pd_pred::{Names, ProcessNames};
@@ -23,7 +23,7 @@ fn var_names(alloc: Global, vars: &Map<String, Value>) -> Result<Vec<String>, Al
 }
 
 fn process_entry(alloc: Global, process: &ProcessOutline) -> Result<ProcessNames, AllocError>
-    ensures names { IfOk result (λ names. entry names ≡ entry_in (process_seen process.now)) }
+    ensures names { IfOk result (λ names. entry names ≡ entry_in (process_view process.now)) }
     ensures distinct { IfOk result (λ names. HasDistinctVars (entry names)) }
 {
     let name = String::from_str(alloc, process.name)?;
@@ -35,7 +35,7 @@ fn process_entries(
     alloc: Global,
     processes: &[ProcessOutline],
 ) -> Result<Vec<ProcessNames>, AllocError>
-    ensures names { IfOk result (λ names. entries names.items ≡ map entry_in (map process_seen processes.now)) }
+    ensures names { IfOk result (λ names. entries names.items ≡ map entry_in (map process_view processes.now)) }
     ensures distinct { IfOk result (λ names. AllHaveDistinctVars (entries names.items)) }
 {
     let mut names = Vec::new(alloc);
@@ -62,7 +62,7 @@ fn initial_row(alloc: Global, vars: &Map<String, Value>) -> Result<Vec<i64>, All
 }
 
 fn initial_rows(alloc: Global, processes: &[ProcessOutline]) -> Result<Vec<Vec<i64>>, AllocError>
-    ensures { IfOk result (λ rows. map (λ row. row.items) rows.items ≡ map row_in (map process_seen processes.now)) }
+    ensures { IfOk result (λ rows. map (λ row. row.items) rows.items ≡ map row_in (map process_view processes.now)) }
 {
     let mut rows = Vec::new(alloc);
     for process in processes {
@@ -74,8 +74,8 @@ fn initial_rows(alloc: Global, processes: &[ProcessOutline]) -> Result<Vec<Vec<i
 impl Outline<'_> {
     /// The processes and their variables. No two processes have one name.
     pub(crate) fn names(&self, alloc: Global) -> Result<Names, AllocError>
-        requires { has_twice (process_names (outline_seen self.now)) ≡ false }
-        ensures { IfOk result (λ names. names ≡ names_of (outline_seen self.now)) }
+        requires { has_twice (process_names (outline_view self.now)) ≡ false }
+        ensures { IfOk result (λ names. names ≡ names_of_outline (outline_view self.now)) }
     {
         let processes = process_entries(alloc, &self.processes)?;
         Ok(Names::new(processes))
@@ -83,7 +83,7 @@ impl Outline<'_> {
 
     /// The initial values, in a row for each process.
     pub(crate) fn initial(&self, alloc: Global) -> Result<Vec<Vec<i64>>, AllocError>
-        ensures { IfOk result (λ rows. map (λ row. row.items) rows.items ≡ initial_of (outline_seen self.now)) }
+        ensures { IfOk result (λ rows. map (λ row. row.items) rows.items ≡ initial_of (outline_view self.now)) }
     {
         initial_rows(alloc, &self.processes)
     }

@@ -4,7 +4,7 @@ ghost use Rattle.std.specs.List.{AllZip};
 ghost use Rattle.pd_format.specs.Documents.{IsNamedPredicate};
 ghost use Rattle.pd_pred.specs.Views.{IsErrorOf};
 ghost use Rattle.pd_spec.specs.Named.{named_of};
-ghost use Rattle.pd_spec.specs.Outlines.{predicate_seen};
+ghost use Rattle.pd_spec.specs.Outlines.{predicate_outline_view};
 ghost use Rattle.pd_spec.specs.Predicates.{IsFaultIn, IsFaultAmong};
 
 use super::outline::PredicateOutline;
@@ -28,8 +28,9 @@ fn parse(
     predicate: &PredicateOutline,
     number: u64,
 ) -> Result<NamedPred, SpecFault>
-    ensures ok { IfOk result (λ parsed. IsNamedPredicate names.now (predicate_seen predicate.now) (named_of parsed)) }
-    ensures err { IfErr result (λ fault. IsFaultIn names.now (predicate_seen predicate.now) number fault) }
+    ensures ok { IfOk result (λ parsed. IsNamedPredicate names.now (predicate_outline_view predicate.now)
+        (named_of parsed)) }
+    ensures err { IfErr result (λ fault. IsFaultIn names.now (predicate_outline_view predicate.now) number fault) }
 {
     let name = String::from_str(alloc, predicate.name)?;
     match Pred::parse(alloc, names, predicate.text) {
@@ -41,14 +42,15 @@ fn parse(
 /// The predicates that the texts spell over these names.
 ///
 /// # Errors
-/// The first refused text with its number, counted from 1, or want of memory.
+/// The first refused text with its number, counted from 1, or out of memory.
 pub(crate) fn parse_all(
     alloc: Global,
     names: &Names,
     predicates: &[PredicateOutline],
 ) -> Result<Vec<NamedPred>, SpecFault>
-    ensures ok { IfOk result (λ parsed. AllZip (IsNamedPredicate names.now) (map predicate_seen predicates.now) (map named_of parsed.items)) }
-    ensures err { IfErr result (λ fault. IsFaultAmong names.now (map predicate_seen predicates.now) fault) }
+    ensures ok { IfOk result (λ parsed. AllZip (IsNamedPredicate names.now) (map predicate_outline_view predicates.now)
+        (map named_of parsed.items)) }
+    ensures err { IfErr result (λ fault. IsFaultAmong names.now (map predicate_outline_view predicates.now) fault) }
 {
     let mut parsed = Vec::new(alloc);
     for (index, predicate) in predicates.iter().enumerate() {

@@ -26,7 +26,8 @@ pub struct Spec {
     predicates: Vec<NamedPred>,
     width: u64,
     /// What holds of each document: the bounds of its parts, and that their names are names.
-    pub ghost sound: { IsSound names (map (λ row. row.items) initial.items) (map (λ predicate. string_bytes predicate.name) predicates.items) width },
+    pub ghost sound: { IsSound names (map (λ row. row.items) initial.items)
+        (map (λ predicate. string_bytes predicate.name) predicates.items) width },
 }
 
 fn width_of(width: Option<&Value>) -> u64
@@ -48,20 +49,20 @@ fn value_at(row: &[i64], v: usize) -> i64
 
 impl Spec {
     ghost use Rattle.std.specs.Prelude.{IfOk, IfErr, None, [], slice_index_or};
-    ghost use Rattle.pd_format.specs.Documents.{IsDocument, names_of, outline_fault};
+    ghost use Rattle.pd_format.specs.Documents.{IsDocument, names_of_outline, outline_fault};
     ghost use Rattle.pd_format.specs.Names.{vars_of};
     ghost use Rattle.pd_spec.specs.DocumentParts.{IsDocumentOf};
     ghost use Rattle.pd_spec.specs.Named.{named_of};
-    ghost use Rattle.pd_spec.specs.Outlines.{outline_seen};
+    ghost use Rattle.pd_spec.specs.Outlines.{outline_view};
     ghost use Rattle.pd_spec.specs.Predicates.{IsFaultAmong};
-    ghost use Rattle.pd_spec.specs.Views.{document_of, IsFaultOf};
+    ghost use Rattle.pd_spec.specs.Views.{document_view, IsFaultOf};
 
     /// The document that these bytes are.
     ///
     /// # Errors
-    /// The first fault of the document, or want of memory.
+    /// The first fault of the document, or out of memory.
     pub fn read(alloc: Global, bytes: &[u8]) -> Result<Spec, SpecFault>
-        ensures ok { IfOk result (λ spec. IsDocument bytes.now (document_of spec)) }
+        ensures ok { IfOk result (λ spec. IsDocument bytes.now (document_view spec)) }
         ensures err { IfErr result (λ fault. IsFaultOf bytes.now fault) }
     {
         if bytes.len() > DOCUMENT_LIMIT {
@@ -74,9 +75,10 @@ impl Spec {
     }
 
     fn of_outline(alloc: Global, outline: &Outline<'_>) -> Result<Spec, SpecFault>
-        requires { outline_fault (outline_seen outline.now) ≡ None }
-        ensures ok { IfOk result (λ spec. IsDocumentOf (outline_seen outline.now) (document_of spec)) }
-        ensures err { IfErr result (λ fault. IsFaultAmong (names_of (outline_seen outline.now)) (outline_seen outline.now).predicates fault) }
+        requires { outline_fault (outline_view outline.now) ≡ None }
+        ensures ok { IfOk result (λ spec. IsDocumentOf (outline_view outline.now) (document_view spec)) }
+        ensures err { IfErr result (λ fault. IsFaultAmong (names_of_outline (outline_view outline.now))
+            (outline_view outline.now).predicates fault) }
     {
         let names = outline.names(alloc)?;
         let initial = outline.initial(alloc)?;
@@ -91,44 +93,44 @@ impl Spec {
 
     /// The processes and their variables.
     pub fn names(&self) -> &Names
-        ensures { result.now ≡ (document_of self.now).names }
+        ensures { result.now ≡ (document_view self.now).names }
     {
         &self.names
     }
 
     /// The initial value of variable `v` of process `p`, both counted from 0.
     pub fn initial(&self, p: usize, v: usize) -> i64
-        requires { v < length (vars_of (document_of self.now).names p) }
-        ensures { slice_get (slice_index_or (document_of self.now).initial p []) v ≡ Some result }
+        requires { v < length (vars_of (document_view self.now).names p) }
+        ensures { slice_get (slice_index_or (document_view self.now).initial p []) v ≡ Some result }
     {
         value_at(self.initial_row(p), v)
     }
 
     /// The initial values of the variables of process `p`, which is counted from 0, in the variables' order.
     pub fn initial_row(&self, p: usize) -> &[i64]
-        requires { p < length (document_of self.now).names }
-        ensures { slice_get (document_of self.now).initial p ≡ Some result.now }
+        requires { p < length (document_view self.now).names }
+        ensures { slice_get (document_view self.now).initial p ≡ Some result.now }
     {
         self.initial[p].as_slice()
     }
 
     /// The initial values of each process's variables, in the order of the processes.
     pub fn initial_rows(&self) -> &[Vec<i64>]
-        ensures { map (λ row. row.items) result.now ≡ (document_of self.now).initial }
+        ensures { map (λ row. row.items) result.now ≡ (document_view self.now).initial }
     {
         self.initial.as_slice()
     }
 
     /// The predicates, in the document's order.
     pub fn predicates(&self) -> &[NamedPred]
-        ensures { map named_of result.now ≡ (document_of self.now).predicates }
+        ensures { map named_of result.now ≡ (document_view self.now).predicates }
     {
         self.predicates.as_slice()
     }
 
     /// How many cuts a level may have, from 1 to 65,536.
     pub fn width(&self) -> u64
-        ensures { result ≡ (document_of self.now).width }
+        ensures { result ≡ (document_view self.now).width }
     {
         self.width
     }

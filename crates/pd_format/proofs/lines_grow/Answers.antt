@@ -2,4 +2,10 @@ use Rattle.pd_format.proofs.PartFacts.{part_goes_on, feed_ends_line, part_is_fau
 use Rattle.pd_format.proofs.lines_grow.Goals as goal
 
 pub returns : goal.returns
-returns c = record { part = part_goes_on; feed = feed_ends_line; faulty_part = part_is_faulty; faulty_feed = feed_is_faulty }
+returns c = record {
+  part = part_goes_on;
+  feed = feed_ends_line;
+  faulty_part = part_is_faulty;
+  faulty_feed =
+      feed_is_faulty;
+}

@@ -6,14 +6,16 @@ use Rattle.pd_model.specs.Events.{events_of}
 use Rattle.pd_clock.specs.Histories.{AreVars, rows_after}
 use Rattle.pd_events.specs.declared.event.Trace.{Trace}
 use Rattle.pd_events.specs.declared.event.Event.{Event as Happened}
-use Rattle.pd_events.specs.Views.{events_seen}
-use Rattle.pd_events.specs.Views.{computation_of}
+use Rattle.pd_events.specs.Views.{events_view}
+use Rattle.pd_events.specs.Views.{computation_view}
 use Rattle.pd_clock.specs.States.{values_at}
 use Rattle.pd_clock.proofs.Parts.{got, values_read, values_before, values_last, values_past, events_read, events_past}
 use Rattle.pd_clock.proofs.computation.histories.Goals as goal
 
 -- what holds of each event's settings holds of them by other names
-moved : (vars other : ℕ) (events others : List Happened) → vars ≡ other → events ≡ others → All (λ (event : Happened). AreVars vars event.sets.items) events → All (λ (event : Happened). AreVars other event.sets.items) others
+moved : (vars other : ℕ) (events others : List Happened) → vars ≡ other → events ≡ others
+    → All (λ (event : Happened). AreVars vars event.sets.items) events
+    → All (λ (event : Happened). AreVars other event.sets.items) others
 moved vars other events others e f h =
     subst (λ (n : ℕ). All (λ (event : Happened). AreVars n event.sets.items) others) e
     (subst (λ (xs : List Happened). All (λ (event : Happened). AreVars vars event.sets.items) xs) f h)
@@ -22,25 +24,41 @@ pub history-requires : goal.history-requires
 history-requires c =
     let within : c.loop-p.p < length c.args.traces.now = c.loop-p-test.true in
     let there : c.loop-p.p < length c.args.initial.now = omega (arith, c.requires.same) in
-    let row : values_at c.args.initial.now c.loop-p.p ≡ c.index-initial-p.result.items = values_read c.args.initial.now c.loop-p.p c.index-initial-p.result there c.index-initial-p.is in
-    moved (length (values_at c.args.initial.now c.loop-p.p)) (length c.deref.result.now) c.index-traces-p.result.events.items c.deref-in-loop-p.result.now
-    (ap length (row ∙ sym c.deref.ensures.value)) (ap (λ (t : Trace). t.events.items) c.index-traces-p.is ∙ sym c.deref-in-loop-p.ensures.value)
-    (c.requires.vars c.loop-p.p c.index-traces-p.result (got c.args.traces.now c.loop-p.p c.index-traces-p.result within c.index-traces-p.is))
+    let row : values_at c.args.initial.now c.loop-p.p ≡ c.index-initial-p.result.items =
+    values_read c.args.initial.now c.loop-p.p c.index-initial-p.result there c.index-initial-p.is in
+    moved (length (values_at c.args.initial.now c.loop-p.p)) (length c.deref.result.now)
+    c.index-traces-p.result.events.items c.deref-in-loop-p.result.now
+    (ap length (row ∙ sym c.deref.ensures.value)) (ap (λ (t : Trace). t.events.items) c.index-traces-p.is
+    ∙ sym c.deref-in-loop-p.ensures.value)
+    (c.requires.vars c.loop-p.p c.index-traces-p.result
+    (got c.args.traces.now c.loop-p.p c.index-traces-p.result within c.index-traces-p.is))
 
 pub loop-p-preserved : goal.loop-p-preserved
 loop-p-preserved c =
     let within : c.loop-p.p < length c.args.traces.now = c.loop-p-test.true in
     let there : c.loop-p.p < length c.args.initial.now = omega (arith, c.requires.same) in
-    let row : values_at c.args.initial.now c.loop-p.p ≡ c.index-initial-p.result.items = values_read c.args.initial.now c.loop-p.p c.index-initial-p.result there c.index-initial-p.is in
-    let events : events_of (computation_of c.args.traces.now) c.loop-p.p ≡ events_seen c.index-traces-p.result.events.items = events_read c.args.traces.now c.loop-p.p c.index-traces-p.result within c.index-traces-p.is in
-    let pushed : c.push.new.self.items ≡ c.loop-p.histories.items ++ c.in_ok-history.field-0 ∷ [] = c.in_ok-push.ensures.items in
-    let made : c.in_ok-history.field-0.items ≡ c.deref.result.now ++ rows_after c.deref.result.now (events_seen c.deref-in-loop-p.result.now) = c.in_ok-history.ensures in
+    let row : values_at c.args.initial.now c.loop-p.p ≡ c.index-initial-p.result.items =
+    values_read c.args.initial.now c.loop-p.p c.index-initial-p.result there c.index-initial-p.is in
+    let events : events_of (computation_view c.args.traces.now) c.loop-p.p
+    ≡ events_view c.index-traces-p.result.events.items =
+    events_read c.args.traces.now c.loop-p.p c.index-traces-p.result within c.index-traces-p.is in
+    let pushed : c.push.new.self.items ≡ c.loop-p.histories.items ++ c.in_ok-history.field-0 ∷ [] =
+    c.in_ok-push.ensures.items in
+    let made : c.in_ok-history.field-0.items ≡ c.deref.result.now
+    ++ rows_after c.deref.result.now (events_view c.deref-in-loop-p.result.now) = c.in_ok-history.ensures in
     record {
       count = rw pushed (simp (length-append) (omega (arith, c.loop-p.invariant.count)));
-      rows = below_more (λ (k : ℕ). values_at c.push.new.self.items k ≡ values_at c.args.initial.now k ++ rows_after (values_at c.args.initial.now k) (events_of (computation_of c.args.traces.now) k)) c.loop-p.p
-          (λ k lt. rw pushed (values_before c.loop-p.histories.items c.in_ok-history.field-0 k (omega (arith, c.loop-p.invariant.count)) ∙ c.loop-p.invariant.rows k lt))
-          (rw (pushed, row, events) (values_last c.loop-p.histories.items c.in_ok-history.field-0 c.loop-p.p (sym c.loop-p.invariant.count)
-          ∙ (made ∙ rw (c.deref.ensures.value, c.deref-in-loop-p.ensures.value ∙ sym (ap (λ (t : Trace). t.events.items) c.index-traces-p.is)) refl)));
+      rows = below_more (λ (k : ℕ). values_at c.push.new.self.items k ≡ values_at c.args.initial.now k
+          ++ rows_after (values_at c.args.initial.now k) (events_of (computation_view c.args.traces.now) k)) c.loop-p.p
+          (λ k lt. rw pushed (values_before c.loop-p.histories.items c.in_ok-history.field-0 k
+          (omega (arith, c.loop-p.invariant.count)) ∙ c.loop-p.invariant.rows k lt))
+          (rw (pushed, row, events) (values_last c.loop-p.histories.items c.in_ok-history.field-0 c.loop-p.p
+          (sym c.loop-p.invariant.count)
+          ∙ (made ∙ rw (
+            c.deref.ensures.value,
+            c.deref-in-loop-p.ensures.value
+                ∙ sym (ap (λ (t : Trace). t.events.items) c.index-traces-p.is),
+          ) refl)));
     }
 
 pub returns : goal.returns
@@ -53,8 +71,14 @@ returns c =
       rows = λ p. go p (cases_lt p c.loop-p.p);
     }
   where
-    go : (p : ℕ) → (p < c.loop-p.p) ⊎ (c.loop-p.p ≤ p) → values_at c.loop-p.histories.items p ≡ values_at c.args.initial.now p ++ rows_after (values_at c.args.initial.now p) (events_of (computation_of c.args.traces.now) p)
+    go : (p : ℕ) → (p < c.loop-p.p) ⊎ (c.loop-p.p ≤ p) → values_at c.loop-p.histories.items p
+        ≡ values_at c.args.initial.now p ++ rows_after (values_at c.args.initial.now p)
+        (events_of (computation_view c.args.traces.now) p)
     go p (inl lt) = c.loop-p.invariant.rows p lt
     go p (inr le) =
         let all : length c.args.traces.now ≤ c.loop-p.p = c.loop-p-test.false in
-        rw (values_past c.loop-p.histories.items p (omega (arith, c.loop-p.invariant.count)), values_past c.args.initial.now p (omega (arith, c.requires.same)), events_past c.args.traces.now p (omega arith)) refl
+        rw (
+          values_past c.loop-p.histories.items p (omega (arith, c.loop-p.invariant.count)),
+          values_past c.args.initial.now p (omega (arith, c.requires.same)),
+          events_past c.args.traces.now p (omega arith),
+        ) refl

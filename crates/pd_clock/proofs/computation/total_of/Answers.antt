@@ -4,32 +4,54 @@ use Rattle.std.proofs.lemmas.List.{length-map, map-append, take_more}
 use Rattle.std.proofs.lemmas.List.Sums.{sum_by-append}
 use Rattle.pd_model.specs.Cuts.{total, full_cut}
 use Rattle.pd_model.specs.Events.{Computation, Event, events_of, event_count}
-use Rattle.pd_events.specs.Views.{event_seen}
+use Rattle.pd_events.specs.Views.{event_view}
 use Rattle.pd_events.specs.declared.event.Trace.{Trace}
 use Rattle.pd_events.specs.declared.event.Event.{Event as Happened}
-use Rattle.pd_events.specs.Views.{events_seen}
-use Rattle.pd_events.specs.Views.{computation_of}
+use Rattle.pd_events.specs.Views.{events_view}
+use Rattle.pd_events.specs.Views.{computation_view}
 use Rattle.pd_clock.proofs.Parts.{events_read}
 use Rattle.pd_clock.proofs.computation.total_of.Goals as goal
 
 -- one process more
 total_push : (c : Computation) (events : List Event) → total (c ++ events ∷ []) ≡ total c + length events
 total_push c events =
-    ap sum (map-append (λ (es : List Event). length es) c (events ∷ [])) ∙ (sum_by-append (λ (n : ℕ). n) (full_cut c) (length events ∷ []) ∙ (let zero : 0 + length events ≡ length events = omega arith in ap (λ (n : ℕ). total c + n) zero))
+    ap sum (map-append (λ (es : List Event). length es) c (events ∷ []))
+    ∙ (sum_by-append (λ (n : ℕ). n) (full_cut c) (length events ∷ [])
+    ∙ (let zero : 0 + length events ≡ length events = omega arith in ap (λ (n : ℕ). total c + n) zero))
 
 pub loop-process-preserved : goal.loop-process-preserved
 loop-process-preserved c =
     let within : c.loop-process.process-index < length c.args.traces.now = c.loop-process-test.true in
-    let events : events_of (computation_of c.args.traces.now) c.loop-process.process-index ≡ events_seen c.process-item.result.events.items = events_read c.args.traces.now c.loop-process.process-index c.process-item.result within c.process-item.is in
-    let count : event_count (computation_of c.args.traces.now) c.loop-process.process-index ≡ length c.process-item.result.events.items = ap length events ∙ length-map c.process-item.result.events.items (λ (event : Happened). event_seen event) in
-    let short : event_count (computation_of c.args.traces.now) c.loop-process.process-index ≤ 10000 = c.requires.short c.loop-process.process-index in
-    let len : c.len.result ≡ length c.process-item.result.events.items = c.len.ensures ∙ c.process-item.result.events.ok.0 in
+    let events : events_of (computation_view c.args.traces.now) c.loop-process.process-index
+    ≡ events_view c.process-item.result.events.items =
+    events_read c.args.traces.now c.loop-process.process-index c.process-item.result within c.process-item.is in
+    let count : event_count (computation_view c.args.traces.now) c.loop-process.process-index
+    ≡ length c.process-item.result.events.items =
+    ap length events ∙ length-map c.process-item.result.events.items (λ (event : Happened). event_view event) in
+    let short : event_count (computation_view c.args.traces.now) c.loop-process.process-index ≤ 10000 =
+    c.requires.short c.loop-process.process-index in
+    let len : c.len.result ≡ length c.process-item.result.events.items =
+    c.len.ensures ∙ c.process-item.result.events.ok.0 in
     record {
       so_far =
-          let more : take (c.loop-process.process-index + 1) c.args.traces.now ≡ take c.loop-process.process-index c.args.traces.now ++ c.process-item.result ∷ [] = take_more c.args.traces.now c.loop-process.process-index c.process-item.result within ∙ ap (λ (p : Trace). take c.loop-process.process-index c.args.traces.now ++ p ∷ []) (sym c.process-item.is) in
-          let grown : computation_of (take (c.loop-process.process-index + 1) c.args.traces.now) ≡ computation_of (take c.loop-process.process-index c.args.traces.now) ++ events_seen c.process-item.result.events.items ∷ [] = ap computation_of more ∙ map-append (λ (process : Trace). events_seen process.events.items) (take c.loop-process.process-index c.args.traces.now) (c.process-item.result ∷ []) in
-          let all : total (computation_of (take (c.loop-process.process-index + 1) c.args.traces.now)) ≡ total (computation_of (take c.loop-process.process-index c.args.traces.now)) + length (events_seen c.process-item.result.events.items) = ap total grown ∙ total_push (computation_of (take c.loop-process.process-index c.args.traces.now)) (events_seen c.process-item.result.events.items) in
-          let here : length (events_seen c.process-item.result.events.items) ≡ length c.process-item.result.events.items = length-map c.process-item.result.events.items (λ (event : Happened). event_seen event) in
+          let more : take (c.loop-process.process-index + 1) c.args.traces.now
+          ≡ take c.loop-process.process-index c.args.traces.now ++ c.process-item.result ∷ [] =
+          take_more c.args.traces.now c.loop-process.process-index c.process-item.result within
+          ∙ ap (λ (p : Trace). take c.loop-process.process-index c.args.traces.now ++ p ∷ [])
+          (sym c.process-item.is) in
+          let grown : computation_view (take (c.loop-process.process-index + 1) c.args.traces.now)
+          ≡ computation_view (take c.loop-process.process-index c.args.traces.now)
+          ++ events_view c.process-item.result.events.items ∷ [] =
+          ap computation_view more ∙ map-append (λ (process : Trace). events_view process.events.items)
+          (take c.loop-process.process-index c.args.traces.now) (c.process-item.result ∷ []) in
+          let all : total (computation_view (take (c.loop-process.process-index + 1) c.args.traces.now))
+          ≡ total (computation_view (take c.loop-process.process-index c.args.traces.now))
+          + length (events_view c.process-item.result.events.items) =
+          ap total grown ∙ total_push (computation_view (take c.loop-process.process-index c.args.traces.now))
+          (events_view c.process-item.result.events.items) in
+          let here : length (events_view c.process-item.result.events.items)
+          ≡ length c.process-item.result.events.items =
+          length-map c.process-item.result.events.items (λ (event : Happened). event_view event) in
           omega (arith, all, here, c.loop-process.invariant.so_far);
       bound = omega (arith, c.loop-process.invariant.bound);
     }

@@ -1,10 +1,10 @@
 use Rattle.std.proofs.Common.{◌≡◌, ◌≤◌, ◌*◌, take}
 use Rattle.pd_model.specs.Cuts.{total}
-use Rattle.pd_events.specs.Views.{computation_of}
+use Rattle.pd_events.specs.Views.{computation_view}
 use Rattle.pd_clock.proofs.computation.total_of.Given as goal
 
 abbrev pub invariant-loop-process : goal.invariant-loop-process
 invariant-loop-process l = record {
-  so_far : l.total ≡ total (computation_of (take l.process-index l.traces));
+  so_far : l.total ≡ total (computation_view (take l.process-index l.traces));
   bound : l.total ≤ 10000 * l.process-index;
 }

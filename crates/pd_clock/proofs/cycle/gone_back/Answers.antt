@@ -10,27 +10,35 @@ use Rattle.pd_model.specs.Order.{IsStuck, IsFirstStuck}
 use Rattle.pd_model.proofs.Stuck.{stuck_receipt}
 use Rattle.pd_model.proofs.Consistency.{process_in_range}
 use Rattle.pd_events.specs.declared.event.Trace.{Trace}
-use Rattle.pd_events.specs.Views.{computation_of, events_seen}
-use Rattle.pd_match.specs.Views.{place_seen}
+use Rattle.pd_events.specs.Views.{computation_view, events_view}
+use Rattle.pd_match.specs.Views.{place_view}
 use Rattle.pd_match.specs.declared.place.Place.{Place}
 use Rattle.pd_clock.proofs.Cycles.{stuck_event}
 use Rattle.pd_clock.proofs.cycle.gone_back.Goals as goal
 
--- the send of this receipt is told, and is stuck
-sent : (c : Computation) (pairs : List (events.Place × events.Place)) (receipt : events.Place) (told : Option Place) → IsMessageList c pairs → IsFirstStuck c receipt → ((send : events.Place) → Contains pairs (send, receipt) ↔ (option_map place_seen told ≡ Some send)) → (send : events.Place) × IsMessage c send receipt × IsStuck c send × (option_map place_seen told ≡ Some send)
-sent c pairs receipt told list first tells =
+-- the send of this receipt is reported, and is stuck
+sent : (c : Computation) (pairs : List (events.Place × events.Place)) (receipt : events.Place) (reported : Option Place)
+    → IsMessageList c pairs → IsFirstStuck c receipt
+    → ((send : events.Place) → Contains pairs (send, receipt) ↔ (option_map place_view reported ≡ Some send))
+    → (send : events.Place) × IsMessage c send receipt × IsStuck c send × (option_map place_view reported ≡ Some send)
+sent c pairs receipt reported list first tells =
     let w : (send : events.Place) × IsMessage c send receipt × IsStuck c send = stuck_receipt c receipt first in
     (w.0, w.1, w.2, (tells w.0).0 ((list.just w.0 receipt).1 w.1))
 
-some_told : (told : Option Place) (send : events.Place) → option_map place_seen told ≡ Some send → IsSome told
-some_told None send e = absurd (cc)
-some_told (Some place) send e = search rules
+some_reported : (reported : Option Place) (send : events.Place) → option_map place_view reported ≡ Some send
+    → IsSome reported
+some_reported None send e = absurd (cc)
+some_reported (Some place) send e = search rules
 
--- the place that is told is that of the send
-send_told : (c : Computation) (pairs : List (events.Place × events.Place)) (receipt : events.Place) (told : Option Place) (place : Place) → told ≡ Some place → IsMessageList c pairs → IsFirstStuck c receipt → ((send : events.Place) → Contains pairs (send, receipt) ↔ (option_map place_seen told ≡ Some send)) → IsMessage c (place_seen place) receipt × IsStuck c (place_seen place)
-send_told c pairs receipt told place is list first tells =
-    let w : (send : events.Place) × IsMessage c send receipt × IsStuck c send × (option_map place_seen told ≡ Some send) = sent c pairs receipt told list first tells in
-    let same : w.0 ≡ place_seen place = same_Some w.0 (place_seen place) (sym w.3 ∙ ap (option_map place_seen) is) in
+-- the place that is reported is that of the send
+send_reported : (c : Computation) (pairs : List (events.Place × events.Place)) (receipt : events.Place)
+    (reported : Option Place) (place : Place) → reported ≡ Some place → IsMessageList c pairs → IsFirstStuck c receipt
+    → ((send : events.Place) → Contains pairs (send, receipt) ↔ (option_map place_view reported ≡ Some send))
+    → IsMessage c (place_view place) receipt × IsStuck c (place_view place)
+send_reported c pairs receipt reported place is list first tells =
+    let w : (send : events.Place) × IsMessage c send receipt × IsStuck c send
+    × (option_map place_view reported ≡ Some send) = sent c pairs receipt reported list first tells in
+    let same : w.0 ≡ place_view place = same_Some w.0 (place_view place) (sym w.3 ∙ ap (option_map place_view) is) in
     (subst (λ (send : events.Place). IsMessage c send receipt) same w.1, subst (IsStuck c) same w.2)
 
 some_left : (first : Option Place) (P : Type 0) → IfNone first P → ¬ P → IsSome first
@@ -39,22 +47,36 @@ some_left (Some place) P none not_so = search rules
 
 pub unwrap-send-requires : goal.unwrap-send-requires
 unwrap-send-requires c =
-    let w = sent (computation_of c.args.traces.now) c.args.matched.now (place_seen c.args.receipt) c.sender.result c.requires.messages c.requires.receipt c.sender.ensures in
-    some_told c.sender.result w.0 w.3
+    let w = sent (computation_view c.args.traces.now) c.args.matched.now (place_view c.args.receipt) c.sender.result
+    c.requires.messages c.requires.receipt c.sender.ensures in
+    some_reported c.sender.result w.0 w.3
 
 pub first_stuck-requires-clause-within : goal.first_stuck-requires-clause-within
 first_stuck-requires-clause-within c =
-    let w = send_told (computation_of c.args.traces.now) c.args.matched.now (place_seen c.args.receipt) c.sender.result c.unwrap-send.result c.unwrap-send.ensures c.requires.messages c.requires.receipt c.sender.ensures in
-    let within : c.unwrap-send.result.process < length (computation_of c.args.traces.now) = process_in_range (computation_of c.args.traces.now) (place_seen c.unwrap-send.result) (stuck_event (computation_of c.args.traces.now) (place_seen c.unwrap-send.result) w.1) in
-    let count : length (computation_of c.args.traces.now) ≡ length c.args.traces.now = length-map c.args.traces.now (λ (process : Trace). events_seen process.events.items) in
+    let w = send_reported (computation_view c.args.traces.now) c.args.matched.now (place_view c.args.receipt)
+    c.sender.result c.unwrap-send.result c.unwrap-send.ensures c.requires.messages c.requires.receipt
+    c.sender.ensures in
+    let within : c.unwrap-send.result.process < length (computation_view c.args.traces.now) =
+    process_in_range (computation_view c.args.traces.now) (place_view c.unwrap-send.result)
+    (stuck_event (computation_view c.args.traces.now) (place_view c.unwrap-send.result) w.1) in
+    let count : length (computation_view c.args.traces.now) ≡ length c.args.traces.now =
+    length-map c.args.traces.now (λ (process : Trace). events_view process.events.items) in
     omega arith
 
 pub unwrap-requires : goal.unwrap-requires
 unwrap-requires c =
-    let w = send_told (computation_of c.args.traces.now) c.args.matched.now (place_seen c.args.receipt) c.sender.result c.unwrap-send.result c.unwrap-send.ensures c.requires.messages c.requires.receipt c.sender.ensures in
-    some_left c.first_stuck.result ((n : ℕ) → ¬ IsStuck (computation_of c.args.traces.now) (place c.unwrap-send.result.process n)) c.first_stuck.ensures.none (λ none. none c.unwrap-send.result.number w.1)
+    let w = send_reported (computation_view c.args.traces.now) c.args.matched.now (place_view c.args.receipt)
+    c.sender.result c.unwrap-send.result c.unwrap-send.ensures c.requires.messages c.requires.receipt
+    c.sender.ensures in
+    some_left c.first_stuck.result ((n : ℕ)
+    → ¬ IsStuck (computation_view c.args.traces.now) (place c.unwrap-send.result.process n))
+    c.first_stuck.ensures.none (λ none. none c.unwrap-send.result.number w.1)
 
 pub returns : goal.returns
 returns c =
-    let w = send_told (computation_of c.args.traces.now) c.args.matched.now (place_seen c.args.receipt) c.sender.result c.unwrap-send.result c.unwrap-send.ensures c.requires.messages c.requires.receipt c.sender.ensures in
-    (rw c.unwrap.ensures at c.first_stuck.ensures.some, (place_seen c.unwrap-send.result, w.0, sym (rw c.unwrap.ensures at c.first_stuck.ensures.process)))
+    let w = send_reported (computation_view c.args.traces.now) c.args.matched.now (place_view c.args.receipt)
+    c.sender.result c.unwrap-send.result c.unwrap-send.ensures c.requires.messages c.requires.receipt
+    c.sender.ensures in (
+      rw c.unwrap.ensures at c.first_stuck.ensures.some,
+      (place_view c.unwrap-send.result, w.0, sym (rw c.unwrap.ensures at c.first_stuck.ensures.process)),
+    )

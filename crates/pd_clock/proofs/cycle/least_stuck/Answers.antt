@@ -5,7 +5,7 @@ use Rattle.pd_model.specs.Events.{place}
 use Rattle.pd_model.specs.Order.{IsStuck}
 use Rattle.pd_model.proofs.Consistency.{process_in_range}
 use Rattle.pd_events.specs.declared.event.Trace.{Trace}
-use Rattle.pd_events.specs.Views.{computation_of, events_seen}
+use Rattle.pd_events.specs.Views.{computation_view, events_view}
 use Rattle.pd_clock.proofs.Cycles.{stuck_event}
 use Rattle.pd_clock.proofs.cycle.least_stuck.Goals as goal
 
@@ -16,11 +16,15 @@ returns-in-Some-clause-some c =
 
 pub loop-p-preserved : goal.loop-p-preserved
 loop-p-preserved c =
-    below_more (λ (q : ℕ). (n : ℕ) → ¬ IsStuck (computation_of c.args.traces.now) (place q n)) c.loop-p.p c.loop-p.invariant c.in_default.ensures.none
+    below_more (λ (q : ℕ). (n : ℕ) → ¬ IsStuck (computation_view c.args.traces.now) (place q n)) c.loop-p.p
+    c.loop-p.invariant c.in_default.ensures.none
 
 pub returns-clause-none : goal.returns-clause-none
 returns-clause-none c = λ e stuck.
-    let within : e.process < length (computation_of c.args.traces.now) = process_in_range (computation_of c.args.traces.now) e (stuck_event (computation_of c.args.traces.now) e stuck) in
-    let count : length (computation_of c.args.traces.now) ≡ length c.args.traces.now = length-map c.args.traces.now (λ (process : Trace). events_seen process.events.items) in
+    let within : e.process < length (computation_view c.args.traces.now) =
+    process_in_range (computation_view c.args.traces.now) e
+    (stuck_event (computation_view c.args.traces.now) e stuck) in
+    let count : length (computation_view c.args.traces.now) ≡ length c.args.traces.now =
+    length-map c.args.traces.now (λ (process : Trace). events_view process.events.items) in
     let all : length c.args.traces.now ≤ c.loop-p.p = c.loop-p-test.false in
     c.loop-p.invariant e.process (omega arith) e.number stuck

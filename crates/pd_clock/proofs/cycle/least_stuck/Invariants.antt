@@ -1,8 +1,8 @@
 use Rattle.std.proofs.Common.{ℕ, ◌<◌}
-use Rattle.pd_events.specs.Views.{computation_of}
+use Rattle.pd_events.specs.Views.{computation_view}
 use Rattle.pd_model.specs.Events.{place}
 use Rattle.pd_model.specs.Order.{IsStuck}
 use Rattle.pd_clock.proofs.cycle.least_stuck.Given as goal
 
 abbrev pub invariant-loop-p : goal.invariant-loop-p
-invariant-loop-p l = (q : ℕ) → q < l.p → (n : ℕ) → ¬ IsStuck (computation_of l.traces) (place q n)
+invariant-loop-p l = (q : ℕ) → q < l.p → (n : ℕ) → ¬ IsStuck (computation_view l.traces) (place q n)

@@ -1,7 +1,7 @@
 use Rattle.std.proofs.Common.{ℕ, ◌<◌, ◌≤◌}
-use Rattle.pd_events.specs.Views.{computation_of}
+use Rattle.pd_events.specs.Views.{computation_view}
 use Rattle.pd_clock.specs.Orders.{Waits}
 use Rattle.pd_clock.proofs.order.first_that_can_go.Given as goal
 
 abbrev pub invariant-loop-p : goal.invariant-loop-p
-invariant-loop-p l = (k : ℕ) → l.start ≤ k → k < l.p → Waits (computation_of l.traces) l.done k
+invariant-loop-p l = (k : ℕ) → l.start ≤ k → k < l.p → Waits (computation_view l.traces) l.done k

@@ -6,7 +6,8 @@ abbrev pub invariant-lines : goal.invariant-lines
 invariant-lines l = record {
   order : l.start ≤ l.at;
   within : l.at ≤ length l.bytes;
-  cut : map (λ part. part.now) l.parts.items ++ onto_part (take (l.at - l.start) (drop l.start l.bytes)) (parts_of (drop l.at l.bytes)) ≡ parts_of l.bytes;
+  cut : map (λ part. part.now) l.parts.items ++ onto_part (take (l.at - l.start) (drop l.start l.bytes))
+      (parts_of (drop l.at l.bytes)) ≡ parts_of l.bytes;
 }
 
 abbrev pub decreases-lines : goal.decreases-lines

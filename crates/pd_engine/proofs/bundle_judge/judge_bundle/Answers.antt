@@ -4,4 +4,6 @@ use Rattle.pd_engine.proofs.bundle_judge.judge_bundle.Goals as goal
 
 pub returns-clause-headline : goal.returns-clause-headline
 returns-clause-headline g c =
-    truth_of_written c.headline_of_bundle.ensures c.write_judged.result (g.R.Read.remaining c.args.reader) (g.W.Write.contents c.args.writer.now) (g.W.Write.contents c.write_judged.new.writer) c.write_judged.ensures.written
+    truth_of_written c.headline_of_bundle.ensures c.write_judged.result (g.R.Read.remaining c.args.reader)
+    (g.W.Write.contents c.args.writer.now) (g.W.Write.contents c.write_judged.new.writer)
+    c.write_judged.ensures.written

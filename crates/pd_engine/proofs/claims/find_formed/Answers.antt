@@ -1,20 +1,28 @@
 -- What is found of a report, where the session is well formed.
 use Rattle.std.proofs.Common.{List, map, ap, subst}
 use Rattle.pd_judgement.specs.Findings.{IsAnswersFinding}
-use Rattle.pd_spec.specs.Views.{document_of}
+use Rattle.pd_spec.specs.Views.{document_view}
 use Rattle.pd_report.specs.Views as views
 use Rattle.pd_report.specs.declared.answer.Answer.{Answer}
-use Rattle.pd_engine.specs.FindingViews.{answers_of}
+use Rattle.pd_engine.specs.FindingViews.{verdicts_view}
 use Rattle.pd_engine.proofs.ClaimFacts.{refusal_of_formed, session_of_formed}
 use Rattle.pd_engine.proofs.claims.find_formed.Goals as goal
 
 pub returns-in_ok-found-in-Judged : goal.returns-in_ok-found-in-Judged
 returns-in_ok-found-in-Judged c traces well =
-    session_of_formed (document_of c.args.spec.now) traces c.args.computation.now c.args.messages (views.report_of c.args.claimed.now) c.in-Judged.processes c.in-Judged.events c.in-Judged.matched (map views.answer_of c.in-Judged.answers.items) c.are_counts-good.result (answers_of c.in_ok-found-in-Judged.found)
-    (ap views.report_of c.in-Judged.is) c.are_counts-good.ensures
-    (λ seen. subst (λ (answers : List Answer). IsAnswersFinding (document_of c.args.spec.now) traces (map views.answer_of answers) (answers_of c.in_ok-found-in-Judged.found)) c.deref.ensures.value (c.in_ok-found-in-Judged.ensures traces seen))
+    session_of_formed (document_view c.args.spec.now) traces c.args.computation.now c.args.messages
+    (views.report_view c.args.claimed.now) c.in-Judged.processes c.in-Judged.events c.in-Judged.matched
+    (map views.answer_view c.in-Judged.answers.items) c.are_counts-good.result
+    (verdicts_view c.in_ok-found-in-Judged.found)
+    (ap views.report_view c.in-Judged.is) c.are_counts-good.ensures
+    (λ seen. subst (λ (answers : List Answer).
+    IsAnswersFinding (document_view c.args.spec.now) traces (map views.answer_view answers)
+    (verdicts_view c.in_ok-found-in-Judged.found)) c.deref.ensures.value
+    (c.in_ok-found-in-Judged.ensures traces seen))
     well
 
 pub returns-in-Refused : goal.returns-in-Refused
 returns-in-Refused c traces well =
-    refusal_of_formed (document_of c.args.spec.now) traces c.args.computation.now c.args.messages (views.report_of c.args.claimed.now) (views.refusal_of c.in-Refused.field-0) (ap views.report_of c.in-Refused.is) well
+    refusal_of_formed (document_view c.args.spec.now) traces c.args.computation.now c.args.messages
+    (views.report_view c.args.claimed.now) (views.refusal_view c.in-Refused.field-0)
+    (ap views.report_view c.in-Refused.is) well

@@ -5,4 +5,5 @@ use Rattle.pd_engine.proofs.claims.find_traces.Goals as goal
 
 pub returns-in-Unformed-clause-found : goal.returns-in-Unformed-clause-found
 returns-in-Unformed-clause-found g c =
-    of_refused_session (views.refusal_of c.in-Unformed.refusal) c.is_refusal.result (rw c.in-Unformed.is at c.in_ok-computation.ensures.formed) c.is_refusal.ensures
+    of_refused_session (views.refusal_view c.in-Unformed.refusal) c.is_refusal.result
+    (rw c.in-Unformed.is at c.in_ok-computation.ensures.formed) c.is_refusal.ensures

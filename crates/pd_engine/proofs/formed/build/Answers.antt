@@ -5,38 +5,49 @@ use Rattle.std.proofs.lemmas.Simd.{map-map}
 use Rattle.pd_model.specs.Order.{IsReportedCycle}
 use Rattle.pd_format.specs.Judgements.{named_place}
 use Rattle.pd_format.specs.Names.{ProcessNames}
-use Rattle.pd_gather.specs.Views.{traces_seen}
+use Rattle.pd_gather.specs.Views.{traces_view}
 use Rattle.pd_spec.specs.Sound.{IsSound}
-use Rattle.pd_spec.specs.Views.{document_of}
-use Rattle.pd_events.specs.Views.{computation_of}
-use Rattle.pd_match.specs.Views.{place_seen}
-use Rattle.pd_clock.specs.Orders.{places_seen}
-use Rattle.pd_clock.specs.Computations.{recorded_of}
+use Rattle.pd_spec.specs.Views.{document_view}
+use Rattle.pd_events.specs.Views.{computation_view}
+use Rattle.pd_match.specs.Views.{place_view}
+use Rattle.pd_clock.specs.Orders.{places_view}
+use Rattle.pd_clock.specs.Computations.{recorded_view}
 use Rattle.pd_engine.specs.Formings.{AreWellFormed}
 use Rattle.pd_engine.specs.Refusals.{HasNames}
 use Rattle.pd_engine.proofs.FitTraces.{well_formed, cycle_report, fits_initial, traces_length}
-use Rattle.pd_engine.proofs.RefusedPlaces.{cycle_named, cycle_told}
+use Rattle.pd_engine.proofs.RefusedPlaces.{cycle_named, cycle_reported}
 use Rattle.pd_engine.proofs.formed.build.Goals as goal
 
 pub build-requires-clause-fits : goal.build-requires-clause-fits
 build-requires-clause-fits c =
-    fits_initial (document_of c.args.spec.now).names c.initial_rows.result.now (map (λ p. string_bytes p.name) c.args.spec.now.predicates.items) c.args.spec.now.width c.args.traces.now
-    (subst (λ (rows : List (List ℤ)). IsSound (document_of c.args.spec.now).names rows (map (λ p. string_bytes p.name) c.args.spec.now.predicates.items) c.args.spec.now.width) (sym c.initial_rows.ensures) c.args.spec.now.sound) c.requires.traces
+    fits_initial (document_view c.args.spec.now).names c.initial_rows.result.now
+    (map (λ p. string_bytes p.name) c.args.spec.now.predicates.items) c.args.spec.now.width c.args.traces.now
+    (subst (λ (rows : List (List ℤ)). IsSound (document_view c.args.spec.now).names rows
+    (map (λ p. string_bytes p.name) c.args.spec.now.predicates.items) c.args.spec.now.width)
+    (sym c.initial_rows.ensures) c.args.spec.now.sound) c.requires.traces
 
 pub of_cycle-requires : goal.of_cycle-requires
 of_cycle-requires c =
     subst (λ (names : List ProcessNames). All (HasNames names) c.deref.result.now) (sym c.names.ensures)
-    (rw c.deref.ensures.value (cycle_named (document_of c.args.spec.now).names (computation_of c.args.traces.now) c.in-Err-Cycle.cycle.items (traces_length (document_of c.args.spec.now).names c.args.traces.now c.requires.traces) (cycle_told (IsReportedCycle (computation_of c.args.traces.now)) c.in-Err-Cycle.field-0 c.in-Err-Cycle.cycle c.in-Err-Cycle.field-0-is c.in-Err-Cycle.ensures.cycle)))
+    (rw c.deref.ensures.value (cycle_named (document_view c.args.spec.now).names (computation_view c.args.traces.now)
+    c.in-Err-Cycle.cycle.items (traces_length (document_view c.args.spec.now).names c.args.traces.now
+    c.requires.traces) (cycle_reported (IsReportedCycle (computation_view c.args.traces.now)) c.in-Err-Cycle.field-0
+    c.in-Err-Cycle.cycle c.in-Err-Cycle.field-0-is c.in-Err-Cycle.ensures.cycle)))
 
 pub returns-in-Ok-clause-formed : goal.returns-in-Ok-clause-formed
 returns-in-Ok-clause-formed c =
-    let names : List ProcessNames = (document_of c.args.spec.now).names in
-    let well : AreWellFormed (document_of c.args.spec.now) (traces_seen c.args.traces.now) (recorded_of c.initial_rows.result.now c.args.traces.now) (length c.args.matched.now) =
-    well_formed (document_of c.args.spec.now) c.initial_rows.result.now c.args.traces.now c.args.matched.now c.initial_rows.ensures (traces_length names c.args.traces.now c.requires.traces) c.requires.lawful c.in-Ok.ensures.acyclic c.requires.messages in
+    let names : List ProcessNames = (document_view c.args.spec.now).names in
+    let well : AreWellFormed (document_view c.args.spec.now) (traces_view c.args.traces.now)
+    (recorded_view c.initial_rows.result.now c.args.traces.now) (length c.args.matched.now) =
+    well_formed (document_view c.args.spec.now) c.initial_rows.result.now c.args.traces.now c.args.matched.now
+    c.initial_rows.ensures (traces_length names c.args.traces.now c.requires.traces) c.requires.lawful
+    c.in-Ok.ensures.acyclic c.requires.messages in
     rw (c.in-Ok.ensures.recorded, c.messages.ensures) well
 
 pub returns-in_ok-refusal-in-Err-Cycle-clause-formed : goal.returns-in_ok-refusal-in-Err-Cycle-clause-formed
 returns-in_ok-refusal-in-Err-Cycle-clause-formed c =
     rw (c.in_ok-refusal-in-Err-Cycle.ensures, c.deref.ensures.value, c.names.ensures)
-    (rw (sym (map-map (named_place (document_of c.args.spec.now).names) place_seen c.in-Err-Cycle.cycle.items))
-    (cycle_report (document_of c.args.spec.now) c.args.traces.now (places_seen c.in-Err-Cycle.cycle.items) c.requires.lawful (cycle_told (IsReportedCycle (computation_of c.args.traces.now)) c.in-Err-Cycle.field-0 c.in-Err-Cycle.cycle c.in-Err-Cycle.field-0-is c.in-Err-Cycle.ensures.cycle)))
+    (rw (sym (map-map (named_place (document_view c.args.spec.now).names) place_view c.in-Err-Cycle.cycle.items))
+    (cycle_report (document_view c.args.spec.now) c.args.traces.now (places_view c.in-Err-Cycle.cycle.items)
+    c.requires.lawful (cycle_reported (IsReportedCycle (computation_view c.args.traces.now)) c.in-Err-Cycle.field-0
+    c.in-Err-Cycle.cycle c.in-Err-Cycle.field-0-is c.in-Err-Cycle.ensures.cycle)))

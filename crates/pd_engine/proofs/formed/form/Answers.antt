@@ -1,10 +1,12 @@
 -- What a session's traces make.
-use Rattle.pd_match.specs.Views.{fault_seen}
-use Rattle.pd_spec.specs.Views.{document_of}
+use Rattle.pd_match.specs.Views.{match_fault_view}
+use Rattle.pd_spec.specs.Views.{document_view}
 use Rattle.pd_report.specs.Views as views
 use Rattle.pd_engine.proofs.FitTraces.{refused_report}
 use Rattle.pd_engine.proofs.formed.form.Goals as goal
 
 pub returns-in_ok-of_messages-in-Err-clause-formed : goal.returns-in_ok-of_messages-in-Err-clause-formed
 returns-in_ok-of_messages-in-Err-clause-formed g c =
-    refused_report (document_of c.args.spec.now) c.names.result.now c.args.traces.now (fault_seen c.in-Err.fault) (views.refusal_of c.in_ok-of_messages-in-Err.field-0) c.names.ensures c.in-Err.ensures.fault c.in_ok-of_messages-in-Err.ensures.tells
+    refused_report (document_view c.args.spec.now) c.names.result.now c.args.traces.now
+    (match_fault_view c.in-Err.fault) (views.refusal_view c.in_ok-of_messages-in-Err.field-0) c.names.ensures
+    c.in-Err.ensures.fault c.in_ok-of_messages-in-Err.ensures.tells

@@ -1,8 +1,8 @@
 -- The report of a session's traces.
 use Rattle.std.proofs.lemmas.Result.{IfOk-weaker}
 use Rattle.pd_format.specs.Judgements.{IsTracesReport}
-use Rattle.pd_gather.specs.Views.{traces_seen}
-use Rattle.pd_spec.specs.Views.{document_of}
+use Rattle.pd_gather.specs.Views.{traces_view}
+use Rattle.pd_spec.specs.Views.{document_view}
 use Rattle.pd_engine.specs.Judged.{IsJudged}
 use Rattle.pd_report.specs.Views as views
 use Rattle.pd_engine.proofs.FitTraces.{answers_report, no_cycle_in}
@@ -10,10 +10,15 @@ use Rattle.pd_engine.proofs.judge.judged.Goals as goal
 
 pub answered-requires-clause-acyclic : goal.answered-requires-clause-acyclic
 answered-requires-clause-acyclic g c κs within =
-    no_cycle_in (document_of c.args.spec.now) (traces_seen c.args.traces.now) c.in-WellFormed.computation c.in-WellFormed.messages (rw c.in-WellFormed.is at c.in_ok-computation.ensures.formed)
+    no_cycle_in (document_view c.args.spec.now) (traces_view c.args.traces.now) c.in-WellFormed.computation
+    c.in-WellFormed.messages (rw c.in-WellFormed.is at c.in_ok-computation.ensures.formed)
 
 pub returns-in-WellFormed-clause-report : goal.returns-in-WellFormed-clause-report
 returns-in-WellFormed-clause-report g c =
-    IfOk-weaker c.answered.result (λ report. IsJudged (document_of c.args.spec.now) c.in-WellFormed.computation c.in-WellFormed.messages (views.report_of report)) (λ report. IsTracesReport (document_of c.args.spec.now) (traces_seen c.args.traces.now) (views.report_of report))
-    (λ report judged. answers_report (document_of c.args.spec.now) (traces_seen c.args.traces.now) c.in-WellFormed.computation c.in-WellFormed.messages (views.report_of report) (rw c.in-WellFormed.is at c.in_ok-computation.ensures.formed) judged)
+    IfOk-weaker c.answered.result (λ report. IsJudged (document_view c.args.spec.now) c.in-WellFormed.computation
+    c.in-WellFormed.messages (views.report_view report)) (λ report.
+    IsTracesReport (document_view c.args.spec.now) (traces_view c.args.traces.now) (views.report_view report))
+    (λ report judged. answers_report (document_view c.args.spec.now) (traces_view c.args.traces.now)
+    c.in-WellFormed.computation c.in-WellFormed.messages (views.report_view report)
+    (rw c.in-WellFormed.is at c.in_ok-computation.ensures.formed) judged)
     c.answered.ensures.report

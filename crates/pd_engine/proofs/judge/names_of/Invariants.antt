@@ -5,4 +5,4 @@ use Rattle.pd_engine.proofs.judge.names_of.Given as goal
 
 abbrev pub invariant-loop-p : goal.invariant-loop-p
 invariant-loop-p l =
-    map string_bytes l.told.items ≡ map (name_of_process l.names) (take l.p-index l.path)
+    map string_bytes l.reported.items ≡ map (name_of_process l.names) (take l.p-index l.path)

@@ -1,9 +1,10 @@
 use Rattle.std.proofs.Common.{◌≡◌, map, take}
-use Rattle.pd_report.specs.Views.{places_of}
+use Rattle.pd_report.specs.Views.{named_places_view}
 use Rattle.pd_format.specs.Judgements.{named_place}
-use Rattle.pd_match.specs.Views.{place_seen}
+use Rattle.pd_match.specs.Views.{place_view}
 use Rattle.pd_engine.proofs.refusal.of_cycle.Given as goal
 
 abbrev pub invariant-loop-place : goal.invariant-loop-place
 invariant-loop-place l =
-    places_of l.places.items ≡ map (λ place. named_place l.names (place_seen place)) (take l.place-index l.cycle)
+    named_places_view l.places.items ≡ map (λ place. named_place l.names (place_view place))
+    (take l.place-index l.cycle)

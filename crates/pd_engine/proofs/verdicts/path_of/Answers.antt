@@ -7,10 +7,15 @@ use Rattle.pd_engine.proofs.verdicts.path_of.Goals as goal
 
 pub returns-in-None : goal.returns-in-None
 returns-in-None c =
-    let found : process_named c.args.names.now (string_bytes c.name-item.result) ≡ None = ap (process_named c.args.names.now) (sym c.deref.ensures) ∙ (sym c.find.ensures ∙ c.in-None.is) in
-    no_path c.args.names.now c.args.told.now c.loop-name.name-index c.name-item.result c.loop-name-test.true c.name-item.is found
+    let found : process_named c.args.names.now (string_bytes c.name-item.result) ≡ None =
+    ap (process_named c.args.names.now) (sym c.deref.ensures) ∙ (sym c.find.ensures ∙ c.in-None.is) in
+    no_path c.args.names.now c.args.reported.now c.loop-name.name-index c.name-item.result c.loop-name-test.true
+    c.name-item.is found
 
 pub loop-name-preserved : goal.loop-name-preserved
 loop-name-preserved c =
-    let found : process_named c.args.names.now (string_bytes c.name-item.result) ≡ Some c.in-Some.p = ap (process_named c.args.names.now) (sym c.deref.ensures) ∙ (sym c.find.ensures ∙ c.in-Some.is) in
-    rw c.in_ok-push-in-Some.ensures.items (one_more_named c.args.names.now c.args.told.now c.loop-name.name-index c.name-item.result c.loop-name.path.items c.in-Some.p c.loop-name-test.true c.name-item.is found c.loop-name.invariant)
+    let found : process_named c.args.names.now (string_bytes c.name-item.result) ≡ Some c.in-Some.p =
+    ap (process_named c.args.names.now) (sym c.deref.ensures) ∙ (sym c.find.ensures ∙ c.in-Some.is) in
+    rw c.in_ok-push-in-Some.ensures.items (one_more_named c.args.names.now c.args.reported.now c.loop-name.name-index
+    c.name-item.result c.loop-name.path.items c.in-Some.p c.loop-name-test.true c.name-item.is found
+    c.loop-name.invariant)

@@ -4,4 +4,4 @@ use Rattle.pd_engine.specs.Verdicts.{AreNamed}
 use Rattle.pd_engine.proofs.verdicts.path_of.Given as goal
 
 abbrev pub invariant-loop-name : goal.invariant-loop-name
-invariant-loop-name l = AreNamed l.names (map string_bytes (take l.name-index l.told)) l.path.items
+invariant-loop-name l = AreNamed l.names (map string_bytes (take l.name-index l.reported)) l.path.items

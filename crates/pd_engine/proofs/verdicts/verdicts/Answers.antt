@@ -7,10 +7,10 @@ use Rattle.std.proofs.lemmas.List.{take_all}
 use Rattle.pd_format.specs.Names.{ProcessNames}
 use Rattle.pd_report.specs.declared.answer.Answer.{Answer}
 use Rattle.pd_spec.specs.declared.named.NamedPred.{NamedPred}
-use Rattle.pd_report.specs.Views.{answer_of}
+use Rattle.pd_report.specs.Views.{answer_view}
 use Rattle.pd_spec.specs.Named.{named_of}
-use Rattle.pd_spec.specs.Views.{document_of}
-use Rattle.pd_engine.specs.FindingViews.{checked_of}
+use Rattle.pd_spec.specs.Views.{document_view}
+use Rattle.pd_engine.specs.FindingViews.{checked_view}
 use Rattle.pd_engine.specs.Verdicts.{IsCheckedBy}
 use Rattle.pd_engine.proofs.CheckedAnswers.{all_checked, other_names}
 use Rattle.pd_engine.proofs.Zips.{pairs_push, same_length}
@@ -18,27 +18,48 @@ use Rattle.pd_engine.proofs.verdicts.verdicts.Goals as goal
 
 pub returns-then-not-are_for : goal.returns-then-not-are_for
 returns-then-not-are_for c traces seen =
-    other_names (document_of c.args.spec.now) traces c.predicates-asked.result.now c.args.answers.now c.predicates-asked.ensures (λ same. false≢true (c.if-not-are_for.ensures.1 same))
+    other_names (document_view c.args.spec.now) traces c.predicates-asked.result.now c.args.answers.now
+    c.predicates-asked.ensures (λ same. false≢true (c.if-not-are_for.ensures.1 same))
 
 pub loop-i-preserved : goal.loop-i-preserved
 loop-i-preserved c =
     let asked : List NamedPred = c.predicates-asked.result.now in
-    let names : List ProcessNames = (document_of c.args.spec.now).names in
-    let same : length c.args.answers.now ≡ length asked = same_length (λ (answer : Answer). string_bytes answer.name) (λ (predicate : NamedPred). string_bytes predicate.name) c.args.answers.now asked (c.if-not-are_for.ensures.0 refl) in
+    let names : List ProcessNames = (document_view c.args.spec.now).names in
+    let same : length c.args.answers.now ≡ length asked =
+    same_length (λ (answer : Answer). string_bytes answer.name) (λ (predicate : NamedPred).
+    string_bytes predicate.name) c.args.answers.now asked (c.if-not-are_for.ensures.0 refl) in
     let lt : c.loop-i.i < length asked = omega (arith, c.loop-i-test.true, same) in
-    let here : IsCheckedBy names c.args.computation.now (named_of c.index-asked-i.result, answer_of c.index-answers-i.result) (checked_of c.in_ok-checked.field-0) =
-    subst (λ (n : List ProcessNames). IsCheckedBy n c.args.computation.now (named_of c.index-asked-i.result, answer_of c.index-answers-i.result) (checked_of c.in_ok-checked.field-0)) c.names.ensures c.in_ok-checked.ensures in
+    let here : IsCheckedBy names c.args.computation.now (
+      named_of c.index-asked-i.result,
+      answer_view c.index-answers-i.result,
+    ) (checked_view c.in_ok-checked.field-0) =
+    subst (λ (n : List ProcessNames). IsCheckedBy n c.args.computation.now (
+      named_of c.index-asked-i.result,
+      answer_view c.index-answers-i.result,
+    ) (checked_view c.in_ok-checked.field-0)) c.names.ensures
+    c.in_ok-checked.ensures in
     rw c.in_ok-push.ensures.items
-    (pairs_push (IsCheckedBy names c.args.computation.now) named_of answer_of checked_of asked c.args.answers.now c.loop-i.verdicts.items c.loop-i.i c.index-asked-i.result c.index-answers-i.result c.in_ok-checked.field-0 (sym same) lt c.index-asked-i.is c.index-answers-i.is c.loop-i.invariant here)
+    (pairs_push (IsCheckedBy names c.args.computation.now) named_of answer_view checked_view asked c.args.answers.now
+    c.loop-i.verdicts.items c.loop-i.i c.index-asked-i.result c.index-answers-i.result c.in_ok-checked.field-0
+    (sym same) lt c.index-asked-i.is c.index-answers-i.is c.loop-i.invariant here)
 
 pub returns : goal.returns
 returns c traces seen =
     let asked : List NamedPred = c.predicates-asked.result.now in
-    let names : List ProcessNames = (document_of c.args.spec.now).names in
-    let same : length c.args.answers.now ≡ length asked = same_length (λ (answer : Answer). string_bytes answer.name) (λ (predicate : NamedPred). string_bytes predicate.name) c.args.answers.now asked (c.if-not-are_for.ensures.0 refl) in
-    let all_answers : take c.loop-i.i c.args.answers.now ≡ c.args.answers.now = take_all c.loop-i.i c.args.answers.now (omega arith) in
+    let names : List ProcessNames = (document_view c.args.spec.now).names in
+    let same : length c.args.answers.now ≡ length asked =
+    same_length (λ (answer : Answer). string_bytes answer.name) (λ (predicate : NamedPred).
+    string_bytes predicate.name) c.args.answers.now asked (c.if-not-are_for.ensures.0 refl) in
+    let all_answers : take c.loop-i.i c.args.answers.now ≡ c.args.answers.now =
+    take_all c.loop-i.i c.args.answers.now (omega arith) in
     let all_asked : take c.loop-i.i asked ≡ asked = take_all c.loop-i.i asked (omega arith) in
-    let all : AllZip (IsCheckedBy names c.args.computation.now) (zip (map named_of asked) (map answer_of c.args.answers.now)) (map checked_of c.loop-i.verdicts.items) =
-    subst (λ (answers : List Answer). AllZip (IsCheckedBy names c.args.computation.now) (zip (map named_of asked) (map answer_of answers)) (map checked_of c.loop-i.verdicts.items)) all_answers
-    (subst (λ (predicates : List NamedPred). AllZip (IsCheckedBy names c.args.computation.now) (zip (map named_of predicates) (map answer_of (take c.loop-i.i c.args.answers.now))) (map checked_of c.loop-i.verdicts.items)) all_asked c.loop-i.invariant) in
-    all_checked (document_of c.args.spec.now) traces c.args.computation.now asked c.args.answers.now (map checked_of c.loop-i.verdicts.items) c.predicates-asked.ensures (c.if-not-are_for.ensures.0 refl) seen all
+    let all : AllZip (IsCheckedBy names c.args.computation.now)
+    (zip (map named_of asked) (map answer_view c.args.answers.now)) (map checked_view c.loop-i.verdicts.items) =
+    subst (λ (answers : List Answer). AllZip (IsCheckedBy names c.args.computation.now)
+    (zip (map named_of asked) (map answer_view answers)) (map checked_view c.loop-i.verdicts.items)) all_answers
+    (subst (λ (predicates : List NamedPred).
+    AllZip (IsCheckedBy names c.args.computation.now)
+    (zip (map named_of predicates) (map answer_view (take c.loop-i.i c.args.answers.now)))
+    (map checked_view c.loop-i.verdicts.items)) all_asked c.loop-i.invariant) in
+    all_checked (document_view c.args.spec.now) traces c.args.computation.now asked c.args.answers.now
+    (map checked_view c.loop-i.verdicts.items) c.predicates-asked.ensures (c.if-not-are_for.ensures.0 refl) seen all

@@ -6,4 +6,6 @@ use Rattle.pd_events.proofs.FieldViews.{all_values-entries}
 use Rattle.pd_events.proofs.fields.are_whole.Goals as goal
 
 pub returns : goal.returns
-returns c = c.values_are_whole.ensures ∙ all_values-entries (λ (value : Data). is_some (whole_number value)) c.args.fields.now.entries
+returns c =
+    c.values_are_whole.ensures ∙ all_values-entries (λ (value : Data). is_some (whole_number value))
+    c.args.fields.now.entries

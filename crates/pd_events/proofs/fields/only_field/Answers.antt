@@ -6,5 +6,6 @@ use Rattle.pd_events.proofs.fields.only_field.Goals as goal
 
 pub returns : goal.returns
 returns c =
-    one_entry c.args.fields.now.entries c.in_ok-name.name.now c.in_ok-name.value.now (sym c.len.ensures.len ∙ c.if-len-ne1.false) c.in_ok-name.ensures.first
+    one_entry c.args.fields.now.entries c.in_ok-name.name.now c.in_ok-name.value.now (sym c.len.ensures.len
+    ∙ c.if-len-ne1.false) c.in_ok-name.ensures.first
     ∙ ap (λ (name : List ℕ). member name (view c.in_ok-name.value.now) no_members) (sym c.as_str.ensures.value)

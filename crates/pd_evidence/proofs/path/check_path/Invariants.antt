@@ -1,12 +1,14 @@
 use Rattle.std.proofs.Common.{◌↔◌, drop}
 use Rattle.pd_model.specs.Answers.{IsAvoidingObservation}
 use Rattle.pd_model.specs.Predicates.{test_of}
-use Rattle.pd_pred.specs.Views.{predicate_of}
+use Rattle.pd_pred.specs.Views.{predicate_view}
 use Rattle.pd_evidence.specs.Paths.{AvoidsFrom, IsAvoidingCut}
 use Rattle.pd_evidence.proofs.path.check_path.Given as goal
 
 abbrev pub invariant-loop-p : goal.invariant-loop-p
 invariant-loop-p l = record {
-  here : IsAvoidingCut l.computation.events (test_of l.computation (predicate_of l.pred)) l.counts.items;
-  rest : IsAvoidingObservation l.computation.events (test_of l.computation (predicate_of l.pred)) l.path ↔ AvoidsFrom l.computation.events (test_of l.computation (predicate_of l.pred)) l.counts.items (drop l.p-index l.path);
+  here : IsAvoidingCut l.computation.events (test_of l.computation (predicate_view l.pred)) l.counts.items;
+  rest : IsAvoidingObservation l.computation.events (test_of l.computation (predicate_view l.pred)) l.path
+      ↔ AvoidsFrom l.computation.events (test_of l.computation (predicate_view l.pred)) l.counts.items
+      (drop l.p-index l.path);
 }

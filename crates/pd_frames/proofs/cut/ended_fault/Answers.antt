@@ -4,4 +4,6 @@ use Rattle.pd_frames.proofs.cut.ended_fault.Goals as goal
 
 pub returns-in-None-clause-faulty : goal.returns-in-None-clause-faulty
 returns-in-None-clause-faulty c =
-    faces_end c.faults_of_parts.ensures.sound c.lines_grow.ensures.part c.lines_grow.ensures.faulty_feed c.args.kept.now c.args.line c.args.total c.args.part.now (omega (arith, c.in-None.ensures.fits)) (omega (arith, c.in-None.ensures.fits))
+    faces_end c.faults_of_parts.ensures.sound c.lines_grow.ensures.part c.lines_grow.ensures.faulty_feed c.args.kept.now
+    c.args.line c.args.total c.args.part.now (omega (arith, c.in-None.ensures.fits))
+    (omega (arith, c.in-None.ensures.fits))

@@ -1,6 +1,6 @@
 use Rattle.std.specs.Prelude.{map}
 use Rattle.std.specs.List.{AllZip}
-use Rattle.pd_spec.specs.Views.{document_of}
+use Rattle.pd_spec.specs.Views.{document_view}
 use Rattle.pd_gather.proofs.Turns.{GivesRead}
 use Rattle.pd_gather.proofs.readers.gather.Given as goal
 
@@ -8,5 +8,5 @@ abbrev pub invariant-loop-reader : goal.invariant-loop-reader
 invariant-loop-reader g l = record {
   can_go : (goal.iterator-loop-reader g).can_next l.reader-iterator;
   ends : (goal.iterator-loop-reader g).is_finite l.reader-iterator;
-  read : AllZip (GivesRead (document_of l.spec).names) (map g.R.Read.remaining l.yielded) l.readings.items;
+  read : AllZip (GivesRead (document_view l.spec).names) (map g.R.Read.remaining l.yielded) l.readings.items;
 }

@@ -5,36 +5,52 @@ use Rattle.pd_format.specs.Names.{ProcessNames}
 use Rattle.pd_format.specs.ReadingLaws.{FitsSession}
 use Rattle.pd_format.specs.Readings as readings
 use Rattle.pd_format.specs.Sessions.{trace_of, traces_from}
-use Rattle.pd_events.specs.Views.{trace_seen}
+use Rattle.pd_events.specs.Views.{trace_view}
 use Rattle.pd_events.specs.declared.event.Trace.{Trace}
-use Rattle.pd_gather.specs.Views.{outcomes_seen, traces_seen}
-use Rattle.pd_gather.proofs.Places.{behind, one_more, none_more, dropped, front_push, at_push, trace_is_of}
+use Rattle.pd_gather.specs.Views.{results_view, traces_view}
+use Rattle.pd_gather.proofs.Places.{following, one_more, none_more, dropped, prefix_push, at_push, trace_is_of}
 use Rattle.pd_gather.proofs.traces.in_order.Goals as goal
 
 pub returns-in-None-clause-exact : goal.returns-in-None-clause-exact
 returns-in-None-clause-exact c =
     let within : c.loop-p.p < length c.args.names.now = omega (arith, c.loop-p-test.true, c.processes-p-end.ensures) in
     let rest = dropped c.args.names.now c.loop-p.p within in
-    let absent : trace_of c.loop-p.p (outcomes_seen c.args.readings.items) ≡ None = sym (c.loop-p.invariant.same c.loop-p.p (omega arith)) ∙ sym c.in-None.ensures.value in
+    let absent : trace_of c.loop-p.p (results_view c.args.readings.items) ≡ None =
+    sym (c.loop-p.invariant.same c.loop-p.p (omega arith)) ∙ sym c.in-None.ensures.value in
     c.loop-p.invariant.so_far
-    ∙ (ap (λ (xs : List ProcessNames). behind (traces_seen c.loop-p.traces.items) (traces_from c.loop-p.p xs (outcomes_seen c.args.readings.items))) rest.1
-    ∙ none_more (traces_seen c.loop-p.traces.items) c.loop-p.p rest.0 (drop (c.loop-p.p + 1) c.args.names.now) (outcomes_seen c.args.readings.items) absent)
+    ∙ (ap (λ (xs : List ProcessNames). following (traces_view c.loop-p.traces.items)
+    (traces_from c.loop-p.p xs (results_view c.args.readings.items))) rest.1
+    ∙ none_more (traces_view c.loop-p.traces.items) c.loop-p.p rest.0 (drop (c.loop-p.p + 1) c.args.names.now)
+    (results_view c.args.readings.items) absent)
 
 pub loop-p-preserved : goal.loop-p-preserved
 loop-p-preserved c =
     let within : c.loop-p.p < length c.args.names.now = omega (arith, c.loop-p-test.true, c.processes-p-end.ensures) in
     let rest = dropped c.args.names.now c.loop-p.p within in
-    let found : trace_of c.loop-p.p (outcomes_seen c.args.readings.items) ≡ Some (trace_seen c.in-Some.trace) = sym (c.loop-p.invariant.same c.loop-p.p (omega arith)) ∙ sym c.in-Some.ensures.value in
-    let own : c.in-Some.trace.process ≡ c.loop-p.p = trace_is_of c.loop-p.p (outcomes_seen c.args.readings.items) (trace_seen c.in-Some.trace) found in
-    let pushed : c.push.new.self.items ≡ c.loop-p.traces.items ++ c.in-Some.trace ∷ [] = c.in_ok-push-in-Some.ensures.items in
+    let found : trace_of c.loop-p.p (results_view c.args.readings.items) ≡ Some (trace_view c.in-Some.trace) =
+    sym (c.loop-p.invariant.same c.loop-p.p (omega arith)) ∙ sym c.in-Some.ensures.value in
+    let own : c.in-Some.trace.process ≡ c.loop-p.p =
+    trace_is_of c.loop-p.p (results_view c.args.readings.items) (trace_view c.in-Some.trace) found in
+    let pushed : c.push.new.self.items ≡ c.loop-p.traces.items ++ c.in-Some.trace ∷ [] =
+    c.in_ok-push-in-Some.ensures.items in
     record {
       count = rw pushed (grind (arith, common_steps, c.loop-p.invariant.count));
       so_far = c.loop-p.invariant.so_far
-          ∙ (ap (λ (xs : List ProcessNames). behind (traces_seen c.loop-p.traces.items) (traces_from c.loop-p.p xs (outcomes_seen c.args.readings.items))) rest.1
-          ∙ (one_more (traces_seen c.loop-p.traces.items) c.loop-p.p rest.0 (drop (c.loop-p.p + 1) c.args.names.now) (outcomes_seen c.args.readings.items) (trace_seen c.in-Some.trace) found
-          ∙ ap (λ (xs : List readings.Trace). behind xs (traces_from (c.loop-p.p + 1) (drop (c.loop-p.p + 1) c.args.names.now) (outcomes_seen c.args.readings.items))) (sym (front_push c.loop-p.traces.items c.in-Some.trace) ∙ ap traces_seen (sym pushed))));
-      same = λ q above. c.take_trace.ensures.others q (λ (e : q ≡ c.loop-p.p). (omega arith)) ∙ c.loop-p.invariant.same q (omega arith);
+          ∙ (ap (λ (xs : List ProcessNames). following (traces_view c.loop-p.traces.items)
+          (traces_from c.loop-p.p xs (results_view c.args.readings.items))) rest.1
+          ∙ (one_more (traces_view c.loop-p.traces.items) c.loop-p.p rest.0 (drop (c.loop-p.p + 1) c.args.names.now)
+          (results_view c.args.readings.items) (trace_view c.in-Some.trace) found
+          ∙ ap (λ (xs : List readings.Trace).
+          following xs (traces_from (c.loop-p.p + 1) (drop (c.loop-p.p + 1) c.args.names.now)
+          (results_view c.args.readings.items))) (sym (prefix_push c.loop-p.traces.items c.in-Some.trace)
+          ∙ ap traces_view (sym pushed))));
+      same = λ q above. c.take_trace.ensures.others q (λ (e : q ≡ c.loop-p.p). (omega arith))
+          ∙ c.loop-p.invariant.same q (omega arith);
       left = c.take_trace.ensures.left c.args.names.now c.loop-p.invariant.left;
-      process = rw pushed (at_push (λ (k : ℕ) (trace : Trace). trace.process ≡ k) c.loop-p.traces.items c.in-Some.trace c.loop-p.invariant.process (own ∙ sym c.loop-p.invariant.count));
-      fit = rw pushed (at_push (λ (k : ℕ) (trace : Trace). FitsSession c.args.names.now (trace_seen trace)) c.loop-p.traces.items c.in-Some.trace c.loop-p.invariant.fit (c.in-Some.ensures.fits c.args.names.now c.loop-p.invariant.left));
+      process =
+          rw pushed (at_push (λ (k : ℕ) (trace : Trace). trace.process ≡ k) c.loop-p.traces.items c.in-Some.trace
+          c.loop-p.invariant.process (own ∙ sym c.loop-p.invariant.count));
+      fit = rw pushed (at_push (λ (k : ℕ) (trace : Trace). FitsSession c.args.names.now (trace_view trace))
+          c.loop-p.traces.items c.in-Some.trace c.loop-p.invariant.fit
+          (c.in-Some.ensures.fits c.args.names.now c.loop-p.invariant.left));
     }

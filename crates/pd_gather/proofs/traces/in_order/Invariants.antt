@@ -2,18 +2,19 @@ use Rattle.std.proofs.Common.{◌≡◌, ℕ, ◌≤◌, length, drop, All}
 use Rattle.std.specs.Prelude.{Some, slice_get}
 use Rattle.pd_format.specs.ReadingLaws.{FitsSession}
 use Rattle.pd_format.specs.Sessions.{trace_of, traces_from}
-use Rattle.pd_events.specs.Views.{trace_seen}
+use Rattle.pd_events.specs.Views.{trace_view}
 use Rattle.pd_events.specs.declared.event.Trace.{Trace}
-use Rattle.pd_gather.specs.Views.{ReadingFits, outcomes_seen, traces_seen}
-use Rattle.pd_gather.proofs.Places.{behind}
+use Rattle.pd_gather.specs.Views.{ReadingFits, results_view, traces_view}
+use Rattle.pd_gather.proofs.Places.{following}
 use Rattle.pd_gather.proofs.traces.in_order.Given as goal
 
 abbrev pub invariant-loop-p : goal.invariant-loop-p
 invariant-loop-p l = record {
   count : length l.traces.items ≡ l.p;
-  so_far : traces_from 0 l.names (outcomes_seen l.fn.readings.items) ≡ behind (traces_seen l.traces.items) (traces_from l.p (drop l.p l.names) (outcomes_seen l.fn.readings.items));
-  same : (q : ℕ) → l.p ≤ q → trace_of q (outcomes_seen l.readings.items) ≡ trace_of q (outcomes_seen l.fn.readings.items);
+  so_far : traces_from 0 l.names (results_view l.fn.readings.items)
+      ≡ following (traces_view l.traces.items) (traces_from l.p (drop l.p l.names) (results_view l.fn.readings.items));
+  same : (q : ℕ) → l.p ≤ q → trace_of q (results_view l.readings.items) ≡ trace_of q (results_view l.fn.readings.items);
   left : All (ReadingFits l.names) l.readings.items;
   process : (k : ℕ) (trace : Trace) → slice_get l.traces.items k ≡ Some trace → trace.process ≡ k;
-  fit : (k : ℕ) (trace : Trace) → slice_get l.traces.items k ≡ Some trace → FitsSession l.names (trace_seen trace);
+  fit : (k : ℕ) (trace : Trace) → slice_get l.traces.items k ≡ Some trace → FitsSession l.names (trace_view trace);
 }

@@ -1,4 +1,4 @@
--- What is kept so far stands in front.
+-- What is kept so far stands in prefix.
 use Rattle.std.proofs.Common.{◌≡◌, ◌≤◌, ◌∙◌, get_or, arith}
 use Rattle.std.proofs.lemmas.List.{get_or_read}
 use Rattle.pd_level.proofs.Kept.{none_read, keep_one, pass_one, all_read}
@@ -22,12 +22,18 @@ pub loop-i-preserved : goal.loop-i-preserved
 loop-i-preserved c =
     elim c.if-marks-i.branch [
       | then-marks-i w ↦
-          let read : w.index.result.now ≡ get_or c.loop-i.keys.items c.loop-i.i 0 = get_or_read c.loop-i.keys.items c.loop-i.i w.index.result.now (omega (arith, c.loop-i.invariant.same, c.requires)) w.index.ensures 0 in
-          rw (w.keys-is, w.kept-is, read) (keep_one c.args.wanted c.args.marks.now c.args.keys.now.items c.loop-i.keys.items c.loop-i.i c.loop-i.kept c.requires c.loop-i-test.true w.if-marks-i.true c.loop-i.invariant)
+          let read : w.index.result.now ≡ get_or c.loop-i.keys.items c.loop-i.i 0 =
+          get_or_read c.loop-i.keys.items c.loop-i.i w.index.result.now
+          (omega (arith, c.loop-i.invariant.same, c.requires)) w.index.ensures 0 in
+          rw (w.keys-is, w.kept-is, read) (keep_one c.args.wanted c.args.marks.now c.args.keys.now.items
+          c.loop-i.keys.items c.loop-i.i c.loop-i.kept c.requires c.loop-i-test.true w.if-marks-i.true
+          c.loop-i.invariant)
       | else-marks-i w ↦
-          rw (w.keys-is, w.kept-is) (pass_one c.args.wanted c.args.marks.now c.args.keys.now.items c.loop-i.keys.items c.loop-i.i c.loop-i.kept c.requires c.loop-i-test.true w.if-marks-i.false c.loop-i.invariant)
+          rw (w.keys-is, w.kept-is) (pass_one c.args.wanted c.args.marks.now c.args.keys.now.items c.loop-i.keys.items
+          c.loop-i.i c.loop-i.kept c.requires c.loop-i-test.true w.if-marks-i.false c.loop-i.invariant)
     ]
 
 pub returns : goal.returns
 returns c =
-    c.truncate.ensures.items ∙ all_read c.args.wanted c.args.marks.now c.args.keys.now.items c.loop-i.keys.items c.loop-i.i c.loop-i.kept c.loop-i-test.false c.loop-i.invariant
+    c.truncate.ensures.items ∙ all_read c.args.wanted c.args.marks.now c.args.keys.now.items c.loop-i.keys.items
+    c.loop-i.i c.loop-i.kept c.loop-i-test.false c.loop-i.invariant

@@ -6,14 +6,21 @@ use Rattle.pd_level.proofs.step.more_by_any.Goals as goal
 
 pub loop-p-init : goal.loop-p-init
 loop-p-init c =
-    first_one c.args.computation.now.events c.args.keys.now c.in_ok-more.more.items c.in_ok-more.ensures.ascending c.in_ok-more.ensures.just
+    first_one c.args.computation.now.events c.args.keys.now c.in_ok-more.more.items c.in_ok-more.ensures.ascending
+    c.in_ok-more.ensures.just
 
 pub loop-p-preserved : goal.loop-p-preserved
 loop-p-preserved c =
-    let just : (x : ℕ) → Contains c.in_ok-more-2.more.items x ↔ (Contains c.loop-p.more.items x ⊎ Contains c.in_ok-by_one.by_one.items x) = rw (← c.deref.ensures.value, ← c.deref-in-loop-p.ensures.value) c.in_ok-more-2.ensures.just in
-    up_to_more c.args.computation.now.events c.args.keys.now c.loop-p.p c.loop-p.more.items c.in_ok-by_one.by_one.items c.in_ok-more-2.more.items c.loop-p.invariant c.in_ok-by_one.ensures.just c.in_ok-more-2.ensures.ascending just
+    let just : (x : ℕ) → Contains c.in_ok-more-2.more.items x
+    ↔ (Contains c.loop-p.more.items x ⊎ Contains c.in_ok-by_one.by_one.items x) =
+    rw (← c.deref.ensures.value, ← c.deref-in-loop-p.ensures.value) c.in_ok-more-2.ensures.just in
+    up_to_more c.args.computation.now.events c.args.keys.now c.loop-p.p c.loop-p.more.items c.in_ok-by_one.by_one.items
+    c.in_ok-more-2.more.items c.loop-p.invariant c.in_ok-by_one.ensures.just c.in_ok-more-2.ensures.ascending just
 
 pub returns-clause-just : goal.returns-clause-just
 returns-clause-just c =
-    let all : c.loop-p.p ≡ length c.args.computation.now.events = omega (arith, c.processes-p-end.ensures, c.limits.ensures.some) in
-    λ x. subst (λ (n : ℕ). Contains c.loop-p.more.items x ↔ ((q : ℕ) × (q < n) × IsMoreBy c.args.computation.now.events c.args.keys.now q x)) all (c.loop-p.invariant.just x)
+    let all : c.loop-p.p ≡ length c.args.computation.now.events =
+    omega (arith, c.processes-p-end.ensures, c.limits.ensures.some) in
+    λ x. subst (λ (n : ℕ). Contains c.loop-p.more.items x
+    ↔ ((q : ℕ) × (q < n) × IsMoreBy c.args.computation.now.events c.args.keys.now q x)) all
+    (c.loop-p.invariant.just x)

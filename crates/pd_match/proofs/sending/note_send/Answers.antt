@@ -1,5 +1,5 @@
 use Rattle.std.proofs.Common.{◌≡◌, ◌∙◌, sym, subst, Some}
-use Rattle.pd_events.specs.Views.{computation_of, kind_seen}
+use Rattle.pd_events.specs.Views.{computation_view, kind_view}
 use Rattle.pd_model.specs.Events.{Send, kind_at}
 use Rattle.pd_model.specs.Messages.{SendTwice, IsReported}
 use Rattle.pd_match.specs.Noted.{event_place, place_noted}
@@ -10,25 +10,35 @@ use Rattle.pd_match.proofs.sending.note_send.Goals as goal
 
 pub returns-then-branch-clause-fault : goal.returns-then-branch-clause-fault
 returns-then-branch-clause-fault g c =
-    let all = computation_of c.args.traces.now in
+    let all = computation_view c.args.traces.now in
     let id = c.as_str.result.now in
-    let is : kind_at all (event_place c.args.p c.args.n) ≡ Some (Send id) = sends_here c.args.traces.now c.args.p c.args.n c.index-traces-p.result c.index.result.now c.requires.process c.index-traces-p.is c.requires.event c.index.ensures c.in-Send.id id c.in-Send.is c.as_str.ensures.value in
-    subst (λ f. IsReported all (SendTwice f)) (sym c.of_event-here.ensures) (sent_twice all (event_place c.args.p c.args.n) (place_noted c.args.sends.now) id c.requires.before is (sym c.in_ok-note.ensures.before ∙ c.if-branch.true))
+    let is : kind_at all (event_place c.args.p c.args.n) ≡ Some (Send id) =
+    sends_here c.args.traces.now c.args.p c.args.n c.index-traces-p.result c.index.result.now c.requires.process
+    c.index-traces-p.is c.requires.event c.index.ensures c.in-Send.id id c.in-Send.is c.as_str.ensures.value in
+    subst (λ f. IsReported all (SendTwice f)) (sym c.of_event-here.ensures)
+    (sent_twice all (event_place c.args.p c.args.n) (place_noted c.args.sends.now) id c.requires.before is
+    (sym c.in_ok-note.ensures.before ∙ c.if-branch.true))
 
 pub returns-else-branch-clause-noted : goal.returns-else-branch-clause-noted
 returns-else-branch-clause-noted g c =
-    let all = computation_of c.args.traces.now in
+    let all = computation_view c.args.traces.now in
     let id = c.as_str.result.now in
-    let is : kind_at all (event_place c.args.p c.args.n) ≡ Some (Send id) = sends_here c.args.traces.now c.args.p c.args.n c.index-traces-p.result c.index.result.now c.requires.process c.index-traces-p.is c.requires.event c.index.ensures c.in-Send.id id c.in-Send.is c.as_str.ensures.value in
+    let is : kind_at all (event_place c.args.p c.args.n) ≡ Some (Send id) =
+    sends_here c.args.traces.now c.args.p c.args.n c.index-traces-p.result c.index.result.now c.requires.process
+    c.index-traces-p.is c.requires.event c.index.ensures c.in-Send.id id c.in-Send.is c.as_str.ensures.value in
     noted_more Send all c.args.p c.args.n (place_noted c.args.sends.now) (place_noted c.note.new.places) id same_send is
     (none_from_test (place_noted c.args.sends.now id) (sym c.in_ok-note.ensures.before ∙ c.if-branch.false))
     (λ other. rw (sym c.of_event-here.ensures) (c.in_ok-note.ensures.noted other)) c.requires.before
 
 pub returns-in_default : goal.returns-in_default
 returns-in_default g c =
-    let all = computation_of c.args.traces.now in
-    let is : kind_at all (event_place c.args.p c.args.n) ≡ Some (kind_seen c.index.result.now.kind) = kind_here c.args.traces.now c.args.p c.args.n c.index-traces-p.result c.index.result.now c.requires.process c.index-traces-p.is c.requires.event c.index.ensures in
+    let all = computation_view c.args.traces.now in
+    let is : kind_at all (event_place c.args.p c.args.n) ≡ Some (kind_view c.index.result.now.kind) =
+    kind_here c.args.traces.now c.args.p c.args.n c.index-traces-p.result c.index.result.now c.requires.process
+    c.index-traces-p.is c.requires.event c.index.ensures in
     record {
-      noted = noted_other Send all c.args.p c.args.n (place_noted c.args.sends.now) (λ id. kind_is_not_send c.index.result.now.kind all (event_place c.args.p c.args.n) is id c.in_default.not-Send) c.requires.before;
+      noted = noted_other Send all c.args.p c.args.n (place_noted c.args.sends.now)
+          (λ id. kind_is_not_send c.index.result.now.kind all (event_place c.args.p c.args.n) is id
+          c.in_default.not-Send) c.requires.before;
       fault = tt;
     }

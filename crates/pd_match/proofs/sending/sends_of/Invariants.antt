@@ -1,7 +1,7 @@
-use Rattle.pd_events.specs.Views.{computation_of}
+use Rattle.pd_events.specs.Views.{computation_view}
 use Rattle.pd_match.specs.Noted.{HasBefore, event_place, place_noted}
 use Rattle.pd_model.specs.Events.{Send}
 use Rattle.pd_match.proofs.sending.sends_of.Given as goal
 
 abbrev pub invariant-loop-p : goal.invariant-loop-p
-invariant-loop-p g l = HasBefore Send (computation_of l.traces) (event_place l.p 0) (place_noted l.sends)
+invariant-loop-p g l = HasBefore Send (computation_view l.traces) (event_place l.p 0) (place_noted l.sends)

@@ -8,25 +8,31 @@ use Rattle.pd_model.specs.Events.{Computation}
 use Rattle.pd_model.specs.Predicates.{test_of}
 use Rattle.pd_model.specs.Walks.{NoneBelow}
 use Rattle.pd_level.specs.Levels.{Levelled}
-use Rattle.pd_pred.specs.Views.{predicate_of}
+use Rattle.pd_pred.specs.Views.{predicate_view}
 use Rattle.pd_possibly.specs.Answers.{IsFirstIn}
 use Rattle.pd_possibly.proofs.walk.possibly.Goals as goal
 
 -- one level more with no satisfying cut
-none_more : (c : Computation) (test : List ℕ → Bool) (k : ℕ) (cuts : List (List ℕ)) → IsListOf (IsOfLevel c k) cuts → NoneBelow c test k → All (λ x. test x ≡ false) cuts → NoneBelow c test (k + 1)
+none_more : (c : Computation) (test : List ℕ → Bool) (k : ℕ) (cuts : List (List ℕ)) → IsListOf (IsOfLevel c k) cuts
+    → NoneBelow c test k → All (λ x. test x ≡ false) cuts → NoneBelow c test (k + 1)
 none_more c test k cuts list none fails j cut lt level =
-    below_more (λ i. IsOfLevel c i cut → test cut ≡ false) k (λ i h. none i cut h) (λ at. All-contains (λ x. test x ≡ false) cuts cut fails ((list.just cut).1 at)) j lt level
+    below_more (λ i. IsOfLevel c i cut → test cut ≡ false) k (λ i h. none i cut h)
+    (λ at. All-contains (λ x. test x ≡ false) cuts cut fails ((list.just cut).1 at)) j lt level
 
 -- the cuts of a level are consistent
-consistent_cuts : (c : Computation) (k : ℕ) (cuts : List (List ℕ)) → IsListOf (IsOfLevel c k) cuts → All (IsConsistent c) cuts
-consistent_cuts c k cuts list i d lt = ((list.just (get_or cuts i d)).0 (i, lt, get_or_default cuts i (get_or cuts i d) d lt)).0
+consistent_cuts : (c : Computation) (k : ℕ) (cuts : List (List ℕ)) → IsListOf (IsOfLevel c k) cuts
+    → All (IsConsistent c) cuts
+consistent_cuts c k cuts list i d lt =
+    ((list.just (get_or cuts i d)).0 (i, lt, get_or_default cuts i (get_or cuts i d) d lt)).0
 
 pub loop-k-init : goal.loop-k-init
 loop-k-init g c =
-    let e : c.in_ok-level.level.cuts ≡ empty_cut c.args.computation.now.events ∷ [] = ap (λ (l : Levelled). l.cuts) c.in_ok-level.ensures in
+    let e : c.in_ok-level.level.cuts ≡ empty_cut c.args.computation.now.events ∷ [] =
+    ap (λ (l : Levelled). l.cuts) c.in_ok-level.ensures in
     let one : length c.in_ok-level.level.cuts ≡ 1 = ap length e in
     record {
-      list = subst (λ (cuts : List (List ℕ)). IsListOf (IsOfLevel c.args.computation.now.events 0) cuts) (sym e) (c.levels.ensures.first c.args.computation.now.events);
+      list = subst (λ (cuts : List (List ℕ)). IsListOf (IsOfLevel c.args.computation.now.events 0) cuts) (sym e)
+          (c.levels.ensures.first c.args.computation.now.events);
       narrow = omega arith;
       below = λ j lt. absurd (omega arith);
       none = λ j cut lt. absurd (omega arith);
@@ -42,28 +48,46 @@ next-requires-clause-cuts g c =
 
 pub returns-in-Some : goal.returns-in-Some
 returns-in-Some g c =
-    let w : IsFirstIn (test_of c.args.computation.now (predicate_of c.args.pred.now)) c.loop-k.level.cuts c.in-Some.cut = rw c.in-Some.is at c.first_satisfying.ensures.found in
-    subst (λ (x : List ℕ). IsPossiblyAnswer c.args.computation.now.events (test_of c.args.computation.now (predicate_of c.args.pred.now)) c.args.width (PossiblyYes x)) w.2 (c.possibly_walk.ensures.found c.args.computation.now.events (test_of c.args.computation.now (predicate_of c.args.pred.now)) c.args.width c.loop-k.k c.loop-k.invariant.below c.loop-k.invariant.none c.loop-k.level.cuts c.loop-k.invariant.list c.loop-k.invariant.narrow w.0 w.1 (ap (test_of c.args.computation.now (predicate_of c.args.pred.now)) w.2 ∙ w.3) w.4)
+    let w : IsFirstIn (test_of c.args.computation.now (predicate_view c.args.pred.now)) c.loop-k.level.cuts
+    c.in-Some.cut = rw c.in-Some.is at c.first_satisfying.ensures.found in
+    subst (λ (x : List ℕ). IsPossiblyAnswer c.args.computation.now.events
+    (test_of c.args.computation.now (predicate_view c.args.pred.now)) c.args.width (PossiblyYes x)) w.2
+    (c.possibly_walk.ensures.found c.args.computation.now.events
+    (test_of c.args.computation.now (predicate_view c.args.pred.now)) c.args.width c.loop-k.k
+    c.loop-k.invariant.below c.loop-k.invariant.none c.loop-k.level.cuts c.loop-k.invariant.list
+    c.loop-k.invariant.narrow w.0 w.1 (ap (test_of c.args.computation.now (predicate_view c.args.pred.now)) w.2
+    ∙ w.3) w.4)
 
 pub returns-in-Err-Wide : goal.returns-in-Err-Wide
 returns-in-Err-Wide g c =
     let fails = rw c.in-None.is at c.first_satisfying.ensures.none in
     record {
-      wide = c.possibly_walk.ensures.wide c.args.computation.now.events c.requires.acyclic c.args.width c.loop-k.k c.loop-k.level.cuts c.loop-k.invariant.list (c.in-Err-Wide.ensures.wide (ap Err c.in-Err-Wide.field-0-is));
-      least = below_more (λ (j : ℕ). ¬ MoreThan c.args.width (IsOfLevel c.args.computation.now.events j)) c.loop-k.k c.loop-k.invariant.below (c.possibly_walk.ensures.short c.args.computation.now.events c.args.width c.loop-k.k c.loop-k.level.cuts c.loop-k.invariant.list c.loop-k.invariant.narrow);
-      none_below = none_more c.args.computation.now.events (test_of c.args.computation.now (predicate_of c.args.pred.now)) c.loop-k.k c.loop-k.level.cuts c.loop-k.invariant.list c.loop-k.invariant.none fails;
+      wide = c.possibly_walk.ensures.wide c.args.computation.now.events c.requires.acyclic c.args.width c.loop-k.k
+          c.loop-k.level.cuts c.loop-k.invariant.list (c.in-Err-Wide.ensures.wide (ap Err c.in-Err-Wide.field-0-is));
+      least = below_more (λ (j : ℕ). ¬ MoreThan c.args.width (IsOfLevel c.args.computation.now.events j)) c.loop-k.k
+          c.loop-k.invariant.below (c.possibly_walk.ensures.short c.args.computation.now.events c.args.width c.loop-k.k
+          c.loop-k.level.cuts c.loop-k.invariant.list c.loop-k.invariant.narrow);
+      none_below =
+          none_more c.args.computation.now.events (test_of c.args.computation.now (predicate_view c.args.pred.now))
+          c.loop-k.k c.loop-k.level.cuts c.loop-k.invariant.list c.loop-k.invariant.none fails;
     }
 
 pub loop-k-preserved : goal.loop-k-preserved
 loop-k-preserved g c =
     let fails = rw c.in-None.is at c.first_satisfying.ensures.none in
     record {
-      list = c.levels.ensures.next c.args.computation.now.events c.requires.acyclic c.loop-k.k c.loop-k.level.cuts c.in-Ok.next.cuts c.loop-k.invariant.list c.in-Ok.ensures.list;
+      list = c.levels.ensures.next c.args.computation.now.events c.requires.acyclic c.loop-k.k c.loop-k.level.cuts
+          c.in-Ok.next.cuts c.loop-k.invariant.list c.in-Ok.ensures.list;
       narrow = c.in-Ok.ensures.narrow;
-      below = below_more (λ (j : ℕ). ¬ MoreThan c.args.width (IsOfLevel c.args.computation.now.events j)) c.loop-k.k c.loop-k.invariant.below (c.possibly_walk.ensures.short c.args.computation.now.events c.args.width c.loop-k.k c.loop-k.level.cuts c.loop-k.invariant.list c.loop-k.invariant.narrow);
-      none = none_more c.args.computation.now.events (test_of c.args.computation.now (predicate_of c.args.pred.now)) c.loop-k.k c.loop-k.level.cuts c.loop-k.invariant.list c.loop-k.invariant.none fails;
+      below = below_more (λ (j : ℕ). ¬ MoreThan c.args.width (IsOfLevel c.args.computation.now.events j)) c.loop-k.k
+          c.loop-k.invariant.below (c.possibly_walk.ensures.short c.args.computation.now.events c.args.width c.loop-k.k
+          c.loop-k.level.cuts c.loop-k.invariant.list c.loop-k.invariant.narrow);
+      none = none_more c.args.computation.now.events (test_of c.args.computation.now (predicate_view c.args.pred.now))
+          c.loop-k.k c.loop-k.level.cuts c.loop-k.invariant.list c.loop-k.invariant.none fails;
     }
 
 pub returns : goal.returns
 returns g c =
-    c.possibly_walk.ensures.none c.args.computation.now.events (test_of c.args.computation.now (predicate_of c.args.pred.now)) c.args.width c.loop-k.k c.loop-k.invariant.below c.loop-k.invariant.none (omega (arith, c.total-total.ensures.sum))
+    c.possibly_walk.ensures.none c.args.computation.now.events
+    (test_of c.args.computation.now (predicate_view c.args.pred.now)) c.args.width c.loop-k.k
+    c.loop-k.invariant.below c.loop-k.invariant.none (omega (arith, c.total-total.ensures.sum))

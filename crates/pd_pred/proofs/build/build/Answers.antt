@@ -13,4 +13,5 @@ disjunction-requires-clause-readable c = record {
 
 pub returns : goal.returns
 returns c =
-    whole_is_read c.args.names.now c.args.tokens.now c.in_ok-tree._rest.now (tree_of c.in_ok-tree.tree) c.requires.walked c.in_ok-tree.ensures.read c.in_ok-tree.ensures.stops_at_and c.in_ok-tree.ensures.stops_at_or
+    whole_is_read c.args.names.now c.args.tokens.now c.in_ok-tree._rest.now (tree_of c.in_ok-tree.tree)
+    c.requires.walked c.in_ok-tree.ensures.read c.in_ok-tree.ensures.stops_at_and c.in_ok-tree.ensures.stops_at_or

@@ -5,4 +5,6 @@ use Rattle.pd_pred.specs.Trees.{terms_of, sum_of}
 use Rattle.pd_pred.proofs.evaluate.sum_value.Given as goal
 
 abbrev pub invariant-loop-term : goal.invariant-loop-term
-invariant-loop-term g l = (l.total +ℤ model.sum_value (g.V.Values.state l.values) (terms_of (drop l.term-index l.term-items)) ≡ model.sum_value (g.V.Values.state l.values) (sum_of l.sum)) × (unsigned_abs l.total ≤ l.term-index * 2 ^ 95)
+invariant-loop-term g l =
+    (l.total +ℤ model.sum_value (g.V.Values.state l.values) (terms_of (drop l.term-index l.term-items))
+    ≡ model.sum_value (g.V.Values.state l.values) (sum_of l.sum)) × (unsigned_abs l.total ≤ l.term-index * 2 ^ 95)

@@ -7,4 +7,7 @@ pub split_at-requires : goal.split_at-requires
 split_at-requires c = rw c.word_len.ensures (run_boundary is_in_word word_ascii c.args.text.now c.utf8.text)
 
 pub returns : goal.returns
-returns c = word_is_first c.args.text.now c.split_at.result.0.now c.split_at.result.1.now c.requires (c.split_at.ensures.front ∙ ap (λ n. take n c.args.text.now) c.word_len.ensures) (c.split_at.ensures.back ∙ ap (λ n. drop n c.args.text.now) c.word_len.ensures)
+returns c =
+    word_is_first c.args.text.now c.split_at.result.0.now c.split_at.result.1.now c.requires (c.split_at.ensures.front
+    ∙ ap (λ n. take n c.args.text.now) c.word_len.ensures) (c.split_at.ensures.back
+    ∙ ap (λ n. drop n c.args.text.now) c.word_len.ensures)

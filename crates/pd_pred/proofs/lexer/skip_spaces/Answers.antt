@@ -7,4 +7,6 @@ pub range_from-requires : goal.range_from-requires
 range_from-requires c = λ above. rw c.spaces_len.ensures (run_boundary is_space space_ascii c.args.text.now c.utf8.text)
 
 pub returns : goal.returns
-returns c = skips_spaces c.args.text.now c.range_from.result.now (c.range_from.ensures.value ∙ ap (λ n. drop n c.args.text.now) c.spaces_len.ensures)
+returns c =
+    skips_spaces c.args.text.now c.range_from.result.now (c.range_from.ensures.value
+    ∙ ap (λ n. drop n c.args.text.now) c.spaces_len.ensures)

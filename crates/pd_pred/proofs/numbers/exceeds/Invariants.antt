@@ -3,4 +3,5 @@ use Rattle.pd_format.specs.Tokens.{number_from}
 use Rattle.pd_pred.proofs.numbers.exceeds.Given as goal
 
 abbrev pub invariant-loop-digit : goal.invariant-loop-digit
-invariant-loop-digit l = (number_from l.number (drop l.digit-index l.digit-items) ≡ number_from 0 l.digits) × (l.number ≤ l.limit)
+invariant-loop-digit l = (number_from l.number (drop l.digit-index l.digit-items) ≡ number_from 0 l.digits)
+    × (l.number ≤ l.limit)

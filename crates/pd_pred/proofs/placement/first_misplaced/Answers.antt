@@ -14,7 +14,9 @@ pub returns-in-Err-clause-misplaced : goal.returns-in-Err-clause-misplaced
 returns-in-Err-clause-misplaced c =
     let walked = c.prefixes_are_walked.ensures in
     let heights = c.depths_are_heights.ensures in
-    first_fault walked.exact walked.go_on heights.exact heights.go_on c.args.names.now (position_of c.loop-placed.place) c.args.tokens.now c.loop-placed.placed-index _ c.in-Err.kind c.loop-placed-test.true c.loop-placed.invariant.sound c.in-Err.ensures.err
+    first_fault walked.exact walked.go_on heights.exact heights.go_on c.args.names.now (position_of c.loop-placed.place)
+    c.args.tokens.now c.loop-placed.placed-index _ c.in-Err.kind c.loop-placed-test.true
+    c.loop-placed.invariant.sound c.in-Err.ensures.err
 
 pub loop-placed-preserved : goal.loop-placed-preserved
 loop-placed-preserved c =
@@ -24,6 +26,8 @@ loop-placed-preserved c =
     let few = c.in_default.ensures.few in
     let earlier = c.loop-placed.invariant.few in
     record {
-      sound = sound_next walked.exact walked.go_on heights.exact heights.go_on c.args.names.now (position_of c.loop-placed.place) (position_of c.read.new.self) c.args.tokens.now c.loop-placed.placed-index _ c.loop-placed-test.true c.loop-placed.invariant.sound steps;
+      sound = sound_next walked.exact walked.go_on heights.exact heights.go_on c.args.names.now
+          (position_of c.loop-placed.place) (position_of c.read.new.self) c.args.tokens.now c.loop-placed.placed-index _
+          c.loop-placed-test.true c.loop-placed.invariant.sound steps;
       few = omega arith;
     }

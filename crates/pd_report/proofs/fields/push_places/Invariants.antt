@@ -5,4 +5,5 @@ use Rattle.pd_report.proofs.fields.push_places.Given as goal
 
 abbrev pub invariant-loop-name : goal.invariant-loop-name
 invariant-loop-name l =
-    l.out.items ≡ l.initial.out.items ++ flat_map (λ place. 44 ∷ (string_bytes place.0 ++ (codes "#" ++ decimal place.1))) (take l.name-index l.others)
+    l.out.items ≡ l.initial.out.items ++ flat_map (λ place.
+    44 ∷ (string_bytes place.0 ++ (codes "#" ++ decimal place.1))) (take l.name-index l.others)

@@ -4,10 +4,14 @@ use Rattle.std.proofs.lemmas.List.{length-map}
 use Rattle.std.proofs.lemmas.Result.{IfOk-weaker}
 use Rattle.pd_format.specs.Reports.{PlaceIsLawful, place_text}
 use Rattle.pd_format.proofs.OneReport.{places_lack}
-use Rattle.pd_report.specs.Reading.{seen}
-use Rattle.pd_report.specs.Views.{places_of}
+use Rattle.pd_report.specs.Reading.{slices_view}
+use Rattle.pd_report.specs.Views.{named_places_view}
 use Rattle.pd_report.proofs.Lists.{tells_listed}
 use Rattle.pd_report.proofs.listed.places.Goals as goal
 
 pub returns : goal.returns
-returns c = IfOk-weaker c.all_places.result _ _ (tells_listed (λ found. (places_of found.items)) (map place_text) (AllByRecursion PlaceIsLawful) (λ ps. length-map ps place_text) places_lack c.args.word.now (seen c.deref.result.now) (ap seen c.deref.ensures.value ∙ c.in_ok-pieces.ensures)) c.all_places.ensures
+returns c =
+    IfOk-weaker c.all_places.result _ _ (tells_listed (λ found. (named_places_view found.items)) (map place_text)
+    (AllByRecursion PlaceIsLawful) (λ ps. length-map ps place_text) places_lack c.args.word.now
+    (slices_view c.deref.result.now) (ap slices_view c.deref.ensures.value ∙ c.in_ok-pieces.ensures))
+    c.all_places.ensures

@@ -4,8 +4,10 @@ use Rattle.pd_format.proofs.OneReport.{stream_word}
 use Rattle.pd_report.proofs.refusal_line.stream_fault.Goals as goal
 
 pub word_text-requires : goal.word_text-requires
-word_text-requires c = stream_word c.in-Some-single.word.now (sym c.is_stream_word.ensures ∙ c.if-not-is_stream_word.false)
+word_text-requires c =
+    stream_word c.in-Some-single.word.now (sym c.is_stream_word.ensures ∙ c.if-not-is_stream_word.false)
 
 pub returns-in_default-counted : goal.returns-in_default-counted
 returns-in_default-counted c = λ v h e.
-    c.in_default-counted.ensures v.1 (v.2 ∷ []) h.1 (tail_is _ _ _ _ (sym c.in-Some-after.ensures ∙ tail_is _ _ _ _ (sym c.in-Some.ensures.1 ∙ e)))
+    c.in_default-counted.ensures v.1 (v.2 ∷ []) h.1
+    (tail_is _ _ _ _ (sym c.in-Some-after.ensures ∙ tail_is _ _ _ _ (sym c.in-Some.ensures.1 ∙ e)))

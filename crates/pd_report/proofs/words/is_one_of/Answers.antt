@@ -7,5 +7,6 @@ use Rattle.pd_report.proofs.words.is_one_of.Goals as goal
 
 pub returns : goal.returns
 returns c =
-    any_from_yields_List (λ text. bytes_eq c.args.word.now text.now) _ _ _ c.any.ensures.ran (YieldsList-from_slice c.args.texts.now c.iter.ensures.rest) (λ x b q k. search (rules, tests))
+    any_from_yields_List (λ text. bytes_eq c.args.word.now text.now) _ _ _ c.any.ensures.ran
+    (YieldsList-from_slice c.args.texts.now c.iter.ensures.rest) (λ x b q k. search (rules, tests))
     ∙ any_map (λ text. bytes_eq c.args.word.now text) (λ text. text.now) c.args.texts.now

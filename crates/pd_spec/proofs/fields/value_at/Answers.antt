@@ -4,4 +4,6 @@ use Rattle.serde_json.proofs.Views.{view_of_ref, view-lookup}
 use Rattle.pd_spec.proofs.fields.value_at.Goals as goal
 
 pub returns : goal.returns
-returns c = view_of_ref c.get.result ∙ (ap (λ found. option_map view found) c.get.ensures.value ∙ view-lookup c.args.name.now c.args.fields.now.entries)
+returns c =
+    view_of_ref c.get.result ∙ (ap (λ found. option_map view found) c.get.ensures.value
+    ∙ view-lookup c.args.name.now c.args.fields.now.entries)

@@ -9,5 +9,9 @@ pub returns-in-Err-clause-err : goal.returns-in-Err-clause-err
 returns-in-Err-clause-err c =
     elim c.fault_of.ensures.json [
       | inl memory ↦ inl memory
-      | inr other ↦ inr (other.0, json_value-none _ (c.in-Err.ensures.err (λ memory. other.1 (c.classify.ensures.memory.1 memory))))
+      | inr other ↦ inr (
+        other.0,
+        json_value-none _
+            (c.in-Err.ensures.err (λ memory. other.1 (c.classify.ensures.memory.1 memory))),
+      )
     ]

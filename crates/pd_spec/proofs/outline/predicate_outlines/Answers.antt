@@ -1,18 +1,25 @@
 use Rattle.std.proofs.Common.{sym, ◌∙◌, arith, inr, refl}
 use Rattle.serde_json.specs.View.{items_view}
 use Rattle.pd_format.specs.Documents.{each}
-use Rattle.pd_spec.specs.Outlines.{predicate_in, predicate_seen}
+use Rattle.pd_spec.specs.Outlines.{predicate_in, predicate_outline_view}
 use Rattle.pd_spec.proofs.Each.{onto_nothing, each_more, each_none}
 use Rattle.pd_spec.proofs.outline.predicate_outlines.Goals as goal
 
 pub loop-item-init : goal.loop-item-init
-loop-item-init c = rw c.new-predicates.ensures.items (sym (onto_nothing (each predicate_in (items_view c.args.items.now))))
+loop-item-init c =
+    rw c.new-predicates.ensures.items (sym (onto_nothing (each predicate_in (items_view c.args.items.now))))
 
 pub loop-item-preserved : goal.loop-item-preserved
 loop-item-preserved c =
     c.loop-item.invariant
-    ∙ each_more predicate_in predicate_seen c.args.items.now c.loop-item.item-index c.item-item.result c.loop-item.predicates.items _ c.in-Some.predicate (omega arith) c.item-item.is c.in-Some.ensures c.in_ok-push-in-Some.ensures.items
+    ∙ each_more predicate_in predicate_outline_view c.args.items.now c.loop-item.item-index c.item-item.result
+    c.loop-item.predicates.items _ c.in-Some.predicate (omega arith) c.item-item.is c.in-Some.ensures
+    c.in_ok-push-in-Some.ensures.items
 
 pub returns-in-None-clause-err : goal.returns-in-None-clause-err
 returns-in-None-clause-err c =
-    inr (refl, c.loop-item.invariant ∙ each_none predicate_in c.args.items.now c.loop-item.item-index c.item-item.result _ (omega arith) c.item-item.is c.in-None.ensures)
+    inr (
+      refl,
+      c.loop-item.invariant ∙ each_none predicate_in c.args.items.now c.loop-item.item-index c.item-item.result
+          _ (omega arith) c.item-item.is c.in-None.ensures,
+    )

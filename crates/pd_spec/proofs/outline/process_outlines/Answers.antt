@@ -1,7 +1,7 @@
 use Rattle.std.proofs.Common.{sym, ◌∙◌, arith, inr, refl}
 use Rattle.serde_json.specs.View.{items_view}
 use Rattle.pd_format.specs.Documents.{each}
-use Rattle.pd_spec.specs.Outlines.{process_in, process_seen}
+use Rattle.pd_spec.specs.Outlines.{process_in, process_view}
 use Rattle.pd_spec.proofs.Each.{onto_nothing, each_more, each_none}
 use Rattle.pd_spec.proofs.outline.process_outlines.Goals as goal
 
@@ -11,8 +11,14 @@ loop-item-init c = rw c.new-processes.ensures.items (sym (onto_nothing (each pro
 pub loop-item-preserved : goal.loop-item-preserved
 loop-item-preserved c =
     c.loop-item.invariant
-    ∙ each_more process_in process_seen c.args.items.now c.loop-item.item-index c.item-item.result c.loop-item.processes.items _ c.in-Some.process (omega arith) c.item-item.is c.in-Some.ensures c.in_ok-push-in-Some.ensures.items
+    ∙ each_more process_in process_view c.args.items.now c.loop-item.item-index c.item-item.result
+    c.loop-item.processes.items _ c.in-Some.process (omega arith) c.item-item.is c.in-Some.ensures
+    c.in_ok-push-in-Some.ensures.items
 
 pub returns-in-None-clause-err : goal.returns-in-None-clause-err
 returns-in-None-clause-err c =
-    inr (refl, c.loop-item.invariant ∙ each_none process_in c.args.items.now c.loop-item.item-index c.item-item.result _ (omega arith) c.item-item.is c.in-None.ensures)
+    inr (
+      refl,
+      c.loop-item.invariant ∙ each_none process_in c.args.items.now c.loop-item.item-index c.item-item.result _
+          (omega arith) c.item-item.is c.in-None.ensures,
+    )

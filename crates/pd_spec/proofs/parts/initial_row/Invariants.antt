@@ -6,4 +6,5 @@ use Rattle.pd_spec.specs.Outlines.{initial_value}
 use Rattle.pd_spec.proofs.parts.initial_row.Given as goal
 
 abbrev pub invariant-loop-value : goal.invariant-loop-value
-invariant-loop-value l = l.row.items ++ map (λ (value : Value). initial_value (view value)) l.value-iterator ≡ map (λ (value : Value). initial_value (view value)) (values l.vars)
+invariant-loop-value l = l.row.items ++ map (λ (value : Value). initial_value (view value)) l.value-iterator
+    ≡ map (λ (value : Value). initial_value (view value)) (values l.vars)

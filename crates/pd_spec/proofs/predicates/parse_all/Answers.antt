@@ -6,18 +6,27 @@ use Rattle.pd_spec.proofs.PredicateFaults.{fault_at, all_more}
 use Rattle.pd_spec.proofs.predicates.parse_all.Goals as goal
 
 abbrev at_place : List PredicateOutline → ℕ → PredicateOutline
-at_place predicates i = get_or predicates i (record { name = record { ref_ptr = (0, 0); now = [] }; text = record { ref_ptr = (0, 0); now = [] } })
+at_place predicates i =
+    get_or predicates i (record {
+      name = record { ref_ptr = (0, 0); now = [] };
+      text =
+          record { ref_ptr = (0, 0); now = [] };
+    })
 
 pub returns-in_err-parse-clause-err : goal.returns-in_err-parse-clause-err
 returns-in_err-parse-clause-err c =
     let p = err_from_is_err_and c.from_residual.result c.from_residual.ensures.1 in
     let one : PredicateOutline = at_place c.args.predicates.now c.loop-index.index in
     rw (p.1, p.2)
-    (fault_at c.args.names.now c.args.predicates.now c.loop-index.index one c.loop-index.parsed.items c.in_err-parse.field-0.0 c.loop-index-test.true
-    (get_or_default c.args.predicates.now c.loop-index.index _ one c.loop-index-test.true) c.loop-index.invariant c.in_err-parse.ensures.err)
+    (fault_at c.args.names.now c.args.predicates.now c.loop-index.index one c.loop-index.parsed.items
+    c.in_err-parse.field-0.0 c.loop-index-test.true
+    (get_or_default c.args.predicates.now c.loop-index.index _ one c.loop-index-test.true) c.loop-index.invariant
+    c.in_err-parse.ensures.err)
 
 pub loop-index-preserved : goal.loop-index-preserved
 loop-index-preserved c =
     let one : PredicateOutline = at_place c.args.predicates.now c.loop-index.index in
-    all_more c.args.names.now c.args.predicates.now c.loop-index.index one c.loop-index.parsed.items c.push.new.self.items c.in_ok-parse.field-0 c.loop-index-test.true
-    (get_or_default c.args.predicates.now c.loop-index.index _ one c.loop-index-test.true) c.loop-index.invariant c.in_ok-push.ensures.items c.in_ok-parse.ensures.ok
+    all_more c.args.names.now c.args.predicates.now c.loop-index.index one c.loop-index.parsed.items
+    c.push.new.self.items c.in_ok-parse.field-0 c.loop-index-test.true
+    (get_or_default c.args.predicates.now c.loop-index.index _ one c.loop-index-test.true) c.loop-index.invariant
+    c.in_ok-push.ensures.items c.in_ok-parse.ensures.ok

@@ -7,14 +7,20 @@ use Rattle.pd_spec.proofs.twice.has_twice.Goals as goal
 pub loop-text-preserved : goal.loop-text-preserved
 loop-text-preserved c =
     record {
-      same = same_more c.args.texts.now c.loop-text.text-index _ c.loop-text.seen.keys c.insert.new.self.keys c.loop-text-test.true c.loop-text.invariant.same c.in_ok-insert.ensures.keys;
+      same = same_more c.args.texts.now c.loop-text.text-index _ c.loop-text.seen.keys c.insert.new.self.keys
+          c.loop-text-test.true c.loop-text.invariant.same c.in_ok-insert.ensures.keys;
       once =
-          once_more c.args.texts.now c.loop-text.text-index _ c.loop-text.seen.keys c.loop-text-test.true c.loop-text.invariant.same c.loop-text.invariant.once (sym c.if-not-branch.false ∙ c.in_ok-insert.ensures.added);
+          once_more c.args.texts.now c.loop-text.text-index _ c.loop-text.seen.keys c.loop-text-test.true
+          c.loop-text.invariant.same c.loop-text.invariant.once (sym c.if-not-branch.false
+          ∙ c.in_ok-insert.ensures.added);
     }
 
 pub returns-then-not-branch : goal.returns-then-not-branch
 returns-then-not-branch c =
-    sym (twice_here c.args.texts.now c.loop-text.text-index _ c.loop-text.seen.keys c.loop-text-test.true c.loop-text.invariant.same (sym c.if-not-branch.true ∙ c.in_ok-insert.ensures.added))
+    sym (twice_here c.args.texts.now c.loop-text.text-index _ c.loop-text.seen.keys c.loop-text-test.true
+    c.loop-text.invariant.same (sym c.if-not-branch.true ∙ c.in_ok-insert.ensures.added))
 
 pub returns : goal.returns
-returns c = sym (ap (λ texts. has_twice (texts_of texts)) (sym (take_all c.loop-text.text-index c.args.texts.now c.loop-text-test.false)) ∙ c.loop-text.invariant.once)
+returns c =
+    sym (ap (λ texts. has_twice (texts_of texts))
+    (sym (take_all c.loop-text.text-index c.args.texts.now c.loop-text-test.false)) ∙ c.loop-text.invariant.once)

@@ -8,6 +8,7 @@ use Rattle.pd_spec.proofs.twice.has_twice.Given as goal
 abbrev pub invariant-loop-text : goal.invariant-loop-text
 invariant-loop-text l =
     record {
-      same : (q : List ℕ) → list_any (λ (key : Bor (List ℕ)). is_eq (slice_cmp nat_cmp q key.now)) l.seen.keys ≡ is_one_of (map (λ (text : Bor (List ℕ)). text.now) (take l.text-index l.texts)) q;
+      same : (q : List ℕ) → list_any (λ (key : Bor (List ℕ)). is_eq (slice_cmp nat_cmp q key.now)) l.seen.keys
+          ≡ is_one_of (map (λ (text : Bor (List ℕ)). text.now) (take l.text-index l.texts)) q;
       once : has_twice (map (λ (text : Bor (List ℕ)). text.now) (take l.text-index l.texts)) ≡ false;
     }

@@ -4,4 +4,5 @@ use Rattle.pd_frames.proofs.framer.Framer.feed.Goals as goal
 
 pub returns-then-is_some-clause-batch : goal.returns-then-is_some-clause-batch
 returns-then-is_some-clause-batch c = λ bytes s.
-    rw c.new.ensures.items (faulty_batch c.fault_stays.ensures _ bytes c.args.piece.now (rw (← c.self.view_is) at s) (search rules))
+    rw c.new.ensures.items (faulty_batch c.fault_stays.ensures _ bytes c.args.piece.now (rw (← c.self.view_is) at s)
+    (search rules))

@@ -8,19 +8,21 @@ use Rattle.pd_events.specs.Reads.{ReaderState}
 use Rattle.pd_events.specs.declared.event.Trace.{Trace}
 use Rattle.pd_events.specs.declared.fault.StreamFault.{StreamFault}
 use Rattle.std.specs.Prelude.{Result}
-use Rattle.pd_gather.proofs.Outcomes.{Gives, gives_push, outcomes_told, outcomes_each, outcomes_fit}
+use Rattle.pd_gather.proofs.Outcomes.{Gives, gives_push, outcomes_reported, outcomes_each, outcomes_fit}
 use Rattle.pd_gather.proofs.streams.Core.outcome.Goals as goal
 
 pub loop-reader-preserved : goal.loop-reader-preserved
 loop-reader-preserved c =
-    let pushed : c.push.new.self.items ≡ c.loop-reader.room.items ++ c.outcome.result ∷ [] = rw c.unwrap.ensures at c.push.ensures.items in
+    let pushed : c.push.new.self.items ≡ c.loop-reader.room.items ++ c.outcome.result ∷ [] =
+    rw c.unwrap.ensures at c.push.ensures.items in
     let more : vec_len c.push.new.self ≡ vec_len c.loop-reader.room + 1 = rw c.unwrap.ensures at c.push.ensures.len in
     record {
       can_go = tt;
       ends = tt;
       count = grind (arith, common_steps, c.loop-reader.invariant.count);
       spare = omega (arith, c.loop-reader.invariant.spare, c.push.ensures.capacity);
-      gives = rw pushed (gives_push c.loop-reader.yielded c.loop-reader.room.items c.in-Some.reader c.outcome.result c.loop-reader.invariant.gives (record { value = c.outcome.ensures.value; fits = c.outcome.ensures.fits }));
+      gives = rw pushed (gives_push c.loop-reader.yielded c.loop-reader.room.items c.in-Some.reader c.outcome.result
+          c.loop-reader.invariant.gives (record { value = c.outcome.ensures.value; fits = c.outcome.ensures.fits }));
     }
 
 map_same : {A : Type 0} (xs : List A) → map (λ x. x) xs ≡ xs
@@ -28,20 +30,38 @@ map_same [] = refl
 map_same (x ∷ xs) = ap (λ rest. x ∷ rest) (map_same xs)
 
 -- every reader has given its outcome
-all_given : (readers : List ReaderState) (core : List ReaderState) (yielded : List ReaderState) (room : List (Result Trace StreamFault)) → readers ≡ core → map (λ x. x) yielded ≡ readers → AllZip Gives yielded room → AllZip Gives core room
-all_given readers core yielded room e f = subst (λ (xs : List ReaderState). AllZip Gives xs room) (sym (map_same yielded) ∙ (f ∙ e))
+all_given : (readers : List ReaderState) (core : List ReaderState) (yielded : List ReaderState)
+    (room : List (Result Trace StreamFault)) → readers ≡ core → map (λ x. x) yielded ≡ readers
+    → AllZip Gives yielded room → AllZip Gives core room
+all_given readers core yielded room e f =
+    subst (λ (xs : List ReaderState). AllZip Gives xs room) (sym (map_same yielded) ∙ (f ∙ e))
 
-pub returns-clause-told : goal.returns-clause-told
-returns-clause-told c =
-    let end = YieldsList-end (YieldsList-from_vec {s = c.into_iter-reader-iterator.result} c.self.inside.readers.items (cc) (cc)) c.loop-reader.yielded c.loop-reader.reader-iterator c.loop-reader.yielded_by c.next.result c.next.new.self c.in-None.is c.next.ensures.steps in
-    outcomes_told c.args.self c.loop-reader.room.items (all_given c.self.inside.readers.items c.args.self c.loop-reader.yielded c.loop-reader.room.items c.self.view_is end.0 c.loop-reader.invariant.gives)
+pub returns-clause-reported : goal.returns-clause-reported
+returns-clause-reported c =
+    let end =
+    YieldsList-end (YieldsList-from_vec {s = c.into_iter-reader-iterator.result} c.self.inside.readers.items (cc)
+    (cc)) c.loop-reader.yielded c.loop-reader.reader-iterator c.loop-reader.yielded_by c.next.result c.next.new.self
+    c.in-None.is c.next.ensures.steps in
+    outcomes_reported c.args.self c.loop-reader.room.items
+    (all_given c.self.inside.readers.items c.args.self c.loop-reader.yielded c.loop-reader.room.items c.self.view_is
+    end.0 c.loop-reader.invariant.gives)
 
 pub returns-clause-each : goal.returns-clause-each
 returns-clause-each c =
-    let end = YieldsList-end (YieldsList-from_vec {s = c.into_iter-reader-iterator.result} c.self.inside.readers.items (cc) (cc)) c.loop-reader.yielded c.loop-reader.reader-iterator c.loop-reader.yielded_by c.next.result c.next.new.self c.in-None.is c.next.ensures.steps in
-    outcomes_each c.args.self c.loop-reader.room.items (all_given c.self.inside.readers.items c.args.self c.loop-reader.yielded c.loop-reader.room.items c.self.view_is end.0 c.loop-reader.invariant.gives)
+    let end =
+    YieldsList-end (YieldsList-from_vec {s = c.into_iter-reader-iterator.result} c.self.inside.readers.items (cc)
+    (cc)) c.loop-reader.yielded c.loop-reader.reader-iterator c.loop-reader.yielded_by c.next.result c.next.new.self
+    c.in-None.is c.next.ensures.steps in
+    outcomes_each c.args.self c.loop-reader.room.items
+    (all_given c.self.inside.readers.items c.args.self c.loop-reader.yielded c.loop-reader.room.items c.self.view_is
+    end.0 c.loop-reader.invariant.gives)
 
 pub returns-clause-fit : goal.returns-clause-fit
 returns-clause-fit c =
-    let end = YieldsList-end (YieldsList-from_vec {s = c.into_iter-reader-iterator.result} c.self.inside.readers.items (cc) (cc)) c.loop-reader.yielded c.loop-reader.reader-iterator c.loop-reader.yielded_by c.next.result c.next.new.self c.in-None.is c.next.ensures.steps in
-    outcomes_fit c.args.self c.loop-reader.room.items (all_given c.self.inside.readers.items c.args.self c.loop-reader.yielded c.loop-reader.room.items c.self.view_is end.0 c.loop-reader.invariant.gives)
+    let end =
+    YieldsList-end (YieldsList-from_vec {s = c.into_iter-reader-iterator.result} c.self.inside.readers.items (cc)
+    (cc)) c.loop-reader.yielded c.loop-reader.reader-iterator c.loop-reader.yielded_by c.next.result c.next.new.self
+    c.in-None.is c.next.ensures.steps in
+    outcomes_fit c.args.self c.loop-reader.room.items
+    (all_given c.self.inside.readers.items c.args.self c.loop-reader.yielded c.loop-reader.room.items c.self.view_is
+    end.0 c.loop-reader.invariant.gives)

@@ -9,4 +9,5 @@ use Rattle.pd_pred.proofs.names.Names.find.Goals as goal
 pub returns : goal.returns
 returns c =
     c.process_at.ensures ∙ (sym (position-map (λ (e : Entry). bytes_eq e.name c.args.name.now) entry c.deref.result.now)
-    ∙ ap (λ (names : List Entry). process_named names c.args.name.now) (ap entries c.deref.ensures.value ∙ c.self.view_is))
+    ∙ ap (λ (names : List Entry). process_named names c.args.name.now) (ap entries c.deref.ensures.value
+    ∙ c.self.view_is))

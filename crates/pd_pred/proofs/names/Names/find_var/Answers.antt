@@ -6,5 +6,6 @@ use Rattle.pd_pred.proofs.names.Names.find_var.Goals as goal
 
 pub returns : goal.returns
 returns c =
-    c.text_at.ensures ∙ (sym (position-map (λ (var : List ℕ). bytes_eq var c.args.name.now) string_bytes c.vars.result.now)
+    c.text_at.ensures ∙ (sym (position-map (λ (var : List ℕ). bytes_eq var c.args.name.now) string_bytes
+    c.vars.result.now)
     ∙ ap (λ (vars : List (List ℕ)). position (λ var. bytes_eq var c.args.name.now) vars) c.vars.ensures)

@@ -8,7 +8,8 @@ initial_row-requires c = process_of_var _ _ _ c.requires
 
 pub value_at-requires : goal.value_at-requires
 value_at-requires c =
-    let same : length c.initial_row.result.now ≡ length (vars_of c.args.self.now.names c.args.p) = row_fits _ _ c.args.p _ c.args.self.now.sound.rows c.initial_row.ensures in
+    let same : length c.initial_row.result.now ≡ length (vars_of c.args.self.now.names c.args.p) =
+    row_fits _ _ c.args.p _ c.args.self.now.sound.rows c.initial_row.ensures in
     omega (arith, same, c.requires)
 
 pub returns : goal.returns

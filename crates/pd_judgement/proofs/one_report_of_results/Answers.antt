@@ -1,5 +1,5 @@
 use Rattle.pd_judgement.proofs.ReportsAreSingle.{one_report_of_outcomes_lem}
-use Rattle.pd_judgement.proofs.one_report_of_outcomes.Goals as goal
+use Rattle.pd_judgement.proofs.one_report_of_results.Goals as goal
 
 pub returns : goal.returns
 returns c = one_report_of_outcomes_lem

@@ -1,0 +1,127 @@
+-- A document over the limit is refused by its first bytes alone.
+use Rattle.std.proofs.Common.{◌≡◌, ℕ, ◌+◌, ◌<◌, ◌≤◌, List, length, take, refl, sym, ◌∙◌, ap, arith, Err, inl, inr, ◌⊎◌, length-take}
+use Rattle.std.proofs.lemmas.Bool.{cases_lt, lt-ltb}
+use Rattle.std.proofs.lemmas.List.{take_all}
+use Rattle.std.specs.Prelude.{Option, Bool}
+use Rattle.pd_format.specs.Documents.{Document, DocumentFault, Long, Json, Shape, Processes, Name, NameTwice, Vars, Predicates, Width, InPredicate, IsDocument, IsRefusedDocument, outline_of_bytes}
+use Rattle.pd_format.specs.Limits.{document_byte_limit}
+use Rattle.pd_format.specs.Judgements.{IsJudgement, of_refused, of_read, RawStream}
+use Rattle.pd_format.specs.OtherTexts.{Finding}
+use Rattle.pd_format.specs.Reports.{Report}
+use Rattle.pd_judgement.specs.Findings.{IsFinding, of_unread, of_refused_session, of_refusal, of_session}
+use Rattle.pd_engine.specs.Checks.{Finds, WritesFinding, WritesFindingPrefix}
+
+-- ---- bytes with one outline
+
+-- the documents and the refusals of the one are those of the other
+abbrev pub SameOutline : List ℕ → List ℕ → Type 0
+SameOutline a b = outline_of_bytes a ≡ outline_of_bytes b
+
+same_document : (a b : List ℕ) (document : Document) → SameOutline a b → IsDocument a document → IsDocument b document
+same_document a b document e h = record {
+  outline = h.outline;
+  sound = sym e ∙ h.sound;
+  names = h.names;
+  initial =
+      h.initial;
+  width = h.width;
+  predicates = h.predicates;
+}
+
+same_refusal : (a b : List ℕ) (fault : DocumentFault) → SameOutline a b → IsRefusedDocument a fault
+    → IsRefusedDocument b fault
+same_refusal a b Long e h = sym e ∙ h
+same_refusal a b Json e h = sym e ∙ h
+same_refusal a b Shape e h = sym e ∙ h
+same_refusal a b Processes e h = sym e ∙ h
+same_refusal a b Name e h = sym e ∙ h
+same_refusal a b NameTwice e h = sym e ∙ h
+same_refusal a b Vars e h = sym e ∙ h
+same_refusal a b Predicates e h = sym e ∙ h
+same_refusal a b Width e h = sym e ∙ h
+same_refusal a b (InPredicate number inner at) e h =
+    record {
+      outline = h.outline;
+      sound = sym e ∙ h.sound;
+      before = h.before;
+      refused = h.refused;
+      after =
+          h.after;
+      parts = h.parts;
+      place = h.place;
+      stands = h.stands;
+      none_before = h.none_before;
+    }
+
+same_judgement : (a b : List ℕ) (streams : List RawStream) (report : Report) → SameOutline a b
+    → IsJudgement a streams report → IsJudgement b streams report
+same_judgement a b streams report e (of_refused fault refused reported) =
+    of_refused fault (same_refusal a b fault e refused) reported
+same_judgement a b streams report e (of_read document read reported) =
+    of_read document (same_document a b document e read) reported
+
+same_finding : (a b report : List ℕ) (streams : List RawStream) (finding : Finding) → SameOutline a b
+    → IsFinding a report streams finding → IsFinding b report streams finding
+same_finding a b report streams finding e (of_unread line unread) = of_unread line unread
+same_finding a b report streams finding e (of_refused_session claimed refusal good read judged right) =
+    of_refused_session claimed refusal good read (same_judgement a b streams _ e judged) right
+same_finding a b report streams finding e (of_refusal refusal document traces messages read held) =
+    of_refusal refusal document traces messages read (record {
+      read = same_document a b document e held.read;
+      joined =
+          held.joined;
+      formed = held.formed;
+      are_messages = held.are_messages;
+    })
+same_finding a b report streams finding e (of_session processes events matched answers document traces messages good
+    found read held counted answered) =
+    of_session processes events matched answers document traces messages good found read
+    (record {
+      read = same_document a b document e held.read;
+      joined = held.joined;
+      formed = held.formed;
+      are_messages =
+          held.are_messages;
+    }) counted answered
+
+same_finds : (a b report : List ℕ) (inputs : List (Option (List ℕ))) (finding : Finding) → SameOutline a b
+    → Finds a report inputs finding → Finds b report inputs finding
+same_finds a b report inputs finding e h =
+    record { streams = h.streams; are_given = h.are_given; right = same_finding a b report h.streams finding e h.right }
+
+pub same_written : (a b report : List ℕ) (inputs : List (Option (List ℕ))) (good : Bool) (old new : Option (List ℕ))
+    → SameOutline a b → WritesFinding a report inputs good old new → WritesFinding b report inputs good old new
+same_written a b report inputs good old new e h =
+    record {
+      finding = h.finding;
+      found = same_finds a b report inputs h.finding e h.found;
+      clean = h.clean;
+      written =
+          h.written;
+    }
+
+pub same_prefix : (a b report : List ℕ) (inputs : List (Option (List ℕ))) (old new : Option (List ℕ)) → SameOutline a b
+    → WritesFindingPrefix a report inputs old new → WritesFindingPrefix b report inputs old new
+same_prefix a b report inputs old new e h =
+    record {
+      finding = h.finding;
+      found = same_finds a b report inputs h.finding e h.found;
+      taken = h.taken;
+      not_all =
+          h.not_all;
+      written = h.written;
+    }
+
+-- ---- the first bytes, one more than the limit
+
+long_bytes : (bytes : List ℕ) → document_byte_limit < length bytes → outline_of_bytes bytes ≡ Err Long
+unfolding outline_of_bytes
+long_bytes bytes long = rw (lt-ltb document_byte_limit (length bytes) long) refl
+
+pub outline_of_prefix : (n : ℕ) (bytes : List ℕ) → document_byte_limit ≤ n → SameOutline (take (n + 1) bytes) bytes
+outline_of_prefix n bytes enough = go (cases_lt n (length bytes))
+  where
+    go : (n < length bytes) ⊎ (length bytes ≤ n) → SameOutline (take (n + 1) bytes) bytes
+    go (inl long) = long_bytes (take (n + 1) bytes) (omega (arith, length-take (n + 1) bytes))
+        ∙ sym (long_bytes bytes (omega arith))
+    go (inr short) = ap outline_of_bytes (take_all (n + 1) bytes (omega arith))

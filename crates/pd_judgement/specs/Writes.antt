@@ -1,0 +1,81 @@
+-- What a call leaves written of the one text that it owes: all of it, a part of it, or nothing; and which text that is.
+use Rattle.std.specs.Prelude.{◌≡◌, ◌≢◌, ◌<◌, ◌↔◌, ℕ, Bool, true, false, IsTrue, List, ◌++◌, length, take, Option, IfSome}
+use Rattle.std.specs.List.{AllZip}
+use Rattle.std.specs.Io.KnownBytes.{Appends, Keeps}
+use Rattle.pd_model.specs.Order.{IsWellFormed}
+use Rattle.pd_format.specs.Documents.{Document}
+use Rattle.pd_format.specs.Judgements.{RawStream, IsReportOfBundle, events_of_traces}
+use Rattle.pd_format.specs.OtherTexts.{Finding, check_text}
+use Rattle.pd_format.specs.Readings.{Trace, Open, Ended}
+use Rattle.pd_format.specs.Reports.{Report, Judged, Refused, report_text}
+use Rattle.pd_judgement.specs.Findings.{IsFinding, IsClean}
+use Rattle.pd_judgement.specs.Headline.{HoldsSession, IsNarrow, TellsTruth}
+
+-- ---- what is left written
+
+-- how far a call came with its text
+pub data CallEnd : Type 0 where
+  -- the whole text is written
+  Whole : CallEnd
+  -- the output failed before the whole text was written
+  Partial : CallEnd
+  -- the call ended before it wrote anything
+  Silent : CallEnd
+
+-- What a call leaves on its output that owes a text of which this holds, by how far it came. The bytes of the output before
+-- the call and after it are known or not; where they aren't, nothing is said of them.
+abbrev pub Writes : (IsOwed : List ℕ → Type 0) → CallEnd → (old new : Option (List ℕ)) → Type 0
+Writes IsOwed Whole old new = (text : List ℕ) × IsOwed text × Appends old new text
+Writes IsOwed Partial old new =
+    (text : List ℕ) × IsOwed text × (count : ℕ) × (count < length text) × Appends old new (take count text)
+Writes IsOwed Silent old new = Keeps old new
+
+-- ---- what readers give
+
+-- A reader gave all bytes that it had left, to its end; or a prefix of them, and then a read failed, or the reading stopped
+-- at the stream's end line or its fault.
+pub record IsGivenBy (input : Option (List ℕ)) (given : RawStream) : Type 0 where
+  pub stopped : given.ending ≢ Open
+  pub prefix : IfSome input (λ bytes. (rest : List ℕ) × (bytes ≡ given.bytes ++ rest))
+  pub whole : given.ending ≡ Ended → IfSome input (λ bytes. given.bytes ≡ bytes)
+
+-- ---- the texts
+
+-- whether the report answers the predicates, and is no refusal
+abbrev pub is_judged : Report → Bool
+is_judged (Judged processes events messages answers) = true
+is_judged (Refused refusal) = false
+
+-- the text of a bundle's report, which is judged or a refusal as said, if anything is said of it
+pub record IsReportTextOf (bundle : List ℕ) (judged : Option Bool) (text : List ℕ) : Type 0 where
+  pub report : Report
+  pub right : IsReportOfBundle bundle report
+  pub said : IfSome judged (λ judged. is_judged report ≡ judged)
+  pub is_text : text ≡ report_text report
+
+-- The text of what a check finds by a document's bytes, a report's bytes and the streams of readers with so much left; it
+-- has nothing bad in it exactly if that is said, if anything is said of it.
+pub record IsFindingTextOf (document report : List ℕ) (inputs : List (Option (List ℕ))) (good : Option Bool) (text : List ℕ)
+    : Type 0 where
+  pub streams : List RawStream
+  pub are_given : AllZip IsGivenBy inputs streams
+  pub finding : Finding
+  pub right : IsFinding document report streams finding
+  pub clean : IfSome good (λ good. IsTrue good ↔ IsClean finding)
+  pub is_text : text ≡ check_text finding
+
+-- ---- the truth
+
+-- the text of a report that says the truth about each predicate of these traces
+pub record IsTrueText (document : Document) (traces : List Trace) (text : List ℕ) : Type 0 where
+  pub report : Report
+  pub truth : TellsTruth document traces report
+  pub is_text : text ≡ report_text report
+
+-- Where a bundle holds a well-formed session with no level over the width, what is written is the text of a report that says
+-- the truth about each predicate.
+abbrev pub WritesTruth : List ℕ → (old new : Option (List ℕ)) → Type 0
+WritesTruth bundle old new =
+    (document : Document) (traces : List Trace) → HoldsSession bundle document traces
+    → IsWellFormed (events_of_traces traces) → IsNarrow (events_of_traces traces) document.width
+    → Writes (IsTrueText document traces) Whole old new

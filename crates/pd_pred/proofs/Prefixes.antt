@@ -1,0 +1,59 @@
+-- The prefix of tokens and the rest after it.
+use Rattle.std.proofs.Common.{◌≡◌, ℕ, ◌+◌, List, [], ◌∷◌, ◌++◌, length, refl, sym, ◌∙◌, ap, append_assoc, length-append, arith}
+use Rattle.std.proofs.lemmas.List.{map-append}
+use Rattle.pd_format.specs.Names.{ProcessNames}
+use Rattle.pd_format.specs.Tokens.{Token, Word, Dot}
+use Rattle.pd_format.specs.Tokens as format
+use Rattle.pd_format.specs.PredicateTexts.{NumbersFit}
+use Rattle.pd_pred.specs.Tokens.{placed_of, all_placed, token_of}
+use Rattle.pd_pred.specs.Building.{tokens_view, Follows, AreReadable, IsKnown}
+use Rattle.pd_pred.specs.declared.token.Placed.{Placed}
+
+pub tokens_view-append : (xs ys : List Placed) → tokens_view (xs ++ ys) ≡ tokens_view xs ++ tokens_view ys
+tokens_view-append [] ys = refl
+tokens_view-append (x ∷ xs) ys = ap (λ ts. token_of x.token ∷ ts) (tokens_view-append xs ys)
+
+placed-append : (xs ys : List Placed) → all_placed (xs ++ ys) ≡ all_placed xs ++ all_placed ys
+placed-append xs ys = map-append placed_of xs ys
+
+pub tokens_view-parts : (tokens prefix rest : List Placed) → tokens ≡ prefix ++ rest
+    → tokens_view tokens ≡ tokens_view prefix ++ tokens_view rest
+tokens_view-parts tokens prefix rest parts = ap tokens_view parts ∙ tokens_view-append prefix rest
+
+pub tokens_view-follows : (token : Token) (tokens rest : List Placed) → Follows token tokens rest
+    → tokens_view tokens ≡ token ∷ tokens_view rest
+tokens_view-follows token tokens rest f = ap tokens_view f.parts ∙ ap (λ t. t ∷ tokens_view rest) f.is
+
+-- fewer tokens follow
+pub fewer_follow : (token : Token) (tokens rest : List Placed) → Follows token tokens rest
+    → length rest + 1 ≡ length tokens
+fewer_follow token tokens rest f = omega (arith, ap length f.parts)
+
+known_rest : (names : List ProcessNames) (tokens prefix rest : List Placed) → tokens ≡ prefix ++ rest
+    → ((before after : List Token) (process var : List ℕ) → tokens_view tokens ≡ before ++ Word process ∷ Dot ∷ Word var
+    ∷ after → IsKnown names process var) → (before after : List Token) (process var : List ℕ)
+    → tokens_view rest ≡ before ++ Word process ∷ Dot ∷ Word var ∷ after → IsKnown names process var
+known_rest names tokens prefix rest parts known before after process var e =
+    known (tokens_view prefix ++ before) after process var (tokens_view-parts tokens prefix rest parts
+    ∙ ap (λ ts. tokens_view prefix ++ ts) e
+    ∙ sym (append_assoc (tokens_view prefix) before (Word process ∷ Dot ∷ Word var ∷ after)))
+
+fit_rest : (tokens prefix rest : List Placed) → tokens ≡ prefix ++ rest → NumbersFit (all_placed tokens)
+    → NumbersFit (all_placed rest)
+fit_rest tokens prefix rest parts fit = λ before t after e.
+    fit (all_placed prefix ++ before) t after (ap all_placed parts ∙ placed-append prefix rest
+    ∙ ap (λ (ts : List format.Placed). all_placed prefix ++ ts) e
+    ∙ sym (append_assoc (all_placed prefix) before (t ∷ after)))
+
+-- what may be assumed of tokens may be assumed of the rest
+pub readable_rest : (names : List ProcessNames) (tokens prefix rest : List Placed) → tokens ≡ prefix ++ rest
+    → AreReadable names tokens → AreReadable names rest
+readable_rest names tokens prefix rest parts r = record {
+  known = known_rest names tokens prefix rest parts r.known;
+  fit = fit_rest tokens prefix rest parts r.fit;
+  few = omega (arith, r.few, ap length parts, length-append prefix rest);
+}
+
+pub readable_follows : (names : List ProcessNames) (token : Token) (tokens rest : List Placed)
+    → Follows token tokens rest → AreReadable names tokens → AreReadable names rest
+readable_follows names token tokens rest f r = readable_rest names tokens (f.first ∷ []) rest f.parts r
