@@ -3,11 +3,14 @@
 
 lattice   4 processes of 17 events each, with no messages: 104,976 cuts; 16 small comparisons that no cut satisfies
 terms     the same cuts; 16 predicates of 4,096 bytes that no cut satisfies
-streams   8 processes of 10,000 events each, every event setting 16 variables; one predicate that the empty cut satisfies
-messages  8 processes of 10,000 events each, nearly all of them sends and receipts of a run without a cycle; the same predicate
-avoiding  2 processes of 2,000 events each, whose messages keep them within 499 events of each other: 4,001 levels of some 500 cuts,
-          and one predicate that no cut satisfies, so that all of them avoid it
-locals    the same lines with each send and receipt replaced by a local event of the same length, for comparison with messages
+streams   8 processes of 10,000 events each, every event setting 16 variables; one predicate that the empty cut
+          satisfies
+messages  8 processes of 10,000 events each, nearly all of them sends and receipts of a run without a cycle; the same
+          predicate
+avoiding  2 processes of 2,000 events each, whose messages keep them within 499 events of each other: 4,001 levels of
+          some 500 cuts, and one predicate that no cut satisfies, so that all of them avoid it
+locals    the same lines with each send and receipt replaced by a local event of the same length, for comparison with
+          messages
 """
 import json
 import random
@@ -69,7 +72,8 @@ def streams():
 
 
 def side(own, other, events, window):
-    """One of two processes: each odd event sends, and the even event that is so many later receives what the other sent then."""
+    """One of two processes: each odd event sends, and the even event that is `window` later receives what the other
+    sent then."""
     for i in range(1, events + 1):
         if i % 2 == 1 and i + window <= events:
             yield {"send": f"{own}{i}"}
@@ -81,12 +85,12 @@ def side(own, other, events, window):
 
 def avoiding():
     head = document([("a", ["n"]), ("b", ["n"])], [("never", "a.n + b.n < 0")], 65536)
-    bundle(head, [[json.dumps({"process": own}), *map(json.dumps, side(own, other, 2000, 499)), json.dumps({"end": True})]
-                  for own, other in (("a", "b"), ("b", "a"))])
+    bundle(head, [[json.dumps({"process": own}), *map(json.dumps, side(own, other, 2000, 499)),
+                   json.dumps({"end": True})] for own, other in (("a", "b"), ("b", "a"))])
 
 
 def talk(processes, events):
-    """A run: while some process has room, one of them receives a message that has arrived, or sends one, or does neither.
+    """A run: while some process has room, one of them receives a message that has arrived, or sends one, or neither.
 
     A message is received only after it was sent, so that no event can happen before itself. The seed is fixed."""
     rng = random.Random(1)
@@ -117,7 +121,8 @@ def talk(processes, events):
 
 
 def local(event):
-    """The line of a local event, with as many bytes as this one's. A few are too short to set anything: they are empty objects."""
+    """The line of a local event, with as many bytes as this one's. A few are too short to set anything: they are empty
+    objects."""
     line = json.dumps(event)
     if "set" in event:
         return line

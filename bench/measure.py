@@ -1,13 +1,14 @@
 #!/usr/bin/env python3
 """measure.py PROGRAM [RUNS]: runs the program on the generated bundles and prints the least time and the peak memory.
 
-Seconds are those of the whole program, from its start to its end, with nothing taken off. In `messages` and `locals` the walk ends at
-the empty cut, so events a second go from bytes to the built computation. The two have lines of the same lengths, so the last line tells
-what matching and building over messages cost beside reading. It is no exact part: a computation is built over local events too, and an
-event that sets a variable keeps a number where one with a message keeps its id.
+Seconds are those of the whole program, from its start to its end, with nothing taken off. In `messages` and `locals`
+the walk ends at the empty cut, so events a second go from bytes to the built computation. The two have lines of the
+same lengths, so the last line says what matching and building over messages cost beside reading. It is no exact part:
+a computation is built over local events too, and an event that sets a variable keeps a number where one with a
+message keeps its id.
 
-Each round runs every session once, so that the sessions of one round share what else the machine does. The machine may be shared, so
-compare figures of one call with each other, not with those of another day."""
+Each round runs every session once, so that the sessions of one round share what else the machine does. The machine may
+be shared, so compare figures of one call with each other, not with those of another call."""
 import os
 import resource
 import subprocess
@@ -49,7 +50,8 @@ def run(program, path):
 
 def line(name, size, seconds, memory):
     """The figures of one session."""
-    text = f"{name}: {size / 1e6:.1f} MB in, {seconds:.3f} s, {size / 1e6 / seconds:.1f} MB/s, peak {memory / 1e6:.1f} MB"
+    rate = size / 1e6 / seconds
+    text = f"{name}: {size / 1e6:.1f} MB in, {seconds:.3f} s, {rate:.1f} MB/s, peak {memory / 1e6:.1f} MB"
     if name == "avoiding":
         return text + (f", {2 * avoiding_cuts() / seconds / 1e6:.2f} million cuts evaluated a second, "
                        f"{AVOIDING_LEVELS} levels kept with {avoiding_cuts()} cuts")

@@ -2,9 +2,10 @@
 """refuse_memory.py PROGRAM INPUT..: refuses each of the program's allocations in turn.
 
 An input is a bundle, or a folder with `session.json`, `report` and files `NAME.stream`, of which the report is checked.
-For each input and each N, counted upward until a run meets no refusal, the program runs with its Nth allocation refused. It must end
-with status 4, nothing on standard output and `monitor: memory` on standard error, or as a run that is refused nothing.
-The first allocations are the C library's own. The status is 1 where a run does anything else. It needs gcc."""
+For each input and each N, counted upward until a run meets no refusal, the program runs with its Nth allocation
+refused. It must end with status 4, nothing on standard output and `monitor: memory` on standard error, or as a run that
+is refused nothing.
+The first allocations are the C library's own. The status is 1 if a run does anything else. It needs gcc."""
 import os
 import subprocess
 import sys
@@ -56,24 +57,24 @@ int posix_memalign(void **given, size_t alignment, size_t size) {
     return *given ? 0 : ENOMEM;
 }
 
-__attribute__((destructor)) static void tell(void) {
-    FILE *told = fopen(getenv("ASKED"), "w");
-    if (told) { fprintf(told, "%ld", asked); fclose(told); }
+__attribute__((destructor)) static void report(void) {
+    FILE *report_file = fopen(getenv("ASKED"), "w");
+    if (report_file) { fprintf(report_file, "%ld", asked); fclose(report_file); }
 }
 """
 
 
-def run(words, bundle, folder, number):
-    """What a run of these words gives, and how many allocations it asked for."""
+def run(arguments, bundle, folder, number):
+    """What a run with these arguments gives, and how many allocations it asked for."""
     asked = os.path.join(folder, "asked")
     shim = {"LD_PRELOAD": os.path.join(folder, "shim.so"), "REFUSED": str(number), "ASKED": asked}
-    run = subprocess.run(words, input=bundle, capture_output=True, env={**os.environ, **shim})
-    with open(asked) as told:
-        return (run.returncode, run.stdout, run.stderr), int(told.read())
+    run = subprocess.run(arguments, input=bundle, capture_output=True, env={**os.environ, **shim})
+    with open(asked) as counted:
+        return (run.returncode, run.stdout, run.stderr), int(counted.read())
 
 
-def asked_for(program, path):
-    """The words that the program is run with for an input, and what its standard input has."""
+def command_for(program, path):
+    """The program and its arguments for an input, and what its standard input has."""
     if os.path.isdir(path):
         streams = sorted(name for name in os.listdir(path) if name.endswith(".stream"))
         return [program, "check", *(os.path.join(path, name) for name in ["session.json", "report", *streams])], b""
@@ -82,13 +83,13 @@ def asked_for(program, path):
 
 
 def refuse_each(program, path, folder):
-    """Whether each run tells that memory ran out, or gives what a run with memory gives."""
-    words, bundle = asked_for(program, path)
-    want, _ = run(words, bundle, folder, 0)
+    """Whether each run reports that memory ran out, or gives what a run with memory gives."""
+    arguments, bundle = command_for(program, path)
+    want, _ = run(arguments, bundle, folder, 0)
     memory, same, number, asked = 0, 0, 0, 1
     while number <= asked:
         number += 1
-        given, asked = run(words, bundle, folder, number)
+        given, asked = run(arguments, bundle, folder, number)
         if given == (4, b"", b"monitor: memory\n"):
             memory += 1
         elif given == want:
@@ -96,7 +97,7 @@ def refuse_each(program, path, folder):
         else:
             print(f"{path}: allocation {number}: {given}")
             return False
-    print(f"{path}: {memory} refusals told, {same} runs as with memory")
+    print(f"{path}: {memory} refusals reported, {same} runs as with memory")
     return True
 
 

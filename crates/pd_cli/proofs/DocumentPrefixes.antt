@@ -5,11 +5,13 @@ use Rattle.std.proofs.lemmas.List.{take_all}
 use Rattle.std.specs.Prelude.{Option, Bool}
 use Rattle.pd_format.specs.Documents.{Document, DocumentFault, Long, Json, Shape, Processes, Name, NameTwice, Vars, Predicates, Width, InPredicate, IsDocument, IsRefusedDocument, outline_of_bytes}
 use Rattle.pd_format.specs.Limits.{document_byte_limit}
-use Rattle.pd_format.specs.Judgements.{IsJudgement, of_refused, of_read, RawStream}
+use Rattle.pd_judgement.specs.Judgements.{IsJudgement, of_refused, of_read, RawStream}
+use Rattle.pd_format.specs.Readings.{Trace}
+use Rattle.pd_model.specs.Events.{Place}
 use Rattle.pd_format.specs.OtherTexts.{Finding}
 use Rattle.pd_format.specs.Reports.{Report}
-use Rattle.pd_judgement.specs.Findings.{IsFinding, of_unread, of_refused_session, of_refusal, of_session}
-use Rattle.pd_engine.specs.Checks.{Finds, WritesFinding, WritesFindingPrefix}
+use Rattle.pd_judgement.specs.Findings.{IsFinding, IsSessionOf, of_unread, of_refused_session, of_refusal, of_session}
+use Rattle.pd_judgement.specs.Writes.{IsFindingTextOf}
 
 -- ---- bytes with one outline
 
@@ -57,8 +59,20 @@ same_judgement : (a b : List ℕ) (streams : List RawStream) (report : Report) �
     → IsJudgement a streams report → IsJudgement b streams report
 same_judgement a b streams report e (of_refused fault refused reported) =
     of_refused fault (same_refusal a b fault e refused) reported
-same_judgement a b streams report e (of_read document read reported) =
-    of_read document (same_document a b document e read) reported
+same_judgement a b streams report e (of_read document results read are reported) =
+    of_read document results (same_document a b document e read) are reported
+
+same_session : (a b : List ℕ) (streams : List RawStream) (document : Document) (traces : List Trace)
+    (messages : List (Place × Place)) → SameOutline a b → IsSessionOf a streams document traces messages
+    → IsSessionOf b streams document traces messages
+same_session a b streams document traces messages e held = record {
+  read = same_document a b document e held.read;
+  results = held.results;
+  are_results = held.are_results;
+  joined = held.joined;
+  formed = held.formed;
+  are_messages = held.are_messages;
+}
 
 same_finding : (a b report : List ℕ) (streams : List RawStream) (finding : Finding) → SameOutline a b
     → IsFinding a report streams finding → IsFinding b report streams finding
@@ -66,51 +80,23 @@ same_finding a b report streams finding e (of_unread line unread) = of_unread li
 same_finding a b report streams finding e (of_refused_session claimed refusal good read judged right) =
     of_refused_session claimed refusal good read (same_judgement a b streams _ e judged) right
 same_finding a b report streams finding e (of_refusal refusal document traces messages read held) =
-    of_refusal refusal document traces messages read (record {
-      read = same_document a b document e held.read;
-      joined =
-          held.joined;
-      formed = held.formed;
-      are_messages = held.are_messages;
-    })
+    of_refusal refusal document traces messages read (same_session a b streams document traces messages e held)
 same_finding a b report streams finding e (of_session processes events matched answers document traces messages good
     found read held counted answered) =
     of_session processes events matched answers document traces messages good found read
-    (record {
-      read = same_document a b document e held.read;
-      joined = held.joined;
-      formed = held.formed;
-      are_messages =
-          held.are_messages;
-    }) counted answered
+    (same_session a b streams document traces messages e held) counted answered
 
-same_finds : (a b report : List ℕ) (inputs : List (Option (List ℕ))) (finding : Finding) → SameOutline a b
-    → Finds a report inputs finding → Finds b report inputs finding
-same_finds a b report inputs finding e h =
-    record { streams = h.streams; are_given = h.are_given; right = same_finding a b report h.streams finding e h.right }
-
-pub same_written : (a b report : List ℕ) (inputs : List (Option (List ℕ))) (good : Bool) (old new : Option (List ℕ))
-    → SameOutline a b → WritesFinding a report inputs good old new → WritesFinding b report inputs good old new
-same_written a b report inputs good old new e h =
-    record {
-      finding = h.finding;
-      found = same_finds a b report inputs h.finding e h.found;
-      clean = h.clean;
-      written =
-          h.written;
-    }
-
-pub same_prefix : (a b report : List ℕ) (inputs : List (Option (List ℕ))) (old new : Option (List ℕ)) → SameOutline a b
-    → WritesFindingPrefix a report inputs old new → WritesFindingPrefix b report inputs old new
-same_prefix a b report inputs old new e h =
-    record {
-      finding = h.finding;
-      found = same_finds a b report inputs h.finding e h.found;
-      taken = h.taken;
-      not_all =
-          h.not_all;
-      written = h.written;
-    }
+-- what is owed of the one is what is owed of the other
+pub same_text : (a b report : List ℕ) (inputs : List (Option (List ℕ))) (good : Option Bool) (text : List ℕ)
+    → SameOutline a b → IsFindingTextOf a report inputs good text → IsFindingTextOf b report inputs good text
+same_text a b report inputs good text e h = record {
+  streams = h.streams;
+  are_given = h.are_given;
+  finding = h.finding;
+  right = same_finding a b report h.streams h.finding e h.right;
+  clean = h.clean;
+  is_text = h.is_text;
+}
 
 -- ---- the first bytes, one more than the limit
 

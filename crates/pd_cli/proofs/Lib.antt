@@ -1,3 +1,7 @@
+-- The modules of lemmas of this crate.
+mod BundleEnds
 mod DocumentPrefixes
-mod ReadersChecked
-mod TrueStatuses
+mod FilesRead
+mod Parsed
+mod ParserEnds
+mod WrittenSoFar

@@ -1,2 +1,5 @@
-pub mod FileChecks
-pub mod Statuses
+pub mod Arguments
+pub mod Faults
+pub mod FileSources
+pub mod FindingEnds
+pub mod Views

@@ -1,45 +1,30 @@
-//! Exit statuses, and the lines that tell faults.
-ghost use Rattle.pd_cli.specs.Statuses.{line_of_fault, status_of_check, status_of_fault, status_of_outcome};
+//! Exit statuses, and what is reported on the errors.
+ghost use Rattle.pd_cli.specs.Faults.{ending_view, failure_view};
+ghost use Rattle.pd_judgement.specs.Statuses.{IsLineOf, Reports, WritesUpTo, line_of_failure, status_of, status_of_failure};
 ghost use Rattle.std.specs.Prelude.{◌≡◌};
 
-use pd_engine::{EngineFault, Outcome};
+use super::line::write_line;
+use pd_engine::EngineFault;
 use std::io::Write;
 
-/// Each predicate has its answer, or nothing that a check found is bad, or the help that was asked for is written.
-pub const JUDGED: u8 = 0;
+/// The session is judged, nothing that a check found is bad, or the help that was asked for is written.
+pub(crate) const SUCCESS: u8 = 0;
 
 /// The session is refused, and its report says why; or something that a check found is bad.
-pub const REFUSED: u8 = 1;
+pub(crate) const REFUSED: u8 = 1;
 
-/// The command line is refused.
-pub const MISUSED: u8 = 2;
+/// The arguments are refused.
+pub(crate) const MISUSED: u8 = 2;
 
 /// The input or a file can't be read or is too long, or the output can't be written.
-pub const FAILED: u8 = 3;
+pub(crate) const FAILED: u8 = 3;
 
-/// An allocation was refused.
-pub const NO_MEMORY: u8 = 4;
-
-/// The exit status of a session that was judged or refused.
-pub(crate) fn outcome_status(outcome: Outcome) -> u8
-    ensures { result ≡ status_of_outcome outcome }
-{
-    match outcome {
-        Outcome::Judged => JUDGED,
-        Outcome::Refused => REFUSED,
-    }
-}
-
-/// The exit status of a check, by whether nothing that it found is bad.
-pub(crate) fn check_status(good: bool) -> u8
-    ensures { result ≡ status_of_check good }
-{
-    if good { JUDGED } else { REFUSED }
-}
+/// Memory runs out.
+pub(crate) const NO_MEMORY: u8 = 4;
 
 /// The exit status of a fault.
 fn fault_status(fault: &EngineFault) -> u8
-    ensures { result ≡ status_of_fault fault.now }
+    ensures { result ≡ status_of_failure (failure_view fault.now) }
 {
     match fault {
         EngineFault::Memory => NO_MEMORY,
@@ -47,9 +32,9 @@ fn fault_status(fault: &EngineFault) -> u8
     }
 }
 
-/// The line that tells a fault, with its line feed.
+/// The line that reports a fault, with its line feed.
 fn fault_line(fault: &EngineFault) -> &'static str
-    ensures { result.now ≡ line_of_fault fault.now }
+    ensures { result.now ≡ line_of_failure (failure_view fault.now) }
 {
     match fault {
         EngineFault::Memory => "monitor: memory\n",
@@ -59,11 +44,24 @@ fn fault_line(fault: &EngineFault) -> &'static str
     }
 }
 
-/// Writes the line that tells a fault, and gives the fault's exit status. Where the line can't be written, it is left
-/// off.
-pub(crate) fn tell_fault<E: Write>(fault: &EngineFault, errors: &mut E) -> u8
-    ensures { result ≡ status_of_fault fault.now }
+/// Writes the line that reports a fault, and gives the fault's exit status. If the line can't be written whole, the
+/// rest is left off.
+pub(crate) fn report_fault<E: Write>(fault: &EngineFault, errors: &mut E) -> u8
+    ensures status { result ≡ status_of_failure (failure_view fault.now) }
+    ensures line { WritesUpTo (IsLineOf (failure_view fault.now)) (E.contents errors.old) (E.contents errors.new) }
 {
-    let _ = errors.write_all(fault_line(fault).as_bytes());
+    write_line(fault_line(fault).as_bytes(), errors);
     fault_status(fault)
+}
+
+/// The exit status by how a run ended, whose fault is reported.
+pub(crate) fn report_end<E: Write>(end: &Result<bool, EngineFault>, errors: &mut E) -> u8
+    ensures status { result ≡ status_of (ending_view end.now) }
+    ensures errors { Reports (ending_view end.now) (E.contents errors.old) (E.contents errors.new) }
+{
+    match end {
+        Ok(true) => SUCCESS,
+        Ok(false) => REFUSED,
+        Err(fault) => report_fault(fault, errors),
+    }
 }

@@ -1,134 +1,192 @@
 //! The program's statuses, and what it writes.
 mod checks;
+mod writers;
 
-use super::{FAILED, JUDGED, MISUSED, NO_MEMORY, REFUSED, run, tell_unread_words};
+use super::status::{FAILED, MISUSED, NO_MEMORY, REFUSED, SUCCESS};
+use super::{report_unread_arguments, run};
 use std::alloc::AllocError;
 use std::io;
-use std::io::{Error, ErrorKind, Write};
+use std::io::Write;
 use std::test::Fail;
+use writers::{Failing, Slow};
 
-/// What a run on these words and this input gives: its status, its output and its errors.
-fn run_on(
-    rt: &HostRuntime,
-    words: &[&str],
-    input: &[u8],
-) -> Result<(u8, Vec<u8>, Vec<u8>), AllocError> {
+/// A small session.
+const BUNDLE: &str =
+    "{\"processes\":[{\"name\":\"a\",\"vars\":{\"x\":0}},{\"name\":\"b\",\"vars\":{\"y\":0}}],\
+\"predicates\":[{\"name\":\"both\",\"text\":\"a.x == 1 and b.y == 1\"}]}\n\
+---\n{\"process\":\"a\"}\n{\"set\":{\"x\":1}}\n{\"set\":{\"x\":0}}\n{\"end\":true}\n\
+---\n{\"process\":\"b\"}\n{\"set\":{\"y\":1}}\n{\"set\":{\"y\":0}}\n{\"end\":true}\n";
+
+/// Its report.
+const REPORT: &str =
+    "session 2 processes 4 events 0 messages\nboth possibly yes 1,1\nboth definitely no b,b,a,a\n";
+
+/// What the help of `check` says.
+const CHECK_HELP: &str =
+    "Checks whether the cuts and paths in a report show what they are printed for\n\n\
+Usage: monitor check <SPEC> <REPORT> <STREAM>...\n\n\
+Arguments:\n  <SPEC>       The session document\n  <REPORT>     The report\n  \
+<STREAM>...  The streams of events, one file for each\n\n\
+Options:\n  -h, --help  Print help\n\n\
+What is found is written to the standard output. The status is 0 where nothing in it is bad, and else 1.\n";
+
+/// These arguments, as the program is given them.
+fn owned(rt: &HostRuntime, arguments: &[&str]) -> Result<Vec<String>, AllocError> {
     let alloc = rt.alloc();
     let mut given = Vec::new(alloc);
-    for word in words {
-        given.push(String::from_str(alloc, word)?)?;
+    for argument in arguments {
+        given.push(String::from_str(alloc, argument)?)?;
     }
-    let mut output = Vec::new(alloc);
-    let mut errors = Vec::new(alloc);
-    let status = run(rt, alloc, given, input, &mut output, &mut errors);
-    Ok((status, output, errors))
+    Ok(given)
+}
+
+/// The status of a run on these arguments and this input.
+fn run_to<O: Write, E: Write>(
+    rt: &HostRuntime,
+    arguments: &[&str],
+    input: &[u8],
+    output: &mut O,
+    errors: &mut E,
+) -> Result<u8, AllocError> {
+    let given = owned(rt, arguments)?;
+    Ok(run(rt, rt, rt.alloc(), given, input, output, errors))
 }
 
 #[test]
-fn statuses(rt: HostRuntime) -> Result<(), Fail> {
-    let (status, output, errors) = run_on(&rt, &["monitor"], b"")?;
-    assert_eq!(rt; status, REFUSED);
-    assert_eq!(rt; output.as_slice(), b"refused spec json\n".as_slice());
-    assert!(rt; errors.is_empty());
-    let bundle =
-        b"{\"processes\":[{\"name\":\"a\",\"vars\":{\"x\":0}},{\"name\":\"b\",\"vars\":{\"y\":0}}],\"predicates\":[{\"name\":\"both\",\"text\":\"a.x == 1 and b.y == 1\"}]}\n---\n{\"process\":\"a\"}\n{\"set\":{\"x\":1}}\n{\"set\":{\"x\":0}}\n{\"end\":true}\n---\n{\"process\":\"b\"}\n{\"set\":{\"y\":1}}\n{\"set\":{\"y\":0}}\n{\"end\":true}\n";
-    let (status, output, errors) = run_on(&rt, &["monitor"], bundle)?;
-    assert_eq!(rt; status, JUDGED);
-    assert_eq!(rt;
-        output.as_slice(),
-        b"session 2 processes 4 events 0 messages\nboth possibly yes 1,1\nboth definitely no b,b,a,a\n".as_slice()
-    );
-    assert!(rt; errors.is_empty());
+fn sessions_end_by_their_reports(rt: HostRuntime) -> Result<(), Fail> {
+    for (name, input, want, text) in [
+        (
+            "an empty input is refused",
+            "",
+            REFUSED,
+            "refused spec json\n",
+        ),
+        ("a small session is judged", BUNDLE, SUCCESS, REPORT),
+    ] {
+        let mut output = Vec::new(rt.alloc());
+        let mut errors = Vec::new(rt.alloc());
+        let status = run_to(
+            &rt,
+            &["monitor"],
+            input.as_bytes(),
+            &mut output,
+            &mut errors,
+        )?;
+        assert_eq!(rt; (name, status), (name, want));
+        assert!(rt; output.as_slice() == text.as_bytes(), "{name}");
+        assert!(rt; errors.is_empty(), "{name}");
+    }
     Ok(())
 }
 
 #[test]
 fn help_is_written_to_the_output(rt: HostRuntime) -> Result<(), Fail> {
-    let (status, output, errors) = run_on(&rt, &["monitor", "--help"], b"")?;
-    assert_eq!(rt; status, JUDGED);
-    assert!(rt; output.starts_with(b"Judges predicates"));
-    assert!(rt; errors.is_empty());
-    let (status, output, errors) = run_on(&rt, &["monitor", "check", "--help"], b"")?;
-    assert_eq!(rt; status, JUDGED);
-    let help = b"Checks whether the cuts and paths in a report show what they are printed for\n\n\
-Usage: monitor check <SPEC> <REPORT> <STREAM>...\n\n\
-Arguments:\n  <SPEC>       The session document\n  <REPORT>     The report\n  <STREAM>...  The streams of events,
-    one file for each\n\n\
-Options:\n  -h, --help  Print help\n\n\
-What is found is written to the standard output. The status is 0 where nothing in it is bad, and else 1.\n";
-    assert_eq!(rt; output.as_slice(), help.as_slice());
-    assert!(rt; errors.is_empty());
-    Ok(())
-}
-
-#[test]
-fn words_are_refused(rt: HostRuntime) -> Result<(), Fail> {
-    let cases: [&[&str]; 6] = [
-        &["monitor", "judge"],
-        &["monitor", "judge", "x"],
-        &["monitor", "check"],
-        &["monitor", "check", "x"],
-        &["monitor", "check", "x", "y"],
-        &["monitor", "check", "--x", "y", "z"],
+    let cases: [(&str, &[&str], &str); 2] = [
+        (
+            "of the program",
+            &["monitor", "--help"],
+            "Judges predicates",
+        ),
+        ("of a check", &["monitor", "check", "--help"], CHECK_HELP),
     ];
-    for words in cases {
-        let (status, output, errors) = run_on(&rt, words, b"")?;
-        assert_eq!(rt; status, MISUSED);
-        assert!(rt; output.is_empty());
-        assert!(rt; errors.starts_with(b"error: "));
+    for (name, arguments, text) in cases {
+        let mut output = Vec::new(rt.alloc());
+        let mut errors = Vec::new(rt.alloc());
+        let status = run_to(&rt, arguments, b"", &mut output, &mut errors)?;
+        assert_eq!(rt; (name, status), (name, SUCCESS));
+        assert!(rt; output.starts_with(text.as_bytes()), "{name}");
+        assert!(rt; errors.is_empty(), "{name}");
     }
     Ok(())
 }
 
-/// Takes bytes until it is flushed, which fails; or fails at once.
-#[derive(Drop)]
-struct Failing {
-    takes: bool,
-}
-
-impl Write for Failing {
-    fn write(&mut self, bytes: &[u8]) -> io::Result<usize> {
-        if self.takes {
-            Ok(bytes.len())
-        } else {
-            Err(Error::from(ErrorKind::BrokenPipe))
-        }
+#[test]
+fn arguments_are_refused(rt: HostRuntime) -> Result<(), Fail> {
+    let cases: [(&str, &[&str]); 6] = [
+        ("another command", &["monitor", "judge"]),
+        ("another command with a name", &["monitor", "judge", "x"]),
+        ("a check of nothing", &["monitor", "check"]),
+        ("a check with a document alone", &["monitor", "check", "x"]),
+        ("a check with no stream", &["monitor", "check", "x", "y"]),
+        (
+            "a check with an option",
+            &["monitor", "check", "--x", "y", "z"],
+        ),
+    ];
+    for (name, arguments) in cases {
+        let mut output = Vec::new(rt.alloc());
+        let mut errors = Vec::new(rt.alloc());
+        let status = run_to(&rt, arguments, b"", &mut output, &mut errors)?;
+        assert_eq!(rt; (name, status), (name, MISUSED));
+        assert!(rt; output.is_empty(), "{name}");
+        assert!(rt; errors.starts_with(b"error: "), "{name}");
     }
-
-    fn flush(&mut self) -> io::Result<()> {
-        Err(Error::from(ErrorKind::BrokenPipe))
-    }
+    Ok(())
 }
 
 #[test]
-fn help_that_cannot_be_written(rt: HostRuntime) -> Result<(), Fail> {
-    let alloc = rt.alloc();
-    for takes in [false, true] {
-        let mut words = Vec::new(alloc);
-        words.push(String::from_str(alloc, "monitor")?)?;
-        words.push(String::from_str(alloc, "--help")?)?;
-        let mut errors = Vec::new(alloc);
-        let status = run(
-            &rt,
-            alloc,
-            words,
-            b"".as_slice(),
-            &mut Failing { takes },
-            &mut errors,
+fn output_that_fails(rt: HostRuntime) -> Result<(), Fail> {
+    let cases: [(&str, &[&str], bool); 4] = [
+        ("help, at the first byte", &["monitor", "--help"], false),
+        ("help, at the flush", &["monitor", "--help"], true),
+        ("a report, at the first byte", &["monitor"], false),
+        ("a report, at the flush", &["monitor"], true),
+    ];
+    for (name, arguments, takes) in cases {
+        let mut errors = Vec::new(rt.alloc());
+        let input = BUNDLE.as_bytes();
+        let status = run_to(&rt, arguments, input, &mut Failing { takes }, &mut errors)?;
+        assert_eq!(rt; (name, status), (name, FAILED));
+        assert_eq!(rt;
+            (name, errors.as_slice()),
+            (name, b"monitor: write\n".as_slice())
         );
-        assert_eq!(rt; status, FAILED);
-        assert_eq!(rt; errors.as_slice(), b"monitor: write\n".as_slice());
     }
     Ok(())
 }
 
 #[test]
-fn words_that_cannot_be_had(rt: HostRuntime) -> Result<(), Fail> {
-    let mut errors = Vec::new(rt.alloc());
-    let refused = io::Error::from(io::ErrorKind::OutOfMemory);
-    assert_eq!(rt; tell_unread_words(&refused, &mut errors), NO_MEMORY);
-    assert_eq!(rt; errors.as_slice(), b"monitor: memory\n".as_slice());
-    let other = io::Error::from(io::ErrorKind::InvalidData);
-    assert_eq!(rt; tell_unread_words(&other, &mut errors), MISUSED);
+fn writers_that_take_a_byte_a_call(rt: HostRuntime) -> Result<(), Fail> {
+    let cases: [(&str, &[&str], &str, &str); 3] = [
+        ("a report", &["monitor"], REPORT, ""),
+        ("help", &["monitor", "check", "--help"], CHECK_HELP, ""),
+        (
+            "a fault",
+            &["monitor", "check", "/gone", "/gone", "/gone"],
+            "",
+            "monitor: read\n",
+        ),
+    ];
+    for (name, arguments, text, line) in cases {
+        let mut output = Slow::new(rt.alloc());
+        let mut errors = Slow::new(rt.alloc());
+        let _ = run_to(&rt, arguments, BUNDLE.as_bytes(), &mut output, &mut errors)?;
+        assert!(rt; output.taken.as_slice() == text.as_bytes(), "{name}");
+        assert!(rt; errors.taken.as_slice() == line.as_bytes(), "{name}");
+    }
+    Ok(())
+}
+
+#[test]
+fn arguments_that_cannot_be_had(rt: HostRuntime) -> Result<(), Fail> {
+    for (name, kind, want, line) in [
+        (
+            "out of memory",
+            io::ErrorKind::OutOfMemory,
+            NO_MEMORY,
+            "monitor: memory\n",
+        ),
+        (
+            "not text",
+            io::ErrorKind::InvalidData,
+            MISUSED,
+            "monitor: a word is not UTF-8\n",
+        ),
+    ] {
+        let mut errors = Vec::new(rt.alloc());
+        let status = report_unread_arguments(&io::Error::from(kind), &mut errors);
+        assert_eq!(rt; (name, status), (name, want));
+        assert!(rt; errors.as_slice() == line.as_bytes(), "{name}");
+    }
     Ok(())
 }

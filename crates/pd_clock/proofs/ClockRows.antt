@@ -13,7 +13,7 @@ use Rattle.pd_model.specs.Cuts.{one_more}
 use Rattle.pd_model.proofs.Consistency.{process_in_range}
 use Rattle.pd_model.proofs.Counts.{more_other}
 use Rattle.pd_clock.specs.Orders.{IsDone, IsOrdered, IsEmptyOrder, CanGo, HasClocks, HasRows, clocks_in, clocks_of, clock_at, count_of, next_of}
-use Rattle.pd_clock.proofs.ClockSteps.{CountsWhere, IsUpToOwn, IsUpToSend, clock_step, own_clock, own_counted, none_own, send_counted, none_sent}
+use Rattle.pd_model.proofs.ClockSteps.{CountsWhere, IsUpToOwn, IsUpToSend, clock_step, own_clock, own_counted, none_own, send_counted, none_sent}
 use Rattle.pd_clock.proofs.OrderSteps.{IsSendOf, send_event, next_event, go_within, more_here, old_or_next, order_more, zeros_at, no_cycle_in_order}
 
 pub clocks_none : (c : Computation) (n : ℕ) (done : List ℕ) (clocks : List (Vec ℕ Global)) → n ≡ length c

@@ -1,10 +1,10 @@
+-- The modules of lemmas of this crate.
 pub mod Rows
 pub mod Parts
 pub mod Lookups
 pub mod PastFacts
 pub mod Cycles
-pub mod ClockSteps
 pub mod OrderSteps
 pub mod ClockRows
-pub mod Adding
 pub mod SenderRows
+pub mod FitTraces

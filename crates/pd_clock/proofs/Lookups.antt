@@ -11,7 +11,7 @@ use Rattle.pd_model.specs.Predicates.{last_set_if_there, state_at}
 use Rattle.pd_clock.specs.Histories.{rows_after}
 use Rattle.pd_events.specs.declared.event.Trace.{Trace}
 use Rattle.pd_events.specs.Views.{events_view}
-use Rattle.pd_clock.specs.Computations.{Keeps, recorded_view}
+use Rattle.pd_clock.specs.Computations.{Keeps, initial_view}
 use Rattle.pd_events.specs.Views.{computation_view}
 use Rattle.std.proofs.lemmas.List.{length-map}
 use Rattle.pd_clock.specs.States.{IsLookedUp, values_at, value_at}
@@ -21,7 +21,7 @@ use Rattle.pd_clock.proofs.Parts.{initial_read}
 pub value_is_state : (initial : List (Vec ℤ Global)) (traces : List Trace) (histories : List (Vec ℤ Global))
     → Keeps initial traces histories → (counts : List ℕ) (p v : ℕ)
     → get_or counts p 0 ≤ event_count (computation_view traces) p → value_at initial histories counts p v
-    ≡ state_at (recorded_view initial traces).initial (computation_view traces) counts p v
+    ≡ state_at (initial_view initial) (computation_view traces) counts p v
 value_is_state initial traces histories keeps counts p v le =
     rw (initial_read initial p) (go (cases_lt v (length (values_at initial p))))
   where

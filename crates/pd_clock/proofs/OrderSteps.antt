@@ -196,7 +196,7 @@ module _ (c : Computation) (done : List ℕ) (p : ℕ) (ordered : IsOrdered c do
     before = before_more;
   }
 
-  -- so many events more can come
+  -- this many more events can come
   pub fewer_left : total c - sum (one_more done p) < total c - sum done
   fewer_left =
       let s : sum (one_more done p) ≡ sum done + 1 = sum_more done p in_list in

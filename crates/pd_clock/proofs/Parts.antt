@@ -4,6 +4,7 @@ use Rattle.std.specs.Prelude.{slice_get, Vec}
 use Rattle.std.specs.Global.{Global}
 use Rattle.std.proofs.lemmas.Option.{slice_get_read, slice_get_past}
 use Rattle.pd_model.specs.Events.{events_of}
+use Rattle.pd_model.proofs.ListPrefixes.{get_push_before, get_push_last}
 use Rattle.pd_events.specs.declared.event.Trace.{Trace}
 use Rattle.pd_events.specs.Views.{events_view}
 use Rattle.pd_events.specs.Views.{computation_view}
@@ -15,18 +16,6 @@ got xs p x lt is = slice_get_read xs (length xs) p x refl lt is
 pub values_read : (rows : List (Vec ℤ Global)) (p : ℕ) (row : Vec ℤ Global) → p < length rows → row ≡ get_or rows p row
     → values_at rows p ≡ row.items
 values_read rows p row lt is = ap values_in (got rows p row lt is)
-
-get_push_before : {A : Type 0} (xs : List A) (x : A) (k : ℕ) → k < length xs
-    → slice_get (xs ++ x ∷ []) k ≡ slice_get xs k
-get_push_before [] x k lt = absurd (omega arith)
-get_push_before (y ∷ xs) x zero lt = refl
-get_push_before (y ∷ xs) x (suc k) lt = get_push_before xs x k (omega arith)
-
-get_push_last : {A : Type 0} (xs : List A) (x : A) (k : ℕ) → k ≡ length xs → slice_get (xs ++ x ∷ []) k ≡ Some x
-get_push_last [] x zero e = refl
-get_push_last [] x (suc k) e = absurd (omega arith)
-get_push_last (y ∷ xs) x zero e = absurd (omega arith)
-get_push_last (y ∷ xs) x (suc k) e = get_push_last xs x k (omega arith)
 
 pub values_before : (rows : List (Vec ℤ Global)) (row : Vec ℤ Global) (k : ℕ) → k < length rows
     → values_at (rows ++ row ∷ []) k ≡ values_at rows k

@@ -1,4 +1,4 @@
--- What the clocks of all events tell: which counts are consistent, and what happened before what.
+-- Which counts are consistent, and what happened before what, by the clocks of all events.
 use Rattle.std.proofs.Common.{◌≡◌, ◌≢◌, ℕ, ◌+◌, ◌-◌, ◌*◌, ◌<◌, ◌≤◌, List, [], length, get_or, cond, true, false, not, ◌&&◌, refl, sym, ap, ◌∙◌, inl, inr, ◌⊎◌, ◌↔◌, arith}
 use Rattle.std.specs.Prelude.{nat_eq, nat_lt, Vec}
 use Rattle.std.specs.Global.{Global}
@@ -8,47 +8,19 @@ use Rattle.std.proofs.lemmas.List.{get_or_past, get_or_read}
 use Rattle.std.proofs.lemmas.Nat.{mul-add-lt}
 use Rattle.std.proofs.Math.Nat.{mul-le-mul_right}
 use Rattle.pd_model.specs.Events.{Computation, Place, place, IsEvent, event_count}
-use Rattle.pd_model.specs.Order.{HappenedBefore, HasNoCycle, IsUpTo, IsClock}
+use Rattle.pd_model.specs.Order.{HasNoCycle, IsClock}
 use Rattle.pd_model.specs.Cuts.{FitsProcesses, IsConsistent, full_cut}
-use Rattle.pd_model.proofs.Chains.{same_place, happens_transitive, step_happens}
+use Rattle.pd_model.proofs.Chains.{same_place}
 use Rattle.pd_model.proofs.ClockLemmas.{clocks_decide}
 use Rattle.pd_model.proofs.Consistency.{process_in_range}
 use Rattle.pd_model.proofs.Counts.{full_at}
 use Rattle.pd_model.proofs.Stuck.{none_stuck}
+use Rattle.pd_model.proofs.ClockSteps.{own_count}
 use Rattle.pd_clock.specs.Orders.{HasClocks, LeavesStuck, clock_at, clocks_in, clocks_of}
 use Rattle.pd_clock.specs.Pasts.{HasPast, HasPasts, Reach}
 use Rattle.pd_clock.proofs.Parts.{got}
 
--- an event is in its own clock, as the last of its process
-pub own_clock : (c : Computation) (e : Place) (n : ℕ) → HasNoCycle c → IsEvent c e → IsClock c e e.process n
-    → n ≡ e.number
-own_clock c e n acyclic is clock = go (cases_lt e.number n)
-  where
-    low : e.number ≤ n
-    low = (clock.past e.number is.0 is.1).1 (inl refl)
-
-    go : (e.number < n) ⊎ (n ≤ e.number) → n ≡ e.number
-    go (inr le) = let l : e.number ≤ n = low in omega arith
-    go (inl lt) = past ((clock.past n (omega arith) clock.within).0 (omega arith))
-      where
-        past : IsUpTo c (place e.process n) e → n ≡ e.number
-        past (inl same) = ap (λ (f : Place). f.number) same
-        past (inr h) =
-            let later : IsEvent c (place e.process n) = (omega arith, clock.within) in
-            absurd (acyclic e (happens_transitive c e (place e.process n) e
-            (step_happens c e (place e.process n) (inl (is, later, refl, lt))) h))
-
--- an event is in the clock of another exactly where it happened before it
-pub in_clock : (c : Computation) (e f : Place) (n : ℕ) → IsEvent c e → IsClock c f e.process n → e ≢ f → (e.number ≤ n)
-    ↔ HappenedBefore c e f
-in_clock c e f n is clock apart =
-    (λ le. up_to ((clock.past e.number is.0 is.1).0 le), λ h. (clock.past e.number is.0 is.1).1 (inr h))
-  where
-    up_to : IsUpTo c e f → HappenedBefore c e f
-    up_to (inl same) = absurd (apart same)
-    up_to (inr h) = h
-
--- what the test that tells places apart says
+-- places are equal exactly if the test of their parts says so
 pub apart_from_test : (e f : Place) → not (nat_eq e.process f.process && nat_eq e.number f.number) ≡ true → e ≢ f
 apart_from_test e f test same = go (eqb_tells e.process f.process) (eqb_tells e.number f.number)
   where
@@ -151,7 +123,7 @@ module _ (c : Computation) (clocks : List (Vec ℕ Global)) (acyclic : HasNoCycl
 
   -- the counts of all but one process are decided by the clock of its last counted event
   own : (p n : ℕ) → IsEvent c (place p n) → known (place p n) p ≡ n
-  own p n is = own_clock c (place p n) (known (place p n) p) acyclic is (known_right (place p n) p is)
+  own p n is = own_count c (place p n) (known (place p n) p) acyclic is (known_right (place p n) p is)
 
   last_is : (counts : List ℕ) (p : ℕ) → FitsProcesses c counts → 0 < get_or counts p 0
       → IsEvent c (place p (get_or counts p 0))

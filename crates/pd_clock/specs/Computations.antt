@@ -2,25 +2,28 @@
 use Rattle.std.specs.Prelude.{◌≡◌, ℕ, ◌≤◌, ◌++◌, List, length, map, All, ℤ, Vec, slice_get, Some}
 use Rattle.std.specs.Global.{Global}
 use Rattle.pd_model.specs.Events.{events_of, event_count}
-use Rattle.pd_model.specs.Predicates.{Recorded}
+use Rattle.pd_format.specs.Limits.{event_limit, process_limit}
+use Rattle.pd_model.specs.Predicates.{Initial, Recorded}
 use Rattle.pd_clock.specs.States.{values_at}
 use Rattle.pd_clock.specs.Histories.{AreVars, rows_after}
 use Rattle.pd_events.specs.Views.{computation_view}
 use Rattle.pd_events.specs.declared.event.Trace.{Trace}
 use Rattle.pd_events.specs.declared.event.Event.{Event as Happened}
 
-abbrev pub recorded_view : List (Vec ℤ Global) → List Trace → Recorded
-recorded_view initial traces = record {
-  initial = map (λ (row : Vec ℤ Global). row.items) initial;
-  events = computation_view traces;
-}
+-- the initial values of each process
+abbrev pub initial_view : List (Vec ℤ Global) → Initial
+initial_view rows = map (λ (row : Vec ℤ Global). row.items) rows
 
--- one to eight processes, each with its variables and at most 10,000 events, which set variables that are there
+-- what these traces record, with these values before them
+abbrev pub recorded_view : Initial → List Trace → Recorded
+recorded_view initial traces = record { initial = initial; events = computation_view traces }
+
+-- one process or more, each with its variables, and its events, which set variables that are there; no limit is passed
 pub record FitsInitial (initial : List (Vec ℤ Global)) (traces : List Trace) : Type 0 where
   pub same : length initial ≡ length traces
   pub some : 1 ≤ length traces
-  pub few : length traces ≤ 8
-  pub short : (p : ℕ) → event_count (computation_view traces) p ≤ 10000
+  pub few : length traces ≤ process_limit
+  pub short : (p : ℕ) → event_count (computation_view traces) p ≤ event_limit
   pub vars : (p : ℕ) (process : Trace) → slice_get traces p ≡ Some process
       → All (λ (event : Happened). AreVars (length (values_at initial p)) event.sets.items) process.events.items
 

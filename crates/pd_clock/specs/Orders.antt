@@ -11,7 +11,7 @@ use Rattle.pd_clock.specs.declared.fault.BuildFault.TheVariants.{Cycle, Memory}
 use Rattle.pd_match.specs.Views.{place_view}
 use Rattle.pd_match.specs.declared.place.Place.{Place}
 
--- The order has so many of the first events of each process, and those that it leaves out are the stuck ones.
+-- The order has the first `done` events of each process, and those that it leaves out are the stuck ones.
 pub record LeavesStuck (c : Computation) (done : List ℕ) : Type 0 where
   pub one_each : length done ≡ length c
   pub within : (p : ℕ) → slice_index done p ≤ event_count c p
@@ -25,11 +25,11 @@ clocks_in (Some row) = row.items
 abbrev pub clocks_of : List (Vec ℕ Global) → ℕ → List ℕ
 clocks_of clocks p = clocks_in (slice_get clocks p)
 
--- how many events of process q are in the clock of this event, of so many processes
+-- how many events of process q are in the clock of this event, by the number of processes
 abbrev pub clock_at : ℕ → List (Vec ℕ Global) → events.Place → ℕ → ℕ
 clock_at processes clocks e q = slice_index (clocks_of clocks e.process) ((e.number - 1) * processes + q)
 
--- each of the first so many events of each process has its clock, with a count for each process
+-- each of the first `done` events of each process has its clock, with a count for each process
 pub record HasClocks (c : Computation) (done : List ℕ) (clocks : List (Vec ℕ Global)) : Type 0 where
   pub one_each : length clocks ≡ length c
   pub rows : (p : ℕ) → p < length c → length (clocks_of clocks p) ≡ slice_index done p * length c
@@ -44,11 +44,11 @@ abbrev pub cycle_view : BuildFault → Option (List events.Place)
 cycle_view (Cycle places) = Some (places_view places.items)
 cycle_view Memory = None
 
--- the event is among the first so many of its process, which stand in the order
+-- the event is among the first of its process that stand in the order
 abbrev pub IsDone : List ℕ → events.Place → Type 0
 IsDone done e = e.number ≤ slice_index done e.process
 
--- So many of the first events of each process stand in an order: what leads to one of them stands in it, and lower.
+-- The first `done` events of each process stand in an order: what leads to one of them stands in it, and lower.
 pub record IsOrdered (c : Computation) (done : List ℕ) : Type 0 where
   pub one_each : length done ≡ length c
   pub within : (p : ℕ) → slice_index done p ≤ event_count c p

@@ -12,12 +12,12 @@ abbrev pub IsSender : Computation → events.Place → Option Place → Type 0
 IsSender c receipt found =
     (send : events.Place) → (option_map place_view found ≡ Some send) ↔ IsMessage c send receipt
 
--- the row has the sends of the first so many events of process p, each if the event is a receipt
+-- the row has the sends of the first n events of process p, each if the event is a receipt
 pub record HasSenders (c : Computation) (p n : ℕ) (row : List (Option Place)) : Type 0 where
   pub same : length row ≡ n
   pub tells : (k : ℕ) (none : Option Place) → k < n → IsSender c (place p (k + 1)) (slice_index_or row k none)
 
--- the same of all events of the first so many processes
+-- the same of all events of the first n processes
 pub record KeepsSenders (c : Computation) (n : ℕ) (rows : List (Vec (Option Place) Global)) : Type 0 where
   pub same : length rows ≡ n
   pub tell : (p : ℕ) (none : Vec (Option Place) Global) → p < n

@@ -10,8 +10,8 @@ values_in (Some row) = row.items
 abbrev pub values_at : List (Vec ℤ Global) → ℕ → List ℤ
 values_at rows p = values_in (slice_get rows p)
 
--- the value of variable v after so many events of a process, in the history that begins with these values; 0 for what
--- isn't there
+-- the value of variable v after the first `count` events of a process, in the history that begins with these values; 0
+-- for what isn't there
 abbrev pub value_in : List ℤ → List ℤ → ℕ → ℕ → ℤ
 value_in start history count v =
     cond (nat_lt v (length start)) (slice_index_or history (count * length start + v) (pos 0)) (pos 0)

@@ -1,4 +1,4 @@
-//! What the clocks of events tell of counts.
+//! Whether counts have the past of their last events, by the clocks of these.
 ghost use Rattle.pd_clock.specs.Pasts.{HasPast, HasPasts, Reach};
 ghost use Rattle.std.specs.Prelude.{◌*◌, ◌≤◌, ◌↔◌, IsTrue, length};
 

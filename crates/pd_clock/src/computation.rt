@@ -1,6 +1,9 @@
 //! A finished computation.
 ghost use Rattle.pd_clock.specs.Computations.{FitsInitial, Keeps, recorded_view};
+ghost use Rattle.pd_events.specs.SessionTraces.{AreTraces};
 ghost use Rattle.pd_events.specs.Views.{computation_view};
+ghost use Rattle.pd_format.specs.Limits.{event_limit, process_limit};
+ghost use Rattle.pd_spec.specs.Views.{document_view};
 ghost use Rattle.pd_clock.specs.Orders.{cycle_view};
 ghost use Rattle.pd_clock.specs.Senders.{IsSender};
 ghost use Rattle.pd_clock.specs.StateViews.{state_view};
@@ -10,17 +13,18 @@ ghost use Rattle.pd_model.specs.Events.{IsEvent, event_count};
 ghost use Rattle.pd_model.specs.Messages.{IsMessageList};
 ghost use Rattle.pd_model.specs.Order.{HappenedBefore, HasNoCycle, IsClock, IsReportedCycle};
 ghost use Rattle.pd_model.specs.Predicates.{state_at};
-ghost use Rattle.std.specs.Prelude.{◌≡◌, ◌<◌, ◌≤◌, ◌↔◌, ℕ, List, IfErr, IfOk, IfSome, IsTrue, length, slice_index};
+ghost use Rattle.std.specs.Prelude.{◌≡◌, ◌<◌, ◌≤◌, ◌*◌, ◌↔◌, ℕ, List, IfErr, IfOk, IfSome, IsTrue, length, slice_index};
 
 use super::clocks::has_pasts;
 use super::cycle::reported_cycle;
 use super::history::history;
 use super::order::{Order, put_in_order};
 use super::senders::senders_of;
-use super::state::looked_up;
+use super::state::value_in_history;
 use super::{BuildFault, Cut, State};
 use pd_events::Trace;
 use pd_match::{Matched, Place};
+use pd_spec::Spec;
 use std::alloc::{AllocError, Global};
 use std::marker::Model;
 
@@ -37,7 +41,7 @@ pub struct Computation<'a> {
 
 impl<'a> Model for Computation<'a> {
     ghost use Rattle.pd_model.specs.Predicates.{Recorded};
-    ghost use Rattle.pd_clock.specs.Computations.{recorded_view, Keeps};
+    ghost use Rattle.pd_clock.specs.Computations.{initial_view, recorded_view, Keeps};
     ghost use Rattle.pd_events.specs.Views.{computation_view};
     ghost use Rattle.pd_clock.specs.Orders.{HasClocks};
     ghost use Rattle.pd_clock.specs.Senders.{KeepsSenders};
@@ -47,7 +51,7 @@ impl<'a> Model for Computation<'a> {
 
     ghost Value = { Recorded };
 
-    ghost view = { λ c. recorded_view c.initial.now c.traces.now };
+    ghost view = { λ c. recorded_view (initial_view c.initial.now) c.traces.now };
 
     ghost invariant = { λ c. Keeps c.initial.now c.traces.now c.histories.items
         × HasClocks (computation_view c.traces.now) (full_cut (computation_view c.traces.now)) c.clocks.items
@@ -73,10 +77,10 @@ fn histories(
 
 /// How many events there are.
 fn total_of(traces: &[Trace]) -> u64
-    requires few { length traces.now ≤ 8 }
-    requires short { (p : ℕ) → event_count (computation_view traces.now) p ≤ 10000 }
+    requires few { length traces.now ≤ process_limit }
+    requires short { (p : ℕ) → event_count (computation_view traces.now) p ≤ event_limit }
     ensures sum { result ≡ total (computation_view traces.now) }
-    ensures small { result ≤ 80000 }
+    ensures small { result ≤ event_limit * process_limit }
 {
     let mut total = 0;
     for process in traces {
@@ -99,24 +103,26 @@ fn none_above(counts: &[u64], traces: &[Trace]) -> bool
 }
 
 impl<'a> Computation<'a> {
-    /// The computation of these traces, which stand in the order of the processes: for each process the initial values
-    /// of its variables, and its trace. The messages are those of the traces.
+    /// The computation of these traces, one for each process of the document and in their order. The messages are those
+    /// of the traces.
     ///
     /// # Errors
     /// `Cycle` exactly where some event happened before itself, or `Memory`.
     pub fn build(
         alloc: Global,
-        initial: &'a [Vec<i64>],
+        spec: &'a Spec,
         traces: &'a [Trace],
         matched: &Matched,
     ) -> Result<Computation<'a>, BuildFault>
-        requires fits { FitsInitial initial.now traces.now }
+        requires traces { AreTraces (document_view spec.now).names traces.now }
         requires messages { IsMessageList (computation_view traces.now) matched.now }
-        ensures recorded { IfOk result (λ computation. computation ≡ recorded_view initial.now traces.now) }
+        ensures recorded { IfOk result (λ computation.
+            computation ≡ recorded_view (document_view spec.now).initial traces.now) }
         ensures acyclic { IfOk result (λ computation. HasNoCycle (computation_view traces.now)) }
         ensures cycle { IfErr result (λ fault.
             IfSome (cycle_view fault) (IsReportedCycle (computation_view traces.now))) }
     {
+        let initial = spec.initial_rows();
         let Order { done, clocks } = put_in_order(alloc, traces, matched)?;
         if let Some(places) = reported_cycle(alloc, traces, matched, &done)? {
             return Err(BuildFault::Cycle(places));
@@ -137,12 +143,12 @@ impl<'a> Computation<'a> {
         self.traces.len()
     }
 
-    /// What holds of every computation: it has 1 to 8 processes, each with at most 10,000 events, and no event happened
-    /// before itself. It has no code: a caller's proof has these facts by calling it.
+    /// What holds of every computation: it has a process or more and is within the limits, and no event happened before
+    /// itself. It has no code: a caller's proof has these facts by calling it.
     pub fn limits(&self)
         ensures some { 1 ≤ length self.now.events }
-        ensures few { length self.now.events ≤ 8 }
-        ensures short { (p : ℕ) → event_count self.now.events p ≤ 10000 }
+        ensures few { length self.now.events ≤ process_limit }
+        ensures short { (p : ℕ) → event_count self.now.events p ≤ event_limit }
         ensures acyclic { HasNoCycle self.now.events }
     {
         let _initial = &self.initial;
@@ -151,7 +157,7 @@ impl<'a> Computation<'a> {
     /// How many events all processes have together.
     pub fn total(&self) -> u64
         ensures sum { result ≡ total self.now.events }
-        ensures small { result ≤ 80000 }
+        ensures small { result ≤ event_limit * process_limit }
     {
         total_of(self.traces)
     }
@@ -189,8 +195,8 @@ impl<'a> Computation<'a> {
             && place.number <= self.events(place.process)
     }
 
-    /// How many events of process `q`, counted from 0, are this event or happened before it. They are the first so
-    /// many.
+    /// How many events of process `q`, counted from 0, are this event or happened before it: they are the first of
+    /// `q`'s events, this many.
     pub fn clock(&self, place: Place, q: usize) -> u64
         requires event { IsEvent self.now.events (place_view place) }
         requires within { q < length self.now.events }
@@ -227,7 +233,7 @@ impl<'a> Computation<'a> {
         if process >= self.initial.len() {
             return 0;
         }
-        looked_up(&self.initial[process], &self.histories[process], count, var)
+        value_in_history(&self.initial[process], &self.histories[process], count, var)
     }
 
     /// The state at a cut that fits.

@@ -1,15 +1,17 @@
 //! Counts of events, one for each process.
-ghost use Rattle.std.specs.Prelude.{◌≡◌, ◌≤◌, ◌<◌, ◌+◌, length, slice_index, slice_set, IfOk, IsOk};
-ghost use Rattle.pd_model.specs.Cuts.{one_more};
+ghost use Rattle.std.specs.Prelude.{◌≡◌, ◌≤◌, length, IfOk, IsOk};
+ghost use Rattle.pd_format.specs.Limits.{process_limit};
 
+use pd_format::PROCESS_LIMIT;
 use smallvec::SmallVec;
 use std::alloc::{AllocError, Global};
 use std::marker::Model;
 
-/// How many events of each process are in a cut, in the order of the processes. Up to 8 counts take no memory.
+/// How many events of each process are in a cut, in the order of the processes. As many counts as
+/// there may be processes take no memory.
 #[derive(Drop)]
 pub struct Cut {
-    counts: SmallVec<u64, 8>,
+    counts: SmallVec<u64, PROCESS_LIMIT>,
 }
 
 impl Model for Cut {
@@ -21,10 +23,10 @@ impl Model for Cut {
 }
 
 impl Cut {
-    /// The cut of these counts. It can't fail for up to 8 of them.
+    /// The cut of these counts. It can't fail if they are no more than there may be processes.
     pub fn new(alloc: Global, counts: &[u64]) -> Result<Cut, AllocError>
         ensures ok { IfOk result (λ cut. cut ≡ counts.now) }
-        ensures few { length counts.now ≤ 8 → IsOk result }
+        ensures few { length counts.now ≤ process_limit → IsOk result }
     {
         let counts = SmallVec::from_slice(alloc, counts)?;
         Ok(Cut { counts })

@@ -12,7 +12,7 @@ use pd_events::Trace;
 use pd_match::{Matched, Place};
 use std::alloc::{AllocError, Global};
 
-/// The cycle that is reported, if there is one: `done` tells how many of the first events of each process are not stuck
+/// The cycle that is reported, if there is one: `done` has for each process how many of its first events are not stuck
 /// on a causal cycle or after one.
 pub(crate) fn reported_cycle(
     alloc: Global,
@@ -84,13 +84,13 @@ fn cycle_from(
             return from_place(alloc, &taken, start);
         }
         taken.push(here)?;
-        here = gone_back(traces, matched, done, here);
+        here = first_stuck_of_sender(traces, matched, done, here);
     }
 }
 
 /// From a receipt that is the first stuck event of its process to the first stuck event of the process that sent its
 /// message.
-fn gone_back(traces: &[Trace], matched: &Matched, done: &[u64], receipt: Place) -> Place
+fn first_stuck_of_sender(traces: &[Trace], matched: &Matched, done: &[u64], receipt: Place) -> Place
     requires messages { IsMessageList (computation_view traces.now) matched.now }
     requires stuck { LeavesStuck (computation_view traces.now) done.now }
     requires receipt { IsFirstStuck (computation_view traces.now) (place_view receipt) }

@@ -1,6 +1,7 @@
 //! An order of the events in which each comes after those that happened before it.
 ghost use Rattle.pd_clock.specs.Orders.{CanGo, HasClocks, HasRows, IsEmptyOrder, IsOrdered, LeavesStuck, Waits, count_of, next_of};
 ghost use Rattle.pd_events.specs.Views.{computation_view};
+ghost use Rattle.pd_format.specs.Limits.{event_limit, process_limit};
 ghost use Rattle.pd_match.specs.Views.{place_view};
 ghost use Rattle.pd_model.specs.Cuts.{Includes, one_more};
 ghost use Rattle.pd_model.specs.Events.{event_count};
@@ -9,6 +10,7 @@ ghost use Rattle.pd_model.specs.Order.{IsClock};
 ghost use Rattle.std.specs.Prelude.{◌≡◌, ◌<◌, ◌≤◌, ℕ, IfNone, IfOk, IfSome, IsTrue, false, length, option_map, slice_index};
 
 use pd_events::Trace;
+use pd_format::PROCESS_LIMIT;
 use pd_match::{Matched, Place};
 use std::alloc::{AllocError, Global};
 
@@ -31,7 +33,7 @@ fn no_events(alloc: Global, processes: usize) -> Result<Order, AllocError>
     Ok(Order { done, clocks })
 }
 
-/// Whether process `p` has a next event that can stand in the order: where it is a receipt, its send stands there.
+/// Whether process `p` has a next event that can stand in the order: if it is a receipt, its send stands there.
 fn can_go(traces: &[Trace], matched: &Matched, done: &[u64], p: usize) -> bool
     requires within { p < length traces.now }
     requires ordered { IsOrdered (computation_view traces.now) done.now }
@@ -102,15 +104,15 @@ fn count_in(order: &Order, event: Option<Place>, q: usize) -> u64
     }
 }
 
-/// The clock of the next event of process `p`, which can stand in the order. Up to 8 counts take no memory.
-fn next_row(traces: &[Trace], matched: &Matched, order: &Order, p: usize) -> [u64; 8]
-    requires few { length traces.now ≤ 8 }
-    requires short { (p : ℕ) → event_count (computation_view traces.now) p ≤ 10000 }
+/// The clock of the next event of process `p`, which can stand in the order. It takes no memory.
+fn next_row(traces: &[Trace], matched: &Matched, order: &Order, p: usize) -> [u64; PROCESS_LIMIT]
+    requires few { length traces.now ≤ process_limit }
+    requires short { (p : ℕ) → event_count (computation_view traces.now) p ≤ event_limit }
     requires messages { IsMessageList (computation_view traces.now) matched.now }
     requires ordered { IsOrdered (computation_view traces.now) order.now.done.items }
     requires clocks { HasClocks (computation_view traces.now) order.now.done.items order.now.clocks.items }
     requires goes { CanGo (computation_view traces.now) order.now.done.items p }
-    ensures eight { length result ≡ 8 }
+    ensures room { length result ≡ process_limit }
     ensures clock { (q : ℕ) → q < length traces.now
         → IsClock (computation_view traces.now) (next_of order.now.done.items p) q (slice_index result q) }
 {
@@ -124,7 +126,7 @@ fn next_row(traces: &[Trace], matched: &Matched, order: &Order, p: usize) -> [u6
         process: p,
         number: number + 1,
     });
-    let mut row = [0; 8];
+    let mut row = [0; PROCESS_LIMIT];
     for q in 0..traces.len() {
         let past = count_in(order, previous, q);
         let sent = count_in(order, send, q);
@@ -136,8 +138,8 @@ fn next_row(traces: &[Trace], matched: &Matched, order: &Order, p: usize) -> [u6
 
 /// Puts the next event of process `p`, which can go, after the others.
 fn add(traces: &[Trace], matched: &Matched, order: &mut Order, p: usize) -> Result<(), AllocError>
-    requires few { length traces.now ≤ 8 }
-    requires short { (p : ℕ) → event_count (computation_view traces.now) p ≤ 10000 }
+    requires few { length traces.now ≤ process_limit }
+    requires short { (p : ℕ) → event_count (computation_view traces.now) p ≤ event_limit }
     requires messages { IsMessageList (computation_view traces.now) matched.now }
     requires ordered { IsOrdered (computation_view traces.now) order.old.done.items }
     requires clocks { HasClocks (computation_view traces.now) order.old.done.items order.old.clocks.items }
@@ -155,18 +157,20 @@ fn add(traces: &[Trace], matched: &Matched, order: &mut Order, p: usize) -> Resu
 /// Puts as many events as can be into an order in which each comes after those that happened before it. Those that are
 /// left are on a causal cycle or after one.
 ///
-/// Source: Lamport, Time, Clocks, and the Ordering of Events in a Distributed System, 1978.
+/// It is a topological order (Kahn, Topological Sorting of Large Networks, 1962), and each event that it takes in gets
+/// its vector clock (Fidge, Timestamps in Message-Passing Systems That Preserve the Partial Ordering, 1988; Mattern,
+/// Virtual Time and Global States of Distributed Systems, 1989).
 pub(crate) fn put_in_order(
     alloc: Global,
     traces: &[Trace],
     matched: &Matched,
 ) -> Result<Order, AllocError>
-    requires few { length traces.now ≤ 8 }
-    requires short { (p : ℕ) → event_count (computation_view traces.now) p ≤ 10000 }
+    requires few { length traces.now ≤ process_limit }
+    requires short { (p : ℕ) → event_count (computation_view traces.now) p ≤ event_limit }
     requires messages { IsMessageList (computation_view traces.now) matched.now }
     ensures stuck { IfOk result (λ order. LeavesStuck (computation_view traces.now) order.done.items) }
-    ensures clocks { IfOk result (λ order. HasClocks (computation_view traces.now) order.done.items order.clocks.items)
-        }
+    ensures clocks { IfOk result (λ order.
+        HasClocks (computation_view traces.now) order.done.items order.clocks.items) }
 {
     let mut order = no_events(alloc, traces.len())?;
     let mut last = 0;

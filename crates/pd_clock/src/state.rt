@@ -11,7 +11,7 @@ pub struct State<'a> {
     initial: &'a [Vec<i64>],
     histories: &'a [Vec<i64>],
     counts: &'a [u64],
-    ghost looked_up: { IsLookedUp initial.now histories.now counts.now },
+    ghost sound: { IsLookedUp initial.now histories.now counts.now },
 }
 
 impl<'a> State<'a> {
@@ -40,7 +40,7 @@ impl Values for State<'_> {
         if process >= self.initial.len() {
             return 0;
         }
-        looked_up(
+        value_in_history(
             &self.initial[process],
             &self.histories[process],
             self.counts[process],
@@ -51,7 +51,7 @@ impl Values for State<'_> {
 
 /// The value of variable `var`, counted from 0, after the first `count` events of a process: what stands in its
 /// history, whose first row is `start`. It is 0 where there is no such variable.
-pub(crate) fn looked_up(start: &[i64], history: &[i64], count: u64, var: usize) -> i64
+pub(crate) fn value_in_history(start: &[i64], history: &[i64], count: u64, var: usize) -> i64
     requires { count * length start.now + length start.now ≤ length history.now }
     ensures { result ≡ value_in start.now history.now count var }
 {

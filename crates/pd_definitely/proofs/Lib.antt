@@ -1,2 +1,2 @@
+-- The modules of lemmas of this crate.
 pub mod Listed
-pub mod Successors

@@ -1,5 +1,6 @@
 //! The observation that avoids, found from the full cut backward.
 ghost use Rattle.pd_definitely.specs.Answers.{AreAvoidingLevels, LeavesOneOf};
+ghost use Rattle.pd_format.specs.Limits.{process_limit};
 ghost use Rattle.pd_model.specs.Answers.{IsPrintedPath};
 ghost use Rattle.pd_model.specs.Cuts.{full_cut, one_less, total};
 ghost use Rattle.pd_model.specs.Observations.{IsAvoiding};
@@ -8,6 +9,7 @@ ghost use Rattle.pd_pred.specs.Views.{predicate_view};
 ghost use Rattle.std.specs.Prelude.{◌≡◌, ◌+◌, ◌<◌, ◌≤◌, ◌↔◌, ℕ, IfOk, IsTrue, length, slice_index};
 
 use pd_clock::{Computation, Cut};
+use pd_format::PROCESS_LIMIT;
 use pd_level::Level;
 use pd_pred::Pred;
 use smallvec::SmallVec;
@@ -42,7 +44,7 @@ pub(crate) fn path_back(
         k -= 1;
         let p = least_undone(alloc, &cut, &levels[k]);
         path.push(p)?;
-        cut = undone(alloc, &cut, p);
+        cut = without_last(alloc, &cut, p);
     }
     path.reverse();
     Ok(path)
@@ -50,7 +52,7 @@ pub(crate) fn path_back(
 
 /// The least process whose last event can be undone so that a cut of the level is left.
 fn least_undone(alloc: Global, cut: &Cut, level: &Level) -> usize
-    requires few { length cut.now ≤ 8 }
+    requires few { length cut.now ≤ process_limit }
     requires some { (p : ℕ) × (p < length cut.now) × LeavesOneOf level.now.cuts cut.now p }
     ensures leaves { LeavesOneOf level.now.cuts cut.now result }
     ensures least { (q : ℕ) → q < result → ¬ LeavesOneOf level.now.cuts cut.now q }
@@ -64,20 +66,23 @@ fn least_undone(alloc: Global, cut: &Cut, level: &Level) -> usize
 
 /// Whether the last event of process `p` can be undone so that a cut of the level is left.
 fn leaves_one_of(alloc: Global, level: &Level, cut: &Cut, p: usize) -> bool
-    requires few { length cut.now ≤ 8 }
+    requires few { length cut.now ≤ process_limit }
     requires within { p < length cut.now }
     ensures { IsTrue result ↔ LeavesOneOf level.now.cuts cut.now p }
 {
-    cut.counts()[p] > 0 && level.contains(&undone(alloc, cut, p))
+    cut.counts()[p] > 0 && level.contains(&without_last(alloc, cut, p))
 }
 
 /// The cut without the last event of process `p`. It takes no memory.
-fn undone(alloc: Global, cut: &Cut, p: usize) -> Cut
-    requires few { length cut.now ≤ 8 }
+fn without_last(alloc: Global, cut: &Cut, p: usize) -> Cut
+    requires few { length cut.now ≤ process_limit }
     requires some { 0 < slice_index cut.now p }
     ensures { result ≡ one_less cut.now p }
 {
-    let mut counts: SmallVec<u64, 8> = SmallVec::from_slice(alloc, cut.counts()).unwrap();
+    let mut counts: SmallVec<u64, PROCESS_LIMIT> = SmallVec::from_slice(
+        alloc,
+        cut.counts(),
+    ).unwrap();
     counts[p] -= 1;
     Cut::new(alloc, counts.as_slice()).unwrap()
 }

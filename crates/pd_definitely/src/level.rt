@@ -1,4 +1,5 @@
 //! The avoiding cuts of a level.
+ghost use Rattle.pd_format.specs.Limits.{width_limit};
 ghost use Rattle.pd_model.specs.Answers.{IsListOf};
 ghost use Rattle.pd_model.specs.Cuts.{IsConsistent};
 ghost use Rattle.pd_model.specs.Observations.{IsAvoiding};
@@ -38,7 +39,7 @@ pub(crate) fn next_avoiding(
     requires cuts { All (IsConsistent computation.now.events) level.now.cuts }
     requires short { length level.now.cuts ≤ width }
     requires wide { 1 ≤ width }
-    requires narrow { width ≤ 65536 }
+    requires narrow { width ≤ width_limit }
     ensures { IfOk result (λ next. (k : ℕ)
         → IsListOf (IsAvoiding computation.now.events (test_of computation.now (predicate_view pred.now)) k)
         level.now.cuts → IsListOf (IsAvoiding computation.now.events (test_of computation.now (predicate_view pred.now))

@@ -3,8 +3,8 @@
 //!
 //! An avoiding cut is one that is reached from the empty cut through cuts that don't satisfy, and doesn't satisfy
 //! itself. The levels of the avoiding cuts are walked from the empty cut on. The answer is yes at the first level that
-//! has none; unknown, where a level has more than the bound; or no, where the full cut is avoiding, with an observation
-//! that is found from the full cut backward.
+//! has none; unknown, if a level has more avoiding cuts than the bound; or no, if the full cut is avoiding, with an
+//! observation that is found from the full cut backward.
 //!
 //! - `answer`: the answer
 //! - `walk`: the walk

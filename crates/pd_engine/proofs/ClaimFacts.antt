@@ -5,14 +5,14 @@ use Rattle.pd_model.specs.Cuts.{total}
 use Rattle.pd_model.specs.Events.{Place}
 use Rattle.pd_model.specs.Predicates.{Recorded}
 use Rattle.pd_format.specs.Documents.{Document, IsDocument}
-use Rattle.pd_format.specs.Judgements.{IsJudgement, of_read, IsReportOfResults, IsReportOfSession, IsTracesReport, RawStream, results_of, recorded_of}
+use Rattle.pd_judgement.specs.Judgements.{IsJudgement, of_read, IsReportOfResults, IsReportOfSession, IsTracesReport, AreResultsOf, RawStream, recorded_of}
 use Rattle.pd_format.specs.OtherTexts.{Checked, Finding, OfRefusal, OfSession}
 use Rattle.pd_format.specs.Readings.{Trace}
 use Rattle.pd_format.specs.Reports.{Answer, IsReport, Refusal, Report, Judged, Refused}
 use Rattle.pd_format.specs.Sessions.{StreamResult, SessionFault, session}
 use Rattle.pd_judgement.specs.Findings as findings
 use Rattle.pd_judgement.specs.Findings.{AreCounts, IsAnswersFinding, IsFinding, IsSessionOf}
-use Rattle.pd_engine.specs.Claims.{HoldsOutcomes, HoldsTraces, IsClaimFinding, of_refused_session, of_refusal, of_session}
+use Rattle.pd_engine.specs.Claims.{HoldsResults, HoldsTraces, IsClaimFinding, of_refused_session, of_refusal, of_session}
 use Rattle.pd_engine.specs.Formings.{AreWellFormed}
 
 abbrev Sessions : Type 1
@@ -64,19 +64,19 @@ session_of_formed document traces recorded count claimed processes events matche
 
 -- ---- traces
 
-pub of_traces : (document : Document) (streams : ℕ) (outcomes : List StreamResult) (traces : List Trace)
-    (claimed : Report) (finding : Finding) → session document.names streams outcomes ≡ Ok traces
+pub of_traces : (document : Document) (streams : ℕ) (results : List StreamResult) (traces : List Trace)
+    (claimed : Report) (finding : Finding) → session document.names streams results ≡ Ok traces
     → IsClaimFinding (IsTracesReport document traces) (HoldsTraces document traces) claimed finding
-    → IsClaimFinding (IsReportOfResults document streams outcomes) (HoldsOutcomes document streams outcomes) claimed
+    → IsClaimFinding (IsReportOfResults document streams results) (HoldsResults document streams results) claimed
     finding
-of_traces document streams outcomes traces claimed finding joined found =
-    claim_weaker (IsTracesReport document traces) (IsReportOfResults document streams outcomes)
-    (HoldsTraces document traces) (HoldsOutcomes document streams outcomes) claimed finding
+of_traces document streams results traces claimed finding joined found =
+    claim_weaker (IsTracesReport document traces) (IsReportOfResults document streams results)
+    (HoldsTraces document traces) (HoldsResults document streams results) claimed finding
     (λ report right. subst (λ (r : Result (List Trace) SessionFault). IsReportOfSession document r report) (sym joined)
     right)
     (λ d t m held. record {
       same_document = held.same_document;
-      joined = ap (λ (e : Document). session e.names streams outcomes) held.same_document
+      joined = ap (λ (e : Document). session e.names streams results) held.same_document
           ∙ (joined ∙ ap Ok (sym held.same_traces));
       formed = held.formed;
       are_messages = held.are_messages;
@@ -85,20 +85,20 @@ of_traces document streams outcomes traces claimed finding joined found =
 
 -- ---- a document's bytes
 
-pub of_outcomes : (bytes : List ℕ) (streams : List RawStream) (document : Document) (claimed : Report)
-    (finding : Finding) → IsDocument bytes document
-    → IsClaimFinding (IsReportOfResults document (length streams) (results_of document.names streams))
-    (HoldsOutcomes document (length streams) (results_of document.names streams)) claimed finding
+pub of_results : (bytes : List ℕ) (streams : List RawStream) (document : Document) (results : List StreamResult)
+    (claimed : Report) (finding : Finding) → IsDocument bytes document → AreResultsOf document.names streams results
+    → IsClaimFinding (IsReportOfResults document (length streams) results)
+    (HoldsResults document (length streams) results) claimed finding
     → IsClaimFinding (IsJudgement bytes streams) (IsSessionOf bytes streams) claimed finding
-of_outcomes bytes streams document claimed finding is found =
-    claim_weaker (IsReportOfResults document (length streams) (results_of document.names streams))
-    (IsJudgement bytes streams) (HoldsOutcomes document (length streams) (results_of document.names streams))
-    (IsSessionOf bytes streams) claimed finding
-    (λ report right. of_read document is right)
+of_results bytes streams document results claimed finding is are found =
+    claim_weaker (IsReportOfResults document (length streams) results) (IsJudgement bytes streams)
+    (HoldsResults document (length streams) results) (IsSessionOf bytes streams) claimed finding
+    (λ report right. of_read document results is are right)
     (λ d t m held. record {
       read = subst (IsDocument bytes) (sym held.same_document) is;
-      joined = subst (λ (e : Document). session d.names (length streams) (results_of e.names streams) ≡ Ok t)
-          (sym held.same_document) held.joined;
+      results = results;
+      are_results = subst (λ (e : Document). AreResultsOf e.names streams results) (sym held.same_document) are;
+      joined = held.joined;
       formed = held.formed;
       are_messages = held.are_messages;
     })

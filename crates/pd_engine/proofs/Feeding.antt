@@ -8,7 +8,7 @@ use Rattle.pd_format.specs.Lines as lines
 use Rattle.pd_format.specs.Names.{ProcessNames}
 use Rattle.pd_format.specs.Readings.{Ending, Ended, Stop, NothingMore, EndLine, Fault, IsClosed, by_end_line, by_fault, reading, reading_of_lines, lines_of, stop_at_end, stop_or}
 use Rattle.pd_format.specs.Sessions.{Interleaving, Input, Piece, AtEnd, inputs_of, joined_pieces, ending_of_inputs, bytes_of, ending_of}
-use Rattle.pd_format.specs.Judgements.{ended_streams}
+use Rattle.pd_judgement.specs.Judgements.{ended_streams}
 use Rattle.pd_events.specs.Reads.{ReaderState, Reads}
 use Rattle.pd_gather.specs.Taken.{HasTaken, HasClosed, raw_streams_from, raw_streams}
 use Rattle.pd_engine.specs.Openings.{HasFed, joined_pieces_of, whole_stream}

@@ -1,9 +1,9 @@
 -- What readers reported, where they were read and where they weren't.
-use Rattle.std.proofs.Common.{◌≡◌, ◌↔◌, ℕ, suc, ◌<◌, ◌≤◌, ◌⊎◌, inl, inr, Bool, IsTrue, List, [], ◌∷◌, length, None, Some, Option, refl, sym, ap, ◌∙◌, subst, arith}
+use Rattle.std.proofs.Common.{◌≡◌, ◌↔◌, ℕ, ◌<◌, ◌≤◌, ◌⊎◌, inl, inr, Bool, IsTrue, List, [], ◌∷◌, length, None, Some, Option, refl, sym, ◌∙◌, subst, arith}
 use Rattle.std.proofs.lemmas.Bool.{cases_lt}
 use Rattle.std.specs.List.{AllZip}
 use Rattle.pd_format.specs.Documents.{Document, IsDocument}
-use Rattle.pd_format.specs.Judgements.{RawStream, results_of, IsReportOfResults}
+use Rattle.pd_judgement.specs.Judgements.{AreResultsOf, IsReportOfResults, RawStream}
 use Rattle.pd_format.specs.Names.{ProcessNames}
 use Rattle.pd_format.specs.OtherTexts.{Finding, NotRead, OfRefusal}
 use Rattle.pd_format.specs.Readings.{Failed}
@@ -14,10 +14,13 @@ use Rattle.pd_spec.specs.Views.{IsFaultOf}
 use Rattle.pd_spec.specs.declared.fault.SpecFault.{SpecFault}
 use Rattle.pd_gather.specs.ReadStreams.{AreReadOf}
 use Rattle.pd_judgement.specs.Writes.{IsGivenBy}
+use Rattle.std.proofs.lemmas.Slice.Zip.{AllZip-long}
+use Rattle.pd_format.specs.Limits.{stream_count_limit}
+use Rattle.pd_judgement.proofs.StreamResults.{ended_have_results, given_ended}
 use Rattle.pd_engine.specs.Checks.{Finds}
-use Rattle.pd_engine.specs.Claims.{FindsClaim, HoldsOutcomes, IsClaimFinding, of_refused_session}
+use Rattle.pd_engine.specs.Claims.{FindsClaim, HoldsResults, IsClaimFinding, of_refused_session}
 use Rattle.pd_engine.specs.Refusals.{IsDocumentRefusal}
-use Rattle.pd_engine.proofs.ClaimFacts.{claim_weaker, of_outcomes, of_read_report}
+use Rattle.pd_engine.proofs.ClaimFacts.{claim_weaker, of_results, of_read_report}
 use Rattle.pd_engine.proofs.Openings.{refused_judged, same_report, same_session}
 
 -- a stream of which nothing was reported
@@ -38,67 +41,68 @@ unfolding none_reported
 all_none_reported [] = tt
 all_none_reported (input ∷ inputs) = (nothing_reported input, all_none_reported inputs)
 
-length-zip : {A B : Type 0} (R : A → B → Type 0) (xs : List A) (ys : List B) → AllZip R xs ys → length xs ≡ length ys
-length-zip R [] [] all = refl
-length-zip R [] (y ∷ ys) all = absurd all
-length-zip R (x ∷ xs) [] all = absurd all
-length-zip R (x ∷ xs) (y ∷ ys) all = ap suc (length-zip R xs ys all.1)
-
--- what the readers reported, where they aren't too many
-record ReportedBy (names : List ProcessNames) (inputs : List (Option (List ℕ))) (outcomes : List StreamResult) :
+-- what the readers gave, if they aren't too many
+record ReportedBy (names : List ProcessNames) (inputs : List (Option (List ℕ))) (given : List StreamResult) :
     Type 0 where
   streams : List RawStream
   are_given : AllZip IsGivenBy inputs streams
-  read : length inputs ≤ 16 → outcomes ≡ results_of names streams
+  results : List StreamResult
+  are_results : AreResultsOf names streams results
+  same : length inputs ≤ stream_count_limit → given ≡ results
 
-reported_by : (names : List ProcessNames) (inputs : List (Option (List ℕ))) (outcomes : List StreamResult)
-    → (length inputs ≤ 16 → AreReadOf names inputs outcomes) → ReportedBy names inputs outcomes
-reported_by names inputs outcomes read = go (cases_lt 16 (length inputs))
+reported_by : (names : List ProcessNames) (inputs : List (Option (List ℕ))) (given : List StreamResult)
+    → (length inputs ≤ stream_count_limit → AreReadOf names inputs given) → ReportedBy names inputs given
+reported_by names inputs given read = go (cases_lt stream_count_limit (length inputs))
   where
-    go : (16 < length inputs) ⊎ (length inputs ≤ 16) → ReportedBy names inputs outcomes
-    go (inr few) = let given = read few in record {
-      streams = given.streams;
-      are_given = given.are_given;
-      read =
-          λ _. given.read;
+    go : (stream_count_limit < length inputs) ⊎ (length inputs ≤ stream_count_limit) → ReportedBy names inputs given
+    go (inr few) = let of_readers = read few in record {
+      streams = of_readers.streams;
+      are_given = of_readers.are_given;
+      results = given;
+      are_results = of_readers.are_results;
+      same = λ _. refl;
     }
-    go (inl many) = record {
-      streams = none_reported inputs;
-      are_given = all_none_reported inputs;
-      read =
-          λ few. absurd (omega arith);
-    }
-
--- what is found by the streams' outcomes
-pub streams_found : (bytes : List ℕ) (inputs : List (Option (List ℕ))) (document : Document) (claimed : Report)
-    (finding : Finding) (count : ℕ) (outcomes : List StreamResult) → IsDocument bytes document → count ≡ length inputs
-    → (length inputs ≤ 16 → AreReadOf document.names inputs outcomes)
-    → IsClaimFinding (IsReportOfResults document count outcomes) (HoldsOutcomes document count outcomes) claimed finding
-    → FindsClaim bytes claimed inputs finding
-streams_found bytes inputs document claimed finding count outcomes is counted read found =
-    from (reported_by document.names inputs outcomes read)
-  where
-    from : ReportedBy document.names inputs outcomes → FindsClaim bytes claimed inputs finding
-    from given =
-        let same : count ≡ length given.streams = counted ∙ length-zip IsGivenBy inputs given.streams given.are_given in
-        let reported : List StreamResult = results_of document.names given.streams in
-        let agree : length given.streams ≤ 16 → outcomes ≡ reported = λ few. given.read (omega arith) in
-        let here : IsClaimFinding (IsReportOfResults document (length given.streams) outcomes)
-        (HoldsOutcomes document (length given.streams) outcomes) claimed finding =
-        subst (λ (n : ℕ). IsClaimFinding (IsReportOfResults document n outcomes) (HoldsOutcomes document n outcomes)
-        claimed finding) same found in
+    go (inl over) =
+        let some = ended_have_results names (none_reported inputs) (given_ended inputs (none_reported inputs)
+        (all_none_reported inputs)) in
         record {
-          streams = given.streams;
-          are_given = given.are_given;
-          found = of_outcomes bytes given.streams document claimed finding is
-              (claim_weaker (IsReportOfResults document (length given.streams) outcomes)
-              (IsReportOfResults document (length given.streams) reported)
-              (HoldsOutcomes document (length given.streams) outcomes)
-              (HoldsOutcomes document (length given.streams) reported) claimed finding
-              (λ report right. same_report document (length given.streams) outcomes reported report agree right)
+          streams = none_reported inputs;
+          are_given = all_none_reported inputs;
+          results = some.0;
+          are_results = some.1;
+          same = λ few. absurd (omega arith);
+        }
+
+-- what is found by the streams' results
+pub streams_found : (bytes : List ℕ) (inputs : List (Option (List ℕ))) (document : Document) (claimed : Report)
+    (finding : Finding) (count : ℕ) (given : List StreamResult) → IsDocument bytes document → count ≡ length inputs
+    → (length inputs ≤ stream_count_limit → AreReadOf document.names inputs given)
+    → IsClaimFinding (IsReportOfResults document count given) (HoldsResults document count given) claimed finding
+    → FindsClaim bytes claimed inputs finding
+streams_found bytes inputs document claimed finding count given is counted read found =
+    from (reported_by document.names inputs given read)
+  where
+    from : ReportedBy document.names inputs given → FindsClaim bytes claimed inputs finding
+    from by =
+        let many : length by.streams ≡ length inputs = AllZip-long IsGivenBy inputs by.streams by.are_given in
+        let agree : length by.streams ≤ stream_count_limit → given ≡ by.results =
+        λ few. by.same (omega arith) in
+        let here : IsClaimFinding (IsReportOfResults document (length by.streams) given)
+        (HoldsResults document (length by.streams) given) claimed finding =
+        subst (λ (n : ℕ). IsClaimFinding (IsReportOfResults document n given) (HoldsResults document n given)
+        claimed finding) (counted ∙ sym many) found in
+        record {
+          streams = by.streams;
+          are_given = by.are_given;
+          found = of_results bytes by.streams document by.results claimed finding is by.are_results
+              (claim_weaker (IsReportOfResults document (length by.streams) given)
+              (IsReportOfResults document (length by.streams) by.results)
+              (HoldsResults document (length by.streams) given)
+              (HoldsResults document (length by.streams) by.results) claimed finding
+              (λ report right. same_report document (length by.streams) given by.results report agree right)
               (λ d t m held. record {
                 same_document = held.same_document;
-                joined = sym (same_session d.names (length given.streams) outcomes reported agree) ∙ held.joined;
+                joined = sym (same_session d.names (length by.streams) given by.results agree) ∙ held.joined;
                 formed = held.formed;
                 are_messages = held.are_messages;
               })

@@ -1,14 +1,16 @@
+-- The modules of lemmas of this crate.
 pub mod Inputs
 pub mod Parts
 pub mod FitTraces
 pub mod SessionNumbers
 pub mod Feeding
 pub mod WholeInputs
+pub mod LimitedBundles
 pub mod Openings
 pub mod RefusedPlaces
 pub mod PrintedPaths
 pub mod TruthFacts
-pub mod WriteFaults
+pub mod Ends
 pub mod FindingTexts
 pub mod PathNames
 pub mod Zips

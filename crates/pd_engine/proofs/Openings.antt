@@ -6,7 +6,7 @@ use Rattle.std.proofs.lemmas.Bool.{cases_lt, lt-ltb}
 use Rattle.std.proofs.lemmas.List.{length-map}
 use Rattle.pd_format.specs.Documents.{Document, InPredicate, IsDocument, IsRefusedDocument}
 use Rattle.pd_format.specs.Documents as documents
-use Rattle.pd_format.specs.Judgements.{IsJudgement, of_read, of_refused, IsReportOfResults, IsReportOfSession, results_of, ended_streams, RawStream}
+use Rattle.pd_judgement.specs.Judgements.{IsJudgement, of_read, of_refused, IsReportOfResults, IsReportOfSession, AreResultsOf, ended_streams, RawStream}
 use Rattle.pd_format.specs.Names.{ProcessNames}
 use Rattle.pd_format.specs.Readings.{Trace}
 use Rattle.pd_format.specs.Reports.{Refusal, Refused, Report}
@@ -17,6 +17,7 @@ use Rattle.pd_spec.specs.declared.fault.SpecFault.{SpecFault}
 use Rattle.pd_spec.specs.declared.fault.SpecFault.TheVariants as faults
 use Rattle.pd_pred.specs.Views.{predicate_fault_view}
 use Rattle.pd_format.specs.PredicateTexts.{PredicateFault}
+use Rattle.pd_judgement.proofs.StreamResults.{ended_have_results, ended_streams_ended}
 use Rattle.pd_engine.specs.Refusals.{IsDocumentRefusal}
 
 pub parts_split : (parts : List (Bor (List ℕ))) (d : Bor (List ℕ)) → 0 < length parts
@@ -27,10 +28,11 @@ parts_split (first ∷ others) d lt = refl
 
 -- with too many streams it doesn't matter what they give
 pub same_session : (names : List ProcessNames) (streams : ℕ) (given reported : List StreamResult)
-    → (streams ≤ 16 → given ≡ reported) → session names streams given ≡ session names streams reported
-same_session names streams given reported same = go (cases_lt 16 streams)
+    → (streams ≤ stream_count_limit → given ≡ reported) → session names streams given ≡ session names streams reported
+same_session names streams given reported same = go (cases_lt stream_count_limit streams)
   where
-    go : (16 < streams) ⊎ (streams ≤ 16) → session names streams given ≡ session names streams reported
+    go : (stream_count_limit < streams) ⊎ (streams ≤ stream_count_limit)
+        → session names streams given ≡ session names streams reported
     go (inr few) = ap (session names streams) (same few)
     go (inl many) =
         let test : nat_lt stream_count_limit streams ≡ true = lt-ltb stream_count_limit streams many in
@@ -39,7 +41,7 @@ same_session names streams given reported same = go (cases_lt 16 streams)
         first ∙ sym second
 
 pub same_report : (document : Document) (streams : ℕ) (given reported : List StreamResult) (report : Report)
-    → (streams ≤ 16 → given ≡ reported) → IsReportOfResults document streams given report
+    → (streams ≤ stream_count_limit → given ≡ reported) → IsReportOfResults document streams given report
     → IsReportOfResults document streams reported report
 same_report document streams given reported report same judged =
     subst (λ (r : Result (List Trace) SessionFault). IsReportOfSession document r report)
@@ -47,13 +49,26 @@ same_report document streams given reported report same judged =
 
 pub read_judged : (bytes : List ℕ) (parts : List (List ℕ)) (document : Document) (streams : ℕ)
     (given : List StreamResult) → IsDocument bytes document → streams ≡ length parts
-    → (length parts ≤ 16 → given ≡ results_of document.names (ended_streams parts)) → (report : Report)
-    → IsReportOfResults document streams given report → IsJudgement bytes (ended_streams parts) report
-read_judged bytes parts document streams given is count same report judged =
-    let many : length (ended_streams parts) ≡ length parts = length-map parts _ in
-    of_read document is
-    (rw many (same_report document (length parts) given (results_of document.names (ended_streams parts)) report same
-    (subst (λ (n : ℕ). IsReportOfResults document n given report) count judged)))
+    → (length parts ≤ stream_count_limit → AreResultsOf document.names (ended_streams parts) given)
+    → (report : Report) → IsReportOfResults document streams given report
+    → IsJudgement bytes (ended_streams parts) report
+read_judged bytes parts document streams given is count are report judged =
+    go (cases_lt stream_count_limit (length parts))
+  where
+    many : length (ended_streams parts) ≡ length parts
+    many = length-map parts _
+
+    here : IsReportOfResults document (length (ended_streams parts)) given report
+    here = subst (λ (n : ℕ). IsReportOfResults document n given report) (count ∙ sym many) judged
+
+    go : (stream_count_limit < length parts) ⊎ (length parts ≤ stream_count_limit)
+        → IsJudgement bytes (ended_streams parts) report
+    go (inr few) = of_read document given is (are few) here
+    go (inl over) =
+        let some = ended_have_results document.names (ended_streams parts) (ended_streams_ended parts) in
+        of_read document some.0 is some.1
+        (same_report document (length (ended_streams parts)) given some.0 report
+        (λ few. absurd (omega (arith, many))) here)
 
 pub refused_judged : (bytes : List ℕ) (streams : List RawStream) (fault : SpecFault) (refusal : Refusal)
     → IsFaultOf bytes fault → IsDocumentRefusal fault refusal → IsJudgement bytes streams (Refused refusal)

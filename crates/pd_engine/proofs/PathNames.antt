@@ -13,12 +13,11 @@ use Rattle.std.proofs.lemmas.Slice.Eq.{bytes_eq-Decides}
 use Rattle.pd_model.specs.Answers.{IsAvoidingObservation}
 use Rattle.pd_model.specs.Cuts.{empty_cut, one_more}
 use Rattle.pd_model.specs.Events.{Computation, Event}
-use Rattle.pd_format.specs.Judgements.{name_of_process}
-use Rattle.pd_format.specs.Names.{ProcessNames, process_named}
+use Rattle.pd_format.specs.Names.{name_of_process, ProcessNames, process_named}
 use Rattle.pd_judgement.specs.Findings.{IsGoodPath}
-use Rattle.pd_pred.specs.Names.{AreDistinct}
-use Rattle.pd_evidence.specs.Paths.{AvoidsFrom}
-use Rattle.pd_evidence.proofs.Steps.{avoids_here, avoids_on}
+use Rattle.pd_format.specs.Names.{AreDistinct}
+use Rattle.pd_model.specs.Paths.{AvoidsFrom}
+use Rattle.pd_model.proofs.AvoidingPaths.{avoids_here, avoids_on}
 use Rattle.pd_engine.specs.Verdicts.{AreNamed}
 use Rattle.pd_engine.proofs.Zips.{same_at, taken_more}
 

@@ -6,7 +6,7 @@ use Rattle.pd_format.specs.Readings.{Trace}
 use Rattle.pd_format.specs.Sessions.{SessionFault, TooManyStreams, Stream, Taken, Absent, StreamResult, has_joined, stream_fault, fault_or, first_stream_fault, trace_of, traces_from, session}
 use Rattle.pd_format.specs.Limits.{stream_count_limit}
 
--- a stream reported is one of so many, and a process reported is one of so many
+-- a stream reported is one of this many, and a process reported is one of this many
 abbrev pub IsCounted : ℕ → ℕ → SessionFault → Type 0
 IsCounted streams processes TooManyStreams = Unit {0}
 IsCounted streams processes (Stream stream fault) = stream < streams

@@ -3,16 +3,7 @@ use Rattle.std.proofs.Common.{◌≡◌, ℕ, ◌+◌, ◌<◌, ◌≤◌, List,
 use Rattle.std.specs.Prelude.{IfSome}
 use Rattle.std.proofs.lemmas.List.{take_all}
 use Rattle.std.proofs.lemmas.Bool.{cases_lt}
-
--- what was read within the limit is the whole input
-pub whole_input : (input bytes : List ℕ) (n : ℕ) → bytes ≡ take (n + 1) input → length bytes ≤ n → bytes ≡ input
-whole_input input bytes n e le = e ∙ go (cases_lt n (length input))
-  where
-    go : (n < length input) ⊎ (length input ≤ n) → take (n + 1) input ≡ input
-    go (inl long) =
-        let count : length bytes ≡ length (take (n + 1) input) = rw e refl in
-        absurd (omega (arith, length-take (n + 1) input))
-    go (inr short) = take_all (n + 1) input (omega arith)
+use Rattle.pd_model.proofs.ListPrefixes.{whole_input}
 
 pub short_input : (known : Option (List ℕ)) (bytes : List ℕ) (n : ℕ)
     → IfSome known (λ input. bytes ≡ take (n + 1) input) → length bytes ≤ n → IfSome known (λ input. length input ≤ n)

@@ -5,7 +5,7 @@ use Rattle.pd_model.specs.Events.{Place}
 use Rattle.pd_model.specs.Messages.{IsMessageList}
 use Rattle.pd_model.specs.Order.{IsWellFormed}
 use Rattle.pd_format.specs.Documents.{Document}
-use Rattle.pd_format.specs.Judgements.{IsJudgement, RawStream, events_of_traces}
+use Rattle.pd_judgement.specs.Judgements.{IsJudgement, RawStream, events_of_traces}
 use Rattle.pd_format.specs.OtherTexts.{Checked, Finding, OfRefusal, OfSession}
 use Rattle.pd_format.specs.Readings.{Trace}
 use Rattle.pd_format.specs.Reports.{Answer, Refusal, Report, Judged, Refused}
@@ -13,7 +13,7 @@ use Rattle.pd_format.specs.Sessions.{StreamResult, session}
 use Rattle.pd_judgement.specs.Writes.{IsGivenBy}
 use Rattle.pd_judgement.specs.Findings.{AreCounts, IsAnswersFinding, IsSessionOf}
 
--- What is found of a report, where the session's own reports are these, and its document, its traces and its messages,
+-- What is found of a report, if the session's own reports are these, and its document, its traces and its messages,
 -- if it is well formed, are these.
 pub data IsClaimFinding (IsOwn : Report → Type 0) (Holds : Document → List Trace → List (Place × Place)
     → Type 0) (claimed : Report) : Finding → Type 0 where
@@ -36,11 +36,11 @@ pub record HoldsTraces (document : Document) (traces : List Trace) (d : Document
   pub formed : IsWellFormed (events_of_traces t)
   pub are_messages : IsMessageList (events_of_traces t) messages
 
--- a well-formed session of this document and so many streams with these outcomes
-pub record HoldsOutcomes (document : Document) (streams : ℕ) (outcomes : List StreamResult) (d : Document)
+-- a well-formed session of this document and this many streams with these results
+pub record HoldsResults (document : Document) (streams : ℕ) (results : List StreamResult) (d : Document)
     (t : List Trace) (messages : List (Place × Place)) : Type 0 where
   pub same_document : d ≡ document
-  pub joined : session d.names streams outcomes ≡ Ok t
+  pub joined : session d.names streams results ≡ Ok t
   pub formed : IsWellFormed (events_of_traces t)
   pub are_messages : IsMessageList (events_of_traces t) messages
 

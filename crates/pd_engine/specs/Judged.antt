@@ -4,7 +4,7 @@ use Rattle.std.specs.List.{AllZip}
 use Rattle.pd_model.specs.Cuts.{total}
 use Rattle.pd_model.specs.Predicates.{Recorded}
 use Rattle.pd_format.specs.Documents.{Document}
-use Rattle.pd_format.specs.Judgements.{IsAnswered}
+use Rattle.pd_judgement.specs.Judgements.{IsAnswered}
 use Rattle.pd_format.specs.Reports.{Answer, Report, Judged}
 
 -- the report has the numbers of processes, of events and of messages, and for each predicate its answer

@@ -1,9 +1,8 @@
 pub mod Refusals
 pub mod Openings
-pub mod Outcomes
+pub mod Ends
 pub mod Judged
 pub mod Paths
-pub mod Truths
 pub mod Faults
 pub mod Checks
 pub mod Formings

@@ -1,7 +1,7 @@
 -- What a bundle is opened to, and the steps that hand a part to its reader.
 use Rattle.std.specs.Prelude.{◌≡◌, ℕ, ◌<◌, ◌≤◌, List, [], ◌∷◌, ◌++◌, map, flat_map, All, slice_index_or}
 use Rattle.pd_format.specs.Names.{ProcessNames}
-use Rattle.pd_format.specs.Judgements.{IsReportOfParts, IsReportOfResults}
+use Rattle.pd_judgement.specs.Judgements.{IsReportOfParts, IsReportOfResults}
 use Rattle.pd_format.specs.Reports as reports
 use Rattle.pd_format.specs.Readings.{Ended}
 use Rattle.pd_format.specs.Sessions.{Interleaving, Piece, AtEnd, inputs_of, bytes_of, ending_of}
@@ -24,7 +24,7 @@ pieces_of stream pieces = map (λ (piece : List ℕ). (stream, Piece piece)) pie
 abbrev pub whole_stream : ℕ → List (List ℕ) → Interleaving
 whole_stream stream pieces = pieces_of stream pieces ++ (stream, AtEnd) ∷ []
 
--- The first so many streams were handed over, each whole, and nothing of the others.
+-- The first streams, this many of them, were handed over, each whole, and nothing of the others.
 pub record HasFed (core : List ReaderState) (names : List ProcessNames) (streams : List (List ℕ)) (count : ℕ) :
     Type 0 where
   pub steps : Interleaving

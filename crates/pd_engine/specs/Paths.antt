@@ -3,7 +3,7 @@ use Rattle.std.specs.Prelude.{ℕ, ◌<◌, All}
 use Rattle.pd_definitely.specs.declared.answer.DefinitelyAnswer.{DefinitelyAnswer}
 use Rattle.pd_definitely.specs.declared.answer.DefinitelyAnswer.TheVariants.{Yes, No, Unknown}
 
--- each process of the observation is one of so many
+-- each process of the observation is one of this many
 abbrev pub HasProcessesBelow : ℕ → DefinitelyAnswer → Type 0
 HasProcessesBelow processes (Yes level) = Unit {0}
 HasProcessesBelow processes (No path) = All (λ p. p < processes) path.items

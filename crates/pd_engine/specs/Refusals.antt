@@ -1,7 +1,7 @@
 -- What the program's faults are in the words of a report.
 use Rattle.std.specs.Prelude.{◌≡◌, ◌<◌, ◌+◌, ℕ, List, Option, Some, None, MatchOption, option_map, length}
 use Rattle.std.specs.Borrow.{Bor}
-use Rattle.pd_format.specs.Judgements.{document_refusal, predicate_word}
+use Rattle.pd_format.specs.RefusalWords.{document_refusal, predicate_word}
 use Rattle.pd_format.specs.Documents.{DocumentFault}
 use Rattle.pd_format.specs.Documents as documents
 use Rattle.pd_format.specs.Names.{ProcessNames}
@@ -35,7 +35,7 @@ document_fault_view (faults.Predicate k error) =
     option_map (λ fault. documents.InPredicate k fault error.at) (predicate_fault_view error.kind)
 document_fault_view faults.Memory = None
 
--- the refusal tells the document's fault
+-- the refusal is that of the document's fault
 abbrev pub IsDocumentRefusal : SpecFault → Refusal → Type 0
 IsDocumentRefusal fault refusal =
     MatchOption (document_fault_view fault) ⊥ (λ reported. refusal ≡ document_refusal reported)

@@ -4,8 +4,7 @@ use Rattle.std.specs.Global.{Global}
 use Rattle.pd_model.specs.Events.{Computation}
 use Rattle.pd_model.specs.Predicates.{Recorded, test_of}
 use Rattle.pd_format.specs.Documents.{NamedPredicate}
-use Rattle.pd_format.specs.Judgements.{name_of_process}
-use Rattle.pd_format.specs.Names.{ProcessNames}
+use Rattle.pd_format.specs.Names.{name_of_process, ProcessNames}
 use Rattle.pd_format.specs.OtherTexts.{Checked, Verdict, definitely_verdict, possibly_verdict}
 use Rattle.pd_format.specs.Reports.{Answer, Definitely, Possibly}
 use Rattle.pd_judgement.specs.Findings.{IsChecked, IsGoodCut, IsGoodPath}

@@ -30,7 +30,7 @@ fn is_separator(line: &[u8]) -> bool
 /// LF or with the bytes.
 ///
 /// # Errors
-/// Where memory runs out.
+/// If memory runs out.
 pub(crate) fn parts(alloc: Global, bytes: &[u8]) -> Result<Vec<&[u8]>, AllocError>
     ensures cut { IfOk result (λ parts. map (λ part. part.now) parts.items ≡ parts_of bytes.now) }
     ensures some { IfOk result (λ parts. 0 < vec_len parts) }

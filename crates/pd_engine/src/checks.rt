@@ -1,20 +1,22 @@
 //! Checks a report's evidence.
-ghost use Rattle.pd_engine.specs.Checks.{Finds, WritesFinding, WritesFindingPrefix};
+ghost use Rattle.pd_engine.specs.Checks.{Finds};
+ghost use Rattle.pd_engine.specs.Ends.{call_end, good_as};
+ghost use Rattle.pd_judgement.specs.Writes.{IsFindingTextOf, Writes};
 ghost use Rattle.pd_engine.specs.Claims.{FindsClaim};
 ghost use Rattle.pd_engine.specs.FindingViews.{finding_view};
+ghost use Rattle.pd_format.specs.Limits.{stream_count_limit};
 ghost use Rattle.pd_gather.specs.ReadStreams.{AreReadOf};
 ghost use Rattle.pd_gather.specs.Views.{ReadingFits, results_view};
 ghost use Rattle.pd_report.specs.Views as views;
 ghost use Rattle.pd_spec.specs.Views.{document_view};
-ghost use Rattle.std.specs.Io.KnownBytes.{Keeps};
 ghost use Rattle.std.specs.Prelude.{◌≡◌, ◌≤◌, ◌⊎◌, All, Err, IfErr, IfOk, IsOkUnless, map, vec_len};
 
 use super::EngineFault;
-use super::bundle_judge::MAX_STREAMS;
 use super::claims::{find_gathered, is_refusal};
 use super::finding::Finding;
 use super::finding_text::text;
 use super::refusal::of_document;
+use super::unread::unread_streams;
 use pd_gather::{Gathered, gather};
 use pd_report::{Report, ReportFault, write_all};
 use pd_spec::Spec;
@@ -22,23 +24,20 @@ use std::alloc::{AllocError, Global};
 use std::io::{Read, Write};
 use std::random::RandomSource;
 
-/// What the streams give. Where they are too many, they aren't read.
+/// What the streams give. If they are too many, they aren't read.
 fn gather_few<R: Read + Drop>(
     alloc: Global,
     spec: &Spec,
     streams: Vec<R>,
 ) -> Result<Gathered, AllocError>
     ensures streams { IfOk result (λ gathered. gathered.streams ≡ vec_len streams) }
-    ensures read { IfOk result (λ gathered. vec_len streams ≤ 16
+    ensures read { IfOk result (λ gathered. vec_len streams ≤ stream_count_limit
         → AreReadOf (document_view spec.now).names (map R.remaining streams.items)
         (results_view gathered.readings.items)) }
     ensures fit { IfOk result (λ gathered. All (ReadingFits (document_view spec.now).names) gathered.readings.items) }
 {
-    if streams.len() > MAX_STREAMS {
-        return Ok(Gathered {
-            streams: streams.len() as u64,
-            readings: Vec::new(alloc),
-        });
+    if let Some(gathered) = unread_streams(alloc, streams.len()) {
+        return Ok(gathered);
     }
     gather(alloc, spec, streams)
 }
@@ -90,7 +89,7 @@ fn find<S: RandomSource, R: Read + Drop>(
 /// no report, and from which line on; or whether the session is refused as the report says; or whether the report's
 /// counts and names are the session's and, for each predicate, whether the cut that is printed is consistent and
 /// satisfies, and the path that is printed is that of an observation with no satisfying cut. The streams are read one
-/// after another, and only where the report is read and the document isn't refused. It tells whether nothing that it
+/// after another, and only if the report is read and the document isn't refused. The result is whether nothing that was
 /// found is bad.
 ///
 /// # Errors
@@ -104,15 +103,11 @@ pub fn check<S: RandomSource, R: Read + Drop, W: Write>(
     streams: Vec<R>,
     writer: &mut W,
 ) -> Result<bool, EngineFault>
-    // What is written is the text of what the check finds; true is reported exactly where no line of it ends with the
-    // word `bad`, and none tells that the report isn't read.
-    ensures written { IfOk result (λ good. WritesFinding spec.now report.now (map R.remaining streams.items) good
-        (W.contents writer.old) (W.contents writer.new)) }
-    // A write that fails leaves a prefix of that text, and out of memory leaves nothing.
-    ensures part { result ≡ Err EngineFault.Write
-        → WritesFindingPrefix spec.now report.now (map R.remaining streams.items) (W.contents writer.old)
-        (W.contents writer.new) }
-    ensures memory { result ≡ Err EngineFault.Memory → Keeps (W.contents writer.old) (W.contents writer.new) }
+    // The text of what the check finds is written whole, and true is reported exactly if no line of it ends with the
+    // word `bad` and none tells that the report isn't read; a write that fails leaves a prefix of that text, and out of
+    // memory leaves nothing.
+    ensures written { Writes (IsFindingTextOf spec.now report.now (map R.remaining streams.items) (good_as result))
+        (call_end result) (W.contents writer.old) (W.contents writer.new) }
     ensures err { IfErr result (λ fault. (fault ≡ EngineFault.Memory) ⊎ (fault ≡ EngineFault.Write)) }
 {
     pd_judgement::clean_is_clean();

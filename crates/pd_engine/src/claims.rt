@@ -1,11 +1,12 @@
 //! How a report stands to what a session comes to.
-ghost use Rattle.pd_engine.specs.Claims.{HoldsOutcomes, HoldsTraces, IsClaimFinding};
+ghost use Rattle.pd_engine.specs.Claims.{HoldsResults, HoldsTraces, IsClaimFinding};
 ghost use Rattle.pd_engine.specs.FindingViews.{finding_view};
 ghost use Rattle.pd_engine.specs.Formings.{AreWellFormed};
-ghost use Rattle.pd_format.specs.Judgements.{IsReportOfResults, IsTracesReport};
+ghost use Rattle.pd_judgement.specs.Judgements.{IsReportOfResults, IsTracesReport};
 ghost use Rattle.pd_format.specs.Readings as readings;
 ghost use Rattle.pd_format.specs.Reports as reports;
-ghost use Rattle.pd_gather.specs.Views.{AreTraces, ReadingFits, results_view, traces_view};
+ghost use Rattle.pd_events.specs.SessionTraces.{AreTraces};
+ghost use Rattle.pd_gather.specs.Views.{ReadingFits, results_view, traces_view};
 ghost use Rattle.pd_model.specs.Cuts.{total};
 ghost use Rattle.pd_report.specs.Views as views;
 ghost use Rattle.pd_spec.specs.Views.{document_view};
@@ -49,7 +50,7 @@ fn are_counts(
         && matched == messages
 }
 
-/// What is found of a report, where the session makes this computation with so many messages.
+/// What is found of a report, if the session makes this computation with this many messages.
 fn find_formed(
     alloc: Global,
     spec: &Spec,
@@ -79,7 +80,7 @@ fn find_formed(
     }
 }
 
-/// What is found of a report, where the session has these traces.
+/// What is found of a report, if the session has these traces.
 fn find_traces<S: RandomSource>(
     rt: &S,
     alloc: Global,
@@ -102,7 +103,7 @@ fn find_traces<S: RandomSource>(
     }
 }
 
-/// What is found of a report, where the streams of the session gave this.
+/// What is found of a report, if the streams of the session gave this.
 pub(crate) fn find_gathered<S: RandomSource>(
     rt: &S,
     alloc: Global,
@@ -114,7 +115,7 @@ pub(crate) fn find_gathered<S: RandomSource>(
     ensures found { IfOk result (λ finding.
         IsClaimFinding (IsReportOfResults (document_view spec.now) gathered.streams
         (results_view gathered.readings.items))
-        (HoldsOutcomes (document_view spec.now) gathered.streams (results_view gathered.readings.items))
+        (HoldsResults (document_view spec.now) gathered.streams (results_view gathered.readings.items))
         (views.report_view claimed.now) (finding_view finding)) }
     ensures err { IsOkUnless result EngineFault.Memory }
 {

@@ -1,7 +1,8 @@
 //! What a session comes to, before any predicate is judged: a refusal, or a well-formed computation.
 ghost use Rattle.pd_engine.specs.Formings.{IsFormed, IsJoined};
 ghost use Rattle.pd_events.specs.Views.{computation_view};
-ghost use Rattle.pd_gather.specs.Views.{AreTraces, ReadingFits, results_view, traces_view};
+ghost use Rattle.pd_events.specs.SessionTraces.{AreTraces};
+ghost use Rattle.pd_gather.specs.Views.{ReadingFits, results_view, traces_view};
 ghost use Rattle.pd_model.specs.Messages.{HasLawfulMessages, IsMessageList};
 ghost use Rattle.pd_spec.specs.Views.{document_view};
 ghost use Rattle.std.specs.Prelude.{All, IfOk, IsOkUnless};
@@ -78,7 +79,7 @@ fn build<'a>(
     ensures formed { IfOk result (IsFormed (document_view spec.now) (traces_view traces.now)) }
     ensures err { IsOkUnless result EngineFault.Memory }
 {
-    match Computation::build(alloc, spec.initial_rows(), traces, matched) {
+    match Computation::build(alloc, spec, traces, matched) {
         Ok(computation) => Ok(Formed::WellFormed(computation, matched.messages())),
         Err(BuildFault::Cycle(cycle)) => {
             let refusal = of_cycle(alloc, spec.names(), &cycle)?;

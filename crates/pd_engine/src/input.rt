@@ -1,5 +1,6 @@
 //! Reads a reader up to a limit.
-ghost use Rattle.std.specs.Prelude.{◌≡◌, ◌+◌, ◌≤◌, ◌<◌, ◌++◌, ◌⊎◌, List, ℕ, length, take, IfOk, IfErr, IfSome, vec_len};
+ghost use Rattle.std.specs.Prelude.{◌≡◌, ◌+◌, ◌≤◌, ◌<◌, ◌++◌, ◌⊎◌, List, ℕ, length, take, IfOk, IfErr, IfSome, IsOkUnless, OnErr, vec_len};
+ghost use Rattle.pd_format.specs.Limits.{report_byte_limit};
 ghost use Rattle.std.specs.Io.KnownBytes.{Consumes, IsAtEnd};
 
 use super::fault::EngineFault;
@@ -9,8 +10,8 @@ use std::io::Read;
 /// How many bytes are asked for at a time.
 const PIECE: usize = 65_536;
 
-/// One read into the piece. What it gives goes after the bytes read so far, and how much that is is reported: nothing
-/// only at the reader's end, or where the piece has no room.
+/// One read into the piece. What it gives goes after the bytes read so far. The result is how many bytes it gives: none
+/// only at the reader's end, or if the piece has no room.
 fn read_piece<R: Read>(
     reader: &mut R,
     piece: &mut [u8],
@@ -36,21 +37,21 @@ fn new_piece(alloc: Global, most: usize) -> Result<Vec<u8>, AllocError>
     vec![in alloc; 0u8; size]
 }
 
-/// All bytes that the reader gives, or its first `limit + 1` bytes where there are more: so the length tells whether
-/// the limit is kept. The limit is at most 268,435,456. No more bytes than these are asked for, in at most `limit + 1`
-/// reads.
+/// All bytes that the reader gives, or its first `limit + 1` bytes if there are more: so the length says whether they
+/// are more than the limit. The limit is at most 268,435,456. No more bytes than these are asked for, in at most
+/// `limit + 1` reads.
 ///
 /// # Errors
-/// `Read` where a read fails, of whatever kind, and `Memory`. The bytes read until then are dropped.
+/// `Read` if a read fails, of whatever kind, and `Memory`. The bytes read until then are dropped.
 pub fn read_upto<R: Read + Drop>(
     alloc: Global,
     mut reader: R,
     limit: usize,
 ) -> Result<Vec<u8>, EngineFault>
-    requires { limit ≤ 268435456 }
+    requires { limit ≤ report_byte_limit }
     ensures within { IfOk result (λ bytes. vec_len bytes ≤ limit + 1) }
-    ensures prefix { IfOk result (λ bytes. IfSome (R.remaining reader) (λ input. bytes.items ≡ take (limit + 1) input))
-        }
+    ensures prefix { IfOk result (λ bytes. IfSome (R.remaining reader) (λ input.
+        bytes.items ≡ take (limit + 1) input)) }
     ensures err { IfErr result (λ fault. (fault ≡ EngineFault.Memory) ⊎ (fault ≡ EngineFault.Read)) }
 {
     let most = limit + 1;
@@ -62,6 +63,25 @@ pub fn read_upto<R: Read + Drop>(
         if count == 0 {
             return Ok(bytes);
         }
+    }
+    Ok(bytes)
+}
+
+/// The bytes again, if they are no more than the limit.
+///
+/// # Errors
+/// This fault, if they are more.
+pub fn within_limit(
+    bytes: Vec<u8>,
+    limit: usize,
+    fault: EngineFault,
+) -> Result<Vec<u8>, EngineFault>
+    ensures ok { IfOk result (λ kept. (kept ≡ bytes) × (vec_len bytes ≤ limit)) }
+    ensures long { OnErr result (limit < vec_len bytes) }
+    ensures err { IsOkUnless result fault }
+{
+    if bytes.len() > limit {
+        return Err(fault);
     }
     Ok(bytes)
 }

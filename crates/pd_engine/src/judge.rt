@@ -1,20 +1,24 @@
 //! The report of a session's streams.
 ghost use Rattle.pd_engine.specs.Judged.{IsJudged};
 ghost use Rattle.pd_report.specs.Views as views;
-ghost use Rattle.pd_format.specs.Judgements.{IsAnswered, IsReportOfResults, IsTracesReport, printed_definitely, name_of_process, printed_possibly};
+ghost use Rattle.pd_judgement.specs.Judgements.{IsAnswered, IsReportOfResults, IsTracesReport, events_of_traces, printed_definitely, printed_possibly};
+ghost use Rattle.pd_format.specs.Names.{name_of_process};
+ghost use Rattle.pd_format.specs.Readings as readings;
+ghost use Rattle.pd_format.specs.Sessions.{session};
+ghost use Rattle.pd_judgement.specs.Headline.{IsNarrow, TellsTruth};
 ghost use Rattle.pd_events.specs.Views.{computation_view};
-ghost use Rattle.pd_gather.specs.Views.{AreTraces, ReadingFits, results_view, traces_view};
+ghost use Rattle.pd_events.specs.SessionTraces.{AreTraces};
+ghost use Rattle.pd_gather.specs.Views.{ReadingFits, results_view, traces_view};
 ghost use Rattle.pd_model.specs.Answers.{IsPossiblyAnswer};
 ghost use Rattle.pd_model.specs.Messages.{HasLawfulMessages, IsMessageList};
-ghost use Rattle.pd_model.specs.Order.{HasNoCycle};
+ghost use Rattle.pd_model.specs.Order.{IsWellFormed};
 ghost use Rattle.pd_definitely.specs.Answers as avoidances;
 ghost use Rattle.pd_engine.specs.Paths.{HasProcessesBelow};
-ghost use Rattle.pd_engine.specs.Truths.{TellsTruthOf};
 ghost use Rattle.pd_possibly.specs.Answers.{possibly_answer_view};
-ghost use Rattle.pd_spec.specs.Named.{named_of};
+ghost use Rattle.pd_spec.specs.Named.{named_view};
 ghost use Rattle.pd_spec.specs.Views.{document_view};
 ghost use Rattle.std.specs.List.{AllZip};
-ghost use Rattle.std.specs.Prelude.{◌≡◌, ◌<◌, ◌≤◌, All, IfOk, IsOkUnless, length, map, string_bytes};
+ghost use Rattle.std.specs.Prelude.{◌≡◌, ◌<◌, ◌≤◌, All, IfOk, IsOkUnless, List, Ok, length, map, string_bytes};
 
 use super::EngineFault;
 use super::formed::{Formed, Joined, form, join};
@@ -47,11 +51,11 @@ pub fn report_of<S: RandomSource, G: Gate + Sync>(
     // The report is the one that the definitions give.
     ensures report { IfOk result (λ report. IsReportOfResults (document_view spec.now) gathered.streams
         (results_view gathered.readings.items) (views.report_view report)) }
-    // Where the streams make a well-formed computation with no level over the width, it tells the truth of each
-    // predicate.
-    ensures headline { IfOk result (λ report.
-        TellsTruthOf (document_view spec.now) gathered.streams (results_view gathered.readings.items)
-        (views.report_view report)) }
+    // If the streams make a well-formed computation with no level over the width, it tells the truth of each predicate.
+    ensures headline { IfOk result (λ report. (traces : List readings.Trace)
+        → session (document_view spec.now).names gathered.streams (results_view gathered.readings.items) ≡ Ok traces
+        → IsWellFormed (events_of_traces traces) → IsNarrow (events_of_traces traces) (document_view spec.now).width
+        → TellsTruth (document_view spec.now) traces (views.report_view report)) }
     ensures err { IsOkUnless result EngineFault.Memory }
 {
     pd_judgement::headline();
@@ -73,13 +77,13 @@ fn gathered_report<S: RandomSource, G: Gate + Sync>(
     ensures err { IsOkUnless result EngineFault.Memory }
 {
     match join(alloc, spec, gathered)? {
-        Joined::Traces(traces) => judged(rt, alloc, spec, &traces, workers, gate),
+        Joined::Traces(traces) => traces_report(rt, alloc, spec, &traces, workers, gate),
         Joined::Unjoined(refusal) => Ok(Report::Refused(refusal)),
     }
 }
 
 /// The report of a session's traces.
-fn judged<S: RandomSource, G: Gate + Sync>(
+fn traces_report<S: RandomSource, G: Gate + Sync>(
     rt: &S,
     alloc: Global,
     spec: &Spec,
@@ -94,14 +98,14 @@ fn judged<S: RandomSource, G: Gate + Sync>(
 {
     match form(rt, alloc, spec, traces)? {
         Formed::WellFormed(computation, messages) => {
-            answered(alloc, spec, &computation, messages, workers, gate)
+            computation_report(alloc, spec, &computation, messages, workers, gate)
         }
         Formed::Unformed(refusal) => Ok(Report::Refused(refusal)),
     }
 }
 
-/// The report of a computation with so many messages: an answer for each predicate.
-fn answered<G: Gate + Sync>(
+/// The report of a computation with this many messages: an answer for each predicate.
+fn computation_report<G: Gate + Sync>(
     alloc: Global,
     spec: &Spec,
     computation: &Computation<'_>,
@@ -109,8 +113,7 @@ fn answered<G: Gate + Sync>(
     workers: u64,
     gate: &G,
 ) -> Result<Report, EngineFault>
-    requires acyclic { HasNoCycle computation.now.events }
-    requires processes { length computation.now.events ≡ length (document_view spec.now).names }
+    requires { length computation.now.events ≡ length (document_view spec.now).names }
     ensures report { IfOk result (λ report. IsJudged (document_view spec.now) computation.now messages
         (views.report_view report)) }
     ensures err { IsOkUnless result EngineFault.Memory }
@@ -132,8 +135,7 @@ fn answers<G: Gate + Sync>(
     workers: u64,
     gate: &G,
 ) -> Result<Vec<Answer>, AllocError>
-    requires acyclic { HasNoCycle computation.now.events }
-    requires processes { length computation.now.events ≡ length (document_view spec.now).names }
+    requires { length computation.now.events ≡ length (document_view spec.now).names }
     ensures { IfOk result (λ answers. AllZip
         (IsAnswered (document_view spec.now).names computation.now (document_view spec.now).width)
         (document_view spec.now).predicates (map views.answer_view answers.items)) }
@@ -155,23 +157,22 @@ fn answer<G: Gate + Sync>(
     workers: u64,
     gate: &G,
 ) -> Result<Answer, AllocError>
-    requires acyclic { HasNoCycle computation.now.events }
-    requires processes { length computation.now.events ≡ length (document_view spec.now).names }
+    requires { length computation.now.events ≡ length (document_view spec.now).names }
     ensures { IfOk result (λ answer. IsAnswered (document_view spec.now).names computation.now
-        (document_view spec.now).width (named_of asked.now) (views.answer_view answer)) }
+        (document_view spec.now).width (named_view asked.now) (views.answer_view answer)) }
 {
     let width = spec.width();
     let found = possibly(alloc, computation, &asked.pred, width, workers, gate)?;
     let avoided = definitely(alloc, computation, &asked.pred, width, workers, gate)?;
     Ok(Answer {
         name: asked.name.clone()?,
-        possibly: reported(alloc, &found)?,
-        definitely: reported_by_names(alloc, spec.names(), &avoided)?,
+        possibly: possibly_for_report(alloc, &found)?,
+        definitely: definitely_for_report(alloc, spec.names(), &avoided)?,
     })
 }
 
-/// The answer as a report tells it.
-fn reported(alloc: Global, answer: &PossiblyAnswer) -> Result<Possibly, AllocError>
+/// The answer as a report gives it.
+fn possibly_for_report(alloc: Global, answer: &PossiblyAnswer) -> Result<Possibly, AllocError>
     ensures { IfOk result (λ possibly. views.possibly_view possibly
         ≡ printed_possibly (possibly_answer_view answer.now)) }
 {
@@ -193,17 +194,17 @@ fn name_of(alloc: Global, names: &Names, p: usize) -> Result<String, AllocError>
 /// The names of processes, which are counted from 0.
 fn names_of(alloc: Global, names: &Names, path: &[usize]) -> Result<Vec<String>, AllocError>
     requires { All (λ p. p < length names.now) path.now }
-    ensures { IfOk result (λ reported. map string_bytes reported.items ≡ map (name_of_process names.now) path.now) }
+    ensures { IfOk result (λ path_names. map string_bytes path_names.items ≡ map (name_of_process names.now) path.now) }
 {
-    let mut reported = Vec::new(alloc);
+    let mut path_names = Vec::new(alloc);
     for &p in path {
-        reported.push(name_of(alloc, names, p)?)?;
+        path_names.push(name_of(alloc, names, p)?)?;
     }
-    Ok(reported)
+    Ok(path_names)
 }
 
-/// The answer as a report tells it, with an observation by the names of its processes.
-fn reported_by_names(
+/// The answer as a report gives it, with an observation by the names of its processes.
+fn definitely_for_report(
     alloc: Global,
     names: &Names,
     answer: &DefinitelyAnswer,

@@ -15,6 +15,7 @@
 //! - `finding`: what a check of a report finds
 //! - `finding_text`: its text
 //! - `outcome`: how a session was judged
+//! - `unread`: streams that are too many to be read
 //! - `input`: reads a reader up to a limit
 //! - `fault`: why the engine gives no report
 #![tactic(auto)]
@@ -33,12 +34,13 @@ mod outcome;
 mod refusal;
 #[cfg(test)]
 mod tests;
+mod unread;
 mod verdicts;
 
 pub use bundle_judge::judge_bundle;
 pub use checks::check;
 pub use fault::EngineFault;
-pub use input::read_upto;
+pub use input::{read_upto, within_limit};
 pub use judge::report_of;
 pub use outcome::Outcome;
 pub use pd_level::{Gate, NoGate};

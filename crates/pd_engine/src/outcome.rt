@@ -1,5 +1,6 @@
 //! How a session was judged.
-ghost use Rattle.pd_engine.specs.Outcomes.{outcome_of};
+ghost use Rattle.pd_engine.specs.Ends.{outcome_view};
+ghost use Rattle.pd_judgement.specs.Writes.{is_judged};
 ghost use Rattle.pd_report.specs.Views.{report_view};
 ghost use Rattle.std.specs.Prelude.{◌≡◌};
 
@@ -14,9 +15,9 @@ pub enum Outcome {
     Refused,
 }
 
-/// What a report is.
-pub(crate) fn outcome_of_report(report: &Report) -> Outcome
-    ensures { result ≡ outcome_of (report_view report.now) }
+/// Whether a report has answers or is a refusal.
+pub(crate) fn report_outcome(report: &Report) -> Outcome
+    ensures { outcome_view result ≡ is_judged (report_view report.now) }
 {
     match report {
         Report::Judged { .. } => Outcome::Judged,

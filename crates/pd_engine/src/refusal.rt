@@ -1,7 +1,7 @@
 //! Refusals in the words of a report.
 ghost use Rattle.pd_report.specs.Views.{named_place_view, named_places_view, refusal_view};
 ghost use Rattle.pd_engine.specs.Refusals.{HasNames, IsDocumentRefusal, NamesPlace, NamesStream, kind_word};
-ghost use Rattle.pd_format.specs.Judgements.{match_refusal, named_place, session_refusal, stream_word};
+ghost use Rattle.pd_format.specs.RefusalWords.{match_refusal, named_place, session_refusal, stream_word};
 ghost use Rattle.pd_format.specs.Reports as reports;
 ghost use Rattle.pd_gather.specs.Views.{session_fault_view};
 ghost use Rattle.pd_events.specs.Views.{stream_kind_view};
@@ -43,7 +43,7 @@ fn of_word(alloc: Global, word: &str) -> Result<Refusal, AllocError>
 /// The refusal of predicate `k`, which is counted from 1.
 ///
 /// # Errors
-/// `Memory`, where the error is out of memory, or the word can't be copied because memory ran out.
+/// `Memory`, if the error is out of memory, or the word can't be copied because memory ran out.
 fn of_predicate(alloc: Global, k: u64, error: PredError) -> Result<Refusal, EngineFault>
     ensures tells { IfOk result (λ refusal. IsDocumentRefusal (faults.Predicate k error) (refusal_view refusal)) }
     ensures err { IsOkUnless result EngineFault.Memory }
@@ -61,7 +61,7 @@ fn of_predicate(alloc: Global, k: u64, error: PredError) -> Result<Refusal, Engi
 /// The refusal of a document with this fault.
 ///
 /// # Errors
-/// `Memory`, where the fault is out of memory, or the word can't be copied because memory ran out.
+/// `Memory`, if the fault is out of memory, or the word can't be copied because memory ran out.
 pub(crate) fn of_document(alloc: Global, fault: SpecFault) -> Result<Refusal, EngineFault>
     ensures tells { IfOk result (λ refusal. IsDocumentRefusal fault (refusal_view refusal)) }
     ensures err { IsOkUnless result EngineFault.Memory }
@@ -105,7 +105,7 @@ fn stream_word(kind: StreamKind) -> &'static str
 /// The refusal of streams with this fault. A report counts streams from 1.
 ///
 /// # Errors
-/// `Memory`, where the fault is out of memory, or the name can't be copied because memory ran out.
+/// `Memory`, if the fault is out of memory, or the name can't be copied because memory ran out.
 pub(crate) fn of_streams(
     alloc: Global,
     names: &Names,
@@ -137,7 +137,7 @@ pub(crate) fn of_streams(
 }
 
 /// The name of a place's process, and the place's number.
-fn named(alloc: Global, names: &Names, place: Place) -> Result<(String, u64), AllocError>
+fn name_and_number(alloc: Global, names: &Names, place: Place) -> Result<(String, u64), AllocError>
     requires { place.process < length names.now }
     ensures { IfOk result (λ named. named_place_view named ≡ named_place names.now (place_view place)) }
 {
@@ -151,7 +151,7 @@ fn of_event(alloc: Global, names: &Names, word: &str, place: Place) -> Result<Re
     ensures { IfOk result (λ refusal. refusal_view refusal
         ≡ reports.Match word.now (named_place names.now (place_view place))) }
 {
-    let (name, number) = named(alloc, names, place)?;
+    let (name, number) = name_and_number(alloc, names, place)?;
     Ok(Refusal::Match {
         word: String::from_str(alloc, word)?,
         name,
@@ -162,7 +162,7 @@ fn of_event(alloc: Global, names: &Names, word: &str, place: Place) -> Result<Re
 /// The refusal of messages with this fault.
 ///
 /// # Errors
-/// `Memory`, where the fault is out of memory, or the name can't be copied because memory ran out.
+/// `Memory`, if the fault is out of memory, or the name can't be copied because memory ran out.
 pub(crate) fn of_messages(
     alloc: Global,
     names: &Names,
@@ -191,7 +191,7 @@ pub(crate) fn of_cycle(alloc: Global, names: &Names, cycle: &[Place]) -> Result<
 {
     let mut places = Vec::new(alloc);
     for &place in cycle {
-        places.push(named(alloc, names, place)?)?;
+        places.push(name_and_number(alloc, names, place)?)?;
     }
     Ok(Refusal::Cycle(places))
 }

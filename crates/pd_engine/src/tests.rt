@@ -1,9 +1,9 @@
 //! Parts, reads and checks that are known.
 use super::bundle::parts;
-use super::{EngineFault, check, read_upto};
+use super::{EngineFault, NoGate, check, judge_bundle, read_upto, within_limit};
 use std::alloc::{AllocError, Global};
 use std::io;
-use std::io::{Error, ErrorKind, Read};
+use std::io::{Error, ErrorKind, Read, Write};
 use std::test::Fail;
 
 /// The parts, each between angle brackets.
@@ -20,18 +20,30 @@ fn bracketed(alloc: Global, bytes: &[u8]) -> Result<Vec<u8>, AllocError> {
 #[test]
 fn bundles_have_parts(rt: HostRuntime) -> Result<(), Fail> {
     let cases = [
-        ("", "<>"),
-        ("a\nb", "<a\nb>"),
-        ("a\r\n---\r\nb\r\n---\nc\n", "<a\r\n><b\r\n><c\n>"),
-        ("a\n---\n", "<a\n><>"),
-        ("a\n---", "<a\n><>"),
-        ("---\r", "<><>"),
-        ("---\n---\n", "<><><>"),
-        ("----\n ---\n--- \n--\n", "<----\n ---\n--- \n--\n>"),
+        ("no bytes are one empty part", "", "<>"),
+        ("no separator", "a\nb", "<a\nb>"),
+        (
+            "separators with CR and without",
+            "a\r\n---\r\nb\r\n---\nc\n",
+            "<a\r\n><b\r\n><c\n>",
+        ),
+        (
+            "a separator at the end begins an empty part",
+            "a\n---\n",
+            "<a\n><>",
+        ),
+        ("a separator ends with the bytes", "a\n---", "<a\n><>"),
+        ("a separator with CR ends with the bytes", "---\r", "<><>"),
+        ("two separators", "---\n---\n", "<><><>"),
+        (
+            "lines that are almost separators",
+            "----\n ---\n--- \n--\n",
+            "<----\n ---\n--- \n--\n>",
+        ),
     ];
-    for (bundle, want) in cases {
+    for (row, bundle, want) in cases {
         let found = bracketed(rt.alloc(), bundle.as_bytes())?;
-        assert_eq!(rt; found.as_slice(), want.as_bytes());
+        assert_eq!(rt; found.as_slice(), want.as_bytes(), "{row}");
     }
     Ok(())
 }
@@ -46,7 +58,7 @@ fn reads_stop_at_the_limit(rt: HostRuntime) -> Result<(), Fail> {
         (100, "abc"),
     ] {
         let found = read_upto(rt.alloc(), b"abc".as_slice(), limit)?;
-        assert_eq!(rt; found.as_slice(), want.as_bytes());
+        assert_eq!(rt; found.as_slice(), want.as_bytes(), "limit {limit}");
     }
     let mut long = Vec::new(rt.alloc());
     for _ in 0..50_000u32 {
@@ -58,6 +70,17 @@ fn reads_stop_at_the_limit(rt: HostRuntime) -> Result<(), Fail> {
         read_upto(rt.alloc(), long.as_slice(), 150_000)?.len(),
         150_001
     );
+    Ok(())
+}
+
+#[test]
+fn limits_are_kept(rt: HostRuntime) -> Result<(), Fail> {
+    for (limit, is_kept) in [(0usize, false), (2, false), (3, true), (4, true)] {
+        let mut bytes = Vec::new(rt.alloc());
+        bytes.extend_from_slice(b"abc")?;
+        let kept = within_limit(bytes, limit, EngineFault::BundleLong);
+        assert_eq!(rt; kept.is_ok(), is_kept, "limit {limit}");
+    }
     Ok(())
 }
 
@@ -100,9 +123,8 @@ fn faults_have_words(rt: HostRuntime) -> Result<(), Fail> {
     Ok(())
 }
 
-const DOCUMENT: &[u8] =
-    br#"{"processes":[{"name":"a","vars":{"x":0}},{"name":"b","vars":{"y":0}}],"predicates":[{"name":"both","text":"a.x
-        == 1 and b.y == 1"}]}"#;
+const DOCUMENT: &[u8] = br#"{"processes":[{"name":"a","vars":{"x":0}},{"name":"b","vars":{"y":0}}],
+        "predicates":[{"name":"both","text":"a.x == 1 and b.y == 1"}]}"#;
 
 const STREAM_A: &[u8] =
     b"{\"process\":\"a\"}\n{\"set\":{\"x\":1}}\n{\"set\":{\"x\":0}}\n{\"end\":true}\n";
@@ -110,62 +132,65 @@ const STREAM_A: &[u8] =
 const STREAM_B: &[u8] =
     b"{\"process\":\"b\"}\n{\"set\":{\"y\":1}}\n{\"set\":{\"y\":0}}\n{\"end\":true}\n";
 
-/// Whether a check of this report writes this text, and tells that nothing is bad exactly where it is so.
-fn is_found(
+/// A check of this report against the two streams, and whether nothing in it is bad.
+fn check_report<W: Write>(
     rt: &HostRuntime,
     document: &[u8],
     report: &str,
-    clean: bool,
-    text: &str,
-) -> Result<bool, Fail> {
+    writer: &mut W,
+) -> Result<bool, EngineFault> {
     let alloc = rt.alloc();
     let mut streams = Vec::new(alloc);
     streams.push(STREAM_A)?;
     streams.push(STREAM_B)?;
-    let mut written = Vec::new(alloc);
-    let reported = check(
-        rt,
-        alloc,
-        document,
-        report.as_bytes(),
-        streams,
-        &mut written,
-    )?;
-    Ok(reported == clean && written.as_slice() == text.as_bytes())
+    check(rt, alloc, document, report.as_bytes(), streams, writer)
 }
 
 #[test]
 fn evidence_is_checked(rt: HostRuntime) -> Result<(), Fail> {
     let cases = [
         (
+            "good cut and good path",
             "session 2 processes 4 events 0 messages\nboth possibly yes 1,1\nboth definitely no b,b,a,a\n",
             true,
             "session good\nboth possibly good\nboth definitely good\n",
         ),
         (
+            "bad counts, cut and path",
             "session 2 processes 4 events 1 messages\nboth possibly yes 1,0\nboth definitely no a,b,b,a\n",
             false,
             "session bad\nboth possibly bad\nboth definitely bad\n",
         ),
         (
+            "answers with no evidence",
             "session 2 processes 4 events 0 messages\nboth possibly unknown 1\nboth definitely yes 3\n",
             true,
             "session good\nboth possibly unchecked\nboth definitely unchecked\n",
         ),
         (
+            "a path with an unknown name",
             "session 2 processes 4 events 0 messages\nboth possibly no\nboth definitely no b,b,c,a\n",
             false,
             "session good\nboth possibly unchecked\nboth definitely bad\n",
         ),
         (
+            "answers for another predicate",
             "session 2 processes 4 events 0 messages\nother possibly no\nother definitely yes 3\n",
             false,
             "session good\nnames bad\n",
         ),
-        ("refused streams\n", false, "refused bad\n"),
+        (
+            "a refusal of a well-formed session",
+            "refused streams\n",
+            false,
+            "refused bad\n",
+        ),
     ];
-    for (report, clean, text) in cases {
-        assert!(rt; is_found(&rt, DOCUMENT, report, clean, text)?);
+    for (row, report, clean, text) in cases {
+        let mut written = Vec::new(rt.alloc());
+        let good = check_report(&rt, DOCUMENT, report, &mut written)?;
+        assert_eq!(rt; good, clean, "{row}");
+        assert_eq!(rt; written.as_slice(), text.as_bytes(), "{row}");
     }
     Ok(())
 }
@@ -173,14 +198,91 @@ fn evidence_is_checked(rt: HostRuntime) -> Result<(), Fail> {
 #[test]
 fn refusals_are_checked(rt: HostRuntime) -> Result<(), Fail> {
     let cases = [
-        ("refused spec json\n", true, "refused good\n"),
-        ("refused spec long\n", false, "refused bad\n"),
-        ("refused streams\n", false, "refused bad\n"),
-        ("refused spec json", false, "report line 1\n"),
-        ("refused spec json\nx\n", false, "report line 2\n"),
+        ("right", "refused spec json\n", true, "refused good\n"),
+        (
+            "another word",
+            "refused spec long\n",
+            false,
+            "refused bad\n",
+        ),
+        (
+            "another refusal",
+            "refused streams\n",
+            false,
+            "refused bad\n",
+        ),
+        ("cut off", "refused spec json", false, "report line 1\n"),
+        (
+            "a line too many",
+            "refused spec json\nx\n",
+            false,
+            "report line 2\n",
+        ),
     ];
-    for (report, clean, text) in cases {
-        assert!(rt; is_found(&rt, b"", report, clean, text)?);
+    for (row, report, clean, text) in cases {
+        let mut written = Vec::new(rt.alloc());
+        let good = check_report(&rt, b"", report, &mut written)?;
+        assert_eq!(rt; good, clean, "{row}");
+        assert_eq!(rt; written.as_slice(), text.as_bytes(), "{row}");
+    }
+    Ok(())
+}
+
+/// Takes at most this many bytes at a time while it has room, and nothing once it is full. Its flush fails.
+#[derive(Drop)]
+struct PartWriter {
+    most: usize,
+    room: usize,
+    taken: Vec<u8>,
+}
+
+impl Write for PartWriter {
+    fn write(&mut self, buf: &[u8]) -> io::Result<usize> {
+        let count = buf.len().min(self.most).min(self.room);
+        match self.taken.extend_from_slice(&buf[..count]) {
+            Ok(()) => {
+                self.room -= count;
+                Ok(count)
+            }
+            Err(_) => Err(Error::from(ErrorKind::OutOfMemory)),
+        }
+    }
+
+    fn flush(&mut self) -> io::Result<()> {
+        Err(Error::from(ErrorKind::Other))
+    }
+}
+
+/// A writer with this much room that takes at most three bytes at a time.
+fn writer_with_room(alloc: Global, room: usize) -> PartWriter {
+    PartWriter {
+        most: 3,
+        room,
+        taken: Vec::new(alloc),
+    }
+}
+
+#[test]
+fn findings_are_written_in_parts(rt: HostRuntime) -> Result<(), Fail> {
+    let text = b"refused good\n".as_slice();
+    for room in 0..=text.len() {
+        let mut writer = writer_with_room(rt.alloc(), room);
+        let found = check_report(&rt, b"", "refused spec json\n", &mut writer);
+        assert_eq!(rt; found.is_ok(), room == text.len(), "room {room}");
+        assert_eq!(rt; writer.taken.as_slice(), &text[..room], "room {room}");
+    }
+    Ok(())
+}
+
+#[test]
+fn reports_are_written_in_parts(rt: HostRuntime) -> Result<(), Fail> {
+    let alloc = rt.alloc();
+    let text = b"refused spec json\n".as_slice();
+    for room in 0..=text.len() {
+        let mut writer = writer_with_room(alloc, room);
+        let found = judge_bundle(&rt, alloc, b"".as_slice(), 1, &NoGate, &mut writer);
+        assert_eq!(rt; found.is_ok(), room == text.len(), "room {room}");
+        assert_eq!(rt; writer.taken.as_slice(), &text[..room], "room {room}");
     }
     Ok(())
 }

@@ -1,13 +1,13 @@
 //! The verdicts on the evidence of a report's answers.
 ghost use Rattle.pd_engine.specs.FindingViews.{verdicts_view, checked_view, verdict_view};
 ghost use Rattle.pd_engine.specs.Verdicts.{IsCheckedBy, IsCutVerdict, IsPathOf, IsPathVerdict};
-ghost use Rattle.pd_format.specs.Judgements.{recorded_of};
+ghost use Rattle.pd_judgement.specs.Judgements.{recorded_of};
 ghost use Rattle.pd_format.specs.Readings as readings;
 ghost use Rattle.pd_judgement.specs.Findings.{IsAnswersFinding, names_answered, IsGoodPath};
 ghost use Rattle.pd_model.specs.Predicates.{test_of};
 ghost use Rattle.pd_pred.specs.Views.{predicate_view};
 ghost use Rattle.pd_report.specs.Views as views;
-ghost use Rattle.pd_spec.specs.Named.{named_of};
+ghost use Rattle.pd_spec.specs.Named.{named_view};
 ghost use Rattle.pd_spec.specs.Views.{document_view};
 ghost use Rattle.std.specs.List.{AllZip};
 ghost use Rattle.std.specs.Prelude.{◌≡◌, ◌<◌, ◌↔◌, List, IfOk, IsTrue, length, map, string_bytes, zip};
@@ -100,7 +100,7 @@ fn path_verdict(
 }
 
 /// The verdicts on the answers for one predicate.
-fn checked(
+fn answer_verdicts(
     alloc: Global,
     names: &Names,
     computation: &Computation<'_>,
@@ -109,7 +109,7 @@ fn checked(
 ) -> Result<Checked, AllocError>
     requires { length computation.now.events ≡ length names.now }
     ensures { IfOk result (λ checked. IsCheckedBy names.now computation.now (
-      named_of asked.now,
+      named_view asked.now,
       views.answer_view answer.now,
     ) (checked_view checked)) }
 {
@@ -161,7 +161,7 @@ pub(crate) fn verdicts(
     }
     let mut verdicts = Vec::new(alloc);
     for i in 0..answers.len() {
-        verdicts.push(checked(alloc, spec.names(), computation, &asked[i], &answers[i])?)?;
+        verdicts.push(answer_verdicts(alloc, spec.names(), computation, &asked[i], &answers[i])?)?;
     }
     Ok(Some(verdicts))
 }

@@ -8,7 +8,7 @@ use Rattle.serde_json.specs.Data.{Data, member, no_members}
 use Rattle.serde_json.specs.View.{view, members_view}
 use Rattle.serde_json.specs.declared.value.Value.{Value}
 use Rattle.pd_format.specs.Records.{values, has_only}
-use Rattle.pd_spec.proofs.MemberViews.{list_any-map}
+use Rattle.pd_format.proofs.ListTests.{list_any-map}
 
 -- each field is one of these variables, as the program finds it
 pub has_only_vars-entries : (vars : List (String Global)) (entries : List (String Global × Value))
@@ -21,13 +21,6 @@ has_only_vars-entries vars (entry ∷ entries) =
     vars)
     (ap (λ b. list_any (λ (var : String Global). bytes_eq (string_bytes entry.0) (string_bytes var)) vars && b)
     (has_only_vars-entries vars entries))
-
--- a test of each value
-pub all_values-entries : (test : Data → Bool) (entries : List (String Global × Value))
-    → list_all (λ (value : Value). test (view value)) (values_of entries)
-    ≡ list_all test (values (members_view entries))
-all_values-entries test [] = refl
-all_values-entries test (entry ∷ entries) = ap (λ b. test (view entry.1) && b) (all_values-entries test entries)
 
 -- an entry that stands alone
 pub one_entry : (entries : List (String Global × Value)) (name : String Global) (value : Value) → length entries ≡ 1

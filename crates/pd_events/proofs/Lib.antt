@@ -1,3 +1,4 @@
+-- The modules of lemmas of this crate.
 pub mod FieldViews
 pub mod StatementFacts
 pub mod RecordFacts

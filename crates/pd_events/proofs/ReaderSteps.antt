@@ -1,5 +1,5 @@
 -- Which reading a trace reader stands for after a piece, the end, or a failed read.
-use Rattle.std.proofs.Common.{◌≡◌, ℕ, ◌+◌, false, true, List, [], ◌∷◌, ◌++◌, refl, sym, ◌∙◌, ap}
+use Rattle.std.proofs.Common.{◌≡◌, ℕ, ◌+◌, false, true, List, [], ◌++◌, refl, sym, ◌∙◌, ap, append-nil}
 use Rattle.std.specs.Prelude.{Option, Some, None}
 use Rattle.pd_format.specs.Lines.{Line, FrameFault, has_line_feed, fault_after, frame_fault, open_lines, finished_lines, line_count, line_number, IsBatch}
 use Rattle.pd_format.specs.LineLaws.{PartGoesOn, PartIsFaulty}
@@ -12,10 +12,6 @@ use Rattle.pd_frames.specs.Views.{frame_faults_view}
 use Rattle.pd_frames.specs.declared.line.FrameFault.{FrameFault as Reported}
 use Rattle.pd_frames.specs.declared.line.FrameFault.TheVariants as reported
 use Rattle.pd_events.specs.Reads.{ReaderState, Reads, stop_of_frame}
-
-append_nil : {A : Type 0} (xs : List A) → xs ++ [] ≡ xs
-append_nil [] = refl
-append_nil (x ∷ xs) = ap (λ ys. x ∷ ys) (append_nil xs)
 
 -- ---- closed and open
 
@@ -42,7 +38,7 @@ closed_reads stays old names ending bytes more r closed = record {
 pub closed_ends : ClosedStays → (old : ReaderState) (names : List ProcessNames) (ending : Ending) (bytes : List ℕ)
     → Reads old names Open bytes → IsClosed old.reading.stop → Reads old names ending bytes
 closed_ends stays old names ending bytes r closed =
-    rw (append_nil bytes) at (closed_reads stays old names ending bytes [] r closed)
+    rw (append-nil bytes) at (closed_reads stays old names ending bytes [] r closed)
 
 pub open_stop : (old : ReaderState) (names : List ProcessNames) (bytes : List ℕ) → Reads old names Open bytes
     → old.reading.stop ≡ NothingMore → (reading names Open bytes).stop ≡ NothingMore
@@ -78,12 +74,12 @@ no_line goes_on faulty bytes piece lines fault sound h batch = go (fault_after b
     go : (f : Option FrameFault) → fault_after bytes piece ≡ f → IsBatch bytes piece [] fault
     go None e =
         record {
-          new_lines = (goes_on bytes piece sound h e).lines ∙ sym (append_nil (open_lines bytes));
+          new_lines = (goes_on bytes piece sound h e).lines ∙ sym (append-nil (open_lines bytes));
           same_fault =
               batch.same_fault;
         }
     go (Some f) e =
-        let whole : IsBatch bytes piece [] (Some f) = rw (append_nil piece) at (faulty bytes piece [] f sound h e) in
+        let whole : IsBatch bytes piece [] (Some f) = rw (append-nil piece) at (faulty bytes piece [] f sound h e) in
         record { new_lines = whole.new_lines; same_fault = batch.same_fault }
 
 -- ---- the end

@@ -9,27 +9,18 @@ use Rattle.serde_json.specs.Data.{Data, no_members}
 use Rattle.pd_format.specs.Names.{ProcessNames}
 use Rattle.pd_format.specs.Records.{json_value, statement_of, sets_from, record_of_shape, record_of_value, record_of, Json}
 use Rattle.pd_format.specs.Records as records
-use Rattle.pd_events.specs.declared.fault.RecordFault.{RecordFault}
-use Rattle.pd_events.specs.declared.fault.RecordFault.TheVariants as faults
 use Rattle.pd_events.specs.Parts.{sets_due}
 use Rattle.pd_events.specs.Statements.{settings_view}
-use Rattle.pd_events.specs.Views.{IsRecord}
 
 pub no_sets : (v : ℕ) (vars : List (List ℕ)) → sets_from v vars no_members ≡ []
 no_sets v [] = refl
 no_sets v (var ∷ others) = no_sets (suc v) others
 
-no_value : (names : List ProcessNames) (joined : Option ℕ) (bytes : List ℕ) → json_value bytes ≡ None
+-- bytes that are no value
+pub no_value : (names : List ProcessNames) (joined : Option ℕ) (bytes : List ℕ) → json_value bytes ≡ None
     → record_of names joined bytes ≡ Err Json
 unfolding record_of
 no_value names joined bytes e = ap (λ v. record_of_value names joined v) e
-
--- bytes that are no value, or of which memory didn't suffice to tell
-pub fault_of_value : (names : List ProcessNames) (joined : Option ℕ) (bytes : List ℕ) (fault : RecordFault)
-    → (fault ≡ faults.Memory) ⊎ ((fault ≡ faults.Json) × (json_value bytes ≡ None))
-    → IsRecord (record_of names joined bytes) (Err fault)
-fault_of_value names joined bytes fault (inl memory) = rw memory tt
-fault_of_value names joined bytes fault (inr (json, none)) = rw json (no_value names joined bytes none)
 
 pub record_of_its_value : (names : List ProcessNames) (joined : Option ℕ) (bytes : List ℕ) (value : Data)
     (statement : Option records.Statement) → json_value bytes ≡ Some value → statement ≡ statement_of value

@@ -4,9 +4,6 @@ use Rattle.pd_format.specs.Records as records
 use Rattle.pd_events.specs.declared.fault.RecordFault.{RecordFault}
 use Rattle.pd_events.specs.declared.fault.RecordFault.TheVariants as faults
 
-abbrev pub record_memory_fault : RecordFault
-record_memory_fault = faults.Memory
-
 -- the fault of the line that is reported, if it isn't out of memory
 abbrev pub record_fault_view : RecordFault → Option records.RecordFault
 record_fault_view faults.Json = Some records.Json

@@ -4,3 +4,4 @@ pub mod Views
 pub mod Progress
 pub mod Reads
 pub mod Parts
+pub mod SessionTraces

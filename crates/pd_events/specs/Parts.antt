@@ -5,6 +5,7 @@ use Rattle.std.specs.List.{list_all}
 use Rattle.serde_json.specs.Data.{Members}
 use Rattle.pd_model.specs.Events.{Kind}
 use Rattle.pd_format.specs.Lists.{first_that_applies, unless}
+use Rattle.pd_format.specs.Limits.{id_byte_limit}
 use Rattle.pd_format.specs.Records.{has_only, id_fits, sets_from, values, whole_number, UnknownVar, Value, MessageId}
 use Rattle.pd_format.specs.Records as records
 use Rattle.pd_events.specs.Faults.{record_fault_view}
@@ -12,9 +13,10 @@ use Rattle.pd_events.specs.Views.{kind_view}
 use Rattle.pd_events.specs.declared.event.EventKind.{EventKind}
 use Rattle.pd_events.specs.declared.fault.RecordFault.{RecordFault}
 
-abbrev pub Tells : {A B : Type 0} → (B → A) → Result A records.RecordFault → Result B RecordFault → Type 0
-Tells seen due answer =
-    MatchResult answer (λ value. due ≡ Ok (seen value)) (λ fault.
+-- the answer is the value due, as this view shows it, or the fault due, or that memory ran out
+abbrev pub IsAnswerBy : {A B : Type 0} → (B → A) → Result A records.RecordFault → Result B RecordFault → Type 0
+IsAnswerBy view due answer =
+    MatchResult answer (λ value. due ≡ Ok (view value)) (λ fault.
     MatchOption (record_fault_view fault) (Unit {0}) (λ f. due ≡ Err f))
 
 -- the variables that settings set, or the first fault of the settings
@@ -27,18 +29,18 @@ sets_due vars settings =
     (sets_from 0 vars settings)
 
 abbrev pub IsSets : List (List ℕ) → Members → Result (Vec (ℕ × ℤ) Global) RecordFault → Type 0
-IsSets vars settings answer = Tells (λ (sets : Vec (ℕ × ℤ) Global). sets.items) (sets_due vars settings) answer
+IsSets vars settings answer = IsAnswerBy (λ (sets : Vec (ℕ × ℤ) Global). sets.items) (sets_due vars settings) answer
 
 -- the kind of event, if the id has its length
 abbrev pub kind_due : Kind → Result Kind records.RecordFault
 kind_due kind = if id_fits kind then Ok kind else Err MessageId
 
 abbrev pub IsKind : Kind → Result EventKind RecordFault → Type 0
-IsKind kind answer = Tells kind_view (kind_due kind) answer
+IsKind kind answer = IsAnswerBy kind_view (kind_due kind) answer
 
 -- the id, if it has its length
 abbrev pub id_due : List ℕ → Result (List ℕ) records.RecordFault
-id_due id = if nat_le 1 (length id) && nat_le (length id) 64 then Ok id else Err MessageId
+id_due id = if nat_le 1 (length id) && nat_le (length id) id_byte_limit then Ok id else Err MessageId
 
 abbrev pub IsId : List ℕ → Result (String Global) RecordFault → Type 0
-IsId id answer = Tells string_bytes (id_due id) answer
+IsId id answer = IsAnswerBy string_bytes (id_due id) answer

@@ -19,7 +19,7 @@ pub record Reads (state : ReaderState) (names : List ProcessNames) (ending : End
   -- while it isn't closed
   pub framed : state.reading.stop ≡ NothingMore → Stands state.framer bytes false
 
--- how a stream stops where its bytes have a fault
+-- how a stream stops if its bytes have a fault
 abbrev pub stop_of_frame : Option FrameFault → Stop
 stop_of_frame None = NothingMore
 stop_of_frame (Some (faults.LineTooLong line)) = Fault line LineTooLong

@@ -36,8 +36,7 @@ abbrev pub trace_view : Trace → readings.Trace
 trace_view trace = record {
   process = trace.process;
   join_line = trace.join_line;
-  events =
-      events_view trace.events.items;
+  events = events_view trace.events.items;
 }
 
 abbrev pub record_view : LineRecord → records.LineRecord
@@ -45,7 +44,7 @@ record_view (says.Join process) = records.Joins process
 record_view (says.Happened event) = records.Happens (event_view event)
 record_view says.Finish = records.Ends
 
--- the answer is this record or fault, or tells that memory ran out
+-- the answer is this record or fault, or that memory ran out
 abbrev pub IsRecord : Result records.LineRecord records.RecordFault → Result LineRecord RecordFault → Type 0
 IsRecord due answer =
     MatchResult answer (λ reported_record. due ≡ Ok (record_view reported_record)) (λ fault.

@@ -1,5 +1,5 @@
 //! What is wrong with a line or a stream, and how far a stream is.
-use std::alloc::{AllocError, AllocFailed};
+use std::alloc::AllocError;
 
 /// Why a line has no record.
 #[derive(Clone, Copy, Debug, PartialEq, Eq)]
@@ -8,7 +8,7 @@ pub enum RecordFault {
     Json,
     /// The value has none of the shapes of a record.
     Shape,
-    /// A join where one is there already, or another record where none is.
+    /// A join after another, or another record before any.
     Join,
     /// The session has no process of this name.
     UnknownProcess,
@@ -23,23 +23,12 @@ pub enum RecordFault {
 }
 
 impl From<AllocError> for RecordFault {
+    ghost use Rattle.pd_events.specs.declared.fault.RecordFault.{RecordFault};
     ghost use Rattle.std.specs.Prelude.{◌≡◌};
-    ghost use Rattle.pd_events.specs.Faults.{record_memory_fault};
 
-    ghost from_gives = { λ _ e. e ≡ record_memory_fault };
+    ghost from_gives = { λ _ e. e ≡ RecordFault.Memory };
 
     fn from(_error: AllocError) -> RecordFault {
-        RecordFault::Memory
-    }
-}
-
-impl<T: Drop> From<AllocFailed<T>> for RecordFault {
-    ghost use Rattle.std.specs.Prelude.{◌≡◌};
-    ghost use Rattle.pd_events.specs.Faults.{record_memory_fault};
-
-    ghost from_gives = { λ _ e. e ≡ record_memory_fault };
-
-    fn from(_error: AllocFailed<T>) -> RecordFault {
         RecordFault::Memory
     }
 }
@@ -76,7 +65,7 @@ pub enum StreamKind {
 /// The first fault of a stream.
 #[derive(Clone, Copy, Debug, PartialEq, Eq)]
 pub struct StreamFault {
-    /// The number of the line at fault, counted from 1; where the input ended too soon, one more than there are lines.
+    /// The number of the line at fault, counted from 1; if the input ended too soon, one more than there are lines.
     pub line: u64,
     /// What is wrong.
     pub kind: StreamKind,

@@ -1,34 +1,13 @@
 //! The fields of a JSON object.
-ghost use Rattle.std.specs.Prelude.{◌≡◌, ◌≢◌, ℕ, map, string_bytes, option_map, length, MatchOption, is_some};
+ghost use Rattle.std.specs.Prelude.{◌≡◌, ◌≢◌, ℕ, map, string_bytes, length, MatchOption};
 ghost use Rattle.std.specs.Str.{bytes_eq};
 ghost use Rattle.std.specs.List.{list_any, list_all};
-ghost use Rattle.std.specs.BTreeMap.{keys, values};
+ghost use Rattle.std.specs.BTreeMap.{keys};
 ghost use Rattle.serde_json.specs.Data.{member, no_members};
-ghost use Rattle.serde_json.specs.Find.{get_member};
 ghost use Rattle.serde_json.specs.View.{view, members_view};
-ghost use Rattle.pd_format.specs.Records.{has_only, whole_number, values as values_of};
+ghost use Rattle.pd_format.specs.Records.{has_only};
 
 use serde_json::{Map, Value};
-
-fn is_one_of(texts: &[&str], text: &str) -> bool
-    ensures { result ≡ list_any (λ other. bytes_eq text.now other.now) texts.now }
-{
-    texts.iter().any(|other| text == *other)
-}
-
-fn keys_are_among(names: &[&str], fields: &Map<String, Value>) -> bool
-    ensures { result ≡ list_all (λ key. list_any (λ other. bytes_eq (string_bytes key) other.now) names.now)
-        (keys fields.now) }
-{
-    fields.keys().all(|key| is_one_of(names, key.as_str()))
-}
-
-/// Whether each field is one of these.
-pub fn has_only(names: &[&str], fields: &Map<String, Value>) -> bool
-    ensures { result ≡ has_only (map (λ name. name.now) names.now) (members_view fields.now.entries) }
-{
-    keys_are_among(names, fields)
-}
 
 fn is_var(vars: &[String], text: &str) -> bool
     ensures { result ≡ list_any (λ var. bytes_eq text.now (string_bytes var)) vars.now }
@@ -48,26 +27,6 @@ pub fn has_only_vars(vars: &[String], fields: &Map<String, Value>) -> bool
     ensures { result ≡ has_only (map string_bytes vars.now) (members_view fields.now.entries) }
 {
     keys_are_vars(vars, fields)
-}
-
-fn values_are_whole(fields: &Map<String, Value>) -> bool
-    ensures { result ≡ list_all (λ value. is_some (whole_number (view value))) (values fields.now) }
-{
-    fields.values().all(|value| value.as_i64().is_some())
-}
-
-/// Whether each field's value is a whole number of 64 bits.
-pub fn are_whole(fields: &Map<String, Value>) -> bool
-    ensures { result ≡ list_all (λ value. is_some (whole_number value)) (values_of (members_view fields.now.entries)) }
-{
-    values_are_whole(fields)
-}
-
-/// The value of this field, if it is there.
-pub fn value_at<'a>(fields: &'a Map<String, Value>, name: &str) -> Option<&'a Value>
-    ensures { option_map (λ value. view value.now) result ≡ get_member name.now (members_view fields.now.entries) }
-{
-    fields.get(name)
 }
 
 /// The name and the value of the field, if there is one alone.

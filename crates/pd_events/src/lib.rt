@@ -2,11 +2,11 @@
 //!
 //! `read_record` says exactly what a line says, or the first fault that applies. A trace reader takes a stream's bytes
 //! in pieces; however they are cut, its state, its events and its outcome are those of the reading of all bytes that
-//! came before it closed. Where memory runs out it stays as it was.
+//! came before it closed. If memory runs out it stays as it was.
 //!
 //! - `event`: events, traces and records
 //! - `fault`: what is wrong with a line or a stream, and how far a stream is
-//! - `json`, `fields`: the JSON value of a line, and its fields
+//! - `fields`: the fields of a JSON object that a line has
 //! - `statement`: what a line of right shape says
 //! - `record`: the record of a line
 //! - `progress`: how far the lines have been read
@@ -16,7 +16,6 @@
 mod event;
 mod fault;
 mod fields;
-mod json;
 mod progress;
 mod reader;
 mod record;

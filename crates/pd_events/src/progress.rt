@@ -10,12 +10,10 @@ ghost use Rattle.pd_events.specs.Progress.{in_record, joined_of, joined_view, op
 ghost use Rattle.pd_events.specs.Views.{events_view, record_view, stream_kind_view};
 
 use super::{Event, LineRecord, RecordFault, StreamFault, StreamKind, read_record};
+use pd_format::EVENT_LIMIT;
 use pd_frames::Line;
 use pd_spec::Spec;
 use std::alloc::{AllocError, Global};
-
-/// How many events a process may have.
-const EVENT_LIMIT: usize = 10_000;
 
 /// The join of a stream's process.
 #[derive(Clone, Copy)]
@@ -41,7 +39,7 @@ pub enum Phase {
 
 impl Phase {
     /// The join, if there was one.
-    pub fn joined(self) -> Option<Join>
+    pub fn join(self) -> Option<Join>
         ensures { joined_view result ≡ joined_of self }
     {
         match self {
@@ -64,7 +62,7 @@ impl Phase {
     }
 
     /// The same phase with this fault after it, if there is one and the stream hasn't stopped before.
-    fn ended_by(self, following: Option<StreamFault>) -> Phase
+    fn with_fault(self, following: Option<StreamFault>) -> Phase
         ensures { (events : List Event) → reading_view result events
             ≡ with_end (stop_of_fault following) (reading_view self events) }
     {
@@ -92,21 +90,21 @@ fn kind_of(fault: RecordFault) -> Option<StreamKind>
     }
 }
 
-/// Takes a record, after so many events; an event is added to the new ones.
+/// Takes a record, after this many events; an event is added to the new ones.
 fn take_record(
     joined: Option<Join>,
     kept: usize,
     new: &mut Vec<Event>,
     number: u64,
-    said: LineRecord,
+    given: LineRecord,
 ) -> Result<Phase, AllocError>
     ensures { IfOk result (λ phase. (events : List Event) → length events ≡ kept →
         reading_view phase (events ++ new.new.items)
         ≡ after_record (joined_view joined) (open_reading (joined_view joined) (events_view (events ++ new.old.items)))
-        number (Ok (record_view said))) }
+        number (Ok (record_view given))) }
 {
     let fault = |kind| Phase::Faulted(joined, StreamFault { line: number, kind });
-    match (joined, said) {
+    match (joined, given) {
         (None, LineRecord::Join(process)) => Ok(Phase::Joined(Join {
             process,
             line: number,
@@ -124,7 +122,7 @@ fn take_record(
     }
 }
 
-/// Takes a line, after so many events. What has stopped stays as it is.
+/// Takes a line, after this many events. What has stopped stays as it is.
 fn take_line(
     alloc: Global,
     spec: &Spec,
@@ -133,16 +131,15 @@ fn take_line(
     new: &mut Vec<Event>,
     line: &Line,
 ) -> Result<Phase, AllocError>
-    ensures { IfOk result (λ after. (events : List Event) → length events ≡ kept →
-        reading_view after (events ++ new.new.items)
-        ≡ unless_stopped (stop_of phase) (reading_view phase (events ++ new.old.items))
-        (read_line (document_view spec.now).names (reading_view phase (events ++ new.old.items)) (line_view line.now)))
-            }
+    ensures { IfOk result (λ after. (old : List Event) → length old ≡ kept →
+        reading_view after (old ++ new.new.items)
+        ≡ unless_stopped (stop_of phase) (reading_view phase (old ++ new.old.items))
+        (read_line (document_view spec.now).names (reading_view phase (old ++ new.old.items)) (line_view line.now))) }
 {
     if phase.is_closed() {
         return Ok(phase);
     }
-    let joined = phase.joined();
+    let joined = phase.join();
     let process = joined.map(|join| join.process);
     match read_record(alloc, spec, process, &line.bytes) {
         Ok(record) => take_record(joined, kept, new, line.number, record),
@@ -172,7 +169,7 @@ impl Progress {
     /// Takes these lines, and the fault after them, if there is one.
     ///
     /// # Errors
-    /// Where memory runs out; the progress is then as it was.
+    /// If memory runs out; the progress is then as it was.
     pub fn take_lines(
         &mut self,
         alloc: Global,
@@ -194,7 +191,7 @@ impl Progress {
             phase = take_line(alloc, spec, phase, kept, &mut new, line)?;
         }
         self.events.append(&mut new)?;
-        self.phase = phase.ended_by(following);
+        self.phase = phase.with_fault(following);
         Ok(())
     }
 
@@ -203,6 +200,6 @@ impl Progress {
         ensures { reading_view self.new.phase self.new.events.items
             ≡ with_end (stop_of_fault following) (reading_view self.old.phase self.old.events.items) }
     {
-        self.phase = self.phase.ended_by(following);
+        self.phase = self.phase.with_fault(following);
     }
 }

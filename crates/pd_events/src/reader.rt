@@ -33,7 +33,7 @@ fn fault_of(fault: FrameFault) -> StreamFault
     }
 }
 
-/// The same where there may be none.
+/// The same of the fault, if there is one.
 fn faults_of(fault: Option<FrameFault>) -> Option<StreamFault>
     ensures { stop_of_fault result ≡ stop_of_frame fault }
 {
@@ -113,7 +113,7 @@ impl<'spec> TraceReader<'spec> {
     pub fn process(&self) -> Option<usize>
         ensures { result ≡ process_of self.now.reading.joined }
     {
-        self.progress.phase.joined().map(|join| join.process)
+        self.progress.phase.join().map(|join| join.process)
     }
 
     /// How many events there are so far.
@@ -126,7 +126,7 @@ impl<'spec> TraceReader<'spec> {
     /// Takes the next bytes of the stream. A closed reader takes no memory and stays as it is.
     ///
     /// # Errors
-    /// Where memory runs out; the reader is then as it was.
+    /// If memory runs out; the reader is then as it was.
     pub fn feed(&mut self, piece: &[u8]) -> Result<(), AllocError>
         ensures reads { OnOk result ((names : List ProcessNames) (bytes : List ℕ) →
             Reads self.old names Open bytes → Reads self.new names Open (bytes ++ piece.now)) }
@@ -164,11 +164,11 @@ impl<'spec> TraceReader<'spec> {
         Ok(())
     }
 
-    /// Tells the end of the input, after which the reader is closed. A closed reader takes no memory and stays as it
+    /// Takes the end of the input, after which the reader is closed. A closed reader takes no memory and stays as it
     /// is.
     ///
     /// # Errors
-    /// Where memory runs out; the reader is then as it was.
+    /// If memory runs out; the reader is then as it was.
     pub fn end(&mut self) -> Result<(), AllocError>
         ensures reads { OnOk result ((names : List ProcessNames) (bytes : List ℕ) →
             Reads self.old names Open bytes → Reads self.new names Ended bytes) }
@@ -194,7 +194,7 @@ impl<'spec> TraceReader<'spec> {
         Ok(())
     }
 
-    /// Tells that a read of the input failed, after which the reader is closed. A closed reader stays as it is. It
+    /// Takes it that a read of the input failed, after which the reader is closed. A closed reader stays as it is. It
     /// takes no memory.
     pub fn fail(&mut self)
         ensures reads { (names : List ProcessNames) (bytes : List ℕ) →

@@ -9,19 +9,15 @@ ghost use Rattle.pd_events.specs.Parts.{IsId, IsKind, IsSets};
 ghost use Rattle.pd_events.specs.Statements.{kind_said, settings_view, statement_view};
 ghost use Rattle.pd_events.specs.Views.{IsRecord};
 
-use super::fields::{are_whole, has_only_vars, value_at};
-use super::json::value_of;
+use super::fields::has_only_vars;
 use super::statement::{Said, Statement, statement_of};
 use super::{Event, EventKind, LineRecord, RecordFault};
 use pd_pred::Names;
-use pd_spec::Spec;
+use pd_spec::{Spec, are_whole, json_value, value_at};
 use serde_json::{Map, Value};
 use std::alloc::{AllocError, Global};
 
-/// The most bytes of a message's id.
-const MAX_ID: usize = 64;
-
-/// The variables of this process; none where there is no such process.
+/// The variables of this process; none if there is no such process.
 fn vars_of(names: &Names, process: usize) -> &[String]
     ensures { map string_bytes result.now ≡ vars_of names.now process }
 {
@@ -57,8 +53,8 @@ fn sets_of(
     Ok(sets)
 }
 
-/// The variables that settings set, where a process has these.
-fn sets_checked(
+/// The variables that settings set, if a process has these variables.
+fn sets_of_settings(
     alloc: Global,
     vars: &[String],
     settings: &Map<String, Value>,
@@ -74,8 +70,8 @@ fn sets_checked(
     Ok(sets_of(alloc, vars, settings)?)
 }
 
-/// The variables that an event of a process with these sets, if it says any.
-fn sets_said(
+/// The variables that an event sets of a process that has these.
+fn sets_of_event(
     alloc: Global,
     vars: &[String],
     settings: Option<&Map<String, Value>>,
@@ -84,7 +80,7 @@ fn sets_said(
 {
     match settings {
         None => Ok(Vec::new(alloc)),
-        Some(settings) => sets_checked(alloc, vars, settings),
+        Some(settings) => sets_of_settings(alloc, vars, settings),
     }
 }
 
@@ -92,13 +88,13 @@ fn sets_said(
 fn id_of(alloc: Global, id: &str) -> Result<String, RecordFault>
     ensures { IsId id.now result }
 {
-    if id.is_empty() || id.len() > MAX_ID {
+    if id.is_empty() || id.len() > pd_format::ID_BYTE_LIMIT {
         return Err(RecordFault::MessageId);
     }
     Ok(String::from_str(alloc, id)?)
 }
 
-/// The kind of event that is said.
+/// The kind of event, with its id.
 fn kind_of(alloc: Global, said: Said<'_>) -> Result<EventKind, RecordFault>
     ensures { IsKind (kind_said said.entry) result }
 {
@@ -109,7 +105,7 @@ fn kind_of(alloc: Global, said: Said<'_>) -> Result<EventKind, RecordFault>
     }
 }
 
-/// The event that is said, of a process that has these variables.
+/// The event of a process that has these variables.
 fn event_of(
     alloc: Global,
     vars: &[String],
@@ -119,12 +115,12 @@ fn event_of(
     ensures { IsRecord (event_record (map string_bytes vars.now) (kind_said said.entry) (settings_view settings.entry))
         result }
 {
-    let sets = sets_said(alloc, vars, settings)?;
+    let sets = sets_of_event(alloc, vars, settings)?;
     let kind = kind_of(alloc, said)?;
     Ok(LineRecord::Happened(Event { kind, sets }))
 }
 
-/// The record that is said, before the join or after it.
+/// The record of a statement, before the join or after it.
 fn record_of(
     alloc: Global,
     names: &Names,
@@ -159,7 +155,9 @@ pub fn read_record(
 ) -> Result<LineRecord, RecordFault>
     ensures { IsRecord (record_of (document_view spec.now).names joined bytes.now) result }
 {
-    let value = value_of(alloc, bytes)?;
+    let Some(value) = json_value(alloc, bytes)? else {
+        return Err(RecordFault::Json);
+    };
     match statement_of(&value) {
         Some(statement) => record_of(alloc, spec.names(), joined, statement),
         None => Err(RecordFault::Shape),

@@ -5,7 +5,8 @@ ghost use Rattle.pd_format.specs.Lists.{first_some};
 ghost use Rattle.pd_format.specs.Records.{end_statement, event_statement, join_statement, kind_by_fields, settings_of, statement_of};
 ghost use Rattle.pd_events.specs.Statements.{kind_said, settings_view, statement_view};
 
-use super::fields::{has_only, only_field, value_at};
+use super::fields::only_field;
+use pd_spec::{has_only, value_at};
 use serde_json::{Map, Value};
 
 /// The kind of event that a line says.

@@ -1,13 +1,18 @@
 //! Streams whose traces and faults are known.
 ghost use Rattle.std.specs.Prelude.{◌<◌};
 
-use super::{EventKind, StreamFault, StreamKind, StreamState, Trace, TraceReader};
+use super::{
+    EventKind, LineRecord, RecordFault, StreamFault, StreamKind, StreamState, Trace, TraceReader,
+    read_record,
+};
+use pd_format::{EVENT_LIMIT, LINE_BYTE_LIMIT};
 use pd_spec::Spec;
 use std::alloc::{AllocError, Global};
 use std::test::Fail;
 
 const DOCUMENT: &str =
-    r#"{"processes":[{"name":"a","vars":{"x":0,"y":0}},{"name":"b","vars":{"z":0}}],"predicates":[{"name":"p","text":"a.x == 1"}]}"#;
+    r#"{"processes":[{"name":"a","vars":{"x":0,"y":0}},{"name":"b","vars":{"z":0}}],
+    "predicates":[{"name":"p","text":"a.x == 1"}]}"#;
 
 fn document(alloc: Global) -> Result<Spec, Fail> {
     match Spec::read(alloc, DOCUMENT.as_bytes()) {
@@ -63,7 +68,7 @@ fn cuts_do_not_matter(rt: HostRuntime) -> Result<(), Fail> {
 }
 
 #[test]
-fn tells_each_fault(rt: HostRuntime) -> Result<(), Fail> {
+fn each_fault_is_reported(rt: HostRuntime) -> Result<(), Fail> {
     let spec = document(rt.alloc())?;
     let faults = [
         ("{\"process\":\"a\"}\n{\"set\":1\n", 2, StreamKind::Json),
@@ -110,7 +115,8 @@ fn tells_each_fault(rt: HostRuntime) -> Result<(), Fail> {
         ("", 1, StreamKind::Unended),
     ];
     for (stream, line, kind) in faults {
-        assert_eq!(rt; fault_of(rt.alloc(), &spec, stream)?, Some((line, kind)));
+        let found = fault_of(rt.alloc(), &spec, stream)?;
+        assert_eq!(rt; found, Some((line, kind)), "in {stream}");
     }
     Ok(())
 }
@@ -136,30 +142,33 @@ fn messages_are_read(rt: HostRuntime) -> Result<(), Fail> {
 fn events_have_a_limit(rt: HostRuntime) -> Result<(), Fail> {
     let spec = document(rt.alloc())?;
     let mut stream = Vec::from_slice(rt.alloc(), b"{\"process\":\"a\"}\n")?;
-    for _ in 0..10_000 {
+    for _ in 0..EVENT_LIMIT {
         stream.extend_from_slice(b"{}\n")?;
     }
     let mut reader = TraceReader::new(rt.alloc(), &spec);
     reader.feed(&stream)?;
     assert_eq!(rt;
         (reader.state(), reader.events()),
-        (StreamState::Joined, 10_000)
+        (StreamState::Joined, EVENT_LIMIT as u64)
     );
     reader.feed(b"{}\n{\"end\":true}\n")?;
     assert_eq!(rt;
         (reader.state(), reader.events()),
-        (StreamState::Faulted, 10_000)
+        (StreamState::Faulted, EVENT_LIMIT as u64)
     );
     reader.end()?;
     let Err(fault) = reader.outcome() else {
         return Err(Fail::from("a trace"));
     };
-    assert_eq!(rt; (fault.line, fault.kind), (10_002, StreamKind::Events));
+    assert_eq!(rt;
+        (fault.line, fault.kind),
+        (EVENT_LIMIT as u64 + 2, StreamKind::Events)
+    );
     Ok(())
 }
 
 #[test]
-fn closes_where_a_read_fails(rt: HostRuntime) -> Result<(), Fail> {
+fn a_failed_read_closes(rt: HostRuntime) -> Result<(), Fail> {
     let spec = document(rt.alloc())?;
     let mut reader = TraceReader::new(rt.alloc(), &spec);
     assert_eq!(rt;
@@ -185,7 +194,7 @@ fn closes_where_a_read_fails(rt: HostRuntime) -> Result<(), Fail> {
 #[test]
 fn bytes_have_limits(rt: HostRuntime) -> Result<(), Fail> {
     let spec = document(rt.alloc())?;
-    let long = vec![in rt.alloc(); b' '; 65_537]?;
+    let long = vec![in rt.alloc(); b' '; LINE_BYTE_LIMIT + 1]?;
     let mut reader = TraceReader::new(rt.alloc(), &spec);
     reader.feed(&long)?;
     reader.end()?;
@@ -193,7 +202,7 @@ fn bytes_have_limits(rt: HostRuntime) -> Result<(), Fail> {
         return Err(Fail::from("a trace"));
     };
     assert_eq!(rt; (fault.line, fault.kind), (1, StreamKind::LineTooLong));
-    let mut line = vec![in rt.alloc(); b' '; 65_535]?;
+    let mut line = vec![in rt.alloc(); b' '; LINE_BYTE_LIMIT - 1]?;
     line.push(b'\n')?;
     let mut reader = TraceReader::new(rt.alloc(), &spec);
     for _ in 0..257 {
@@ -204,5 +213,28 @@ fn bytes_have_limits(rt: HostRuntime) -> Result<(), Fail> {
         return Err(Fail::from("a trace"));
     };
     assert_eq!(rt; (fault.line, fault.kind), (257, StreamKind::StreamTooLong));
+    Ok(())
+}
+
+#[test]
+fn a_line_is_a_record(rt: HostRuntime) -> Result<(), Fail> {
+    let spec = document(rt.alloc())?;
+    let join = read_record(rt.alloc(), &spec, None, b"{\"process\":\"b\"}\r");
+    assert_eq!(rt; join, Ok(LineRecord::Join(1)));
+    let end = read_record(rt.alloc(), &spec, Some(1), b"{\"end\":true}");
+    assert_eq!(rt; end, Ok(LineRecord::Finish));
+    let event = read_record(
+        rt.alloc(),
+        &spec,
+        Some(0),
+        b"{\"send\":\"m\",\"set\":{\"y\":-2}}",
+    );
+    let Ok(LineRecord::Happened(event)) = event else {
+        return Err(Fail::from("no event"));
+    };
+    assert!(rt; matches!(&event.kind, EventKind::Send(id) if id.as_str() == "m"));
+    assert_eq!(rt; event.sets.as_slice(), [(1, -2)].as_slice());
+    let early = read_record(rt.alloc(), &spec, None, b"{}");
+    assert_eq!(rt; early, Err(RecordFault::Join));
     Ok(())
 }

@@ -1,5 +1,5 @@
 //! A path as evidence that some observation has no satisfying cut.
-ghost use Rattle.pd_evidence.specs.Paths.{AvoidsFrom, IsAvoidingCut};
+ghost use Rattle.pd_model.specs.Paths.{AvoidsFrom, IsAvoidingCut};
 ghost use Rattle.pd_model.specs.Answers.{IsAvoidingObservation};
 ghost use Rattle.pd_model.specs.Cuts.{FitsProcesses, empty_cut, full_cut, one_more};
 ghost use Rattle.pd_model.specs.Predicates.{test_of};
@@ -59,8 +59,8 @@ fn avoids(
     Ok(computation.consistent(&here) && !satisfies(computation, pred, &here))
 }
 
-/// Adds the next event of process `p`, and tells whether there was one and the counts are those of a consistent cut
-/// that doesn't satisfy.
+/// Adds the next event of process `p`. Whether there was one and the counts are those of a consistent cut that doesn't
+/// satisfy.
 fn step(
     alloc: Global,
     computation: &Computation<'_>,

@@ -3,10 +3,10 @@ use Rattle.std.proofs.Common.{◌≡◌, ℕ, suc, zero, Bool, true, false, cond
 use Rattle.std.specs.Prelude.{codes, ◌&&◌}
 use Rattle.std.specs.Str.{bytes_eq}
 use Rattle.std.proofs.lemmas.Slice.Eq.{bytes_eq-Decides}
+use Rattle.std.proofs.lemmas.List.{append-nil}
 use Rattle.pd_format.specs.Tokens.{Token, Word, Digits, OpenParen, CloseParen, Relates, Signs, Star, Dot, End}
 use Rattle.pd_format.specs.PredicateTexts.{paren_is_open, operand_is_open, is_and_or, depth_after}
 use Rattle.pd_format.specs.OpenerStack.{Opener, Paren, Negation, drop_nots, drop_one, opened, all_opened}
-use Rattle.pd_format.proofs.LineFacts.{append_nil}
 
 parens : List Opener → ℕ
 parens [] = 0
@@ -51,7 +51,7 @@ bottom Paren stack (CloseParen ∷ rest) = go (λ o. bottom Paren o rest) (top s
         ++ if_open (paren_is_open (parens o) rest) Paren) → Top stack
         → all_opened (drop_one (drop_nots (stack ++ Paren ∷ []))) rest ≡ all_opened (drop_one (drop_nots stack)) rest
         ++ if_open (paren_is_open (parens stack) (CloseParen ∷ rest)) Paren
-    go ih (no_paren a b c d) = rw (a, b, c) (sym (append_nil (all_opened [] rest)))
+    go ih (no_paren a b c d) = rw (a, b, c) (sym (append-nil (all_opened [] rest)))
     go ih (a_paren below a b c) = rw (a, b, c Paren) (ih below)
 bottom Negation stack (CloseParen ∷ rest) = go (λ o. bottom Negation o rest) (top stack)
   where
@@ -59,7 +59,7 @@ bottom Negation stack (CloseParen ∷ rest) = go (λ o. bottom Negation o rest) 
         ++ if_open (operand_is_open (parens o) rest) Negation) → Top stack
         → all_opened (drop_one (drop_nots (stack ++ Negation ∷ []))) rest ≡ all_opened (drop_one (drop_nots stack)) rest
         ++ if_open (operand_is_open (parens stack) (CloseParen ∷ rest)) Negation
-    go ih (no_paren a b c d) = rw (a, b, d) (sym (append_nil (all_opened [] rest)))
+    go ih (no_paren a b c d) = rw (a, b, d) (sym (append-nil (all_opened [] rest)))
     go ih (a_paren below a b c) = rw (a, b, c Negation) (ih below)
 bottom Paren stack (Word w ∷ rest) = go (λ o. bottom Paren o rest) (bytes_eq w (codes "not")) (is_and_or w) (top stack)
   where
@@ -98,7 +98,7 @@ bottom Negation stack (Word w ∷ rest) =
         ++ if_open (operand_is_open (parens stack) (Word w ∷ rest)) Negation
     go ih true b e f t = rw (passes (parens stack) (no_join e)) (ih (Negation ∷ stack))
     go ih false true e f (no_paren a b c d) =
-        rw (ended (parens stack) a f, b, d) (sym (append_nil (all_opened [] rest)))
+        rw (ended (parens stack) a f, b, d) (sym (append-nil (all_opened [] rest)))
     go ih false true e f (a_paren below a b c) =
         rw (passes_inner (parens stack) (parens below) a, b, c Negation) (ih (Paren ∷ below))
     go ih false false e f t = rw (passes (parens stack) f) (ih stack)
@@ -118,7 +118,7 @@ bottom Negation stack (End ∷ rest) = bottom Negation stack rest
 counted : (b : Bool) (x : Opener) (stack : List Opener) (d : ℕ) → d ≡ length stack
     → cond b (suc d) d ≡ length (stack ++ if_open b x)
 counted true x stack d h = rw (length-append stack (x ∷ [])) (omega arith)
-counted false x stack d h = rw (append_nil stack) h
+counted false x stack d h = rw (append-nil stack) h
 
 -- The depth after tokens is the height of the stack.
 pub depth_is_height : (tokens : List Token) → depth_after tokens ≡ length (all_opened [] tokens)

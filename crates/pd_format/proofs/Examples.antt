@@ -5,7 +5,8 @@ use Rattle.std.specs.Str.{is_utf8, chars}
 use Rattle.std.specs.Fmt.{digits}
 use Rattle.serde_json.proofs.OnLiterals.{serde_json_on_literals}
 use Rattle.pd_model.specs.Events.{Local, Send, Event}
-use Rattle.pd_format.specs.Lines.{line, open_lines, finished_lines, frame_fault, has_line_feed, line_number, LineTooLong}
+use Rattle.pd_format.specs.Limits.{line_byte_limit}
+use Rattle.pd_format.specs.Lines.{line, line_feed, open_lines, finished_lines, frame_fault, has_line_feed, line_number, LineTooLong}
 use Rattle.pd_format.proofs.LineFacts.{fault-append, short_is_sound_lem, unended-no_feed}
 use Rattle.pd_format.specs.Names.{ProcessNames}
 use Rattle.pd_format.specs.Records.{RecordFault, Json, Shape, Join, UnknownProcess, UnknownVar, Value, MessageId, LineRecord, Joins, Happens, Ends, record_of}
@@ -127,7 +128,8 @@ still_open = refl
 
 abbrev pub example_document : List ℕ
 example_document =
-    codes "{\"processes\":[{\"name\":\"a\",\"vars\":{\"x\":0}},{\"name\":\"b\",\"vars\":{\"y\":0}}],\"predicates\":[{\"name\":\"both\",\"text\":\"a.x == 1 and b.y == 1\"}]}"
+    codes "{\"processes\":[{\"name\":\"a\",\"vars\":{\"x\":0}},{\"name\":\"b\",\"vars\":{\"y\":0}}],"
+    ++ codes "\"predicates\":[{\"name\":\"both\",\"text\":\"a.x == 1 and b.y == 1\"}]}"
 
 abbrev pub with_outline : {A : Type 0} → (Outline → A) → Result Outline DocumentFault → Option A
 with_outline f (Ok outline) = Some (f outline)
@@ -221,8 +223,9 @@ not_read = refl
 
 -- ---- a line that is too long
 
--- a byte after 65,536 others of its line that isn't an LF
-pub long_line : (bytes : List ℕ) (byte : ℕ) → has_line_feed bytes ≡ false → length bytes ≡ 65536 → (byte == 10) ≡ false
+-- a byte that isn't an LF, after as many others as its line may have
+pub long_line : (bytes : List ℕ) (byte : ℕ) → has_line_feed bytes ≡ false
+    → length bytes ≡ line_byte_limit → (byte == line_feed) ≡ false
     → frame_fault (bytes ++ byte ∷ []) ≡ Some (LineTooLong (line_number bytes))
 long_line bytes byte none size other =
     rw (

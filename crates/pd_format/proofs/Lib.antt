@@ -1,6 +1,9 @@
+-- The modules of lemmas of this crate.
+pub mod ListTests
 pub mod Examples
 pub mod LineFacts
 pub mod ReadingFacts
+pub mod HistoryFacts
 pub mod Prefixes
 pub mod OneTree
 pub mod PredicateExamples
@@ -13,3 +16,11 @@ pub mod JsonFacts
 pub mod PartFacts
 pub mod ReadingSteps
 pub mod TraceFits
+pub mod Faultless
+pub mod DistinctNames
+pub mod OrderedKeys
+pub mod DocumentNames
+pub mod FaultLines
+pub mod FaultPlaces
+pub mod SessionFaults
+pub mod DocumentParts

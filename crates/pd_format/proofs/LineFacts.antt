@@ -1,14 +1,11 @@
--- How lines and faults of bytes go on where more bytes come.
+-- How lines and faults of bytes go on if more bytes come.
 use Rattle.std.proofs.Common.{◌≡◌, ℕ, suc, ◌+◌, ◌<◌, ◌≤◌, Bool, true, false, not, cond, List, [], ◌∷◌, ◌++◌, length, refl, sym, ◌∙◌, ap, append_assoc, zero-add, length-append, arith}
 use Rattle.std.specs.Prelude.{Option, Some, None, ◌==◌, ◌||◌, ◌&&◌, ◌↔◌, nat_le}
 use Rattle.std.proofs.lemmas.Bool.Decides.{nat_tests}
+use Rattle.std.proofs.lemmas.List.{append-nil}
 use Rattle.pd_format.specs.Lines.{Line, line, line_feed, ended_lines, has_line_feed, unended_line, is_blank, numbered_from, FrameFault, fault_of_byte, first_fault_of, fault_after, sound_after, frame_fault, sound_part, open_lines}
 use Rattle.pd_format.specs.Limits.{line_byte_limit, stream_byte_limit}
 use Rattle.pd_format.specs.Laws.{StaysFaulty, IsFirstFault, AreBatches, joined}
-
-pub append_nil : {A : Type 0} (xs : List A) → xs ++ [] ≡ xs
-append_nil [] = refl
-append_nil (x ∷ xs) = ap (λ ys. x ∷ ys) (append_nil xs)
 
 -- a part of a test that fails
 pub or_false : (a b : Bool) → (a || b) ≡ false → (a ≡ false) × (b ≡ false)
@@ -113,16 +110,16 @@ first_fault_of-assoc (Some f) b c = refl
 
 pub fault-append : (before xs ys : List ℕ)
     → fault_after before (xs ++ ys) ≡ first_fault_of (fault_after before xs) (fault_after (before ++ xs) ys)
-fault-append before [] ys = rw (append_nil before) refl
+fault-append before [] ys = rw (append-nil before) refl
 fault-append before (x ∷ xs) ys =
     rw (fault-append (before ++ x ∷ []) xs ys, append_assoc before (x ∷ []) xs)
     (first_fault_of-assoc (fault_of_byte before x) (fault_after (before ++ x ∷ []) xs)
     (fault_after (before ++ x ∷ xs) ys))
 
--- where none of the bytes has a fault, all of them are sound, and so on
+-- if none of the bytes has a fault, all of them are sound, and so on
 pub sound-go_on : (before xs ys : List ℕ) → fault_after before xs ≡ None
     → sound_after before (xs ++ ys) ≡ xs ++ sound_after (before ++ xs) ys
-sound-go_on before [] ys h = rw (append_nil before) refl
+sound-go_on before [] ys h = rw (append-nil before) refl
 sound-go_on before (x ∷ xs) ys h = go (fault_of_byte before x) refl (sound-go_on (before ++ x ∷ []) xs ys)
   where
     go : (f : Option FrameFault) → fault_of_byte before x ≡ f
@@ -147,7 +144,7 @@ sound-stays before (x ∷ xs) ys fault h = go (fault_of_byte before x) refl (sou
 pub sound-all : (bytes : List ℕ) → frame_fault bytes ≡ None → sound_part bytes ≡ bytes
 sound-all bytes h =
     let e = sound-go_on [] bytes [] h in
-    rw (append_nil bytes) at e
+    rw (append-nil bytes) at e
 
 -- a list with one more element, taken apart: at an earlier element, or at the last
 data Parts {A : Type 0} (before : List A) (x : A) (prefix : List A) (y : A) : Type 0 where
@@ -203,7 +200,7 @@ lines_go_on_lem bytes more = go (frame_fault bytes) refl
       numbered_from (length (ended_lines bytes) + 1) (ended_lines (unended_line bytes ++ sound_after bytes more)),
       open_lines-append bytes more e,
     )
-    go (Some fault) e = ([], open_lines-stay bytes more fault e ∙ sym (append_nil (open_lines bytes)))
+    go (Some fault) e = ([], open_lines-stay bytes more fault e ∙ sym (append-nil (open_lines bytes)))
 
 pub fault-stays : (bytes more : List ℕ) (fault : FrameFault) → frame_fault bytes ≡ Some fault
     → StaysFaulty bytes more fault
@@ -245,7 +242,7 @@ none_after : (before bytes : List ℕ) → ((prefix : List ℕ) (y : ℕ) (back 
     → fault_of_byte (before ++ prefix) y ≡ None) → fault_after before bytes ≡ None
 none_after before [] sound = refl
 none_after before (x ∷ rest) sound =
-    let first : fault_of_byte before x ≡ None = rw (append_nil before) at (sound [] x rest refl) in
+    let first : fault_of_byte before x ≡ None = rw (append-nil before) at (sound [] x rest refl) in
     rw first (none_after (before ++ x ∷ []) rest (λ prefix y back e.
     rw (sym (append_assoc before (x ∷ []) prefix)) at (sound (x ∷ prefix) y back (ap (λ ys. x ∷ ys) e))))
 
@@ -271,7 +268,7 @@ fault_is_first_lem bytes fault =
 
 batches_joined : (before : List ℕ) (pieces : List (List ℕ)) (batches : List (List Line))
     → AreBatches before pieces batches → open_lines (before ++ joined pieces) ≡ open_lines before ++ joined batches
-batches_joined before [] [] h = rw (append_nil before, append_nil (open_lines before)) refl
+batches_joined before [] [] h = rw (append-nil before, append-nil (open_lines before)) refl
 batches_joined before [] (b ∷ batches) h = absurd h
 batches_joined before (p ∷ pieces) [] h = absurd h
 batches_joined before (p ∷ pieces) (b ∷ batches) h =

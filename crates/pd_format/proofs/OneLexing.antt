@@ -1,16 +1,13 @@
 -- A text's bytes are tokens in one way.
 use Rattle.std.proofs.Common.{◌≡◌, ℕ, ◌+◌, Bool, true, false, cond, List, [], ◌∷◌, ◌++◌, length, refl, sym, ◌∙◌, ap, subst, arith}
-use Rattle.std.specs.Prelude.{codes, ◌&&◌, ◌||◌, ◌==◌}
+use Rattle.std.specs.Prelude.{codes, ◌||◌, ◌==◌}
 use mathlib.Core.Path.{subst₃}
 use Rattle.std.specs.List.{list_all}
 use Rattle.std.proofs.lemmas.Bool.Decides.{nat_tests}
+use Rattle.std.proofs.lemmas.Bool.{and_parts}
 use Rattle.pd_model.specs.Predicates.{Sign, Plus, Minus, Comparison, Equals, Differs, IsLess, IsAtMost, IsGreater, IsAtLeast}
 use Rattle.pd_format.specs.Names.{is_letter, is_digit, is_in_word, is_word}
 use Rattle.pd_format.specs.Tokens.{Token, Word, Digits, OpenParen, CloseParen, Relates, Signs, Star, Dot, End, Placed, placed, number_from, is_digits, comparison_text, sign_text, IsSpelling, continues, IsLongest, is_space, Lexes, AreTokens, BeginsNoToken, IsStray}
-
-and_parts : (a b : Bool) → (a && b) ≡ true → (a ≡ true) × (b ≡ true)
-and_parts true b h = (refl, h)
-and_parts false b h = absurd (cc)
 
 -- the first of these bytes, if there is one, fails the test
 data Fails (test : ℕ → Bool) : List ℕ → Type 0 where

@@ -3,10 +3,11 @@ use Rattle.std.proofs.Common.{◌≡◌, ℕ, suc, zero, ◌≤◌, Bool, true, 
 use Rattle.std.specs.Prelude.{codes, ◌&&◌, not}
 use Rattle.std.specs.Str.{bytes_eq}
 use Rattle.std.proofs.lemmas.Slice.Eq.{bytes_eq-Decides}
+use Rattle.std.proofs.lemmas.Bool.{and_parts, not-true}
+use Rattle.std.proofs.lemmas.List.{append-nil}
 use Rattle.pd_model.specs.Predicates.{Term, Number, Variable, Times, Sign, Plus, Minus, Predicate, And, Or}
 use Rattle.pd_format.specs.Tokens.{Token, Word, Digits, OpenParen, CloseParen, Relates, Signs, Star, Dot, End}
 use Rattle.pd_format.specs.Grammar.{Naming, SpellsReference, SpellsTerm, SpellsSigned, SpellsSum, Rule, OrRule, AndRule, NotRule, word_or, word_and, Spells, either, no_or, both, no_and, negated, in_parens, always, never, compare, SpellsWhole}
-use Rattle.pd_format.proofs.LineFacts.{append_nil}
 use Rattle.pd_format.specs.PrefixWalk.{WordKind, ANot, AJoin, ATruth, AName, word_kind}
 use Rattle.pd_format.proofs.Prefixes.{kind_of_name}
 
@@ -40,10 +41,6 @@ stops NotRule tokens = stops_sum tokens
 stops AndRule tokens = stops_sum tokens && not (begins_with (codes "and") tokens)
 stops OrRule tokens =
     stops_sum tokens && (not (begins_with (codes "and") tokens) && not (begins_with (codes "or") tokens))
-
-and_true : (a b : Bool) → (a && b) ≡ true → (a ≡ true) × (b ≡ true)
-and_true true b h = (refl, h)
-and_true false b h = absurd (cc)
 
 -- ---- terms and sums
 
@@ -193,7 +190,7 @@ module _ (Refers : Naming) (clear : IsClear Refers) where
       → Row rule word join so_far (tokens ++ Word word ∷ right) (join a b)
   row_snoc {rule = rule} {word = word} {join = join} {so_far = so_far} {b = b} right last s =
       let one : Row rule word join so_far (Word word ∷ (right ++ [])) (join so_far b) = more right [] s last in
-      rw (append_nil right) at one
+      rw (append-nil right) at one
   row_snoc {word = word} right (more piece rest p row) s =
       rw (append_assoc piece rest (Word word ∷ right)) (more piece (rest ++ Word word ∷ right) p (row_snoc right row s))
 
@@ -212,7 +209,7 @@ module _ (Refers : Naming) (clear : IsClear Refers) where
             row_snoc right row.row r;
       }
   row_of_or {tokens = tokens} {a = a} (no_or s) =
-      record { first = tokens; rest = []; parts = sym (append_nil tokens); head = a; spelled = s; row = last }
+      record { first = tokens; rest = []; parts = sym (append-nil tokens); head = a; spelled = s; row = last }
 
   row_of_and : {tokens : List Token} {a : Predicate} → Spells Refers AndRule tokens a
       → IsRow NotRule (codes "and") And tokens a
@@ -229,9 +226,9 @@ module _ (Refers : Naming) (clear : IsClear Refers) where
         row = row_snoc right row.row r;
       }
   row_of_and {tokens = tokens} {a = a} (no_and s) =
-      record { first = tokens; rest = []; parts = sym (append_nil tokens); head = a; spelled = s; row = last }
+      record { first = tokens; rest = []; parts = sym (append-nil tokens); head = a; spelled = s; row = last }
 
-  -- tokens of at most so many spell one predicate by this rule, whatever stops it
+  -- tokens of at most this many spell one predicate by this rule, whatever stops it
   abbrev OneUpTo : ℕ → Rule → Type 0
   OneUpTo n rule = (ts us x y : List Token) (a b : Predicate) → Spells Refers rule ts a → Spells Refers rule us b
       → ts ++ x ≡ us ++ y → stops rule x ≡ true → stops rule y ≡ true → length ts ≤ n → (ts ≡ us) × (a ≡ b)
@@ -280,11 +277,6 @@ module _ (Refers : Naming) (clear : IsClear Refers) where
           (cancel piece (inner ∙ ap (λ zs. zs ++ (rest' ++ y)) (sym first.0))) in
           (rw (first.0, later.0) refl, later.1)
 
-  -- one by and_rule, where one by not_rule, and one by or_rule, where one by and_rule
-  not_true : (b : Bool) → not b ≡ true → b ≡ false
-  not_true true h = absurd (cc)
-  not_true false h = refl
-
   one_of_rows : (rule : Rule) (word : List ℕ) (join : Join) (n : ℕ) → OneUpTo n rule
       → ((tokens : List Token) → stops rule (Word word ∷ tokens) ≡ true) → (ts us x y : List Token) (a b : Predicate)
       → IsRow rule word join ts a → IsRow rule word join us b → ts ++ x ≡ us ++ y → stops rule x ≡ true
@@ -308,22 +300,23 @@ module _ (Refers : Naming) (clear : IsClear Refers) where
       stops_after tokens z last sz = sz
       stops_after tokens z (more piece' rest' p' row') sz = wordstops ((piece' ++ rest') ++ z)
 
+  -- one by and_rule, if one by not_rule, and one by or_rule, if one by and_rule
   one_and : (n : ℕ) → OneUpTo n NotRule → OneUpTo n AndRule
   one_and n one ts us x y a b r s h sx sy bound =
-      let cx = and_true (stops_sum x) (not (begins_with (codes "and") x)) sx in
-      let cy = and_true (stops_sum y) (not (begins_with (codes "and") y)) sy in
+      let cx = and_parts (stops_sum x) (not (begins_with (codes "and") x)) sx in
+      let cy = and_parts (stops_sum y) (not (begins_with (codes "and") y)) sy in
       one_of_rows NotRule (codes "and") And n one (λ tokens. refl) ts us x y a b (row_of_and r) (row_of_and s) h cx.0
-      cy.0 (not_true (begins_with (codes "and") x) cx.1) (not_true (begins_with (codes "and") y) cy.1) bound
+      cy.0 (not-true (begins_with (codes "and") x) cx.1) (not-true (begins_with (codes "and") y) cy.1) bound
 
   one_or : (n : ℕ) → OneUpTo n AndRule → OneUpTo n OrRule
   one_or n one ts us x y a b r s h sx sy bound =
-      let cx = and_true (stops_sum x) (not (begins_with (codes "and") x) && not (begins_with (codes "or") x)) sx in
-      let cy = and_true (stops_sum y) (not (begins_with (codes "and") y) && not (begins_with (codes "or") y)) sy in
-      let dx = and_true (not (begins_with (codes "and") x)) (not (begins_with (codes "or") x)) cx.1 in
-      let dy = and_true (not (begins_with (codes "and") y)) (not (begins_with (codes "or") y)) cy.1 in
+      let cx = and_parts (stops_sum x) (not (begins_with (codes "and") x) && not (begins_with (codes "or") x)) sx in
+      let cy = and_parts (stops_sum y) (not (begins_with (codes "and") y) && not (begins_with (codes "or") y)) sy in
+      let dx = and_parts (not (begins_with (codes "and") x)) (not (begins_with (codes "or") x)) cx.1 in
+      let dy = and_parts (not (begins_with (codes "and") y)) (not (begins_with (codes "or") y)) cy.1 in
       one_of_rows AndRule (codes "or") Or n one (λ tokens. refl) ts us x y a b (row_of_or r) (row_of_or s) h
-      (rw (cx.0, dx.0) refl) (rw (cy.0, dy.0) refl) (not_true (begins_with (codes "or") x) dx.1)
-      (not_true (begins_with (codes "or") y) dy.1) bound
+      (rw (cx.0, dx.0) refl) (rw (cy.0, dy.0) refl) (not-true (begins_with (codes "or") x) dx.1)
+      (not-true (begins_with (codes "or") y) dy.1) bound
 
   -- ---- the tightest rule, by its first token
 

@@ -3,10 +3,12 @@ use Rattle.std.proofs.Common.{◌≡◌, ℕ, ◌+◌, ◌<◌, ◌≤◌, Bool,
 use Rattle.std.specs.Prelude.{Some, None, is_some, ◌==◌, ◌||◌, ◌&&◌, nat_le, count_by}
 use Rattle.std.proofs.lemmas.Bool.Decides.{nat_tests}
 use Rattle.std.proofs.lemmas.List.Sums.{sum_by-cons, sum_by-append}
+use Rattle.std.proofs.lemmas.Bool.{le-leb}
+use Rattle.std.proofs.lemmas.List.{append-nil}
 use Rattle.pd_format.specs.Lines.{line_feed, ended_lines, onto_first, has_line_feed, unended_line, as_line, FrameFault, LineTooLong, StreamTooLong, line_number, fault_of_byte, fault_after, sound_after, frame_fault, open_lines, IsBatch}
 use Rattle.pd_format.specs.Limits.{line_byte_limit, stream_byte_limit}
 use Rattle.pd_format.specs.LineLaws.{LengthensRest, EndsLine, Finishes}
-use Rattle.pd_format.proofs.LineFacts.{append_nil, unended-no_feed, no_feed-unended, has_feed-append, unended-append, numbered-append, fault-append, sound-stays, sound-all, open_lines-append, no_ended_lines, or_false}
+use Rattle.pd_format.proofs.LineFacts.{unended-no_feed, no_feed-unended, has_feed-append, unended-append, numbered-append, fault-append, sound-stays, sound-all, open_lines-append, no_ended_lines, or_false}
 
 -- ---- how many lines end
 
@@ -25,7 +27,7 @@ no_feeds (x ∷ rest) h =
     let both = or_false (x == line_feed) (has_line_feed rest) h in
     rw (feeds-cons x rest, both.0) (omega (arith, no_feeds rest both.1))
 
-length-onto_first : (x : ℕ) (ls : List (List ℕ)) → length (onto_first x ls) ≡ length ls
+pub length-onto_first : (x : ℕ) (ls : List (List ℕ)) → length (onto_first x ls) ≡ length ls
 length-onto_first x [] = refl
 length-onto_first x (l ∷ ls) = refl
 
@@ -78,9 +80,6 @@ nothing_ends bytes part h =
 
 -- ---- faults
 
-le_true : (a b : ℕ) → a ≤ b → nat_le a b ≡ true
-le_true a b h = grind (arith, nat_tests)
-
 le_false : (a b : ℕ) → b < a → nat_le a b ≡ false
 le_false a b h = grind (arith, nat_tests)
 
@@ -99,14 +98,14 @@ byte_is_sound bytes x r t =
 
 byte_lengthens_line : (bytes : List ℕ) (x : ℕ) → (x == line_feed) ≡ false
     → line_byte_limit ≤ length (unended_line bytes) → fault_of_byte bytes x ≡ Some (LineTooLong (line_number bytes))
-byte_lengthens_line bytes x e r = rw (le_true line_byte_limit (length (unended_line bytes)) r, e) refl
+byte_lengthens_line bytes x e r = rw (le-leb line_byte_limit (length (unended_line bytes)) r, e) refl
 
 byte_lengthens_stream : (bytes : List ℕ) (x : ℕ) → length (unended_line bytes) < line_byte_limit
     → stream_byte_limit ≤ length bytes → fault_of_byte bytes x ≡ Some (StreamTooLong (line_number bytes))
 byte_lengthens_stream bytes x r t =
     rw (
       le_false line_byte_limit (length (unended_line bytes)) r,
-      le_true stream_byte_limit (length bytes) t,
+      le-leb stream_byte_limit (length bytes) t,
       and_false (not (x == line_feed)),
     ) refl
 
@@ -186,7 +185,7 @@ part_goes_on bytes part e h f = record {
   sound = rw (fault-append [] bytes part, e) f;
   rest = unended-part bytes part h;
   number = number-part bytes part h;
-  lines = open_lines-append bytes part e ∙ rw (nothing_ends bytes part h) (append_nil (open_lines bytes));
+  lines = open_lines-append bytes part e ∙ rw (nothing_ends bytes part h) (append-nil (open_lines bytes));
 }
 
 ends_with_feed : (part : List ℕ) → has_line_feed (part ++ line_feed ∷ []) ≡ true
@@ -232,7 +231,7 @@ pub feed_is_faulty : (bytes more : List ℕ) (fault : FrameFault) → frame_faul
     → fault_of_byte bytes line_feed ≡ Some fault → IsBatch bytes (line_feed ∷ more) [] (Some fault)
 feed_is_faulty bytes more fault e f = record {
   new_lines = open_lines-append bytes (line_feed ∷ more) e
-      ∙ rw (sound_feed, append_nil (unended_line bytes), no_ended_lines (unended_line bytes) (no_feed-unended bytes))
+      ∙ rw (sound_feed, append-nil (unended_line bytes), no_ended_lines (unended_line bytes) (no_feed-unended bytes))
       refl;
   same_fault = rw (fault-append [] bytes (line_feed ∷ more), e, f) refl;
 }

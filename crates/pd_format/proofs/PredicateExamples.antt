@@ -9,10 +9,9 @@ use Rattle.pd_format.specs.Limits.{depth_limit, predicate_byte_limit}
 use Rattle.pd_format.specs.Grammar.{NamedBy, SpellsSum, no_or, no_and, both, compare, word_and}
 use Rattle.pd_format.specs.PrefixWalk.{begins}
 use Rattle.pd_format.proofs.Prefixes.{begins_of_can, can_of_begins}
-use Rattle.pd_format.proofs.LineFacts.{append_nil}
 use Rattle.pd_format.proofs.Examples.{names as processes}
-use Rattle.std.proofs.lemmas.List.{reverse-append}
-use Rattle.std.proofs.lemmas.Bool.Decides.{nat_tests}
+use Rattle.std.proofs.lemmas.List.{reverse-append, append-nil}
+use Rattle.std.proofs.lemmas.Bool.{and_parts, le-leb}
 
 -- ---- tests of what the definitions say of a token
 
@@ -44,10 +43,6 @@ fits names before t =
 abbrev all_fit : List ProcessNames → List Placed → List Placed → Bool
 all_fit names before [] = true
 all_fit names before (t ∷ rest) = fits names (tokens_of before) t.token && all_fit names (before ++ t ∷ []) rest
-
-and_parts : (a b : Bool) → (a && b) ≡ true → (a ≡ true) × (b ≡ true)
-and_parts true b h = (refl, h)
-and_parts false b h = absurd (cc)
 
 or_left : (a b : Bool) → a ≡ true → (a || b) ≡ true
 or_left a b h = rw h refl
@@ -85,9 +80,6 @@ is_unknown_name names before Star u = absurd u
 is_unknown_name names before Dot u = absurd u
 is_unknown_name names before End u = absurd u
 
-le_test : (a b : ℕ) → a ≤ b → nat_le a b ≡ true
-le_test a b h = grind (arith, nat_tests)
-
 not_faulty : (names : List ProcessNames) (before : List Token) (t : Token) → fits names before t ≡ true
     → (fault : PredicateFault) → IsFaulty names fault before t → ⊥
 not_faulty names before t h fault bad = go fault bad
@@ -109,7 +101,7 @@ not_faulty names before t h fault bad = go fault bad
     go Depth b =
         not_true (opens t && nat_le depth_limit (depth_after before))
         ((and_parts (not (is_unknown names before t)) _ rest).1)
-        (rw (b.1, le_test depth_limit (depth_after before) b.2) refl)
+        (rw (b.1, le-leb depth_limit (depth_after before) b.2) refl)
 
 none_misplaced : (names : List ProcessNames) (done rest : List Placed) → all_fit names done rest ≡ true
     → (prefix : List Placed) (t : Placed) (back after : List Placed) → rest ≡ prefix ++ t ∷ back
@@ -119,7 +111,7 @@ none_misplaced names done [] h (x ∷ prefix) t back after e bad = cc
 none_misplaced names done (y ∷ rest) h [] t back after e (fault, bad) =
     let same : y ≡ t = cc in
     not_faulty names (tokens_of done) t.token (rw same at (and_parts (fits names (tokens_of done) y.token) _ h).0) fault
-    (rw (append_nil done) at bad)
+    (rw (append-nil done) at bad)
 none_misplaced names done (y ∷ rest) h (x ∷ prefix) t back after e bad =
     let same : y ≡ x = cc in
     let tail : rest ≡ prefix ++ t ∷ back = cc in

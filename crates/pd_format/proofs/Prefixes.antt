@@ -1,4 +1,4 @@
--- A walk over tokens that tells whether they begin a predicate, and that it tells so.
+-- A walk over tokens that finds whether they begin a predicate, and that it does.
 use Rattle.std.proofs.Common.{◌≡◌, ℕ, suc, zero, Bool, true, false, cond, List, [], ◌∷◌, ◌++◌, refl, sym, ◌∙◌, ap, append_assoc, ◌⊎◌, inl, inr}
 use Rattle.std.specs.Prelude.{Option, Some, None, is_some, option_and_then, codes, ◌↔◌}
 use Rattle.std.specs.Str.{bytes_eq}
@@ -741,7 +741,7 @@ next_means (AfterDot side) d t tokens l = var_means side d t tokens l
 next_means (AfterTerm side) d t tokens l = after_term_means side d t tokens l
 next_means AfterOperand d t tokens l = after_operand_means d t tokens l
 
--- a walk to the end tells what the tokens are
+-- a walk to the end finds what the tokens are
 walk_means : (tokens : List Token) (s : State) → walk s tokens ≡ Some AtEnd → MeansState s tokens
 walk_means [] (Inside mode d) e = absurd (cc)
 walk_means [] AtEnd e = refl
@@ -825,7 +825,7 @@ can_of_begins tokens h = go (walk start tokens) refl h
         ∙ ap (λ o. option_and_then (λ later. walk later (completion s)) o) e ∙ completion_ends s) in
         (completion s, whole.0, whole.1)
 
--- The walk tells exactly which tokens begin a predicate.
+-- The walk finds exactly which tokens begin a predicate.
 pub begins_is_exact : (tokens : List Token) → (begins tokens ≡ true) ↔ CanGoOn tokens
 begins_is_exact tokens = (can_of_begins tokens, begins_of_can tokens)
 

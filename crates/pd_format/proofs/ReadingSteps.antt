@@ -1,6 +1,7 @@
 -- A reading goes on line by line.
 use Rattle.std.proofs.Common.{◌≡◌, ℕ, suc, ◌+◌, Bool, true, false, cond, List, [], ◌∷◌, ◌++◌, length, refl, sym, ◌∙◌, ap, append_assoc, length-append, arith}
 use Rattle.std.specs.Prelude.{Option, Some, None, nat_lt, Result, Ok, Err}
+use Rattle.std.proofs.lemmas.List.{append-nil}
 use Rattle.pd_model.specs.Events.{Event}
 use Rattle.pd_format.specs.Lines.{Line, FrameFault, frame_fault, open_lines, finished_lines, line_count, line_number, IsBatch}
 use Rattle.pd_format.specs.Lines as lines
@@ -9,7 +10,6 @@ use Rattle.pd_format.specs.Records.{RecordFault, Join, LineRecord, Joins, Happen
 use Rattle.pd_format.specs.Readings.{Open, Ended, Failed, Stop, NothingMore, EndLine, Fault, InRecord, TooManyEvents, Unended, ReadFailed, stopped, Course, with_first, course_from, course_of, Reading, not_joined, reading_from, reading_of_lines, stop_at_end, with_end, reading, StreamKind}
 use Rattle.pd_format.specs.Limits.{event_limit}
 use Rattle.pd_format.specs.ReadingLaws.{stopped_by, after_record, read_line, unless_stopped, read_on}
-use Rattle.pd_format.proofs.LineFacts.{append_nil}
 
 abbrev after_course : ℕ → ℕ → List Event → Course → Reading
 after_course process number events course =
@@ -35,7 +35,7 @@ after_join : (names : List ProcessNames) (process number : ℕ) (events : List E
     ≡ after_course process number events (course_of names process (length events) ls)
 after_join names process number events [] =
     ap (λ (es : List Event). record { joined = Some (process, number); events = es; stop = NothingMore })
-    (sym (append_nil events))
+    (sym (append-nil events))
 after_join names process number events (l ∷ ls) =
     go (record_of names (Some process) l.bytes) (λ event. after_join names process number (events ++ event ∷ []) ls)
   where
@@ -43,7 +43,7 @@ after_join names process number events (l ∷ ls) =
         ≡ after_course process number events (stopped stop)
     closed stop =
         ap (λ (es : List Event). record { joined = Some (process, number); events = es; stop = stop })
-        (sym (append_nil events))
+        (sym (append-nil events))
 
     more : (event : Event) → after_course process number (events ++ event ∷ [])
         (course_of names process (length (events ++ event ∷ [])) ls)

@@ -84,7 +84,7 @@ process_names outline = map (λ (process : List ℕ × Members). process.0) outl
 abbrev pub predicate_names : Outline → List (List ℕ)
 predicate_names outline = map (λ (predicate : List ℕ × List ℕ). predicate.0) outline.predicates
 
--- at most 16 variables, each with a whole number of 64 bits
+-- at most as many variables as may be, each with a whole number of 64 bits
 abbrev pub vars_fit : List ℕ × Members → Bool
 vars_fit process =
     nat_le (length (keys process.1)) var_limit && list_all (λ value. is_some (whole_number value)) (values process.1)
@@ -123,7 +123,8 @@ outline_of_json (Some value) = checked_outline (outline_of value)
 
 -- the outline of a document's bytes, or the first fault that isn't in a predicate
 unfoldable pub outline_of_bytes : List ℕ → Result Outline DocumentFault
-outline_of_bytes bytes = if nat_lt document_byte_limit (length bytes) then Err Long else outline_of_json (json_value bytes)
+outline_of_bytes bytes =
+    if nat_lt document_byte_limit (length bytes) then Err Long else outline_of_json (json_value bytes)
 
 -- ---- the document
 

@@ -14,7 +14,7 @@ NamedBy names process var p v =
     (entry : ProcessNames) × (slice_get names p ≡ Some entry) × (entry.name ≡ process)
     × (slice_get entry.vars v ≡ Some var)
 
--- where all names are taken as known
+-- if all names are taken as known
 abbrev pub AnyName : Naming
 AnyName process var p v = Unit {0}
 
@@ -36,7 +36,7 @@ SpellsSigned Refers tokens [] = tokens ≡ []
 SpellsSigned Refers tokens ((sign, term) ∷ others) = (prefix back : List Token)
     × (tokens ≡ Signs sign ∷ (prefix ++ back)) × SpellsTerm Refers prefix term × SpellsSigned Refers back others
 
--- A sum is signed terms; where the first sign is plus, it isn't written.
+-- A sum is signed terms; if the first sign is plus, it isn't written.
 abbrev pub SpellsSum : Naming → List Token → List (Sign × Term) → Type 0
 SpellsSum Refers tokens [] = ⊥
 SpellsSum Refers tokens ((Plus, term) ∷ others) = SpellsSigned Refers (Signs Plus ∷ tokens) ((Plus, term) ∷ others)
@@ -79,6 +79,6 @@ pub data Spells (Refers : Naming) : Rule → List Token → Predicate → Type 0
 abbrev pub SpellsWhole : Naming → List Token → Predicate → Type 0
 SpellsWhole Refers tokens a = (inner : List Token) × (tokens ≡ inner ++ End ∷ []) × Spells Refers OrRule inner a
 
--- the tokens begin those of some predicate, where all names are taken as known
+-- the tokens begin those of some predicate, if all names are taken as known
 abbrev pub CanGoOn : List Token → Type 0
 CanGoOn tokens = (more : List Token) × (a : Predicate) × SpellsWhole AnyName (tokens ++ more) a

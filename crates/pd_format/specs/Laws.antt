@@ -1,7 +1,7 @@
 -- What holds of the definitions. Each is proved at a function of the crate.
 use Rattle.std.specs.Prelude.{◌≡◌, ◌↔◌, ◌≤◌, ◌⊎◌, ℕ, true, length, List, [], ◌∷◌, ◌++◌, Some, None, option_and_then}
 use Rattle.pd_model.specs.Predicates.{Predicate}
-use Rattle.pd_format.specs.Names.{ProcessNames}
+use Rattle.pd_format.specs.Names.{ProcessNames, AreDistinct}
 use Rattle.pd_format.specs.Tokens.{Token, Placed, AreTokens}
 use Rattle.pd_format.specs.Reports.{Report, IsReport, IsNoReport}
 use Rattle.pd_format.specs.PredicateTexts.{PredicateFault, IsPredicate, IsRefusedPredicate, depth_after}
@@ -69,6 +69,10 @@ abbrev pub AreClear : List ProcessNames → Type 0
 AreClear names = (process var : List ℕ) (p v q w : ℕ) → NamedBy names process var p v → NamedBy names process var q w
     → (p ≡ q) × (v ≡ w)
 
+-- names that differ refer to one variable at most
+abbrev pub DistinctAreClear : Type 0
+DistinctAreClear = (names : List ProcessNames) → AreDistinct names → AreClear names
+
 -- no tokens spell two predicates
 abbrev pub NoTwoTrees : Type 0
 NoTwoTrees = (names : List ProcessNames) → AreClear names → (tokens : List Token) (a b : Predicate)
@@ -78,7 +82,7 @@ NoTwoTrees = (names : List ProcessNames) → AreClear names → (tokens : List T
 abbrev pub PrefixesAreDecided : Type 0
 PrefixesAreDecided = (tokens : List Token) → CanGoOn tokens ⊎ (¬ (CanGoOn tokens))
 
--- the walk tells which tokens begin a predicate's
+-- the walk finds which tokens begin a predicate's
 abbrev pub PrefixesAreWalked : Type 0
 PrefixesAreWalked = (tokens : List Token) → (begins tokens ≡ true) ↔ CanGoOn tokens
 

@@ -1,4 +1,5 @@
--- The greatest sizes that are read. Each stands once, here and in `src/limits.rt`; over any of them the input is refused.
+-- The greatest sizes that are read. Each stands once, here and in `src/limits.rt`; over any of them the input is
+-- refused.
 use Rattle.std.specs.Prelude.{ℕ}
 
 -- ---- session documents
@@ -37,7 +38,7 @@ default_width = 4096
 abbrev pub predicate_byte_limit : ℕ
 predicate_byte_limit = 4096
 
--- how many parentheses and `not`s may enclose one
+-- how deep parentheses and `not`s may be nested
 abbrev pub depth_limit : ℕ
 depth_limit = 64
 

@@ -1,4 +1,5 @@
--- What a part of a line, an LF and the end add to bytes that have no fault. Each is proved at a function of the crate.
+-- A tool of proofs: nothing that a reader has to believe. What a part of a line, an LF and the end add to bytes that
+-- have no fault. Each is proved at a function of the crate.
 use Rattle.std.specs.Prelude.{◌≡◌, ℕ, ◌+◌, ◌≤◌, ◌<◌, false, List, [], ◌∷◌, ◌++◌, length, Some, None}
 use Rattle.pd_format.specs.Lines.{line_feed, has_line_feed, unended_line, as_line, numbered_from, LineTooLong, StreamTooLong, FrameFault, line_number, fault_of_byte, fault_after, frame_fault, open_lines, finished_lines, line_count, IsBatch}
 use Rattle.pd_format.specs.Limits.{line_byte_limit, stream_byte_limit}
@@ -55,7 +56,7 @@ FeedIsFaulty = (bytes more : List ℕ) (fault : FrameFault) → frame_fault byte
 
 -- ---- the end
 
--- where no more bytes come, the rest is a line if it isn't empty
+-- if no more bytes come, the rest is a line if it isn't empty
 pub record Finishes (bytes : List ℕ) : Type 0 where
   pub lines : finished_lines bytes ≡ open_lines bytes
       ++ numbered_from (line_number bytes) (as_line (unended_line bytes))

@@ -1,4 +1,4 @@
--- The stack of what is open after tokens, the innermost first.
+-- A tool of proofs: nothing that a reader has to believe. The stack of what is open after tokens, the innermost first.
 use Rattle.std.specs.Prelude.{if◌then◌else◌, List, [], ◌∷◌, codes}
 use Rattle.std.specs.Str.{bytes_eq}
 use Rattle.pd_format.specs.Tokens.{Token, Word, OpenParen, CloseParen}

@@ -21,9 +21,17 @@ abbrev pub begins_with_star : List Placed → Bool
 begins_with_star [] = false
 begins_with_star (t ∷ rest) = is_star t.token
 
--- a number past 63 bits, or past 31 bits with `*` after it
+-- the greatest number, of 63 bits
+abbrev pub number_limit : ℕ
+number_limit = 9223372036854775807
+
+-- the greatest number that a variable is multiplied by, of 31 bits
+abbrev pub factor_limit : ℕ
+factor_limit = 2147483647
+
+-- a number past its limit: past that of factors with `*` after it
 abbrev pub is_too_large : Token → List Placed → Bool
-is_too_large (Digits n) after = nat_lt 9223372036854775807 n || (nat_lt 2147483647 n && begins_with_star after)
+is_too_large (Digits n) after = nat_lt number_limit n || (nat_lt factor_limit n && begins_with_star after)
 is_too_large _ after = false
 
 abbrev pub IsTooLarge : List Placed → Placed → List Placed → Type 0
@@ -31,7 +39,7 @@ IsTooLarge before t after = IsTrue (is_too_large t.token after)
 
 -- ---- depth
 
--- a `(`, in which so many more are open, is still open after these tokens
+-- a `(`, in which this many more are open, is still open after these tokens
 abbrev pub paren_is_open : ℕ → List Token → Bool
 paren_is_open inner [] = true
 paren_is_open inner (OpenParen ∷ rest) = paren_is_open (suc inner) rest
@@ -42,8 +50,8 @@ paren_is_open inner (_ ∷ rest) = paren_is_open inner rest
 abbrev pub is_and_or : List ℕ → Bool
 is_and_or word = is_one_of (codes "and" ∷ codes "or" ∷ []) word
 
--- The operand of a `not`, in which so many `(` are open, goes on after these tokens: an `and`, an `or` or a `)` outside
--- of its own parentheses ends it.
+-- The operand of a `not`, in which this many `(` are open, goes on after these tokens: an `and`, an `or` or a `)`
+-- outside of its own parentheses ends it.
 abbrev pub operand_is_open : ℕ → List Token → Bool
 operand_is_open inner [] = true
 operand_is_open inner (OpenParen ∷ rest) = operand_is_open (suc inner) rest

@@ -1,4 +1,5 @@
--- A walk over tokens that tells whether they begin a predicate's: in a mode, and inside so many parentheses.
+-- A tool of proofs: nothing that a reader has to believe. A walk over tokens that finds whether they begin a
+-- predicate's: in a mode, and inside this many parentheses.
 use Rattle.std.specs.Prelude.{ℕ, suc, zero, Bool, if◌then◌else◌, List, [], ◌∷◌, Option, Some, None, is_some, option_and_then, codes}
 use Rattle.std.specs.Str.{bytes_eq}
 use Rattle.pd_model.specs.Predicates.{Minus}
@@ -38,7 +39,7 @@ pub data Mode : Type 0 where
   AfterTerm : Side → Mode
   AfterOperand : Mode
 
--- a mode inside so many parentheses, or the end
+-- a mode inside this many parentheses, or the end
 pub data State : Type 0 where
   Inside : Mode → ℕ → State
   AtEnd : State

@@ -1,4 +1,5 @@
--- How a reading goes on by more lines, and how it ends. Each law is proved at a function of the crate.
+-- A tool of proofs: nothing that a reader has to believe. How a reading goes on by more lines, and how it ends. Each
+-- law is proved at a function of the crate.
 use Rattle.std.specs.Prelude.{◌≡◌, ℕ, ◌+◌, ◌≤◌, ◌<◌, nat_lt, if◌then◌else◌, List, [], ◌∷◌, ◌++◌, length, All, Option, Some, None, option_map, ℤ, Result, Ok, Err}
 use Rattle.pd_model.specs.Events.{Event, SetsAscend}
 use Rattle.pd_format.specs.Lines.{Line, FrameFault, frame_fault, open_lines, finished_lines, line_count, line_number, IsBatch}
@@ -50,21 +51,21 @@ abbrev pub read_on : List ProcessNames → Reading → List Line → Reading
 read_on names r [] = r
 read_on names r (line ∷ later) = read_on names (unless_stopped r.stop r (read_line names r line)) later
 
--- where a batch comes after bytes whose reading is open
+-- if a batch comes after bytes whose reading is open
 abbrev pub ReadingGoesOn : Type 0
 ReadingGoesOn = (names : List ProcessNames) (bytes piece : List ℕ) (lines : List Line) (fault : Option FrameFault)
     → (reading names Open bytes).stop ≡ NothingMore → IsBatch bytes piece lines fault
     → reading names Open (bytes ++ piece)
     ≡ with_end (stop_at_end Open (bytes ++ piece) fault) (read_on names (reading names Open bytes) lines)
 
--- where the input ends after them
+-- if the input ends after them
 abbrev pub ReadingEnds : Type 0
 ReadingEnds = (names : List ProcessNames) (bytes : List ℕ) (lines : List Line) → (reading names Open bytes).stop
     ≡ NothingMore → finished_lines bytes ≡ open_lines bytes ++ lines
     → reading names Ended bytes ≡ with_end (Fault (line_count bytes + 1) Unended)
     (read_on names (reading names Open bytes) lines)
 
--- where a read of it fails
+-- if a read of it fails
 abbrev pub ReadingFails : Type 0
 ReadingFails = (names : List ProcessNames) (bytes : List ℕ) → (reading names Open bytes).stop ≡ NothingMore
     → reading names Failed bytes ≡ stopped_by (reading names Open bytes) (Fault (line_number bytes) ReadFailed)

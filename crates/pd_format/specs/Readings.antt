@@ -38,7 +38,7 @@ stopped stop = record { events = []; stop = stop }
 abbrev pub with_first : Event → Course → Course
 with_first event later = record { events = event ∷ later.events; stop = later.stop }
 
--- a line's record, after so many events, and then the later lines
+-- a line's record, after this many events, and then the later lines
 abbrev pub course_from : ℕ → ℕ → Result LineRecord RecordFault → Course → Course
 course_from before number (Ok (Joins process)) later = stopped (Fault number (InRecord Join))
 course_from before number (Ok (Happens event)) later =
@@ -46,7 +46,7 @@ course_from before number (Ok (Happens event)) later =
 course_from before number (Ok Ends) later = stopped EndLine
 course_from before number (Err fault) later = stopped (Fault number (InRecord fault))
 
--- the lines after the join of a process, after so many events
+-- the lines after the join of a process, after this many events
 abbrev pub course_of : List ProcessNames → ℕ → ℕ → List Line → Course
 course_of names process before [] = stopped NothingMore
 course_of names process before (line ∷ later) =

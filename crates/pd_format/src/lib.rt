@@ -15,6 +15,7 @@ ghost use Rattle.pd_format.specs.LineLaws.{
   SoundFinishes,
 };
 ghost use Rattle.pd_format.specs.ReadingLaws.{OpenIsSound, ReadingGoesOn, ReadingEnds, ReadingFails, TracesFit};
+ghost use Rattle.pd_format.specs.HistoryLaws.{RunsAreDecided, LegalIsDecided, RowsAreRead, EventsNeverFall};
 ghost use Rattle.pd_format.specs.Laws.{
   LinesGoOn,
   FaultStays,
@@ -22,6 +23,7 @@ ghost use Rattle.pd_format.specs.Laws.{
   CutsDontMatter,
   ShortIsSound,
   ClosedStays,
+  DistinctAreClear,
   NoTwoTrees,
   PrefixesAreDecided,
   PrefixesAreWalked,
@@ -83,7 +85,7 @@ pub fn lines_grow()
     ensures faulty_feed { FeedIsFaulty }
 {}
 
-/// Where no more bytes come, the rest of sound bytes is their last line, if it isn't empty.
+/// If no more bytes come, the rest of sound bytes is their last line, if it isn't empty.
 pub fn rest_is_last()
     ensures { SoundFinishes }
 {}
@@ -106,6 +108,12 @@ pub fn traces_fit()
     ensures { TracesFit }
 {}
 
+/// If no two processes have one name, and no two variables of a process, two names together refer to one variable at
+/// most.
+pub fn distinct_names_are_clear()
+    ensures { DistinctAreClear }
+{}
+
 /// No tokens spell two predicates.
 pub fn no_two_trees()
     ensures { NoTwoTrees }
@@ -116,7 +124,7 @@ pub fn prefixes_are_decided()
     ensures { PrefixesAreDecided }
 {}
 
-/// A walk tells which tokens begin a predicate's, and goes on from where it was.
+/// A walk finds which tokens begin a predicate's, and goes on from where it was.
 pub fn prefixes_are_walked()
     ensures exact { PrefixesAreWalked }
     ensures go_on { WalksGoOn }
@@ -156,4 +164,13 @@ pub fn one_report()
 /// Bytes stop being a report at one line.
 pub fn stops_at_one_line()
     ensures { StopsAtOneLine }
+{}
+
+/// Which histories are legal can be tested. Each row has the process of the stream's join, the number of its events and
+/// its state, and in a history that goes on, no stream has fewer events.
+pub fn histories_are_read()
+    ensures runs { RunsAreDecided }
+    ensures legal { LegalIsDecided }
+    ensures rows { RowsAreRead }
+    ensures events { EventsNeverFall }
 {}

@@ -24,7 +24,7 @@ pub const DEFAULT_WIDTH: u64 = 4_096;
 /// The most bytes of a predicate's text.
 pub const PREDICATE_BYTE_LIMIT: usize = 4_096;
 
-/// How many parentheses and `not`s may enclose one.
+/// How deep parentheses and `not`s may be nested.
 pub const DEPTH_LIMIT: usize = 64;
 
 /// The most streams of a session.

@@ -1,10 +1,9 @@
 -- Which bytes a framer stands for after a fault.
-use Rattle.std.proofs.Common.{◌≡◌, ℕ, false, List, [], refl, sym, ◌∙◌}
+use Rattle.std.proofs.Common.{◌≡◌, ℕ, false, List, [], refl, sym, ◌∙◌, append-nil}
 use Rattle.std.specs.Prelude.{Option, Some, None, IsSome}
 use Rattle.pd_format.specs.Lines.{FrameFault, open_lines, IsBatch}
 use Rattle.pd_format.specs.Laws.{FaultStays}
 use Rattle.pd_frames.specs.State.{State, Stands}
-use Rattle.pd_frames.proofs.Steps.{append_nil}
 
 -- there is the fault alone
 pub faulty_batch : FaultStays → (state : State) (bytes piece : List ℕ) → Stands state bytes false → IsSome state.fault
@@ -15,4 +14,4 @@ faulty_batch stays state bytes piece s some = go state.fault refl some
     go None e h = absurd (cc)
     go (Some fault) e h =
         let kept = stays bytes piece fault (sym s.same_fault ∙ e) in
-        record { new_lines = kept.same_lines ∙ sym (append_nil (open_lines bytes)); same_fault = kept.same_fault }
+        record { new_lines = kept.same_lines ∙ sym (append-nil (open_lines bytes)); same_fault = kept.same_fault }

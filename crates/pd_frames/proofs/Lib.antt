@@ -1,3 +1,4 @@
+-- The modules of lemmas of this crate.
 pub mod Feeds
 pub mod Steps
 pub mod Ends

@@ -1,20 +1,18 @@
 -- How the lines of a stream grow by a part of a line, and by an LF.
-use Rattle.std.proofs.Common.{◌≡◌, ℕ, ◌+◌, ◌<◌, ◌≤◌, true, false, List, [], ◌∷◌, ◌++◌, length, refl, sym, ◌∙◌, ap, append_assoc, length-append, add_assoc, arith}
+use Rattle.std.proofs.Common.{◌≡◌, ℕ, ◌+◌, ◌<◌, ◌≤◌, true, false, List, [], ◌∷◌, ◌++◌, length, refl, sym, ◌∙◌, ap, append_assoc, length-append, add_assoc, arith, append-nil}
 use Rattle.std.specs.Prelude.{Option, Some, None, IfSome, IfNone, nat_le}
 use Rattle.std.proofs.lemmas.Bool.Decides.{nat_tests}
+use Rattle.pd_format.specs.Limits.{line_byte_limit, stream_byte_limit}
 use Rattle.pd_format.specs.Lines.{Line, FrameFault, LineTooLong, StreamTooLong, line_feed, has_line_feed, unended_line, numbered_from, fault_of_byte, frame_fault, open_lines, IsBatch}
 use Rattle.pd_format.specs.LineLaws.{ShortPartIsSound, LongLineIsFaulty, LongStreamIsFaulty, PartGoesOn, FeedEndsLine, PartIsFaulty, FeedIsFaulty, LengthensRest, EndsLine}
 use Rattle.pd_frames.specs.Views.{frame_fault_view, frame_faults_view}
 use Rattle.pd_frames.specs.declared.line.FrameFault.{FrameFault as Fault}
 use Rattle.pd_frames.specs.Cuts.{IsOpen, Faces, FacesEnd, Cuts}
 
-pub append_nil : {A : Type 0} (xs : List A) → xs ++ [] ≡ xs
-append_nil [] = refl
-append_nil (x ∷ xs) = ap (λ ys. x ∷ ys) (append_nil xs)
-
 -- a part is at fault where the line gets too long
 pub faces_long_line : LongLineIsFaulty → PartIsFaulty → (rest : List ℕ) (line total : ℕ) (part : List ℕ)
-    → length rest ≤ 65536 → 65536 < length rest + length part → total + 65536 ≤ length rest + 16777216
+    → length rest ≤ line_byte_limit → line_byte_limit < length rest + length part
+    → total + line_byte_limit ≤ length rest + stream_byte_limit
     → Faces rest line total part (Some (LineTooLong line))
 faces_long_line long faulty rest line total part low over later bytes more o h =
     faulty bytes part more (LineTooLong line) o.sound h
@@ -26,7 +24,8 @@ faces_long_line long faulty rest line total part low over later bytes more o h =
 
 -- or the stream
 pub faces_long_stream : LongStreamIsFaulty → PartIsFaulty → (rest : List ℕ) (line total : ℕ) (part : List ℕ)
-    → total ≤ 16777216 → 16777216 < total + length part → length rest + 16777216 < total + 65536
+    → total ≤ stream_byte_limit → stream_byte_limit < total + length part
+    → length rest + stream_byte_limit < total + line_byte_limit
     → Faces rest line total part (Some (StreamTooLong line))
 faces_long_stream long faulty rest line total part low over later bytes more o h =
     faulty bytes part more (StreamTooLong line) o.sound h
@@ -52,8 +51,8 @@ pub record Added (rest : List ℕ) (line total : ℕ) (part bytes : List ℕ) : 
   pub same_lines : open_lines (bytes ++ part) ≡ open_lines bytes
 
 pub add_part : ShortPartIsSound → PartGoesOn → (rest : List ℕ) (line total : ℕ) (part bytes : List ℕ)
-    → IsOpen rest line total bytes → has_line_feed part ≡ false → length rest + length part ≤ 65536
-    → total + length part ≤ 16777216 → Added rest line total part bytes
+    → IsOpen rest line total bytes → has_line_feed part ≡ false → length rest + length part ≤ line_byte_limit
+    → total + length part ≤ stream_byte_limit → Added rest line total part bytes
 add_part short goes_on rest line total part bytes o h r t = record {
   now_open = record {
     sound = grown.sound;
@@ -76,14 +75,14 @@ pub record Ended (rest : List ℕ) (line total : ℕ) (bytes : List ℕ) : Type 
   pub now_open : IsOpen [] (line + 1) (total + 1) (bytes ++ line_feed ∷ [])
   pub new_lines : open_lines (bytes ++ line_feed ∷ []) ≡ open_lines bytes ++ numbered_from line (rest ∷ [])
 
-feed_is_sound : (bytes : List ℕ) → length bytes < 16777216 → fault_of_byte bytes line_feed ≡ None
+feed_is_sound : (bytes : List ℕ) → length bytes < stream_byte_limit → fault_of_byte bytes line_feed ≡ None
 feed_is_sound bytes h = rw (above (length bytes) h) refl
   where
-    above : (n : ℕ) → n < 16777216 → nat_le 16777216 n ≡ false
+    above : (n : ℕ) → n < stream_byte_limit → nat_le stream_byte_limit n ≡ false
     above n h = grind (arith, nat_tests)
 
 pub add_feed : FeedEndsLine → (rest : List ℕ) (line total : ℕ) (bytes : List ℕ) → IsOpen rest line total bytes
-    → total < 16777216 → Ended rest line total bytes
+    → total < stream_byte_limit → Ended rest line total bytes
 add_feed ends rest line total bytes o t = record {
   now_open = record {
     sound = grown.sound;
@@ -99,17 +98,17 @@ add_feed ends rest line total bytes o t = record {
 
 -- an LF may be one byte too many
 pub faces_end : ShortPartIsSound → PartGoesOn → FeedIsFaulty → (rest : List ℕ) (line total : ℕ) (part : List ℕ)
-    → length rest + length part ≤ 65536 → total + length part ≡ 16777216
+    → length rest + length part ≤ line_byte_limit → total + length part ≡ stream_byte_limit
     → FacesEnd rest line total part (Some (StreamTooLong line))
 faces_end short goes_on faulty rest line total part r t bytes more o h =
     join_batch bytes part (line_feed ∷ more) [] [] (Some (StreamTooLong line)) (added.same_lines
-    ∙ sym (append_nil (open_lines bytes))) (faulty (bytes ++ part) more (StreamTooLong line) added.now_open.sound
+    ∙ sym (append-nil (open_lines bytes))) (faulty (bytes ++ part) more (StreamTooLong line) added.now_open.sound
     here)
   where
     added : Added rest line total part bytes
     added = add_part short goes_on rest line total part bytes o h r (omega (arith, t))
 
-    full : (n : ℕ) → 16777216 ≤ n → nat_le 16777216 n ≡ true
+    full : (n : ℕ) → stream_byte_limit ≤ n → nat_le stream_byte_limit n ≡ true
     full n h = grind (arith, nat_tests)
 
     here : fault_of_byte (bytes ++ part) line_feed ≡ Some (StreamTooLong line)
@@ -122,14 +121,14 @@ pub begin : (bytes piece rest : List ℕ) (line total : ℕ) → IsOpen rest lin
 begin bytes piece rest line total o = record {
   done = [];
   whole = refl;
-  now_open = rw (append_nil bytes) o;
-  new_lines = rw (append_nil bytes, append_nil (open_lines bytes)) refl;
+  now_open = rw (append-nil bytes) o;
+  new_lines = rw (append-nil bytes, append-nil (open_lines bytes)) refl;
 }
 
 pub next_line : ShortPartIsSound → PartGoesOn → FeedEndsLine
     → (bytes piece rest : List ℕ) (line total : ℕ) (tail part following : List ℕ) (lines : List Line)
     → Cuts bytes piece rest line total tail lines → tail ≡ part ++ line_feed ∷ following → has_line_feed part ≡ false
-    → length rest + length part ≤ 65536 → total + length part < 16777216
+    → length rest + length part ≤ line_byte_limit → total + length part < stream_byte_limit
     → Cuts bytes piece [] (line + 1) (total + (length part + 1)) following
     (lines ++ numbered_from line ((rest ++ part) ∷ []))
 next_line short goes_on ends bytes piece rest line total tail part following lines cuts e h r t = record {
@@ -158,7 +157,7 @@ pub faulty_line : (bytes piece rest : List ℕ) (line total : ℕ) (tail part fo
     (fault : FrameFault) → Cuts bytes piece rest line total tail lines → tail ≡ part ++ line_feed ∷ following
     → has_line_feed part ≡ false → FacesEnd rest line total part (Some fault) → IsBatch bytes piece lines (Some fault)
 faulty_line bytes piece rest line total tail part following lines fault cuts e h faces =
-    rw (cuts.whole, e, ← append_nil lines) (join_batch bytes cuts.done (part ++ line_feed ∷ following) lines []
+    rw (cuts.whole, e, ← append-nil lines) (join_batch bytes cuts.done (part ++ line_feed ∷ following) lines []
     (Some fault) cuts.new_lines (faces (bytes ++ cuts.done) following cuts.now_open h))
 
 -- the fault of the line that doesn't end
@@ -166,9 +165,9 @@ pub faulty_tail : (bytes piece rest : List ℕ) (line total : ℕ) (tail : List 
     → Cuts bytes piece rest line total tail lines → has_line_feed tail ≡ false → Faces rest line total tail (Some fault)
     → IsBatch bytes piece lines (Some fault)
 faulty_tail bytes piece rest line total tail lines fault cuts h faces =
-    rw (cuts.whole, ← append_nil lines)
+    rw (cuts.whole, ← append-nil lines)
     (join_batch bytes cuts.done tail lines [] (Some fault) cuts.new_lines
-    (rw (append_nil tail) at (faces (bytes ++ cuts.done) [] cuts.now_open h)))
+    (rw (append-nil tail) at (faces (bytes ++ cuts.done) [] cuts.now_open h)))
 
 -- a tail without fault
 pub record Cutting (bytes piece rest : List ℕ) (line total : ℕ) (lines : List Line) : Type 0 where
@@ -177,8 +176,9 @@ pub record Cutting (bytes piece rest : List ℕ) (line total : ℕ) (lines : Lis
 
 pub sound_tail : ShortPartIsSound → PartGoesOn
     → (bytes piece rest : List ℕ) (line total : ℕ) (tail : List ℕ) (lines : List Line)
-    → Cuts bytes piece rest line total tail lines → has_line_feed tail ≡ false → length rest + length tail ≤ 65536
-    → total + length tail ≤ 16777216 → Cutting bytes piece (rest ++ tail) line (total + length tail) lines
+    → Cuts bytes piece rest line total tail lines → has_line_feed tail ≡ false
+    → length rest + length tail ≤ line_byte_limit
+    → total + length tail ≤ stream_byte_limit → Cutting bytes piece (rest ++ tail) line (total + length tail) lines
 sound_tail short goes_on bytes piece rest line total tail lines cuts h r t = record {
   batch = record {
     new_lines = ap open_lines same ∙ added.same_lines ∙ cuts.new_lines;
@@ -201,7 +201,7 @@ if_none (Some x) h f = h
 pub any_tail : ShortPartIsSound → PartGoesOn
     → (bytes piece rest : List ℕ) (line total : ℕ) (tail : List ℕ) (lines : List Line)
     → Cuts bytes piece rest line total tail lines → has_line_feed tail ≡ false → (r : Option Fault)
-    → IfNone r ((length rest + length tail ≤ 65536) × (total + length tail ≤ 16777216))
+    → IfNone r ((length rest + length tail ≤ line_byte_limit) × (total + length tail ≤ stream_byte_limit))
     → IfSome r (λ fault. Faces rest line total tail (Some (frame_fault_view fault)))
     → IsBatch bytes piece lines (frame_faults_view r)
 any_tail short goes_on bytes piece rest line total tail lines cuts h None fits faces =

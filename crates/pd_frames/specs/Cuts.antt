@@ -1,6 +1,7 @@
 -- What is known of a stream's bytes from the line that hasn't ended and two numbers.
 use Rattle.std.specs.Prelude.{◌≡◌, ℕ, ◌+◌, ◌≤◌, List, [], ◌∷◌, ◌++◌, length, Option, None}
 use Rattle.std.specs.Prelude.{false}
+use Rattle.pd_format.specs.Limits.{line_byte_limit, stream_byte_limit}
 use Rattle.pd_format.specs.Lines.{Line, FrameFault, line_feed, has_line_feed, unended_line, line_number, frame_fault, open_lines, IsBatch}
 
 -- the bytes have no fault; this is their rest, the number of its line, and how many they are
@@ -12,8 +13,8 @@ pub record IsOpen (rest : List ℕ) (line total : ℕ) (bytes : List ℕ) : Type
 
 -- within the limits
 pub record Fits (rest line total : ℕ) : Type 0 where
-  pub rest_fits : rest ≤ 65536
-  pub total_fits : total ≤ 16777216
+  pub rest_fits : rest ≤ line_byte_limit
+  pub total_fits : total ≤ stream_byte_limit
   pub line_fits : line + rest ≤ total + 1
 
 -- a part of the line after such bytes has this fault, whatever comes after it

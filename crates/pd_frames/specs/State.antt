@@ -21,6 +21,10 @@ pub record Stands (state : State) (bytes : List ℕ) (ended : Bool) : Type 0 whe
   pub while_open : ended ≡ false → frame_fault bytes ≡ None → IsOpen state.rest state.line state.total bytes
   pub at_end : ended ≡ true → frame_fault bytes ≡ None → state.line ≡ line_count bytes + 1
 
+-- the same state once the end has come, where the rest is no line
+abbrev pub finished_state : State → State
+finished_state s = record { rest = s.rest; line = s.line; total = s.total; fault = s.fault; finished = true }
+
 -- the number of the line in which the next byte would stand; that of the fault, if there is one
 abbrev pub line_or : Option FrameFault → ℕ → ℕ
 line_or None line = line

@@ -1,6 +1,7 @@
 -- What the program's lines and faults stand for.
-use Rattle.std.specs.Prelude.{ℕ, List, map, Option, option_map}
+use Rattle.std.specs.Prelude.{◌≡◌, ℕ, List, [], map, Option, option_map}
 use Rattle.pd_format.specs.Lines as lines
+use Rattle.pd_frames.specs.declared.line.Batch.{Batch}
 use Rattle.pd_frames.specs.declared.line.Line.{Line}
 use Rattle.pd_frames.specs.declared.line.FrameFault.{FrameFault}
 use Rattle.pd_frames.specs.declared.line.FrameFault.TheVariants.{LineTooLong, StreamTooLong}
@@ -22,3 +23,8 @@ frame_faults_view fault = option_map frame_fault_view fault
 abbrev pub fault_line : lines.FrameFault → ℕ
 fault_line (lines.LineTooLong line) = line
 fault_line (lines.StreamTooLong line) = line
+
+-- the batch has no line, and this fault
+pub record IsFaultAlone (fault : Option lines.FrameFault) (batch : Batch) : Type 0 where
+  pub no_line : batch.lines.items ≡ []
+  pub same_fault : frame_faults_view batch.fault ≡ fault

@@ -1,18 +1,14 @@
 //! Takes the lines that end off a piece.
 ghost use Rattle.pd_format.specs.Lines.{IsBatch, has_line_feed, is_blank as is_blank_line, numbered_from};
+ghost use Rattle.pd_format.specs.Limits.{line_byte_limit, stream_byte_limit};
 ghost use Rattle.pd_frames.specs.Cuts.{Faces, FacesEnd, Fits, IsOpen};
 ghost use Rattle.pd_frames.specs.Views.{frame_fault_view, frame_faults_view, lines_view};
 ghost use Rattle.std.specs.Prelude.{◌≡◌, ◌+◌, ◌*◌, ◌^◌, ◌<◌, ◌≤◌, false, List, ℕ, [], ◌∷◌, ◌++◌, length, Some, IfSome, IfNone, IfOk, OnOk, MatchOption};
 
 use super::line::{FrameFault, Line};
 use memchr::memchr;
+use pd_format::{LINE_BYTE_LIMIT, STREAM_BYTE_LIMIT};
 use std::alloc::{AllocError, Global};
-
-/// How many bytes a line may have, without its LF.
-const LINE_LIMIT: usize = 65_536;
-
-/// How many bytes a stream may have.
-const STREAM_LIMIT: u64 = 16_777_216;
 
 /// What is left of a piece once the lines that end in it are taken off.
 #[derive(Drop)]
@@ -57,11 +53,11 @@ fn is_blank(bytes: &[u8]) -> bool
 }
 
 /// One text of the two.
-fn joined(alloc: Global, prefix: &[u8], back: &[u8]) -> Result<Vec<u8>, AllocError>
-    ensures { IfOk result (λ bytes. bytes.items ≡ prefix.now ++ back.now) }
+fn concatenation(alloc: Global, first: &[u8], second: &[u8]) -> Result<Vec<u8>, AllocError>
+    ensures { IfOk result (λ bytes. bytes.items ≡ first.now ++ second.now) }
 {
-    let mut bytes = Vec::from_slice(alloc, prefix)?;
-    bytes.extend_from_slice(back)?;
+    let mut bytes = Vec::from_slice(alloc, first)?;
+    bytes.extend_from_slice(second)?;
     Ok(bytes)
 }
 
@@ -79,7 +75,7 @@ pub fn push_line(
     if is_blank(kept) && is_blank(part) {
         return Ok(());
     }
-    let bytes = joined(alloc, kept, part)?;
+    let bytes = concatenation(alloc, kept, part)?;
     lines.push(Line { number, bytes })?;
     Ok(())
 }
@@ -87,13 +83,14 @@ pub fn push_line(
 /// The fault of the first byte that has one, of a part without LF that comes next in the line.
 pub fn part_fault(kept: &[u8], line: u64, total: u64, part: &[u8]) -> Option<FrameFault>
     requires { Fits (length kept.now) line total }
-    ensures fits { IfNone result ((length kept.now + length part.now ≤ 65536) × (total + length part.now ≤ 16777216)) }
+    ensures fits { IfNone result ((length kept.now + length part.now ≤ line_byte_limit)
+        × (total + length part.now ≤ stream_byte_limit)) }
     ensures faulty { IfSome result (λ fault. Faces kept.now line total part.now (Some (frame_fault_view fault))) }
 {
     pd_format::faults_of_parts();
     pd_format::lines_grow();
-    let line_room = LINE_LIMIT - kept.len();
-    let stream_room = STREAM_LIMIT - total;
+    let line_room = LINE_BYTE_LIMIT - kept.len();
+    let stream_room = STREAM_BYTE_LIMIT - total;
     if part.len() > line_room && line_room as u64 <= stream_room {
         Some(FrameFault::LineTooLong(line))
     } else if part.len() as u64 > stream_room {
@@ -106,20 +103,23 @@ pub fn part_fault(kept: &[u8], line: u64, total: u64, part: &[u8]) -> Option<Fra
 /// The same of a part that an LF ends, which may be the first byte at fault.
 fn ended_fault(kept: &[u8], line: u64, total: u64, part: &[u8]) -> Option<FrameFault>
     requires { Fits (length kept.now) line total }
-    ensures fits { IfNone result ((length kept.now + length part.now ≤ 65536) × (total + length part.now < 16777216)) }
+    ensures fits { IfNone result ((length kept.now + length part.now ≤ line_byte_limit)
+        × (total + length part.now < stream_byte_limit)) }
     ensures faulty { IfSome result (λ fault. FacesEnd kept.now line total part.now (Some (frame_fault_view fault))) }
 {
     pd_format::faults_of_parts();
     pd_format::lines_grow();
     match part_fault(kept, line, total, part) {
         Some(fault) => Some(fault),
-        None if total + part.len() as u64 == STREAM_LIMIT => Some(FrameFault::StreamTooLong(line)),
+        None if total + part.len() as u64 == STREAM_BYTE_LIMIT => Some(FrameFault::StreamTooLong(
+            line,
+        )),
         None => None,
     }
 }
 
-/// Takes the lines that end off a piece which comes after these bytes of a line with this number, and so many bytes in
-/// all.
+/// Takes the lines that end off a piece. Before it stand these bytes of the line with this number, and this many bytes
+/// of the stream in all.
 pub fn take_lines<'kept, 'piece>(
     alloc: Global,
     mut kept: &'kept [u8],

@@ -1,9 +1,9 @@
 //! The framer itself.
 ghost use Rattle.pd_format.specs.Lines.{IsBatch, finished_lines, frame_fault, open_lines};
-ghost use Rattle.pd_frames.specs.State.{Stands, line_to_come};
-ghost use Rattle.pd_frames.specs.Views.{frame_faults_view, lines_view};
+ghost use Rattle.pd_frames.specs.State.{Stands, finished_state, line_to_come};
+ghost use Rattle.pd_frames.specs.Views.{IsFaultAlone, frame_faults_view, lines_view};
 ghost use Rattle.std.specs.Bool.{OnTrue, OnFalse};
-ghost use Rattle.std.specs.Prelude.{◌≡◌, ℕ, Bool, true, false, List, [], ◌++◌, ◌+◌, ◌<◌, ◌⊎◌, None, length, if◌then◌else◌, IfOk, IsOk, IsSome, OnErr, OnOk};
+ghost use Rattle.std.specs.Prelude.{◌≡◌, ℕ, Bool, true, false, List, [], ◌++◌, ◌+◌, ◌<◌, ◌⊎◌, None, length, if◌then◌else◌, IfOk, IsOk, IsOkAnd, IsSome, OnErr, OnOk};
 
 use super::cut::{Cut, push_line, take_lines};
 use super::line::{Batch, FrameFault};
@@ -68,7 +68,7 @@ impl Framer {
         }
     }
 
-    /// Whether the end of the stream was reported by `finish`.
+    /// Whether `finish` has taken the end of the stream.
     pub fn is_finished(&self) -> bool
         ensures { result ≡ self.now.finished }
     {
@@ -89,7 +89,7 @@ impl Framer {
     /// A framer that stands for the same bytes, finished where this one is.
     ///
     /// # Errors
-    /// Where memory runs out.
+    /// If memory runs out.
     pub fn copy(&self) -> Result<Framer, AllocError>
         ensures { IfOk result (λ framer. framer ≡ self.now) }
     {
@@ -108,7 +108,7 @@ impl Framer {
     /// the same fault, and no memory is taken.
     ///
     /// # Errors
-    /// Where memory runs out; the framer is then as it was.
+    /// If memory runs out; the framer is then as it was.
     pub fn feed(&mut self, piece: &[u8]) -> Result<Batch, AllocError>
         requires { self.old.finished ≡ false }
         ensures stands { OnOk result
@@ -116,7 +116,9 @@ impl Framer {
         ensures batch { IfOk result (λ batch. (bytes : List ℕ) → Stands self.old bytes false →
             IsBatch bytes piece.now (lines_view batch.lines.items) (frame_faults_view batch.fault)) }
         ensures err { OnErr result (self.new ≡ self.old) }
-        ensures faulty { IsSome self.old.fault → IsOk result }
+        ensures fault { IfOk result (λ batch. frame_faults_view batch.fault ≡ self.new.fault) }
+        ensures faulty { IsSome self.old.fault → IsOkAnd result (IsFaultAlone self.old.fault) }
+        ensures stays { IsSome self.old.fault → self.new ≡ self.old }
         ensures unfinished { self.new.finished ≡ false }
     {
         pd_format::fault_stays();
@@ -153,11 +155,11 @@ impl Framer {
         self.fault.is_none() && !self.rest.is_empty()
     }
 
-    /// Tells the end of the stream. A rest that isn't empty is the last line. After a fault there is no line, but the
-    /// same fault, and no memory is taken.
+    /// Takes the end of the stream. A rest that isn't empty is the last line. After a fault there is no line, but the
+    /// same fault. Memory is taken for a last line alone.
     ///
     /// # Errors
-    /// Where memory runs out; the framer is then as it was.
+    /// If memory runs out; the framer is then as it was.
     pub fn finish(&mut self) -> Result<Batch, AllocError>
         requires { self.old.finished ≡ false }
         ensures stands { OnOk result ((bytes : List ℕ) → Stands self.old bytes false → Stands self.new bytes true) }
@@ -165,8 +167,12 @@ impl Framer {
             finished_lines bytes ≡ open_lines bytes ++ lines_view batch.lines.items) }
         ensures fault { IfOk result (λ batch. (bytes : List ℕ) → Stands self.old bytes false →
             frame_fault bytes ≡ frame_faults_view batch.fault) }
+        ensures same_fault { IfOk result (λ batch. frame_faults_view batch.fault ≡ self.old.fault) }
+        ensures finished { OnOk result ((self.new.finished ≡ true) × (self.new.fault ≡ self.old.fault)) }
         ensures err { OnErr result (self.new ≡ self.old) }
-        ensures faulty { IsSome self.old.fault → IsOk result }
+        ensures faulty { IsSome self.old.fault → IsOkAnd result (IsFaultAlone self.old.fault) }
+        ensures empty { length self.old.rest ≡ 0 → IsOkAnd result (λ batch. batch.lines.items ≡ []) }
+        ensures moved { (IsSome self.old.fault ⊎ (length self.old.rest ≡ 0)) → self.new ≡ finished_state self.old }
     {
         pd_format::rest_is_last();
         let mut lines = Vec::new(self.alloc);

@@ -1,7 +1,8 @@
 //! Streams whose lines and faults are known.
 ghost use Rattle.std.specs.Prelude.{◌<◌};
 
-use super::{FrameFault, Framer, Line};
+use super::{FrameFault, Framer, Line, has_line_feed};
+use pd_format::LINE_BYTE_LIMIT;
 use std::alloc::{AllocError, Global};
 use std::test::Fail;
 
@@ -44,11 +45,11 @@ fn cuts_do_not_matter(rt: HostRuntime) -> Result<(), Fail> {
 
 #[test]
 fn lines_have_a_limit(rt: HostRuntime) -> Result<(), Fail> {
-    let mut stream = vec![in rt.alloc(); b'x'; 65_536]?;
+    let mut stream = vec![in rt.alloc(); b'x'; LINE_BYTE_LIMIT]?;
     stream.push(b'\n')?;
     let (lines, fault, line) = framed(rt.alloc(), &stream, 1000)?;
     assert_eq!(rt; (lines.len(), fault, line), (1, None, 2));
-    let long = vec![in rt.alloc(); b'x'; 65_537]?;
+    let long = vec![in rt.alloc(); b'x'; LINE_BYTE_LIMIT + 1]?;
     stream.extend_from_slice(&long)?;
     stream.extend_from_slice(b"\nno line\n")?;
     let (lines, fault, line) = framed(rt.alloc(), &stream, 1000)?;
@@ -61,7 +62,7 @@ fn lines_have_a_limit(rt: HostRuntime) -> Result<(), Fail> {
 
 #[test]
 fn streams_have_a_limit(rt: HostRuntime) -> Result<(), Fail> {
-    let mut piece = vec![in rt.alloc(); b'x'; 65_535]?;
+    let mut piece = vec![in rt.alloc(); b'x'; LINE_BYTE_LIMIT - 1]?;
     piece.push(b'\n')?;
     let mut framer = Framer::new(rt.alloc());
     for _ in 0..256 {
@@ -83,5 +84,13 @@ fn streams_have_a_limit(rt: HostRuntime) -> Result<(), Fail> {
     assert_eq!(rt; (batch.lines.len(), batch.fault), (0, None));
     assert!(rt; other.is_finished());
     assert_eq!(rt; other.line(), 257);
+    Ok(())
+}
+
+#[test]
+fn a_line_feed_is_found(rt: HostRuntime) -> Result<(), Fail> {
+    assert!(rt; has_line_feed(b"a\n"));
+    assert!(rt; !has_line_feed(b"a\r"));
+    assert_eq!(rt; FrameFault::StreamTooLong(7).line(), 7);
     Ok(())
 }

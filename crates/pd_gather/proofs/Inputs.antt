@@ -1,13 +1,12 @@
--- What one input more tells of a stream.
+-- What one input more does to a stream.
 use Rattle.std.proofs.Common.{◌≡◌, ℕ, zero, suc, Bool, true, false, eqb, List, [], ◌∷◌, ◌++◌, refl, sym, ◌∙◌, ap, subst, append_assoc, arith}
-use Rattle.std.specs.Prelude.{Option, Some, None, slice_get, slice_set}
-use Rattle.pd_format.specs.Lines.{FrameFault, frame_fault}
-use Rattle.pd_format.specs.Lines as lines
+use Rattle.std.specs.Prelude.{Some, slice_get, slice_set}
 use Rattle.pd_format.specs.Names.{ProcessNames}
-use Rattle.pd_format.specs.Readings.{Ending, Open, Ended, Failed, Stop, NothingMore, EndLine, Fault, IsClosed, by_end_line, by_fault, Reading, stop_at_end, stop_or, reading_of_lines, lines_of, reading}
+use Rattle.pd_format.specs.Readings.{Ending, Open, Ended, Failed, IsClosed, Reading}
 use Rattle.pd_format.specs.Sessions.{Input, Piece, AtEnd, Broken, Interleaving, inputs_of, joined_pieces, ending_of_inputs, bytes_of, ending_of}
 use Rattle.pd_events.specs.Reads.{ReaderState, Reads}
 use Rattle.pd_gather.specs.Taken.{HasTaken, Takes}
+use Rattle.pd_judgement.proofs.StreamResults.{ended_closed}
 
 -- ---- inputs after others
 
@@ -40,27 +39,6 @@ ended_pieces [] more differ = absurd (differ refl)
 ended_pieces (Piece bytes ∷ later) more differ = ap (λ rest. bytes ++ rest) (ended_pieces later more differ)
 ended_pieces (AtEnd ∷ later) more differ = refl
 ended_pieces (Broken ∷ later) more differ = refl
-
--- ---- a stream that has ended is closed
-
-closed_or : (before later : Stop) → IsClosed later → IsClosed (stop_or before later)
-closed_or NothingMore later closed = closed
-closed_or EndLine later closed = by_end_line
-closed_or (Fault number kind) later closed = by_fault
-
-closed_at_end : (ending : Ending) (bytes : List ℕ) (fault : Option FrameFault) → (ending ≡ Open → ⊥)
-    → IsClosed (stop_at_end ending bytes fault)
-closed_at_end ending bytes (Some (lines.LineTooLong number)) differ = by_fault
-closed_at_end ending bytes (Some (lines.StreamTooLong number)) differ = by_fault
-closed_at_end Open bytes None differ = absurd (differ refl)
-closed_at_end Ended bytes None differ = by_fault
-closed_at_end Failed bytes None differ = by_fault
-
-pub ended_closed : (names : List ProcessNames) (ending : Ending) (bytes : List ℕ) → (ending ≡ Open → ⊥)
-    → IsClosed (reading names ending bytes).stop
-ended_closed names ending bytes differ =
-    closed_or (reading_of_lines names (lines_of ending bytes)).stop (stop_at_end ending bytes (frame_fault bytes))
-    (closed_at_end ending bytes (frame_fault bytes) differ)
 
 -- ---- one input more
 
@@ -144,6 +122,11 @@ set_other (y ∷ ys) zero zero new differ = absurd (differ refl)
 set_other (y ∷ ys) (suc i) zero new differ = refl
 set_other (y ∷ ys) zero (suc stream) new differ = refl
 set_other (y ∷ ys) (suc i) (suc stream) new differ = set_other ys i stream new (λ (e : stream ≡ i). differ (ap suc e))
+
+pub set_same : {A : Type 0} (xs : List A) (i : ℕ) (x : A) → slice_get xs i ≡ Some x → slice_set xs i x ≡ xs
+set_same [] i x e = refl
+set_same (y ∷ ys) zero x e = let same : y ≡ x = cc in ap (λ (z : _). z ∷ ys) (sym same)
+set_same (y ∷ ys) (suc i) x e = ap (λ (zs : List _). y ∷ zs) (set_same ys i x e)
 
 pub takes_step : (core : List ReaderState) (stream : ℕ) (old new : ReaderState) (input : Input)
     → slice_get core stream ≡ Some old → Takes old new input → (names : List ProcessNames) (steps : Interleaving)

@@ -1,18 +1,19 @@
 -- What the readers of all streams give.
 use Rattle.std.proofs.Common.{◌≡◌, ℕ, zero, suc, ◌+◌, ◌<◌, List, [], ◌∷◌, ◌++◌, length, All, refl, sym, ◌∙◌, ap, subst, arith}
-use Rattle.std.specs.Prelude.{Option, Some, Result, Ok, Err, IfOk, slice_get}
-use Rattle.std.specs.List.{AllZip, cons_option}
+use Rattle.std.specs.Prelude.{Some, Result, Ok, Err, IfOk, slice_get}
+use Rattle.std.specs.List.{AllZip}
 use Rattle.std.proofs.lemmas.List.Elements.{All-cons}
 use Rattle.pd_format.specs.Names.{ProcessNames}
 use Rattle.pd_format.specs.Readings.{Ending, Reading, result_of, reading}
 use Rattle.pd_format.specs.ReadingLaws.{FitsSession}
-use Rattle.pd_format.specs.Sessions.{Interleaving, StreamResult, bytes_of, ending_of, stream_reading}
-use Rattle.pd_format.specs.Judgements.{RawStream, results_of}
+use Rattle.pd_format.specs.Sessions.{Interleaving, bytes_of, ending_of}
+use Rattle.pd_judgement.specs.Judgements.{RawStream, AreResultsOf}
+use Rattle.pd_judgement.specs.StreamResults.{OneListOfResults}
 use Rattle.pd_events.specs.Reads.{ReaderState, Reads}
 use Rattle.pd_events.specs.Views.{result_view, trace_view}
 use Rattle.pd_events.specs.declared.event.Trace.{Trace}
 use Rattle.pd_events.specs.declared.fault.StreamFault.{StreamFault}
-use Rattle.pd_gather.specs.Taken.{HasTaken, OrderDoesntMatter, raw_streams_from, raw_stream_of}
+use Rattle.pd_gather.specs.Taken.{HasTaken, OrderDoesntMatter, raw_streams, raw_streams_from, raw_stream_of}
 use Rattle.pd_gather.specs.Views.{ReadingFits, results_view}
 
 -- what a reader gives: its reading's outcome, which fits the names of any session that it is a stream of
@@ -49,25 +50,22 @@ head_from : (names : List ProcessNames) (steps : Interleaving) (first : ℕ) (x 
 head_from names steps first x xs has = at names steps x (first + 0) first (omega arith) (has 0 x refl)
 
 -- the outcome of a reader is that of the reading it stands for
-pub reported_outcome : (names : List ProcessNames) (ending : Ending) (bytes : List ℕ) (reader : ReaderState)
+pub given_result : (names : List ProcessNames) (ending : Ending) (bytes : List ℕ) (reader : ReaderState)
     (given : Result Trace StreamFault) → Reads reader names ending bytes → Gives reader given
-    → Some (result_view given) ≡ result_of (reading names ending bytes)
-reported_outcome names ending bytes reader given r gives =
-    gives.value ∙ ap (λ (x : Reading). result_of x) r.same_reading
+    → result_of (reading names ending bytes) ≡ Some (result_view given)
+given_result names ending bytes reader given r gives =
+    sym (gives.value ∙ ap (λ (x : Reading). result_of x) r.same_reading)
 
-reported_all : (names : List ProcessNames) (steps : Interleaving) (first : ℕ) (core : List ReaderState)
+results_from : (names : List ProcessNames) (steps : Interleaving) (first : ℕ) (core : List ReaderState)
     (room : List (Result Trace StreamFault)) → HasFrom names steps first core → AllZip Gives core room
-    → results_view room ≡ results_of names (raw_streams_from steps first (length core))
-reported_all names steps first [] [] has all = refl
-reported_all names steps first [] (y ∷ ys) has all = absurd all
-reported_all names steps first (x ∷ xs) [] has all = absurd all
-reported_all names steps first (x ∷ xs) (y ∷ ys) has all =
-    ap (λ (rest : List StreamResult). result_view y ∷ rest)
-    (reported_all names steps (suc first) xs ys (later_from names steps first x xs has) all.1)
-    ∙ ap (λ (o : Option StreamResult). cons_option o
-    (results_of names (raw_streams_from steps (suc first) (length xs))))
-    (reported_outcome names (ending_of first steps) (bytes_of first steps) x y
-    (head_from names steps first x xs has) all.0)
+    → AreResultsOf names (raw_streams_from steps first (length core)) (results_view room)
+results_from names steps first [] [] has all = tt
+results_from names steps first [] (y ∷ ys) has all = absurd all
+results_from names steps first (x ∷ xs) [] has all = absurd all
+results_from names steps first (x ∷ xs) (y ∷ ys) has all = (
+  given_result names (ending_of first steps) (bytes_of first steps) x y (head_from names steps first x xs has) all.0,
+  results_from names steps (suc first) xs ys (later_from names steps first x xs has) all.1,
+)
 
 pub one_fits : (names : List ProcessNames) (ending : Ending) (bytes : List ℕ) (reader : ReaderState)
     (given : Result Trace StreamFault) → Reads reader names ending bytes → Gives reader given → ReadingFits names given
@@ -84,43 +82,19 @@ fit_all names steps first (x ∷ xs) (y ∷ ys) has all =
     (one_fits names (ending_of first steps) (bytes_of first steps) x y (head_from names steps first x xs has) all.0)
     (fit_all names steps (suc first) xs ys (later_from names steps first x xs has) all.1)
 
-each_from : (names : List ProcessNames) (steps : Interleaving) (first : ℕ) (core : List ReaderState)
-    (room : List (Result Trace StreamFault)) → HasFrom names steps first core → AllZip Gives core room
-    → (i : ℕ) (given : Result Trace StreamFault) → slice_get room i ≡ Some given
-    → Some (result_view given) ≡ result_of (stream_reading names steps (first + i))
-each_from names steps first core [] has all i given e = cc
-each_from names steps first [] (y ∷ ys) has all i given e = absurd all
-each_from names steps first (x ∷ xs) (y ∷ ys) has all zero given e =
-    let same : y ≡ given = cc in
-    ap (λ (g : Result Trace StreamFault). Some (result_view g)) (sym same)
-    ∙ (reported_outcome names (ending_of first steps) (bytes_of first steps) x y (head_from names steps first x xs has)
-    all.0
-    ∙ ap (λ (k : ℕ). result_of (stream_reading names steps k)) (omega arith))
-each_from names steps first (x ∷ xs) (y ∷ ys) has all (suc i) given e =
-    each_from names steps (suc first) xs ys (later_from names steps first x xs has) all.1 i given e
-    ∙ ap (λ (k : ℕ). result_of (stream_reading names steps k)) (omega arith)
-
 pub from_taken : (names : List ProcessNames) (steps : Interleaving) (core : List ReaderState)
     → HasTaken core names steps → HasFrom names steps 0 core
 from_taken names steps core taken = λ i reader e. at names steps reader i (0 + i) (omega arith) (taken.each i reader e)
 
-pub outcomes_reported : (core : List ReaderState) (room : List (Result Trace StreamFault)) → AllZip Gives core room
+pub outcomes_are_results : (core : List ReaderState) (room : List (Result Trace StreamFault)) → AllZip Gives core room
     → (names : List ProcessNames) (steps : Interleaving) → HasTaken core names steps
-    → results_view room ≡ results_of names (raw_streams_from steps 0 (length core))
-outcomes_reported core room all names steps taken =
-    reported_all names steps 0 core room (from_taken names steps core taken) all
+    → AreResultsOf names (raw_streams_from steps 0 (length core)) (results_view room)
+outcomes_are_results core room all names steps taken =
+    results_from names steps 0 core room (from_taken names steps core taken) all
 
 pub outcomes_fit : (core : List ReaderState) (room : List (Result Trace StreamFault)) → AllZip Gives core room
     → (names : List ProcessNames) (steps : Interleaving) → HasTaken core names steps → All (ReadingFits names) room
 outcomes_fit core room all names steps taken = fit_all names steps 0 core room (from_taken names steps core taken) all
-
-pub outcomes_each : (core : List ReaderState) (room : List (Result Trace StreamFault)) → AllZip Gives core room
-    → (names : List ProcessNames) (steps : Interleaving) → HasTaken core names steps
-    → (i : ℕ) (given : Result Trace StreamFault) → slice_get room i ≡ Some given
-    → Some (result_view given) ≡ result_of (stream_reading names steps i)
-outcomes_each core room all names steps taken i given e =
-    each_from names steps 0 core room (from_taken names steps core taken) all i given e
-    ∙ ap (λ (k : ℕ). result_of (stream_reading names steps k)) (omega arith)
 
 pub as_many : (core : List ReaderState) (room : List (Result Trace StreamFault)) → AllZip Gives core room
     → length room ≡ length core
@@ -131,18 +105,20 @@ as_many (x ∷ xs) (y ∷ ys) all = ap suc (as_many xs ys all.1)
 
 -- ---- the order in which inputs come
 
-same_reported : (steps others : Interleaving) (first count : ℕ)
+same_given : (steps others : Interleaving) (first count : ℕ)
     → ((i : ℕ) → i < first + count → bytes_of i steps ≡ bytes_of i others)
     → ((i : ℕ) → i < first + count → ending_of i steps ≡ ending_of i others) → raw_streams_from steps first count
     ≡ raw_streams_from others first count
-same_reported steps others first zero bytes endings = refl
-same_reported steps others first (suc count) bytes endings =
-    ap (λ (reported : RawStream). reported ∷ raw_streams_from steps (suc first) count)
+same_given steps others first zero bytes endings = refl
+same_given steps others first (suc count) bytes endings =
+    ap (λ (stream : RawStream). stream ∷ raw_streams_from steps (suc first) count)
     (rw (bytes first (omega arith), endings first (omega arith)) refl)
     ∙ ap (λ (rest : List RawStream). raw_stream_of others first ∷ rest)
-    (same_reported steps others (suc first) count (λ i lt. bytes i (omega arith)) (λ i lt. endings i (omega arith)))
+    (same_given steps others (suc first) count (λ i lt. bytes i (omega arith)) (λ i lt. endings i (omega arith)))
 
-pub order_doesnt_matter : OrderDoesntMatter
-order_doesnt_matter = λ names count steps others bytes endings.
-    ap (results_of names) (same_reported steps others 0 count (λ i lt. bytes i (omega arith)) (λ i lt.
-    endings i (omega arith)))
+pub order_doesnt_matter : OneListOfResults → OrderDoesntMatter
+order_doesnt_matter single = λ names count steps others bytes endings results other_results is other_is.
+    let same : raw_streams count steps ≡ raw_streams count others =
+    same_given steps others 0 count (λ i lt. bytes i (omega arith)) (λ i lt. endings i (omega arith)) in
+    single names (raw_streams count others) results other_results
+    (subst (λ (streams : List RawStream). AreResultsOf names streams results) same is) other_is

@@ -1,6 +1,6 @@
 -- The faults of streams, and the traces of processes, by their places.
 use Rattle.std.proofs.Common.{◌≡◌, ℕ, zero, suc, ◌+◌, ◌<◌, ◌≤◌, Bool, true, false, cond, eqb, List, [], ◌∷◌, ◌++◌, length, get_or, take, drop, refl, sym, ◌∙◌, ap, subst, append_assoc, arith, add-one, drop-cons}
-use Rattle.std.specs.Prelude.{nat_lt, Option, Some, None, option_map, Result, Ok, Err, slice_get}
+use Rattle.std.specs.Prelude.{IsOk, IsSome, is_some, nat_lt, Option, Some, None, option_map, Result, Ok, Err, slice_get}
 use Rattle.std.specs.List.{list_any, position, position_or_len}
 use Rattle.std.specs.Result.{result_ok}
 use Rattle.std.proofs.lemmas.Bool.Decides.{nat_tests}
@@ -14,20 +14,21 @@ use Rattle.pd_format.specs.Sessions.{SessionFault, Absent, StreamResult, has_joi
 use Rattle.pd_events.specs.Views.{result_view, trace_view}
 use Rattle.pd_events.specs.declared.event.Trace.{Trace}
 use Rattle.pd_events.specs.declared.fault.StreamFault.{StreamFault}
-use Rattle.pd_gather.specs.Views.{is_of, results_view, traces_view}
+use Rattle.pd_gather.specs.Views.{is_trace_of, results_view, traces_view}
 
 abbrev pub Given : Type 0
 Given = Result Trace StreamFault
 
 -- ---- the first fault
 
-pub any_joined : (process : ℕ) (xs : List Given) → list_any (is_of process) xs ≡ has_joined process (results_view xs)
+pub any_joined : (process : ℕ) (xs : List Given)
+    → list_any (is_trace_of process) xs ≡ has_joined process (results_view xs)
 any_joined process [] = refl
 any_joined process (Err fault ∷ later) = any_joined process later
 any_joined process (Ok trace ∷ later) = go (any_joined process later) (eqb trace.process process) refl
   where
-    go : list_any (is_of process) later ≡ has_joined process (results_view later) → (b : Bool)
-        → eqb trace.process process ≡ b → list_any (is_of process) (Ok trace ∷ later)
+    go : list_any (is_trace_of process) later ≡ has_joined process (results_view later) → (b : Bool)
+        → eqb trace.process process ≡ b → list_any (is_trace_of process) (Ok trace ∷ later)
         ≡ has_joined process (results_view (Ok trace ∷ later))
     go ih true e = rw e refl
     go ih false e = rw e ih
@@ -55,33 +56,46 @@ faults_at xs i x within is =
 -- ---- the trace of a process
 
 trace_step : (process : ℕ) (x : Given) (xs : List Given) → trace_of process (results_view (x ∷ xs))
-    ≡ cond (is_of process x) (option_map trace_view (result_ok x)) (trace_of process (results_view xs))
+    ≡ cond (is_trace_of process x) (option_map trace_view (result_ok x)) (trace_of process (results_view xs))
 trace_step process (Ok trace) xs = refl
 trace_step process (Err fault) xs = refl
 
-pub trace_at : (process : ℕ) (xs : List Given) (i : ℕ) (d : Given) → position (is_of process) xs ≡ Some i
+pub trace_at : (process : ℕ) (xs : List Given) (i : ℕ) (d : Given) → position (is_trace_of process) xs ≡ Some i
     → trace_of process (results_view xs) ≡ option_map trace_view (result_ok (get_or xs i d))
 trace_at process xs i d e =
-    let p = position-Some (is_of process) xs i d e in
-    found_at (λ (ys : List Given). trace_of process (results_view ys)) (is_of process) (λ (y : Given).
+    let p = position-Some (is_trace_of process) xs i d e in
+    found_at (λ (ys : List Given). trace_of process (results_view ys)) (is_trace_of process) (λ (y : Given).
     option_map trace_view (result_ok y)) None refl (trace_step process) xs i d p.0 p.2 p.1
 
 no_place : (n len : ℕ) → cond (nat_lt n len) (Some n) None ≡ None → len ≤ n
 no_place n len e = grind (arith, nat_tests)
 
-nowhere : (process : ℕ) (xs : List Given) (d : Given) → position (is_of process) xs ≡ None
+nowhere : (process : ℕ) (xs : List Given) (d : Given) → position (is_trace_of process) xs ≡ None
     → trace_of process (results_view xs) ≡ None
 nowhere process xs d e =
-    let past : length xs ≤ position_or_len (is_of process) xs =
-    no_place (position_or_len (is_of process) xs) (length xs) e in
-    found_nowhere (λ (ys : List Given). trace_of process (results_view ys)) (is_of process) (λ (y : Given).
+    let past : length xs ≤ position_or_len (is_trace_of process) xs =
+    no_place (position_or_len (is_trace_of process) xs) (length xs) e in
+    found_nowhere (λ (ys : List Given). trace_of process (results_view ys)) (is_trace_of process) (λ (y : Given).
     option_map trace_view (result_ok y)) None refl (trace_step process) xs d (λ k lt.
-    fails_before_first (is_of process) xs k d (omega arith))
+    fails_before_first (is_trace_of process) xs k d (omega arith))
 
-pub trace_nowhere : (process : ℕ) (xs : List Given) → position (is_of process) xs ≡ None
+pub trace_nowhere : (process : ℕ) (xs : List Given) → position (is_trace_of process) xs ≡ None
     → trace_of process (results_view xs) ≡ None
 trace_nowhere process [] e = refl
 trace_nowhere process (x ∷ xs) e = nowhere process (x ∷ xs) x e
+
+-- a process is joined if it has a trace
+pub any_found : (process : ℕ) (xs : List Given) → list_any (is_trace_of process) xs
+    ≡ is_some (trace_of process (results_view xs))
+any_found process [] = refl
+any_found process (Err fault ∷ later) = any_found process later
+any_found process (Ok trace ∷ later) = go (any_found process later) (eqb trace.process process) refl
+  where
+    go : list_any (is_trace_of process) later ≡ is_some (trace_of process (results_view later)) → (b : Bool)
+        → eqb trace.process process ≡ b → list_any (is_trace_of process) (Ok trace ∷ later)
+        ≡ is_some (trace_of process (results_view (Ok trace ∷ later)))
+    go ih true e = rw e refl
+    go ih false e = rw e ih
 
 -- taking another process's trace out changes nothing
 not_both : (q process n : ℕ) → (q ≡ process → ⊥) → eqb n process ≡ true → eqb n q ≡ false
@@ -91,12 +105,12 @@ not_both q process n differ e = go (eqb n q) refl
     go true f = absurd (differ (grind arith))
     go false f = f
 
-not_of : (q process : ℕ) (x : Given) → (q ≡ process → ⊥) → is_of process x ≡ true → is_of q x ≡ false
+not_of : (q process : ℕ) (x : Given) → (q ≡ process → ⊥) → is_trace_of process x ≡ true → is_trace_of q x ≡ false
 not_of q process (Ok trace) differ e = not_both q process trace.process differ e
 not_of q process (Err fault) differ e = refl
 
 pub trace_stays : (q process : ℕ) (xs : List Given) (i : ℕ) (d : Given) → (q ≡ process → ⊥) → i < length xs
-    → is_of process (get_or xs i d) ≡ true → trace_of q (results_view (take i xs ++ drop (suc i) xs))
+    → is_trace_of process (get_or xs i d) ≡ true → trace_of q (results_view (take i xs ++ drop (suc i) xs))
     ≡ trace_of q (results_view xs)
 trace_stays q process [] i d differ within e = absurd (omega arith)
 trace_stays q process (x ∷ xs) zero d differ within e =
@@ -104,7 +118,7 @@ trace_stays q process (x ∷ xs) zero d differ within e =
     cond b (option_map trace_view (result_ok x)) (trace_of q (results_view xs))) (not_of q process x differ e))
 trace_stays q process (x ∷ xs) (suc i) d differ within e =
     trace_step q x (take i xs ++ drop (suc i) xs)
-    ∙ (ap (λ (o : Option readings.Trace). cond (is_of q x) (option_map trace_view (result_ok x)) o)
+    ∙ (ap (λ (o : Option readings.Trace). cond (is_trace_of q x) (option_map trace_view (result_ok x)) o)
     (trace_stays q process xs i d differ (omega arith) e)
     ∙ sym (trace_step q x xs))
 
@@ -154,6 +168,32 @@ pub none_more : (prefix : List readings.Trace) (process : ℕ) (names : ProcessN
     (outcomes : List StreamResult) → trace_of process outcomes ≡ None
     → following prefix (traces_from process (names ∷ others) outcomes) ≡ Err (Absent process)
 none_more prefix process names others outcomes e = rw e refl
+
+pub none_found : {A : Type 0} (found : Option A) → is_some found ≡ false → found ≡ None
+none_found None e = refl
+none_found (Some x) e = cc
+
+pub some_found : {A : Type 0} (found : Option A) → is_some found ≡ true → (x : A) × (found ≡ Some x)
+some_found None e = cc
+some_found (Some x) e = (x, refl)
+
+-- if all traces are there, the next process has one
+pub complete_has : (prefix : List readings.Trace) (process : ℕ) (names : ProcessNames) (others : List ProcessNames)
+    (outcomes : List StreamResult) → IsOk (following prefix (traces_from process (names ∷ others) outcomes))
+    → (trace : readings.Trace) × (trace_of process outcomes ≡ Some trace)
+complete_has prefix process names others outcomes complete = go (trace_of process outcomes) refl
+  where
+    go : (found : Option readings.Trace) → trace_of process outcomes ≡ found
+        → (trace : readings.Trace) × (trace_of process outcomes ≡ Some trace)
+    go (Some trace) e = (trace, e)
+    go None e =
+        let no = subst (λ (r : Result (List readings.Trace) SessionFault). IsOk r)
+        (none_more prefix process names others outcomes e) complete in
+        cc
+
+pub is_mapped : {A B : Type 0} (f : A → B) (found : Option A) (y : B) → option_map f found ≡ Some y → IsSome found
+is_mapped f None y e = cc
+is_mapped f (Some x) y e = refl
 
 pub dropped : {A : Type 0} (xs : List A) (i : ℕ) → i < length xs → (x : A) × (drop i xs ≡ x ∷ drop (i + 1) xs)
 dropped [] i within = absurd (omega arith)

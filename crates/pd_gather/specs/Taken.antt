@@ -2,11 +2,11 @@
 use Rattle.std.specs.Prelude.{◌≡◌, ℕ, ◌<◌, suc, zero, List, [], ◌∷◌, ◌++◌, Some, slice_get}
 use Rattle.pd_format.specs.Names.{ProcessNames}
 use Rattle.pd_format.specs.Readings.{IsClosed, Open}
-use Rattle.pd_format.specs.Sessions.{Input, Interleaving, bytes_of, ending_of, ending_of_inputs, joined_pieces}
-use Rattle.pd_format.specs.Judgements.{RawStream, results_of}
+use Rattle.pd_format.specs.Sessions.{Input, Interleaving, StreamResult, bytes_of, ending_of, ending_of_inputs, joined_pieces}
+use Rattle.pd_judgement.specs.Judgements.{RawStream, AreResultsOf}
 use Rattle.pd_events.specs.Reads.{ReaderState, Reads}
 
--- each stream's reader stands for the reading of what the steps reported of that stream
+-- each stream's reader stands for the reading of what the steps gave of that stream
 pub record HasTaken (core : List ReaderState) (names : List ProcessNames) (steps : Interleaving) : Type 0 where
   pub each : (i : ℕ) (reader : ReaderState) → slice_get core i ≡ Some reader
       → Reads reader names (ending_of i steps) (bytes_of i steps)
@@ -23,19 +23,22 @@ HasClosed reader = IsClosed reader.reading.stop
 abbrev pub raw_stream_of : Interleaving → ℕ → RawStream
 raw_stream_of steps stream = record { ending = ending_of stream steps; bytes = bytes_of stream steps }
 
--- what so many streams reported, from this one on
+-- what this many streams gave, from this one on
 abbrev pub raw_streams_from : Interleaving → ℕ → ℕ → List RawStream
 raw_streams_from steps stream zero = []
 raw_streams_from steps stream (suc count) = raw_stream_of steps stream ∷ raw_streams_from steps (suc stream) count
 
--- what the first streams reported, so many of them
+-- what the first streams gave, this many of them
 abbrev pub raw_streams : ℕ → Interleaving → List RawStream
 raw_streams count steps = raw_streams_from steps 0 count
 
--- What the streams give doesn't depend on the order in which their inputs come: where each stream has the same bytes
--- and the same ending, the outcomes are the same.
+-- What the streams come to doesn't depend on the order in which their inputs come: if each stream has the same bytes
+-- and the same ending, the results are the same.
 abbrev pub OrderDoesntMatter : Type 0
 OrderDoesntMatter = (names : List ProcessNames) (count : ℕ) (steps others : Interleaving)
     → ((i : ℕ) → i < count → bytes_of i steps ≡ bytes_of i others)
-    → ((i : ℕ) → i < count → ending_of i steps ≡ ending_of i others) → results_of names (raw_streams count steps)
-    ≡ results_of names (raw_streams count others)
+    → ((i : ℕ) → i < count → ending_of i steps ≡ ending_of i others)
+    → (results other_results : List StreamResult)
+    → AreResultsOf names (raw_streams count steps) results
+    → AreResultsOf names (raw_streams count others) other_results
+    → results ≡ other_results

@@ -22,15 +22,12 @@ abbrev pub results_view : List (Result Trace StreamFault) → List sessions.Stre
 results_view given = map result_view given
 
 -- whether it is a trace of this process
-abbrev pub is_of : ℕ → Result Trace StreamFault → Bool
-is_of process (Ok trace) = trace.process == process
-is_of process (Err fault) = false
+abbrev pub is_trace_of : ℕ → Result Trace StreamFault → Bool
+is_trace_of process (Ok trace) = trace.process == process
+is_trace_of process (Err fault) = false
 
 abbrev pub traces_view : List Trace → List readings.Trace
 traces_view traces = map trace_view traces
-
-abbrev pub session_memory_fault : SessionFault
-session_memory_fault = faults.Memory
 
 -- the fault that is reported, if it isn't out of memory
 abbrev pub session_fault_view : SessionFault → Option sessions.SessionFault
@@ -40,7 +37,7 @@ session_fault_view (faults.Taken stream line) = Some (sessions.Taken stream line
 session_fault_view (faults.Absent process) = Some (sessions.Absent process)
 session_fault_view faults.Memory = None
 
--- the answer is these traces or this fault, or tells that memory ran out
+-- the answer is these traces or this fault, or that memory ran out
 abbrev pub IsSession : Result (List readings.Trace) sessions.SessionFault → Result (Vec Trace Global) SessionFault
     → Type 0
 IsSession due answer =
@@ -50,9 +47,3 @@ IsSession due answer =
 -- what a stream gave fits the session's names
 abbrev pub ReadingFits : List ProcessNames → Result Trace StreamFault → Type 0
 ReadingFits names given = IfOk given (λ trace. FitsSession names (trace_view trace))
-
--- one trace for each process, in the processes' order
-pub record AreTraces (names : List ProcessNames) (traces : List Trace) : Type 0 where
-  pub one_each : length traces ≡ length names
-  pub process : (p : ℕ) (trace : Trace) → slice_get traces p ≡ Some trace → trace.process ≡ p
-  pub fit : (p : ℕ) (trace : Trace) → slice_get traces p ≡ Some trace → FitsSession names (trace_view trace)

@@ -1,11 +1,11 @@
 //! Why streams are no session.
 use pd_events::StreamFault;
-use std::alloc::{AllocError, AllocFailed};
+use std::alloc::AllocError;
 
 /// Why the streams are no session. Streams and processes are counted from 0.
 #[derive(Clone, Copy, Debug, PartialEq, Eq)]
 pub enum SessionFault {
-    /// There are more than 16 streams.
+    /// There are more streams than a session may have.
     Streams,
     /// This stream has this fault.
     Stream(u64, StreamFault),
@@ -18,23 +18,12 @@ pub enum SessionFault {
 }
 
 impl From<AllocError> for SessionFault {
+    ghost use Rattle.pd_gather.specs.declared.fault.SessionFault.{SessionFault};
     ghost use Rattle.std.specs.Prelude.{◌≡◌};
-    ghost use Rattle.pd_gather.specs.Views.{session_memory_fault};
 
-    ghost from_gives = { λ _ e. e ≡ session_memory_fault };
+    ghost from_gives = { λ _ e. e ≡ SessionFault.Memory };
 
     fn from(_error: AllocError) -> SessionFault {
-        SessionFault::Memory
-    }
-}
-
-impl<T: Drop> From<AllocFailed<T>> for SessionFault {
-    ghost use Rattle.std.specs.Prelude.{◌≡◌};
-    ghost use Rattle.pd_gather.specs.Views.{session_memory_fault};
-
-    ghost from_gives = { λ _ e. e ≡ session_memory_fault };
-
-    fn from(_error: AllocFailed<T>) -> SessionFault {
         SessionFault::Memory
     }
 }

@@ -6,6 +6,6 @@ use pd_events::{StreamFault, Trace};
 pub struct Gathered {
     /// How many streams there are.
     pub streams: u64,
-    /// The trace of each stream in order, or its fault; none where there are too many streams to be read.
+    /// The trace of each stream in order, or its fault; none if there are too many streams to be read.
     pub readings: Vec<Result<Trace, StreamFault>>,
 }

@@ -1,15 +1,15 @@
 //! The streams while they are read.
-ghost use Rattle.pd_events.specs.Reads.{Reads};
-ghost use Rattle.pd_events.specs.Views.{result_view};
-ghost use Rattle.pd_format.specs.Judgements.{results_of};
+ghost use Rattle.pd_events.specs.Reads.{ReaderState, Reads};
+ghost use Rattle.pd_judgement.specs.Judgements.{AreResultsOf};
+ghost use Rattle.pd_format.specs.Limits.{stream_count_limit};
 ghost use Rattle.pd_format.specs.Names.{ProcessNames};
-ghost use Rattle.pd_format.specs.Readings.{result_of};
-ghost use Rattle.pd_format.specs.Sessions.{Interleaving, stream_reading};
+ghost use Rattle.pd_format.specs.Readings.{IsClosed};
+ghost use Rattle.pd_format.specs.Sessions.{Broken, Interleaving};
 ghost use Rattle.pd_gather.specs.Taken.{HasClosed, HasTaken, OrderDoesntMatter, Takes, raw_streams};
 ghost use Rattle.pd_gather.specs.Views.{ReadingFits, input_view, results_view};
 ghost use Rattle.pd_spec.specs.Views.{document_view};
 ghost use Rattle.std.specs.Bool.{OnFalse, OnTrue};
-ghost use Rattle.std.specs.Prelude.{◌≡◌, ◌<◌, ◌≤◌, ℕ, ◌++◌, ◌∷◌, [], List, All, IfOk, OnErr, OnOk, Some, length, slice_get};
+ghost use Rattle.std.specs.Prelude.{◌≡◌, ◌<◌, ◌≤◌, ℕ, ◌++◌, ◌∷◌, [], List, All, IfOk, IsOk, OnErr, OnOk, Some, length, slice_get};
 
 use super::{Gathered, Input};
 use pd_events::{StreamFault, Trace, TraceReader};
@@ -39,12 +39,17 @@ impl<'a> Model for Core<'a> {
 /// What the streams give depends on the bytes and the ending of each, and on no order in which their inputs come.
 pub fn order_doesnt_matter()
     ensures { OrderDoesntMatter }
-{}
+{
+    pd_judgement::one_list_of_results();
+}
 
 /// Takes one input of the reader's stream.
 pub(super) fn take_input(reader: &mut TraceReader<'_>, input: Input<'_>) -> Result<(), AllocError>
     ensures takes { OnOk result (Takes reader.old reader.new (input_view input.entry)) }
     ensures err { OnErr result (reader.new ≡ reader.old) }
+    ensures closed { IsClosed reader.old.reading.stop → IsOk result }
+    ensures stays { IsClosed reader.old.reading.stop → reader.new ≡ reader.old }
+    ensures failed { input_view input.entry ≡ Broken → IsOk result }
 {
     match input {
         Input::Piece(bytes) => reader.feed(bytes),
@@ -57,12 +62,12 @@ pub(super) fn take_input(reader: &mut TraceReader<'_>, input: Input<'_>) -> Resu
 }
 
 impl<'a> Core<'a> {
-    /// The readers of `n` streams, at most 16, of a session with this document.
+    /// The readers of `n` streams of a session with this document.
     ///
     /// # Errors
-    /// Where memory runs out.
+    /// If memory runs out.
     pub fn new(alloc: Global, n: usize, spec: &'a Spec) -> Result<Core<'a>, AllocError>
-        requires { n ≤ 16 }
+        requires { n ≤ stream_count_limit }
         ensures streams { IfOk result (λ core. length core ≡ n) }
         ensures none { IfOk result (λ core. HasTaken core (document_view spec.now).names []) }
     {
@@ -75,16 +80,21 @@ impl<'a> Core<'a> {
     }
 
     /// Takes one input of a stream, which is counted from 0. What comes after the stream's end or a failed read doesn't
-    /// count.
+    /// count. A closed stream takes no memory, nor does a failed read.
     ///
     /// # Errors
-    /// Where memory runs out; everything is then as it was.
+    /// If memory runs out; everything is then as it was.
     pub fn step(&mut self, stream: usize, input: Input<'_>) -> Result<(), AllocError>
         requires { stream < length self.old }
         ensures taken { OnOk result ((names : List ProcessNames) (steps : Interleaving) →
             HasTaken self.old names steps → HasTaken self.new names (steps ++ (stream, input_view input.entry) ∷ [])) }
         ensures streams { length self.new ≡ length self.old }
         ensures err { OnErr result (self.new ≡ self.old) }
+        ensures closed { (reader : ReaderState) → slice_get self.old stream ≡ Some reader → HasClosed reader →
+            IsOk result }
+        ensures stays { (reader : ReaderState) → slice_get self.old stream ≡ Some reader → HasClosed reader →
+            self.new ≡ self.old }
+        ensures failed { input_view input.entry ≡ Broken → IsOk result }
     {
         take_input(&mut self.readers[stream], input)
     }
@@ -102,11 +112,8 @@ impl<'a> Core<'a> {
         requires { All HasClosed self }
         ensures streams { result.streams ≡ length self.entry }
         ensures one_each { length result.readings.items ≡ length self.entry }
-        ensures reported { (names : List ProcessNames) (steps : Interleaving) → HasTaken self.entry names steps →
-            results_view result.readings.items ≡ results_of names (raw_streams (length self.entry) steps) }
-        ensures each { (names : List ProcessNames) (steps : Interleaving) → HasTaken self.entry names steps →
-            (i : ℕ) (given : _) → slice_get result.readings.items i ≡ Some given →
-            Some (result_view given) ≡ result_of (stream_reading names steps i) }
+        ensures results { (names : List ProcessNames) (steps : Interleaving) → HasTaken self.entry names steps →
+            AreResultsOf names (raw_streams (length self.entry) steps) (results_view result.readings.items) }
         ensures fit { (names : List ProcessNames) (steps : Interleaving) → HasTaken self.entry names steps →
             All (ReadingFits names) result.readings.items }
     {

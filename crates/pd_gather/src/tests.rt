@@ -1,4 +1,5 @@
 //! Streams fed in turns, streams read from readers, and each refusal of a session.
+ghost use Rattle.pd_format.specs.Limits.{stream_count_limit};
 ghost use Rattle.pd_format.specs.Names.{ProcessNames};
 ghost use Rattle.pd_format.specs.Sessions.{Interleaving};
 ghost use Rattle.pd_gather.specs.Taken.{HasTaken};
@@ -8,15 +9,15 @@ ghost use Rattle.std.specs.Prelude.{◌≡◌, ◌<◌, ◌≤◌, ◌++◌, ◌
 
 use super::{Core, Gathered, Input, SessionFault, gather, read_stream, session};
 use pd_events::{StreamFault, StreamKind, Trace};
+use pd_format::{LINE_BYTE_LIMIT, STREAM_COUNT_LIMIT};
 use pd_spec::Spec;
 use std::alloc::{AllocError, Global};
 use std::io;
 use std::io::{Error, ErrorKind, Read};
 use std::test::Fail;
 
-const DOCUMENT: &[u8] =
-    br#"{"processes":[{"name":"a","vars":{"x":0}},{"name":"b","vars":{}}],"predicates":[{"name":"p","text":"a.x ==
-        1"}]}"#;
+const DOCUMENT: &[u8] = br#"{"processes":[{"name":"a","vars":{"x":0}},{"name":"b","vars":{}}],
+    "predicates":[{"name":"p","text":"a.x == 1"}]}"#;
 
 const STREAM_A: &[u8] = b"{\"process\":\"a\"}\n{\"set\":{\"x\":1}}\n{\"end\":true}\n";
 
@@ -29,7 +30,7 @@ fn spec(alloc: Global) -> Result<Spec, Fail> {
     }
 }
 
-/// Takes an input, and takes it again where memory was refused: nothing has changed by then.
+/// Takes an input, and takes it again if memory was refused: nothing has changed by then.
 fn take(core: &mut Core<'_>, stream: usize, input: Input<'_>) -> Result<(), AllocError>
     requires { stream < length core.old }
     ensures taken { OnOk result ((names : List ProcessNames) (steps : Interleaving) →
@@ -42,14 +43,14 @@ fn take(core: &mut Core<'_>, stream: usize, input: Input<'_>) -> Result<(), Allo
     }
 }
 
-/// What so many streams give that are reported these inputs.
-fn gathered(
+/// What this many streams give for these inputs.
+fn gather_inputs(
     alloc: Global,
     spec: &Spec,
     streams: usize,
     inputs: &[(usize, Input<'_>)],
 ) -> Result<Gathered, Fail>
-    requires { streams ≤ 16 }
+    requires { streams ≤ stream_count_limit }
     ensures { IfOk result (λ gathered. All (ReadingFits (document_view spec.now).names) gathered.readings.items) }
 {
     let mut core = Core::new(alloc, streams, spec)?;
@@ -67,16 +68,16 @@ fn gathered(
     }
 }
 
-/// The refusal of streams that are reported these inputs.
+/// The refusal of this many streams with these inputs.
 fn refusal(
     alloc: Global,
     streams: usize,
     inputs: &[(usize, Input<'_>)],
 ) -> Result<Option<SessionFault>, Fail>
-    requires { streams ≤ 16 }
+    requires { streams ≤ stream_count_limit }
 {
     let spec = spec(alloc)?;
-    let gathered = gathered(alloc, &spec, streams, inputs)?;
+    let gathered = gather_inputs(alloc, &spec, streams, inputs)?;
     Ok(session(alloc, &spec, gathered).err())
 }
 
@@ -90,7 +91,7 @@ fn streams_come_in_turns_of_one_byte(rt: HostRuntime) -> Result<(), Fail> {
         }
     }
     let spec = spec(rt.alloc())?;
-    let gathered = gathered(rt.alloc(), &spec, 2, &inputs)?;
+    let gathered = gather_inputs(rt.alloc(), &spec, 2, &inputs)?;
     assert_eq!(rt; gathered.streams, 2);
     match session(rt.alloc(), &spec, gathered) {
         Ok(traces) => {
@@ -149,7 +150,7 @@ fn a_stream_fails(rt: HostRuntime) -> Result<(), Fail> {
 fn there_are_too_many_streams(rt: HostRuntime) -> Result<(), Fail> {
     let spec = spec(rt.alloc())?;
     let gathered = Gathered {
-        streams: 17,
+        streams: STREAM_COUNT_LIMIT as u64 + 1,
         readings: Vec::new(rt.alloc()),
     };
     let refused = session(rt.alloc(), &spec, gathered).err();
@@ -164,7 +165,7 @@ struct FewBytes<'a> {
     bytes: &'a [u8],
     /// How many of them a call gives at most.
     most: usize,
-    /// How a call fails where none is left; otherwise it gives the end.
+    /// How a call fails if none is left; otherwise it gives the end.
     failure: Option<ErrorKind>,
     /// How many calls there have been.
     calls: u32,
@@ -198,7 +199,7 @@ impl Read for Endless {
     }
 }
 
-/// What is read of a stream whose reader gives one byte a call, and then fails as reported or ends.
+/// What is read of a stream whose reader gives one byte a call, and then fails like this, or ends.
 fn read_slowly(
     alloc: Global,
     bytes: &[u8],
@@ -288,15 +289,18 @@ fn a_closed_stream_is_not_read_on(rt: HostRuntime) -> Result<(), Fail> {
         ("{\"process\":\"b\"}\nno record\n", Some(StreamKind::Json)),
     ];
     for (bytes, kind) in cases {
+        let mut all = Vec::from_slice(rt.alloc(), bytes.as_bytes())?;
+        all.extend_from_slice(b"what follows")?;
         let mut reader = FewBytes {
-            bytes: bytes.as_bytes(),
+            bytes: &all,
             most: 1,
             failure: Some(ErrorKind::Other),
             calls: 0,
         };
         let read = read_stream(rt.alloc(), &spec, &mut reader)?;
         assert_eq!(rt; read.err().map(|fault| fault.kind), kind, "in {bytes}");
-        assert_eq!(rt; reader.calls as usize, bytes.len());
+        assert_eq!(rt; reader.calls as usize, bytes.len(), "in {bytes}");
+        assert_eq!(rt; reader.bytes, b"what follows".as_slice(), "in {bytes}");
     }
     Ok(())
 }
@@ -338,5 +342,23 @@ fn streams_are_read_in_order(rt: HostRuntime) -> Result<(), Fail> {
     let gathered = gather(rt.alloc(), &spec, nothing)?;
     assert_eq!(rt; gathered.streams, 0);
     assert_eq!(rt; gathered.readings.len(), 0);
+    Ok(())
+}
+
+#[test]
+fn a_reader_is_asked_until_its_line_is_too_long(rt: HostRuntime) -> Result<(), Fail> {
+    let spec = spec(rt.alloc())?;
+    let long = vec![in rt.alloc(); b'x'; LINE_BYTE_LIMIT + 9]?;
+    let mut reader = FewBytes {
+        bytes: &long,
+        most: 1,
+        failure: None,
+        calls: 0,
+    };
+    let read = read_stream(rt.alloc(), &spec, &mut reader)?;
+    let kind = read.err().map(|fault| fault.kind);
+    assert_eq!(rt; kind, Some(StreamKind::LineTooLong));
+    assert_eq!(rt; reader.calls as usize, LINE_BYTE_LIMIT + 1);
+    assert_eq!(rt; reader.bytes.len(), 8);
     Ok(())
 }

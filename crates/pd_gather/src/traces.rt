@@ -1,41 +1,48 @@
 //! The traces of a session.
+ghost use Rattle.pd_events.specs.SessionTraces.{AreTraces};
 ghost use Rattle.pd_events.specs.Views.{result_view, trace_view};
+ghost use Rattle.pd_format.specs.Limits.{stream_count_limit};
 ghost use Rattle.pd_format.specs.Names.{ProcessNames};
 ghost use Rattle.pd_format.specs.ReadingLaws.{FitsSession};
 ghost use Rattle.pd_format.specs.Sessions as sessions;
-ghost use Rattle.pd_gather.specs.Views.{AreTraces, IsSession, ReadingFits, is_of, results_view, session_fault_view};
+ghost use Rattle.pd_gather.specs.Views.{IsSession, ReadingFits, is_trace_of, results_view, session_fault_view, traces_view};
 ghost use Rattle.pd_spec.specs.Views.{document_view};
 ghost use Rattle.std.specs.List.{list_any, position};
-ghost use Rattle.std.specs.Prelude.{◌≡◌, ℕ, [], List, All, IfOk, IfSome, Some, option_map};
+ghost use Rattle.std.specs.Prelude.{◌≡◌, ◌<◌, ℕ, [], List, All, IfOk, IfSome, IsOk, MatchOption, Some, Ok, Err, option_map};
 
 use super::{Gathered, SessionFault};
 use pd_events::{StreamFault, Trace};
+use pd_format::STREAM_COUNT_LIMIT;
 use pd_pred::Names;
 use pd_spec::Spec;
-use std::alloc::Global;
+use std::alloc::{AllocError, Global};
 
-/// The greatest number of streams.
-const STREAM_LIMIT: u64 = 16;
-
-/// The traces of a session with this document, one for each process, in their order.
+/// The traces of a session with this document, one for each process, in their order. Memory is taken for the traces
+/// alone: each refusal is found without.
 ///
 /// # Errors
 /// The first refusal: too many streams; then, of the first stream that has one, its fault or that its process is taken;
-/// then the first process that no stream joined. Also where memory runs out.
+/// then the first process that no stream joined. Also if memory runs out.
 pub fn session(alloc: Global, spec: &Spec, gathered: Gathered) -> Result<Vec<Trace>, SessionFault>
     requires { All (ReadingFits (document_view spec.now).names) gathered.readings.items }
     ensures exact { IsSession (sessions.session (document_view spec.now).names gathered.streams
         (results_view gathered.readings.items)) result }
+    ensures many { stream_count_limit < gathered.streams → result ≡ Err SessionFault.Streams }
+    ensures memory { result ≡ Err SessionFault.Memory →
+        IsOk (sessions.session (document_view spec.now).names gathered.streams (results_view gathered.readings.items)) }
     ensures fits { IfOk result (λ traces. AreTraces (document_view spec.now).names traces.items) }
 {
-    if gathered.streams > STREAM_LIMIT {
+    if gathered.streams > STREAM_COUNT_LIMIT as u64 {
         return Err(SessionFault::Streams);
     }
     let readings = gathered.readings;
-    match first_fault(&readings) {
-        Some(fault) => Err(fault),
-        None => in_order(alloc, spec.names(), readings),
+    if let Some(fault) = first_fault(&readings) {
+        return Err(fault);
     }
+    if let Some(process) = first_absent(spec.names(), &readings) {
+        return Err(SessionFault::Absent(process));
+    }
+    Ok(in_order(alloc, spec.names(), readings)?)
 }
 
 /// The fault of the first stream that has one.
@@ -75,14 +82,14 @@ fn fault_after(
 
 /// Whether one of the streams joined this process.
 fn has_joined(process: usize, readings: &[Result<Trace, StreamFault>]) -> bool
-    ensures { result ≡ list_any (is_of process) readings.now }
+    ensures { result ≡ list_any (is_trace_of process) readings.now }
 {
     readings.iter().any(|reading| joins(process, reading))
 }
 
 /// Whether the stream joined this process.
 fn joins(process: usize, reading: &Result<Trace, StreamFault>) -> bool
-    ensures { result ≡ is_of process reading.now }
+    ensures { result ≡ is_trace_of process reading.now }
 {
     match reading {
         Ok(trace) => trace.process == process,
@@ -90,22 +97,35 @@ fn joins(process: usize, reading: &Result<Trace, StreamFault>) -> bool
     }
 }
 
-/// The traces in the processes' order, where no stream has a fault.
+/// The first process that no stream joined, if no stream has a fault.
+fn first_absent(names: &Names, readings: &[Result<Trace, StreamFault>]) -> Option<usize>
+    ensures { MatchOption result (IsOk (sessions.traces_from 0 names.now (results_view readings.now)))
+        (λ process. sessions.traces_from 0 names.now (results_view readings.now) ≡ Err (sessions.Absent process)) }
+{
+    for p in 0..names.processes() {
+        if !has_joined(p, readings) {
+            return Some(p);
+        }
+    }
+    None
+}
+
+/// The traces in the processes' order, if each process has one.
 fn in_order(
     alloc: Global,
     names: &Names,
     mut readings: Vec<Result<Trace, StreamFault>>,
-) -> Result<Vec<Trace>, SessionFault>
-    requires { All (ReadingFits names.now) readings.items }
-    ensures exact { IsSession (sessions.traces_from 0 names.now (results_view readings.items)) result }
+) -> Result<Vec<Trace>, AllocError>
+    requires fit { All (ReadingFits names.now) readings.items }
+    requires complete { IsOk (sessions.traces_from 0 names.now (results_view readings.items)) }
+    ensures exact { IfOk result (λ traces. sessions.traces_from 0 names.now (results_view readings.items)
+        ≡ Ok (traces_view traces.items)) }
     ensures fits { IfOk result (λ traces. AreTraces names.now traces.items) }
 {
     let mut traces = Vec::with_capacity(alloc, names.processes())?;
     for p in 0..names.processes() {
-        match take_trace(p, &mut readings) {
-            Some(trace) => traces.push(trace)?,
-            None => return Err(SessionFault::Absent(p)),
-        }
+        let trace = take_trace(p, &mut readings).unwrap();
+        traces.push(trace)?;
     }
     Ok(traces)
 }
@@ -126,7 +146,7 @@ fn take_trace(process: usize, readings: &mut Vec<Result<Trace, StreamFault>>) ->
 
 /// Where the trace of this process is.
 fn place_of(process: usize, readings: &[Result<Trace, StreamFault>]) -> Option<usize>
-    ensures { result ≡ position (is_of process) readings.now }
+    ensures { result ≡ position (is_trace_of process) readings.now }
 {
     readings.iter().position(|reading| joins(process, reading))
 }

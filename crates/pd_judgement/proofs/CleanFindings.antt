@@ -1,13 +1,15 @@
--- A finding is clean exactly where its text is.
+-- A finding is clean exactly if its text is.
 use Rattle.std.proofs.Common.{◌≡◌, ◌≢◌, ℕ, zero, suc, ◌/◌, ◌%◌, Bool, true, false, List, [], ◌∷◌, ◌++◌, All, Some, None, refl, sym, ◌∙◌, ap, append_assoc, arith}
-use Rattle.std.specs.Prelude.{◌==◌, not, ◌||◌, if◌then◌else◌, codes, decimal, flat_map}
+use Rattle.std.specs.Prelude.{◌==◌, not, if◌then◌else◌, codes, decimal, flat_map}
 use Rattle.std.specs.List.{list_any}
 use Rattle.std.specs.Fmt.{digits, digits_onto, digit_glyph}
 use Rattle.std.proofs.lemmas.Bool.Decides.{nat_tests}
 use Rattle.std.proofs.lemmas.List.Elements.{All-cons, All-nil, All-head, All-tail, All-append}
+use Rattle.std.proofs.lemmas.Bool.{not-true}
+use Rattle.pd_format.proofs.LineFacts.{or_false}
 use Rattle.pd_format.specs.Reports.{spaced}
 use Rattle.pd_format.specs.OtherTexts.{Verdict, Good, Bad, Unchecked, verdict_word, Checked, checked_lines, NotRead, OfRefusal, OfSession}
-use Rattle.pd_judgement.specs.Findings.{EndsBad, TellsUnread, IsCleanLine, is_bad, has_bad, CleanIsClean}
+use Rattle.pd_judgement.specs.Findings.{EndsBad, SaysUnread, IsCleanLine, is_bad, has_bad, CleanIsClean}
 
 -- ---- the last two bytes of a line
 
@@ -71,7 +73,7 @@ clean_line prefix x y rest other last = (not_bad, not_unread)
         other (sym (last_but_one-append 0 0 prefix x y rest) ∙ ap (last_but_one 0 0) same
         ∙ last_but_one-append 0 0 before 32 98 (97 ∷ 100 ∷ []))
 
-    not_unread : ¬ TellsUnread (prefix ++ x ∷ y ∷ rest)
+    not_unread : ¬ SaysUnread (prefix ++ x ∷ y ∷ rest)
     not_unread (number, same) =
         decimal_ends number 32 (omega arith) (sym (ap (last_of 0) same) ∙ last_of-append 0 prefix x (y ∷ rest) ∙ last)
 
@@ -107,13 +109,9 @@ definitely_not_bad name Bad h =
     absurd (h.0 (name ++ codes " definitely", sym (append_assoc name (codes " definitely") (codes " bad"))))
 definitely_not_bad name Unchecked h = refl
 
-neither : (a b : Bool) → (a || b) ≡ false → (a ≡ false) × (b ≡ false)
-neither true b e = absurd (cc)
-neither false b e = (refl, e)
-
 checked_clean : (checked : Checked) → has_bad checked ≡ false → All IsCleanLine (checked_lines checked)
 checked_clean checked e =
-    let none = neither (is_bad checked.possibly) (is_bad checked.definitely) e in
+    let none = or_false (is_bad checked.possibly) (is_bad checked.definitely) e in
     All-cons IsCleanLine (verdict_line checked.name (codes "possibly") checked.possibly)
     (verdict_line checked.name (codes "definitely") checked.definitely ∷ [])
     (possibly_clean checked.name checked.possibly none.0)
@@ -124,7 +122,7 @@ all_clean : (verdicts : List Checked) → list_any has_bad verdicts ≡ false
     → All IsCleanLine (flat_map checked_lines verdicts)
 all_clean [] e = All-nil IsCleanLine
 all_clean (checked ∷ verdicts) e =
-    let none = neither (has_bad checked) (list_any has_bad verdicts) e in
+    let none = or_false (has_bad checked) (list_any has_bad verdicts) e in
     All-append IsCleanLine (checked_lines checked) (flat_map checked_lines verdicts) (checked_clean checked none.0)
     (all_clean verdicts none.1)
 
@@ -144,10 +142,6 @@ none_bad (checked ∷ verdicts) h =
     rw (possibly, definitely, others) refl
 
 -- ---- findings
-
-not_false : (b : Bool) → not b ≡ true → b ≡ false
-not_false true e = absurd (cc)
-not_false false e = refl
 
 pub clean_is_clean_lem : CleanIsClean
 clean_is_clean_lem (NotRead line) = (
@@ -180,6 +174,6 @@ clean_is_clean_lem (OfSession false (Some verdicts)) = (
 clean_is_clean_lem (OfSession true (Some verdicts)) = (
   (λ e. All-cons IsCleanLine (codes "session good") (flat_map checked_lines verdicts)
       (clean_line [] 115 101 (codes "ssion good") (omega arith) refl)
-      (all_clean verdicts (not_false (list_any has_bad verdicts) e))),
+      (all_clean verdicts (not-true (list_any has_bad verdicts) e))),
   (λ h. ap not (none_bad verdicts (All-tail IsCleanLine (codes "session good") (flat_map checked_lines verdicts) h))),
 )

@@ -8,7 +8,7 @@ use Rattle.pd_format.specs.Laws.{AreClear}
 use Rattle.pd_format.specs.Names.{ProcessNames}
 use Rattle.pd_format.specs.PredicateTexts.{PredicateFault, IsPredicate, IsRefusedPredicate}
 use Rattle.pd_format.proofs.OneAnswer.{one_predicate_lem, predicate_not_refused_lem, refused_once_lem}
-use Rattle.pd_judgement.proofs.DocumentNames.{clear_document}
+use Rattle.pd_format.proofs.DocumentNames.{clear_document}
 
 abbrev Written : Type 0
 Written = List ℕ × List ℕ

@@ -1,5 +1,5 @@
 -- A check finds one thing.
-use Rattle.std.proofs.Common.{◌≡◌, ℕ, Bool, true, false, List, [], ◌∷◌, length, refl, sym, ◌∙◌, ap, subst, ◌↔◌, Option, Some, Ok}
+use Rattle.std.proofs.Common.{◌≡◌, ℕ, Bool, true, false, List, length, refl, sym, ◌∙◌, ap, subst, ◌↔◌, Option, Some, Ok}
 use Rattle.std.specs.Prelude.{IsTrue, Result, zip}
 use Rattle.std.specs.List.{AllZip}
 use Rattle.pd_model.specs.Events.{Computation, Place}
@@ -9,15 +9,17 @@ use Rattle.pd_model.specs.Predicates.{test_of}
 use Rattle.pd_format.specs.Names.{ProcessNames}
 use Rattle.pd_format.specs.Readings.{Trace}
 use Rattle.pd_format.specs.Documents.{Document, NamedPredicate}
-use Rattle.pd_format.specs.Sessions.{SessionFault, session}
+use Rattle.pd_format.specs.Sessions.{SessionFault, StreamResult, session}
 use Rattle.pd_format.specs.Reports.{Possibly, Definitely, Answer, Refusal, Report, Judged, Refused, IsReport}
-use Rattle.pd_format.specs.Judgements.{RawStream, results_of, events_of_traces, recorded_of, IsTracesReport, of_messages, of_cycle, of_answers, IsReportOfSession, IsReportOfResults, IsJudgement, of_refused, of_read}
+use Rattle.pd_judgement.specs.Judgements.{RawStream, AreResultsOf, events_of_traces, recorded_of, IsTracesReport, of_messages, of_cycle, of_answers, IsReportOfSession, IsReportOfResults, IsJudgement, of_refused, of_read}
 use Rattle.pd_format.specs.OtherTexts.{by_test, Checked, NotRead, OfRefusal, OfSession, possibly_verdict, definitely_verdict}
 use Rattle.pd_format.proofs.OneReport.{one_report_of_bytes, stops_at_one_line_lem}
 use Rattle.pd_judgement.specs.Findings.{IsGoodCut, IsGoodPath, IsChecked, IsCheckedFor, IsAnswersFinding, of_other_names, of_verdicts, IsSessionOf, AreCounts, of_unread, of_refused_session, of_refusal, of_session, OneFinding}
 use Rattle.pd_judgement.proofs.DocumentsAreSingle.{one_document_lem, document_not_refused_lem}
 use Rattle.pd_judgement.proofs.MessageLists.{one_message_list}
-use Rattle.pd_judgement.proofs.ReportsAreSingle.{one_judgement, not_lawful, not_cycle}
+use Rattle.pd_judgement.proofs.ReportsAreSingle.{one_judgement, not_lawful, not_cycle, same_results_report}
+use Rattle.pd_judgement.proofs.StreamResults.{one_list_of_results_lem}
+use Rattle.pd_judgement.proofs.Zipped.{one_zipped}
 
 -- two tests of one fact agree
 same_test : {A : Type 0} (a b : Bool) → IsTrue a ↔ A → IsTrue b ↔ A → a ≡ b
@@ -58,17 +60,9 @@ one_checked names c test answer a b p q =
 one_checked_each : (document : Document) (traces : List Trace) (stands : List (NamedPredicate × Answer))
     (a b : List Checked) → AllZip (IsCheckedFor document traces) stands a
     → AllZip (IsCheckedFor document traces) stands b → a ≡ b
-one_checked_each document traces [] [] [] p q = refl
-one_checked_each document traces [] [] (y ∷ b) p q = absurd q
-one_checked_each document traces [] (x ∷ a) b p q = absurd p
-one_checked_each document traces (s ∷ stands) [] b p q = absurd p
-one_checked_each document traces (s ∷ stands) (x ∷ a) [] p q = absurd q
-one_checked_each document traces (s ∷ stands) (x ∷ a) (y ∷ b) p q =
-    let first : x ≡ y =
-    one_checked document.names (events_of_traces traces) (test_of (recorded_of document traces) s.0.predicate) s.1 x
-    y p.0 q.0 in
-    let rest : a ≡ b = one_checked_each document traces stands a b p.1 q.1 in
-    λ i. first i ∷ rest i
+one_checked_each document traces =
+    one_zipped (IsCheckedFor document traces) (λ (s : NamedPredicate × Answer). one_checked document.names
+    (events_of_traces traces) (test_of (recorded_of document traces) s.0.predicate) s.1)
 
 one_answers_finding : (document : Document) (traces : List Trace) (answers : List Answer) (a b : Option (List Checked))
     → IsAnswersFinding document traces answers a → IsAnswersFinding document traces answers b → a ≡ b
@@ -89,11 +83,15 @@ one_session : (bytes : List ℕ) (streams : List RawStream) (d e : Document) (t 
     × (n ≡ m)
 one_session bytes streams d e t u m n p q =
     let document : e ≡ d = one_document_lem bytes e d q.read p.read in
-    let joined : session d.names (length streams) (results_of d.names streams) ≡ Ok u =
-    subst (λ (x : Document). session x.names (length streams) (results_of x.names streams) ≡ Ok u) document q.joined
-    in
-    let traces : u ≡ t = same_traces (session d.names (length streams) (results_of d.names streams)) u t joined p.joined
-    in
+    let are : AreResultsOf d.names streams q.results =
+    subst (λ (x : Document). AreResultsOf x.names streams q.results) document q.are_results in
+    let results : q.results ≡ p.results =
+    one_list_of_results_lem d.names streams q.results p.results are p.are_results in
+    let joined : session d.names (length streams) q.results ≡ Ok u =
+    subst (λ (x : Document). session x.names (length streams) q.results ≡ Ok u) document q.joined in
+    let other : session d.names (length streams) q.results ≡ Ok t =
+    subst (λ (x : List StreamResult). session d.names (length streams) x ≡ Ok t) (sym results) p.joined in
+    let traces : u ≡ t = same_traces (session d.names (length streams) q.results) u t joined other in
     let messages : IsMessageList (events_of_traces t) n =
     subst (λ (x : List Trace). IsMessageList (events_of_traces x) n) traces q.are_messages in
     (document, traces, one_message_list (events_of_traces t) n m messages p.are_messages)
@@ -115,10 +113,10 @@ session_not_refused : (bytes : List ℕ) (streams : List RawStream) (refusal : R
     → IsSessionOf bytes streams document traces messages → ⊥
 session_not_refused bytes streams refusal document traces messages (of_refused fault refused reported) held =
     document_not_refused_lem bytes document fault held.read refused
-session_not_refused bytes streams refusal document traces messages (of_read other is r) held =
-    let moved : IsReportOfResults document (length streams) (results_of document.names streams) (Refused refusal) =
-    subst (λ (d : Document). IsReportOfResults d (length streams) (results_of d.names streams) (Refused refusal))
-    (one_document_lem bytes other document is held.read) r in
+session_not_refused bytes streams refusal document traces messages (of_read other others is are r) held =
+    let moved : IsReportOfResults document (length streams) held.results (Refused refusal) =
+    same_results_report bytes streams document other held.results others (Refused refusal) held.read is
+    held.are_results are r in
     let report : IsTracesReport document traces (Refused refusal) =
     subst (λ s. IsReportOfSession document s (Refused refusal)) held.joined moved in
     well_formed_not_refused document traces (Refused refusal) refusal held.formed report refl

@@ -1,4 +1,4 @@
--- Where each level is narrow no answer is unknown, and each is the truth.
+-- If each level is narrow no answer is unknown, and each is the truth.
 use Rattle.std.proofs.Common.{◌≡◌, ℕ, ◌<◌, ◌≤◌, Bool, List, [], ◌∷◌, length, map, Contains, refl, sym, ap, ◌∙◌, subst, inl, inr, ◌⊎◌, ◌↔◌, arith}
 use Rattle.std.specs.List.{AllZip}
 use Rattle.pd_model.specs.Events.{Computation, Place, Linked}
@@ -9,11 +9,11 @@ use Rattle.pd_model.specs.Observations.{IsAvoiding}
 use Rattle.pd_model.specs.Observations as observations
 use Rattle.pd_model.specs.Answers.{LexBelow, IsListOf, MoreThan, PossiblyAnswer, PossiblyYes, PossiblyNo, PossiblyUnknown, DefinitelyAnswer, DefinitelyYes, DefinitelyNo, DefinitelyUnknown, IsPossiblyAnswer, IsDefinitelyAnswer, IsFirstSatisfying, IsLeastFree, IsAvoidingObservation}
 use Rattle.pd_model.specs.Predicates.{test_of}
-use Rattle.pd_format.specs.Names.{ProcessNames}
+use Rattle.pd_format.specs.Names.{ProcessNames, name_of_process}
 use Rattle.pd_format.specs.Readings.{Trace}
 use Rattle.pd_format.specs.Documents.{Document, NamedPredicate}
 use Rattle.pd_format.specs.Reports.{Possibly, Definitely, Answer}
-use Rattle.pd_format.specs.Judgements.{name_of_process, events_of_traces, recorded_of, printed_possibly, printed_definitely, IsAnswered, of_messages, of_cycle, of_answers}
+use Rattle.pd_judgement.specs.Judgements.{events_of_traces, recorded_of, printed_possibly, printed_definitely, IsAnswered, of_messages, of_cycle, of_answers}
 use Rattle.pd_model.proofs.Decisions.{dec_list}
 use Rattle.pd_model.proofs.OneAnswer.{below_rest, ascending_rest, contains_cases, contains_later, lex_asymmetric, lex_irreflexive, definite_is_possible, cut_below_level}
 use Rattle.pd_model.proofs.Paths.{avoiding_level, path_avoids}

@@ -1,9 +1,16 @@
+-- The modules of lemmas of this crate.
+pub mod Zipped
+pub mod StreamResults
 pub mod HeadlineFacts
 pub mod HeadlineOfBundles
-pub mod OrderedKeys
-pub mod DocumentNames
+pub mod Widths
+pub mod Worked
 pub mod DocumentsAreSingle
 pub mod MessageLists
 pub mod ReportsAreSingle
 pub mod CleanFindings
 pub mod FindingsAreSingle
+pub mod Writing
+pub mod LawfulAnswers
+pub mod LawfulReports
+pub mod WellFormedReports

@@ -1,5 +1,5 @@
 -- A bundle has one report.
-use Rattle.std.proofs.Common.{◌≡◌, ℕ, List, [], ◌∷◌, length, map, refl, sym, ◌∙◌, ap, subst}
+use Rattle.std.proofs.Common.{◌≡◌, ℕ, List, [], ◌∷◌, length, map, sym, ◌∙◌, ap, subst}
 use Rattle.std.specs.Prelude.{Result, Ok, Err}
 use Rattle.std.specs.List.{AllZip}
 use Rattle.pd_model.specs.Events.{Computation, Place}
@@ -11,13 +11,16 @@ use Rattle.pd_model.proofs.OneAnswer.{one_possibly_answer, one_definitely_answer
 use Rattle.pd_model.proofs.Stuck.{one_cycle}
 use Rattle.pd_format.specs.Names.{ProcessNames}
 use Rattle.pd_format.specs.Readings.{Trace}
-use Rattle.pd_format.specs.Documents.{Document, NamedPredicate}
+use Rattle.pd_format.specs.Documents.{Document, NamedPredicate, IsDocument}
 use Rattle.pd_format.specs.Sessions.{SessionFault, StreamResult, session}
 use Rattle.pd_format.specs.Reports.{Answer, Refusal, Report, Judged, Refused, Cycle}
 use Rattle.pd_format.specs.Bundles.{parts_of}
-use Rattle.pd_format.specs.Judgements.{document_refusal, match_refusal, named_place, events_of_traces, recorded_of, printed_possibly, printed_definitely, IsAnswered, IsTracesReport, of_messages, of_cycle, of_answers, IsReportOfSession, IsReportOfResults, RawStream, results_of, IsJudgement, of_refused, of_read, ended_streams, IsReportOfParts, IsReportOfBundle}
+use Rattle.pd_judgement.specs.Judgements.{events_of_traces, recorded_of, printed_possibly, printed_definitely, IsAnswered, IsTracesReport, of_messages, of_cycle, of_answers, IsReportOfSession, IsReportOfResults, RawStream, AreResultsOf, IsJudgement, of_refused, of_read, ended_streams, IsReportOfParts, IsReportOfBundle}
+use Rattle.pd_format.specs.RefusalWords.{document_refusal, match_refusal, named_place}
 use Rattle.pd_judgement.proofs.DocumentsAreSingle.{one_document_lem, document_not_refused_lem, one_document_fault_lem}
 use Rattle.pd_judgement.proofs.MessageLists.{one_message_list}
+use Rattle.pd_judgement.proofs.StreamResults.{one_list_of_results_lem}
+use Rattle.pd_judgement.proofs.Zipped.{one_zipped}
 
 -- ---- what can't stand together
 
@@ -48,15 +51,8 @@ one_answer names recorded width asked a b p q =
 one_answer_each : (names : List ProcessNames) (recorded : Recorded) (width : ℕ) (asked : List NamedPredicate)
     (a b : List Answer)
     → AllZip (IsAnswered names recorded width) asked a → AllZip (IsAnswered names recorded width) asked b → a ≡ b
-one_answer_each names recorded width [] [] [] p q = refl
-one_answer_each names recorded width [] [] (y ∷ b) p q = absurd q
-one_answer_each names recorded width [] (x ∷ a) b p q = absurd p
-one_answer_each names recorded width (w ∷ asked) [] b p q = absurd p
-one_answer_each names recorded width (w ∷ asked) (x ∷ a) [] p q = absurd q
-one_answer_each names recorded width (w ∷ asked) (x ∷ a) (y ∷ b) p q =
-    let first : x ≡ y = one_answer names recorded width w x y p.0 q.0 in
-    let rest : a ≡ b = one_answer_each names recorded width asked a b p.1 q.1 in
-    λ i. first i ∷ rest i
+one_answer_each names recorded width =
+    one_zipped (IsAnswered names recorded width) (one_answer names recorded width)
 
 -- ---- reports
 
@@ -96,19 +92,31 @@ one_report_of_outcomes_lem document streams outcomes a b = go (session document.
     go (Err fault) p q = p ∙ sym q
     go (Ok traces) p q = one_traces_report document traces a b p q
 
+-- a report by one reading of the document and the streams is the report by any
+pub same_results_report : (bytes : List ℕ) (streams : List RawStream) (document other : Document)
+    (results others : List StreamResult) (report : Report) → IsDocument bytes document → IsDocument bytes other
+    → AreResultsOf document.names streams results → AreResultsOf other.names streams others
+    → IsReportOfResults other (length streams) others report
+    → IsReportOfResults document (length streams) results report
+same_results_report bytes streams document other results others report is is' are are' r =
+    let same : other ≡ document = one_document_lem bytes other document is' is in
+    let moved : AreResultsOf document.names streams others =
+    subst (λ (d : Document). AreResultsOf d.names streams others) same are' in
+    subst (λ (x : List StreamResult). IsReportOfResults document (length streams) x report)
+    (one_list_of_results_lem document.names streams others results moved are)
+    (subst (λ (d : Document). IsReportOfResults d (length streams) others report) same r)
+
 pub one_judgement : (bytes : List ℕ) (streams : List RawStream) (a b : Report) → IsJudgement bytes streams a
     → IsJudgement bytes streams b → a ≡ b
 one_judgement bytes streams a b (of_refused f p e) (of_refused g q e') =
     e ∙ (ap (λ fault. Refused (document_refusal fault)) (one_document_fault_lem bytes f g p q) ∙ sym e')
-one_judgement bytes streams a b (of_refused f p e) (of_read document q r) =
+one_judgement bytes streams a b (of_refused f p e) (of_read document results q are r) =
     absurd (document_not_refused_lem bytes document f q p)
-one_judgement bytes streams a b (of_read document p r) (of_refused g q e) =
+one_judgement bytes streams a b (of_read document results p are r) (of_refused g q e) =
     absurd (document_not_refused_lem bytes document g p q)
-one_judgement bytes streams a b (of_read document p r) (of_read other q s) =
-    let same : other ≡ document = one_document_lem bytes other document q p in
-    let moved : IsReportOfResults document (length streams) (results_of document.names streams) b =
-    subst (λ (d : Document). IsReportOfResults d (length streams) (results_of d.names streams) b) same s in
-    one_report_of_outcomes_lem document (length streams) (results_of document.names streams) a b r moved
+one_judgement bytes streams a b (of_read document results p are r) (of_read other others q are' s) =
+    one_report_of_outcomes_lem document (length streams) results a b r
+    (same_results_report bytes streams document other results others b p q are are' s)
 
 pub one_report_of_bundle_lem : (bytes : List ℕ) (a b : Report) → IsReportOfBundle bytes a → IsReportOfBundle bytes b
     → a ≡ b

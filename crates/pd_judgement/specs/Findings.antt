@@ -7,12 +7,12 @@ use Rattle.pd_model.specs.Order.{IsWellFormed}
 use Rattle.pd_model.specs.Cuts.{IsConsistent, total}
 use Rattle.pd_model.specs.Answers.{IsAvoidingObservation}
 use Rattle.pd_model.specs.Predicates.{test_of}
-use Rattle.pd_format.specs.Names.{ProcessNames}
+use Rattle.pd_format.specs.Names.{ProcessNames, name_of_process}
 use Rattle.pd_format.specs.Readings.{Trace}
 use Rattle.pd_format.specs.Documents.{Document, NamedPredicate, IsDocument}
-use Rattle.pd_format.specs.Sessions.{session}
+use Rattle.pd_format.specs.Sessions.{StreamResult, session}
 use Rattle.pd_format.specs.Reports.{Possibly, Definitely, Answer, Refusal, Report, Judged, Refused, IsReport, IsNoReport, spaced}
-use Rattle.pd_format.specs.Judgements.{RawStream, results_of, events_of_traces, recorded_of, name_of_process, IsJudgement}
+use Rattle.pd_judgement.specs.Judgements.{RawStream, AreResultsOf, events_of_traces, recorded_of, IsJudgement}
 use Rattle.pd_format.specs.OtherTexts.{Verdict, Good, Bad, Unchecked, Checked, Finding, NotRead, OfRefusal, OfSession, finding_lines, possibly_verdict, definitely_verdict}
 
 -- ---- evidence
@@ -28,7 +28,7 @@ pub record IsGoodPath (names : List ProcessNames) (c : Computation) (test : List
   pub named : reported ≡ map (name_of_process names) path
   pub avoids : IsAvoidingObservation c test path
 
--- the verdicts on one answer's evidence: good exactly where it shows what it is printed for
+-- the verdicts on one answer's evidence: good exactly if it shows what it is printed for
 pub record IsChecked (names : List ProcessNames) (c : Computation) (test : List ℕ
     → Bool) (answer : Answer) (checked : Checked) : Type 0 where
   pub cut_is_good : Bool
@@ -66,7 +66,9 @@ pub data IsAnswersFinding (document : Document) (traces : List Trace) (answers :
 pub record IsSessionOf (bytes : List ℕ) (streams : List RawStream) (document : Document) (traces : List Trace)
     (messages : List (Place × Place)) : Type 0 where
   pub read : IsDocument bytes document
-  pub joined : session document.names (length streams) (results_of document.names streams) ≡ Ok traces
+  pub results : List StreamResult
+  pub are_results : AreResultsOf document.names streams results
+  pub joined : session document.names (length streams) results ≡ Ok traces
   pub formed : IsWellFormed (events_of_traces traces)
   pub are_messages : IsMessageList (events_of_traces traces) messages
 
@@ -75,7 +77,7 @@ abbrev pub AreCounts : Document → List Trace → List (Place × Place) → (pr
 AreCounts document traces messages processes events matched = (processes ≡ length document.names)
     × (events ≡ total (events_of_traces traces)) × (matched ≡ length messages)
 
--- What a check of a report's bytes finds, where the document's bytes and the streams are these: the report isn't read;
+-- What a check of a report's bytes finds, if the document's bytes and the streams are these: the report isn't read;
 -- the session is refused, and the report is that refusal or not; the session is well formed, and the report is a
 -- refusal; or the report's counts and answers are judged.
 pub data IsFinding (bytes report : List ℕ) (streams : List RawStream) : Finding → Type 0 where
@@ -98,14 +100,14 @@ pub data IsFinding (bytes report : List ℕ) (streams : List RawStream) : Findin
 abbrev pub EndsBad : List ℕ → Type 0
 EndsBad line = (prefix : List ℕ) × (line ≡ prefix ++ codes " bad")
 
--- the line tells that the report isn't read
-abbrev pub TellsUnread : List ℕ → Type 0
-TellsUnread line = (number : ℕ) × (line ≡ spaced (codes "report" ∷ codes "line" ∷ decimal number ∷ []))
+-- the line says that the report isn't read
+abbrev pub SaysUnread : List ℕ → Type 0
+SaysUnread line = (number : ℕ) × (line ≡ spaced (codes "report" ∷ codes "line" ∷ decimal number ∷ []))
 
 abbrev pub IsCleanLine : List ℕ → Type 0
-IsCleanLine line = (¬ EndsBad line) × (¬ TellsUnread line)
+IsCleanLine line = (¬ EndsBad line) × (¬ SaysUnread line)
 
--- no line of the finding's text ends with the word `bad`, and none tells that the report isn't read
+-- no line of the finding's text ends with the word `bad`, and none says that the report isn't read
 abbrev pub IsClean : Finding → Type 0
 IsClean finding = All IsCleanLine (finding_lines finding)
 
@@ -124,7 +126,7 @@ is_clean (OfRefusal good) = good
 is_clean (OfSession good None) = false
 is_clean (OfSession good (Some verdicts)) = good && not (list_any has_bad verdicts)
 
--- it is so exactly where its text says so
+-- it is so exactly if its text says so
 abbrev pub CleanIsClean : Type 0
 CleanIsClean = (finding : Finding) → IsTrue (is_clean finding) ↔ IsClean finding
 

@@ -1,29 +1,39 @@
--- What a report says of the computation after it, in the words of cuts and observations: where each level is narrow no
+-- What a report says of the computation after it, in the words of cuts and observations: if each level is narrow no
 -- answer is unknown, and each is the truth.
-use Rattle.std.specs.Prelude.{◌≡◌, ℕ, ◌≤◌, Bool, true, ◌↔◌, List, ◌∷◌, length, map, sum, Ok}
+use Rattle.std.specs.Prelude.{◌≡◌, ℕ, ◌≤◌, Bool, true, ◌⊎◌, ◌↔◌, List, ◌∷◌, length, map, sum, Ok}
 use Rattle.std.specs.List.{AllZip}
 use Rattle.pd_model.specs.Events.{Computation, Place}
 use Rattle.pd_model.specs.Messages.{IsMessageList}
 use Rattle.pd_model.specs.Order.{IsWellFormed}
 use Rattle.pd_model.specs.Cuts.{IsConsistent, IsOfLevel, total}
 use Rattle.pd_model.specs.Observations as observations
-use Rattle.pd_model.specs.Answers.{IsListOf, IsAvoidingObservation}
+use Rattle.pd_model.specs.Answers.{IsListOf, MoreThan, IsAvoidingObservation}
 use Rattle.pd_model.specs.Predicates.{test_of}
-use Rattle.pd_format.specs.Names.{ProcessNames}
+use Rattle.pd_format.specs.Names.{ProcessNames, name_of_process}
 use Rattle.pd_format.specs.Readings.{Trace}
 use Rattle.pd_format.specs.Documents.{Document, NamedPredicate, IsDocument}
-use Rattle.pd_format.specs.Sessions.{session}
+use Rattle.pd_format.specs.Sessions.{StreamResult, session}
 use Rattle.pd_format.specs.Reports.{Possibly, Definitely, Answer, Report, Judged}
 use Rattle.pd_format.specs.Bundles.{parts_of}
-use Rattle.pd_format.specs.Judgements.{name_of_process, events_of_traces, recorded_of, IsTracesReport, ended_streams, results_of, IsReportOfBundle}
+use Rattle.pd_judgement.specs.Judgements.{events_of_traces, recorded_of, IsTracesReport, ended_streams, AreResultsOf, IsReportOfBundle}
 
 -- no level has more cuts than the width: the list of all its cuts is no longer
 abbrev pub IsNarrow : Computation → ℕ → Type 0
 IsNarrow c width = (k : ℕ) → (cuts : List (List ℕ)) × IsListOf (IsOfLevel c k) cuts × (length cuts ≤ width)
 
--- The answer is the truth about the test of cuts: Possibly is yes exactly where some consistent cut satisfies, and no
--- exactly where none does; Definitely is yes exactly where every observation passes through such a cut, and no exactly
--- where not all do.
+-- some level has more cuts than the width
+abbrev pub IsTooWide : Computation → ℕ → Type 0
+IsTooWide c width = (k : ℕ) × MoreThan width (IsOfLevel c k)
+
+-- A computation is narrow or too wide, and never both.
+abbrev pub NarrowOrTooWide : Type 0
+NarrowOrTooWide =
+    (c : Computation) (width : ℕ) → (IsNarrow c width ⊎ IsTooWide c width)
+    × (IsNarrow c width → IsTooWide c width → ⊥)
+
+-- The answer is the truth about the test of cuts: Possibly is yes exactly if some consistent cut satisfies, and no
+-- exactly if none does; Definitely is yes exactly if every observation passes through such a cut, and no exactly
+-- if not all do.
 pub record SaysTruly (names : List ProcessNames) (c : Computation) (test : List ℕ → Bool) (answer : Answer) :
     Type 0 where
   pub possibly_yes : ((cut : List ℕ) × (answer.possibly ≡ Possibly.Yes cut)) ↔ observations.Possibly c test
@@ -57,7 +67,7 @@ pub record TellsTruth (document : Document) (traces : List Trace) (report : Repo
   pub are_messages : IsMessageList (events_of_traces traces) messages
   pub truly : AllZip (AnswersTruly document traces) document.predicates answers
 
--- A report of traces that make a well-formed computation with no level over the width tells the truth.
+-- A report of traces that make a well-formed computation with no level over the width says the truth.
 abbrev pub Headline : Type 0
 Headline =
     (document : Document) (traces : List Trace) (report : Report) → IsWellFormed (events_of_traces traces)
@@ -70,9 +80,11 @@ pub record HoldsSession (bytes : List ℕ) (document : Document) (traces : List 
   pub streams : List (List ℕ)
   pub parts : parts_of bytes ≡ first ∷ streams
   pub read : IsDocument first document
-  pub joined : session document.names (length streams) (results_of document.names (ended_streams streams)) ≡ Ok traces
+  pub results : List StreamResult
+  pub are_results : AreResultsOf document.names (ended_streams streams) results
+  pub joined : session document.names (length streams) results ≡ Ok traces
 
--- The report of a bundle whose session is well formed, with no level over the width, tells the truth.
+-- The report of a bundle whose session is well formed, with no level over the width, says the truth.
 abbrev pub HeadlineOfBundle : Type 0
 HeadlineOfBundle =
     (bytes : List ℕ) (document : Document) (traces : List Trace) (report : Report) → HoldsSession bytes document traces

@@ -3,7 +3,7 @@ use Rattle.std.specs.Prelude.{◌≡◌, ℕ, List}
 use Rattle.pd_format.specs.Documents.{Document, DocumentFault, IsDocument, IsRefusedDocument}
 use Rattle.pd_format.specs.Sessions.{StreamResult}
 use Rattle.pd_format.specs.Reports.{Answer, Refusal, Report, Judged, Refused}
-use Rattle.pd_format.specs.Judgements.{IsReportOfResults, IsReportOfBundle}
+use Rattle.pd_judgement.specs.Judgements.{IsReportOfResults, IsReportOfBundle}
 
 -- bytes are one document
 abbrev pub OneDocument : Type 0

@@ -4,7 +4,7 @@ use Rattle.std.specs.List.{AllZip}
 use Rattle.std.specs.Io.KnownBytes.{Appends, Keeps}
 use Rattle.pd_model.specs.Order.{IsWellFormed}
 use Rattle.pd_format.specs.Documents.{Document}
-use Rattle.pd_format.specs.Judgements.{RawStream, IsReportOfBundle, events_of_traces}
+use Rattle.pd_judgement.specs.Judgements.{RawStream, IsReportOfBundle, events_of_traces}
 use Rattle.pd_format.specs.OtherTexts.{Finding, check_text}
 use Rattle.pd_format.specs.Readings.{Trace, Open, Ended}
 use Rattle.pd_format.specs.Reports.{Report, Judged, Refused, report_text}
@@ -22,8 +22,8 @@ pub data CallEnd : Type 0 where
   -- the call ended before it wrote anything
   Silent : CallEnd
 
--- What a call leaves on its output that owes a text of which this holds, by how far it came. The bytes of the output before
--- the call and after it are known or not; where they aren't, nothing is said of them.
+-- What a call leaves on its output that owes a text of which this holds, by how far it came. The bytes of the output
+-- before the call and after it are known or not; if they aren't, nothing is said of them.
 abbrev pub Writes : (IsOwed : List ℕ → Type 0) → CallEnd → (old new : Option (List ℕ)) → Type 0
 Writes IsOwed Whole old new = (text : List ℕ) × IsOwed text × Appends old new text
 Writes IsOwed Partial old new =
@@ -32,8 +32,8 @@ Writes IsOwed Silent old new = Keeps old new
 
 -- ---- what readers give
 
--- A reader gave all bytes that it had left, to its end; or a prefix of them, and then a read failed, or the reading stopped
--- at the stream's end line or its fault.
+-- A reader gave all bytes that it had left, to its end; or a prefix of them, and then a read failed, or the reading
+-- stopped at the stream's end line or its fault.
 pub record IsGivenBy (input : Option (List ℕ)) (given : RawStream) : Type 0 where
   pub stopped : given.ending ≢ Open
   pub prefix : IfSome input (λ bytes. (rest : List ℕ) × (bytes ≡ given.bytes ++ rest))
@@ -53,10 +53,10 @@ pub record IsReportTextOf (bundle : List ℕ) (judged : Option Bool) (text : Lis
   pub said : IfSome judged (λ judged. is_judged report ≡ judged)
   pub is_text : text ≡ report_text report
 
--- The text of what a check finds by a document's bytes, a report's bytes and the streams of readers with so much left; it
+-- The text of what a check finds by a document's bytes, a report's bytes and the streams of readers with this left. It
 -- has nothing bad in it exactly if that is said, if anything is said of it.
-pub record IsFindingTextOf (document report : List ℕ) (inputs : List (Option (List ℕ))) (good : Option Bool) (text : List ℕ)
-    : Type 0 where
+pub record IsFindingTextOf (document report : List ℕ) (inputs : List (Option (List ℕ))) (good : Option Bool)
+    (text : List ℕ) : Type 0 where
   pub streams : List RawStream
   pub are_given : AllZip IsGivenBy inputs streams
   pub finding : Finding
@@ -72,8 +72,8 @@ pub record IsTrueText (document : Document) (traces : List Trace) (text : List �
   pub truth : TellsTruth document traces report
   pub is_text : text ≡ report_text report
 
--- Where a bundle holds a well-formed session with no level over the width, what is written is the text of a report that says
--- the truth about each predicate.
+-- If a bundle holds a well-formed session with no level over the width, what is written is the text of a report that
+-- says the truth about each predicate.
 abbrev pub WritesTruth : List ℕ → (old new : Option (List ℕ)) → Type 0
 WritesTruth bundle old new =
     (document : Document) (traces : List Trace) → HoldsSession bundle document traces

@@ -1,13 +1,16 @@
 //! Laws of the judgement. A bundle has at most one report: bytes are at most one document, or are refused with one
-//! fault, and never both; a document and what its streams tell have at most one report. And a report of a computation
+//! fault, and never both; a document and what its streams report have at most one report. And a report of a computation
 //! of which no level is over the width says the truth of each predicate. A check finds at most one thing, which is
-//! clean exactly where its text tells of nothing bad and of no report that isn't read. The definitions stand in
-//! `pd_format`, and the statements in `specs/`. Each function here has no code: its contract is a law, which is proved
+//! clean exactly if no line of its text says that something is bad, or that the report isn't read. The definitions and
+//! the statements stand in `specs/`. Each function here has no code: its contract is a law, which is proved
 //! for all bytes.
 #![tactic(auto)]
 
 ghost use Rattle.pd_judgement.specs.Findings.{CleanIsClean, OneFinding};
-ghost use Rattle.pd_judgement.specs.Headline.{Headline, HeadlineOfBundle};
+ghost use Rattle.pd_judgement.specs.Examples.{OneCutALevel, OneTrueReport};
+ghost use Rattle.pd_judgement.specs.Headline.{NarrowOrTooWide, Headline, HeadlineOfBundle};
+ghost use Rattle.pd_judgement.specs.StreamResults.{EndedHaveResults, OneListOfResults};
+ghost use Rattle.pd_judgement.specs.LawfulReports.{JudgementIsLawful, ReportIsLawful};
 ghost use Rattle.pd_judgement.specs.OneReport.{
   OneDocument,
   DocumentNotRefused,
@@ -24,6 +27,16 @@ pub fn one_document()
     ensures fault { OneDocumentFault }
 {}
 
+/// Streams that have ended have results: each a trace or a fault, in its place.
+pub fn ended_streams_have_results()
+    ensures { EndedHaveResults }
+{}
+
+/// Streams have at most one list of results.
+pub fn one_list_of_results()
+    ensures { OneListOfResults }
+{}
+
 /// A document and the outcomes of its streams have one report.
 pub fn one_report_of_results()
     ensures { OneReportOfResults }
@@ -33,6 +46,23 @@ pub fn one_report_of_results()
 pub fn one_report_of_bundle()
     ensures single { OneReportOfBundle }
     ensures judged_or_refused { NotJudgedAndRefused }
+{}
+
+/// What is the report of a bundle, or of a document and streams, is lawful: a reader takes it from its text.
+pub fn report_is_lawful()
+    ensures judgement { JudgementIsLawful }
+    ensures bundle { ReportIsLawful }
+{}
+
+/// A computation is narrow, or some level is too wide, and never both.
+pub fn narrow_or_too_wide()
+    ensures { NarrowOrTooWide }
+{}
+
+/// The definitions, tried on a small computation.
+pub fn examples()
+    ensures narrow { OneCutALevel }
+    ensures truth { OneTrueReport }
 {}
 
 /// A report of a narrow computation says the truth of each predicate: whether some consistent cut satisfies it, and
@@ -46,7 +76,7 @@ pub fn headline_of_bundle()
     ensures { HeadlineOfBundle }
 {}
 
-/// A finding is clean exactly where no line of its text ends with the word `bad`, and none tells that the report isn't
+/// A finding is clean exactly if no line of its text ends with the word `bad`, and none says that the report isn't
 /// read.
 pub fn clean_is_clean()
     ensures { CleanIsClean }

@@ -3,11 +3,11 @@ use Rattle.std.proofs.Common.{◌≡◌, ℕ, zero, suc, ◌+◌, ◌^◌, ◌<�
 use Rattle.std.specs.Prelude.{slice_set}
 use Rattle.std.specs.Bool.{beq}
 use Rattle.std.proofs.lemmas.List.{drop_more, take_more_set, drop-set-lt, drop-drop, drop_all, get_or-drop, length-set}
-use Rattle.pd_level.specs.Keys.{Ascending, AreKeys}
+use Rattle.pd_level.specs.Keys.{count_base, Ascending, AreKeys}
 use Rattle.pd_level.specs.Levels.{kept_by}
 use Rattle.pd_level.proofs.Merges.{contains_at, contains_get}
 
--- So far: the first i marks are read, and so many of the keys kept. The keys from i on are as they were, and what is
+-- So far: the first i marks are read, and `kept` of the keys kept. The keys from i on are as they were, and what is
 -- kept of them comes after what is kept already.
 pub record IsKeptSo (wanted : Bool) (marks : List Bool) (old keys : List ℕ) (i kept : ℕ) : Type 0 where
   pub same : length keys ≡ length old
@@ -83,7 +83,7 @@ pass_one wanted marks old keys i kept one_each lt unmarked so = record {
         ∙ ap (λ (b : Bool). cond b (get_or old i 0 ∷ kept_by wanted (drop (i + 1) marks) (drop (i + 1) old))
         (kept_by wanted (drop (i + 1) marks) (drop (i + 1) old))) unmarked
 
--- once all marks are read, what is kept stands in prefix
+-- once all marks are read, what is kept stands first
 pub all_read : (wanted : Bool) (marks : List Bool) (old keys : List ℕ) (i kept : ℕ) → length marks ≤ i
     → IsKeptSo wanted marks old keys i kept → take kept keys ≡ kept_by wanted marks old
 all_read wanted marks old keys i kept le so =
@@ -154,6 +154,6 @@ kept_keys n wanted marks keys are = record {
       contains_at keys (get_or (kept_by wanted marks keys) i 0)
       (kept_there wanted marks keys (get_or (kept_by wanted marks keys) i 0)
       (contains_get (kept_by wanted marks keys) i lt)) in
-      subst (λ (x : ℕ). x < 65536 ^ n) w.2 (are.below w.0 w.1);
+      subst (λ (x : ℕ). x < count_base ^ n) w.2 (are.below w.0 w.1);
   ascending = kept_ascend wanted marks keys are.ascending;
 }

@@ -7,10 +7,11 @@ use Rattle.std.specs.List.Sorted.{IsBinarySearchResult}
 use Rattle.std.proofs.lemmas.Bool.{cases_lt, false≢true}
 use Rattle.std.proofs.lemmas.List.Sorted.{searched}
 use Rattle.std.proofs.lemmas.List.{length-map, get_or-map}
+use Rattle.pd_format.specs.Limits.{event_limit}
 use Rattle.pd_model.specs.Events.{Computation, Linked, event_count}
 use Rattle.pd_model.specs.Cuts.{IsConsistent, IsNextOf, one_more}
 use Rattle.pd_model.specs.Answers.{LexBelow, IsListOf}
-use Rattle.pd_level.specs.Keys.{key_of, digits, AreDigits, Ascending, AreKeys, AreCuts, IsMoreBy}
+use Rattle.pd_level.specs.Keys.{count_base, key_of, digits, AreDigits, Ascending, AreKeys, AreCuts, IsMoreBy}
 use Rattle.pd_level.specs.Levels.{cuts_of, IsKept}
 use Rattle.pd_level.proofs.Keys.{get_or_same, digits-key, key-digits, digits_are, length-digits, lex-digits, weight_pos}
 use Rattle.pd_level.proofs.Merges.{contains_at}
@@ -85,7 +86,8 @@ pub are_cuts : (c : Computation) (n : ℕ) (keys : List ℕ) → AreKeys n keys 
     → AreCuts c keys
 are_cuts c n keys are all = record {
   are_keys = record {
-    below = λ i lt. subst (λ (m : ℕ). get_or keys i 0 < 65536 ^ m) (process_count c n keys i all lt) (are.below i lt);
+    below = λ i lt. subst (λ (m : ℕ). get_or keys i 0 < count_base ^ m) (process_count c n keys i all lt)
+        (are.below i lt);
     ascending = are.ascending;
   };
   consistent = λ i lt.
@@ -96,15 +98,15 @@ are_cuts c n keys are all = record {
 }
 
 -- the next keys
-pub next_keys : (c : Computation) (keys next : List ℕ) → ((q : ℕ) → event_count c q ≤ 10000) → Ascending next
+pub next_keys : (c : Computation) (keys next : List ℕ) → ((q : ℕ) → event_count c q ≤ event_limit) → Ascending next
     → ((x : ℕ) → Contains next x ↔ ((p : ℕ) × (p < length c) × IsMoreBy c keys p x)) → AreKeys (length c) next
 next_keys c keys next small asc just = record {
   below = λ i lt.
       let w : (p : ℕ) × (p < length c) × IsMoreBy c keys p (get_or next i 0) =
       (just (get_or next i 0)).0 (i, lt, got next i (get_or next i 0) lt) in
-      let below : key_of (one_more (digits (length c) w.2.0) w.0) < 65536 ^ length c =
+      let below : key_of (one_more (digits (length c) w.2.0) w.0) < count_base ^ length c =
       cut_below c (one_more (digits (length c) w.2.0) w.0) small w.2.2 in
-      subst (λ (x : ℕ). x < 65536 ^ length c) (sym w.2.3) below;
+      subst (λ (x : ℕ). x < count_base ^ length c) (sym w.2.3) below;
   ascending = asc;
 }
   where
@@ -114,7 +116,7 @@ next_keys c keys next small asc just = record {
     got (x ∷ xs) (suc i) d lt = got xs i d (omega arith)
 
 -- and their cuts are those of the next level
-pub next_list : (c : Computation) (n : ℕ) (keys next : List ℕ) → ((q : ℕ) → event_count c q ≤ 10000)
+pub next_list : (c : Computation) (n : ℕ) (keys next : List ℕ) → ((q : ℕ) → event_count c q ≤ event_limit)
     → All (IsConsistent c) (cuts_of n keys) → AreKeys (length c) next
     → ((x : ℕ) → Contains next x ↔ ((p : ℕ) × (p < length c) × IsMoreBy c keys p x))
     → IsListOf (IsNextOf c (cuts_of n keys)) (cuts_of (length c) next)
@@ -168,11 +170,11 @@ first_kept n few = record {
   are_keys = record { below = go; ascending = λ i j lt in_. absurd (omega arith) };
 }
   where
-    go : (i : ℕ) → i < 1 → get_or {A = ℕ} (0 ∷ []) i 0 < 65536 ^ n
+    go : (i : ℕ) → i < 1 → get_or {A = ℕ} (0 ∷ []) i 0 < count_base ^ n
     go zero lt = weight_pos n
     go (suc i) lt = absurd (omega arith)
 
--- a cut is there where its key is
+-- a cut is there if its key is
 pub contains_key : (n : ℕ) (keys counts : List ℕ) (key : ℕ) → AreKeys n keys → length counts ≡ n → AreDigits counts
     → key ≡ key_of counts → Contains (cuts_of n keys) counts ↔ Contains keys key
 contains_key n keys counts key are many small is = (to, from)
@@ -181,7 +183,7 @@ contains_key n keys counts key are many small is = (to, from)
     to has =
         let w : (other : ℕ) × Contains keys other × (digits n other ≡ counts) = contains_cuts n keys counts has in
         let at : (i : ℕ) × (i < length keys) × (get_or keys i 0 ≡ w.0) = contains_at keys w.0 w.1 in
-        let below : w.0 < 65536 ^ n = subst (λ (x : ℕ). x < 65536 ^ n) at.2 (are.below at.0 at.1) in
+        let below : w.0 < count_base ^ n = subst (λ (x : ℕ). x < count_base ^ n) at.2 (are.below at.0 at.1) in
         subst (λ (x : ℕ). Contains keys x) (sym (key-digits n w.0 below) ∙ (ap key_of w.2 ∙ sym is)) w.1
 
     from : Contains keys key → Contains (cuts_of n keys) counts
@@ -200,7 +202,7 @@ pub contains_small : (n : ℕ) (keys counts : List ℕ) → AreKeys n keys → C
 contains_small n keys counts are has =
     let w : (key : ℕ) × Contains keys key × (digits n key ≡ counts) = contains_cuts n keys counts has in
     let at : (i : ℕ) × (i < length keys) × (get_or keys i 0 ≡ w.0) = contains_at keys w.0 w.1 in
-    let below : w.0 < 65536 ^ n = subst (λ (x : ℕ). x < 65536 ^ n) at.2 (are.below at.0 at.1) in
+    let below : w.0 < count_base ^ n = subst (λ (x : ℕ). x < count_base ^ n) at.2 (are.below at.0 at.1) in
     subst AreDigits w.2 (digits_are n w.0 below)
 
 -- what a search among ascending keys answers

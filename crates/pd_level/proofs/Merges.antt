@@ -206,7 +206,7 @@ take_both left i right j both m asc_left asc_right in_left in_right same = recor
         go (inl old) = inl ((m.just x).1 (inr old))
         go (inr e) = inr (same ∙ e)
 
--- the rest of the one list, where nothing is left of it or of the other
+-- the rest of the one list, if nothing is left of it or of the other
 pub rest_left : (left : List ℕ) (i : ℕ) (right : List ℕ) (j : ℕ) (both : List ℕ) → IsMerged left i right j both
     → Ascending left → (length left ≤ i) ⊎ (length right ≤ j)
     → IsMerged left (length left) right j (both ++ drop i left)

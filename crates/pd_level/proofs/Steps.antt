@@ -1,47 +1,49 @@
 -- The cuts that one more event makes.
 use Rattle.std.proofs.Common.{◌≡◌, ℕ, ◌+◌, ◌-◌, ◌^◌, ◌<◌, ◌≤◌, List, [], ◌∷◌, ◌++◌, length, get_or, take, Contains, refl, sym, ap, ◌∙◌, subst, inl, inr, ◌⊎◌, ◌↔◌, arith}
 use Rattle.std.proofs.lemmas.Bool.{cases_lt}
+use Rattle.pd_format.specs.Limits.{event_limit}
 use Rattle.pd_model.specs.Events.{Computation, event_count}
 use Rattle.pd_model.specs.Cuts.{IsConsistent, one_more}
-use Rattle.pd_level.specs.Keys.{key_of, digits, AreDigits, Ascending, AreCuts, IsMoreBy}
+use Rattle.pd_level.specs.Keys.{count_base, key_of, digits, AreDigits, Ascending, AreCuts, IsMoreBy}
 use Rattle.pd_level.proofs.Keys.{more_is, get_or_same, key_below, weight_le}
 use Rattle.pd_level.proofs.Merges.{prefix_more, push_iff, ascending_push}
 
 -- consistent counts are digits
-pub cut_digits : (c : Computation) (cut : List ℕ) → ((q : ℕ) → event_count c q ≤ 10000) → IsConsistent c cut
+pub cut_digits : (c : Computation) (cut : List ℕ) → ((q : ℕ) → event_count c q ≤ event_limit) → IsConsistent c cut
     → AreDigits cut
 cut_digits c cut small ok k d lt =
     let same : get_or cut k d ≡ get_or cut k 0 = get_or_same cut k d 0 lt in
     let within : get_or cut k 0 ≤ event_count c k = ok.fits.within k in
-    let few : event_count c k ≤ 10000 = small k in
+    let few : event_count c k ≤ event_limit = small k in
     omega arith
 
 -- and their number has as many digits as there are processes
-pub cut_below : (c : Computation) (cut : List ℕ) → ((q : ℕ) → event_count c q ≤ 10000) → IsConsistent c cut
-    → key_of cut < 65536 ^ length c
+pub cut_below : (c : Computation) (cut : List ℕ) → ((q : ℕ) → event_count c q ≤ event_limit) → IsConsistent c cut
+    → key_of cut < count_base ^ length c
 cut_below c cut small ok =
-    subst (λ (n : ℕ). key_of cut < 65536 ^ n) ok.fits.one_each (key_below cut (cut_digits c cut small ok))
+    subst (λ (n : ℕ). key_of cut < count_base ^ n) ok.fits.one_each (key_below cut (cut_digits c cut small ok))
 
 -- so far: the cuts made of the first i, all before what the later ones make
 pub record IsMoreSo (c : Computation) (keys : List ℕ) (p i : ℕ) (more : List ℕ) : Type 0 where
   pub ascending : Ascending more
   pub just : (x : ℕ) → Contains more x ↔ IsMoreBy c (take i keys) p x
-  pub later : (x : ℕ) → Contains more x → i < length keys → x < get_or keys i 0 + 65536 ^ (length c - 1 - p)
+  pub later : (x : ℕ) → Contains more x → i < length keys → x < get_or keys i 0 + count_base ^ (length c - 1 - p)
 
 -- the cut made of the key at i
 abbrev pub MakesCut : Computation → List ℕ → ℕ → ℕ → Type 0
 MakesCut c keys p i = IsConsistent c (one_more (digits (length c) (get_or keys i 0)) p)
 
 -- the number of the cut that is made fits
-pub room : (c : Computation) (keys : List ℕ) (p i : ℕ) → ((q : ℕ) → event_count c q ≤ 10000) → AreCuts c keys
-    → p < length c → length c ≤ 8 → i < length keys → MakesCut c keys p i → get_or keys i 0 + 65536 ^ (length c - 1 - p)
-    < 65536 ^ 8
+pub room : (c : Computation) (keys : List ℕ) (p i : ℕ) → ((q : ℕ) → event_count c q ≤ event_limit) → AreCuts c keys
+    → p < length c → length c ≤ 8 → i < length keys → MakesCut c keys p i
+    → get_or keys i 0 + count_base ^ (length c - 1 - p)
+    < count_base ^ 8
 room c keys p i small cuts within few lt makes =
     let made : key_of (one_more (digits (length c) (get_or keys i 0)) p) ≡ get_or keys i 0
-    + 65536 ^ (length c - 1 - p) = more_is (length c) (get_or keys i 0) p within (cuts.are_keys.below i lt) in
-    let below : key_of (one_more (digits (length c) (get_or keys i 0)) p) < 65536 ^ length c =
+    + count_base ^ (length c - 1 - p) = more_is (length c) (get_or keys i 0) p within (cuts.are_keys.below i lt) in
+    let below : key_of (one_more (digits (length c) (get_or keys i 0)) p) < count_base ^ length c =
     cut_below c (one_more (digits (length c) (get_or keys i 0)) p) small makes in
-    let most : 65536 ^ length c ≤ 65536 ^ 8 = weight_le (length c) 8 few in
+    let most : count_base ^ length c ≤ count_base ^ 8 = weight_le (length c) 8 few in
     omega arith
 
 pub step_no : (c : Computation) (keys : List ℕ) (p i : ℕ) (more : List ℕ) → AreCuts c keys → i < length keys
@@ -50,7 +52,7 @@ step_no c keys p i more cuts lt fails m = record {
   ascending = m.ascending;
   just = λ x. (λ has. to x ((m.just x).0 has), λ w. (m.just x).1 (from x w));
   later = λ x has next.
-      let before : x < get_or keys i 0 + 65536 ^ (length c - 1 - p) = m.later x has lt in
+      let before : x < get_or keys i 0 + count_base ^ (length c - 1 - p) = m.later x has lt in
       let up : get_or keys i 0 < get_or keys (i + 1) 0 = cuts.are_keys.ascending i (i + 1) (omega arith) next in
       omega arith;
 }
@@ -68,28 +70,29 @@ step_no c keys p i more cuts lt fails m = record {
 
 pub step_yes : (c : Computation) (keys : List ℕ) (p i : ℕ) (more : List ℕ) → AreCuts c keys → p < length c
     → i < length keys → MakesCut c keys p i → IsMoreSo c keys p i more
-    → IsMoreSo c keys p (i + 1) (more ++ (get_or keys i 0 + 65536 ^ (length c - 1 - p)) ∷ [])
+    → IsMoreSo c keys p (i + 1) (more ++ (get_or keys i 0 + count_base ^ (length c - 1 - p)) ∷ [])
 step_yes c keys p i more cuts within lt makes m = record {
   ascending =
-      ascending_push more (get_or keys i 0 + 65536 ^ (length c - 1 - p)) m.ascending (λ x has. m.later x has lt);
+      ascending_push more (get_or keys i 0 + count_base ^ (length c - 1 - p)) m.ascending (λ x has. m.later x has lt);
   just = λ x. (
-    λ has. to x ((push_iff more (get_or keys i 0 + 65536 ^ (length c - 1 - p)) x).0 has),
-    λ w. (push_iff more (get_or keys i 0 + 65536 ^ (length c - 1 - p)) x).1 (from x w),
+    λ has. to x ((push_iff more (get_or keys i 0 + count_base ^ (length c - 1 - p)) x).0 has),
+    λ w. (push_iff more (get_or keys i 0 + count_base ^ (length c - 1 - p)) x).1 (from x w),
   );
   later = λ x has next. after x (cuts.are_keys.ascending i (i + 1) (omega arith) next)
-      ((push_iff more (get_or keys i 0 + 65536 ^ (length c - 1 - p)) x).0 has);
+      ((push_iff more (get_or keys i 0 + count_base ^ (length c - 1 - p)) x).0 has);
 }
   where
-    made : key_of (one_more (digits (length c) (get_or keys i 0)) p) ≡ get_or keys i 0 + 65536 ^ (length c - 1 - p)
+    made : key_of (one_more (digits (length c) (get_or keys i 0)) p) ≡ get_or keys i 0 + count_base ^ (length c - 1 - p)
     made = more_is (length c) (get_or keys i 0) p within (cuts.are_keys.below i lt)
 
     after : (x : ℕ) → get_or keys i 0 < get_or keys (i + 1) 0 → Contains more x
-        ⊎ (get_or keys i 0 + 65536 ^ (length c - 1 - p) ≡ x) → x < get_or keys (i + 1) 0 + 65536 ^ (length c - 1 - p)
-    after x up (inl old) = let before : x < get_or keys i 0 + 65536 ^ (length c - 1 - p) = m.later x old lt in
+        ⊎ (get_or keys i 0 + count_base ^ (length c - 1 - p) ≡ x)
+        → x < get_or keys (i + 1) 0 + count_base ^ (length c - 1 - p)
+    after x up (inl old) = let before : x < get_or keys i 0 + count_base ^ (length c - 1 - p) = m.later x old lt in
         omega arith
     after x up (inr e) = omega arith
 
-    to : (x : ℕ) → Contains more x ⊎ (get_or keys i 0 + 65536 ^ (length c - 1 - p) ≡ x)
+    to : (x : ℕ) → Contains more x ⊎ (get_or keys i 0 + count_base ^ (length c - 1 - p) ≡ x)
         → IsMoreBy c (take (i + 1) keys) p x
     to x (inl old) =
         let w : IsMoreBy c (take i keys) p x = (m.just x).0 old in
@@ -97,11 +100,11 @@ step_yes c keys p i more cuts within lt makes m = record {
     to x (inr e) = (get_or keys i 0, (prefix_more keys i (get_or keys i 0) lt).1 (inr refl), makes, sym e ∙ sym made)
 
     from : (x : ℕ) → IsMoreBy c (take (i + 1) keys) p x → Contains more x
-        ⊎ (get_or keys i 0 + 65536 ^ (length c - 1 - p) ≡ x)
+        ⊎ (get_or keys i 0 + count_base ^ (length c - 1 - p) ≡ x)
     from x w = go ((prefix_more keys i w.0 lt).0 w.1)
       where
         go : Contains (take i keys) w.0 ⊎ (get_or keys i 0 ≡ w.0) → Contains more x
-            ⊎ (get_or keys i 0 + 65536 ^ (length c - 1 - p) ≡ x)
+            ⊎ (get_or keys i 0 + count_base ^ (length c - 1 - p) ≡ x)
         go (inl old) = inl ((m.just x).1 (w.0, old, w.2, w.3))
         go (inr e) = inr (sym made ∙ (ap (λ (key : ℕ). key_of (one_more (digits (length c) key) p)) e ∙ sym w.3))
 

@@ -1,21 +1,25 @@
--- Counts below 65536, one for each process, as the digits of one number: the count of process 0 is the highest digit.
+-- Counts below the base, one for each process, as the digits of one number. The count of process 0 is the highest.
 use Rattle.std.specs.Prelude.{◌≡◌, ℕ, zero, suc, ◌+◌, ◌*◌, ◌/◌, ◌%◌, ◌^◌, ◌<◌, List, [], ◌∷◌, length, slice_index, All, Contains, Option, Some, None}
 use Rattle.pd_model.specs.Events.{Computation}
 use Rattle.pd_model.specs.Cuts.{IsConsistent, one_more}
 
+-- the base of the digits: a count is one digit
+abbrev pub count_base : ℕ
+count_base = 65536
+
 -- the number with these digits
 abbrev pub key_of : List ℕ → ℕ
 key_of [] = 0
-key_of (x ∷ xs) = x * 65536 ^ length xs + key_of xs
+key_of (x ∷ xs) = x * count_base ^ length xs + key_of xs
 
--- so many digits of a number
+-- the last n digits of a number
 abbrev pub digits : ℕ → ℕ → List ℕ
 digits zero key = []
-digits (suc n) key = (key / 65536 ^ n) ∷ digits n (key % 65536 ^ n)
+digits (suc n) key = (key / count_base ^ n) ∷ digits n (key % count_base ^ n)
 
--- each is below 65536
+-- each is below the base
 abbrev pub AreDigits : List ℕ → Type 0
-AreDigits counts = All (λ count. count < 65536) counts
+AreDigits counts = All (λ count. count < count_base) counts
 
 -- the number with these digits, if they are digits
 abbrev pub IsPacked : List ℕ → Option ℕ → Type 0
@@ -26,9 +30,9 @@ IsPacked counts (Some key) = AreDigits counts × (key ≡ key_of counts)
 abbrev pub Ascending : List ℕ → Type 0
 Ascending xs = (i j : ℕ) → i < j → j < length xs → slice_index xs i < slice_index xs j
 
--- ascending numbers of so many digits
+-- ascending numbers of n digits
 pub record AreKeys (n : ℕ) (keys : List ℕ) : Type 0 where
-  pub below : (i : ℕ) → i < length keys → slice_index keys i < 65536 ^ n
+  pub below : (i : ℕ) → i < length keys → slice_index keys i < count_base ^ n
   pub ascending : Ascending keys
 
 -- ascending numbers whose digits are cuts

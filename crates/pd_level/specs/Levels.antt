@@ -1,6 +1,7 @@
 -- What a level stands for.
 use Rattle.std.specs.Prelude.{ℕ, ◌≤◌, Bool, List, [], ◌∷◌, map, cond}
 use Rattle.std.specs.Bool.{beq}
+use Rattle.pd_format.specs.Limits.{process_limit}
 use Rattle.pd_level.specs.Keys.{AreKeys, digits}
 
 -- the number of a level, from 0, and its cuts as counts
@@ -12,9 +13,9 @@ pub record Levelled : Type 0 where
 abbrev pub cuts_of : ℕ → List ℕ → List (List ℕ)
 cuts_of processes keys = map (λ key. digits processes key) keys
 
--- ascending keys of at most 8 counts
+-- ascending keys, of no more counts than there may be processes
 pub record IsKept (processes : ℕ) (keys : List ℕ) : Type 0 where
-  pub few : processes ≤ 8
+  pub few : processes ≤ process_limit
   pub are_keys : AreKeys processes keys
 
 -- those of the elements whose mark is the one that is wanted

@@ -1,16 +1,15 @@
 //! Whether one more event leaves a cut.
-ghost use Rattle.pd_level.specs.Keys.{digits};
+ghost use Rattle.pd_level.specs.Keys.{count_base, digits};
 ghost use Rattle.pd_model.specs.Cuts.{IsConsistent, one_more};
 ghost use Rattle.std.specs.Prelude.{◌^◌, ◌<◌, ◌↔◌, IsTrue, length};
 
 use super::key::digit;
 use pd_clock::{Computation, Place};
 
-/// Whether one more event of process `p` leaves a cut: where there is one, and it is no receipt or its send is in the
-/// cut.
+/// Whether one more event of process `p` leaves a cut: if there is one, and it is no receipt or its send is in the cut.
 pub(crate) fn can_add(computation: &Computation<'_>, key: u128, p: usize) -> bool
     requires within { p < length computation.now.events }
-    requires below { key < 65536 ^ length computation.now.events }
+    requires below { key < count_base ^ length computation.now.events }
     requires cut { IsConsistent computation.now.events (digits (length computation.now.events) key) }
     ensures { IsTrue result ↔ IsConsistent computation.now.events
         (one_more (digits (length computation.now.events) key) p) }

@@ -1,53 +1,62 @@
 //! A cut as one number, whose digits are its counts.
-ghost use Rattle.pd_level.specs.Keys.{AreDigits, IsPacked, digits};
+ghost use Rattle.pd_level.specs.Keys.{AreDigits, IsPacked, count_base, digits};
+ghost use Rattle.pd_format.specs.Limits.{process_limit};
 ghost use Rattle.std.specs.Prelude.{◌≡◌, ◌-◌, ◌^◌, ◌<◌, ◌≤◌, ℕ, length, slice_index, take};
 
-/// The number whose digits are these counts, or none where a count is no digit.
+use pd_format::PROCESS_LIMIT;
+
+/// The base of the digits: each count is one digit, as a process has fewer events.
+const COUNT_BASE: u128 = 65_536;
+
+/// How many bits a digit has.
+const COUNT_BITS: u32 = 16;
+
+/// The number whose digits are these counts, or none if a count is no digit.
 pub(crate) fn pack(counts: &[u64]) -> Option<u128>
-    requires { length counts.now ≤ 8 }
+    requires { length counts.now ≤ process_limit }
     ensures { IsPacked counts.now result }
 {
     let mut key: u128 = 0;
     for &count in counts {
-        if count > 65535 {
+        if u128::from(count) >= COUNT_BASE {
             return None;
         }
-        key = key * 65536 + u128::from(count);
+        key = key * COUNT_BASE + u128::from(count);
     }
     Some(key)
 }
 
-/// The counts of which a number is made, before zeros.
-pub(crate) fn unpack(key: u128, processes: usize) -> [u64; 8]
-    requires few { processes ≤ 8 }
-    requires below { key < 65536 ^ processes }
+/// The counts of which a number is made, with zeros after them.
+pub(crate) fn unpack(key: u128, processes: usize) -> [u64; PROCESS_LIMIT]
+    requires few { processes ≤ process_limit }
+    requires below { key < count_base ^ processes }
     ensures { take processes result ≡ digits processes key }
 {
-    let mut counts = [0; 8];
+    let mut counts = [0; PROCESS_LIMIT];
     let mut rest = key;
     for p in (0..processes).rev() {
-        counts[p] = (rest % 65536) as u64;
-        rest /= 65536;
+        counts[p] = (rest % COUNT_BASE) as u64;
+        rest /= COUNT_BASE;
     }
     counts
 }
 
 /// The count of process `p` among those of which a number is made.
 pub(crate) fn digit(key: u128, processes: usize, p: usize) -> u64
-    requires few { processes ≤ 8 }
+    requires few { processes ≤ process_limit }
     requires within { p < processes }
-    requires below { key < 65536 ^ processes }
+    requires below { key < count_base ^ processes }
     ensures { result ≡ slice_index (digits processes key) p }
 {
-    let shift = 16 * (processes - 1 - p) as u32;
-    ((key >> shift) % 65536) as u64
+    let shift = COUNT_BITS * (processes - 1 - p) as u32;
+    ((key >> shift) % COUNT_BASE) as u64
 }
 
 /// What one more event of process `p` adds to a number.
 pub(crate) fn weight(processes: usize, p: usize) -> u128
-    requires few { processes ≤ 8 }
+    requires few { processes ≤ process_limit }
     requires within { p < processes }
-    ensures { result ≡ 65536 ^ (processes - 1 - p) }
+    ensures { result ≡ count_base ^ (processes - 1 - p) }
 {
-    65536u128.pow((processes - 1 - p) as u32)
+    COUNT_BASE.pow((processes - 1 - p) as u32)
 }

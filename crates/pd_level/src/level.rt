@@ -2,9 +2,9 @@
 ghost use Rattle.pd_model.specs.Answers.{IsListOf, MoreThan};
 ghost use Rattle.pd_model.specs.Cuts.{IsConsistent, IsNextOf, empty_cut};
 ghost use Rattle.pd_model.specs.Predicates.{test_of};
-ghost use Rattle.pd_level.specs.Levels.{kept_by};
+ghost use Rattle.pd_level.specs.Levels.{IsKept, cuts_of, kept_by};
 ghost use Rattle.pd_pred.specs.Views.{predicate_view};
-ghost use Rattle.std.specs.Prelude.{◌≡◌, ◌+◌, ◌<◌, ◌≤◌, ◌==◌, ◌↔◌, All, Contains, IfOk, IfSome, IsTrue, List, [], ◌∷◌, Some, length, min, slice_get};
+ghost use Rattle.std.specs.Prelude.{◌≡◌, ◌+◌, ◌<◌, ◌≤◌, ◌==◌, ◌↔◌, All, Contains, IfErr, IfOk, IfSome, IsTrue, List, [], ◌∷◌, Some, length, min, slice_get};
 
 use super::LevelFault;
 use super::keep::keep_marked;
@@ -34,8 +34,33 @@ impl Model for Level {
     ghost invariant = { λ l. IsKept l.processes l.keys.items };
 }
 
+/// The level of these keys, or `Wide` exactly if they are more than `width`. It takes no memory.
+fn level_within(
+    number: u64,
+    processes: usize,
+    keys: Vec<u128>,
+    width: u64,
+) -> Result<Level, LevelFault>
+    requires { IsKept processes keys.items }
+    ensures level { IfOk result (λ level. level ≡ record { number = number; cuts = cuts_of processes keys.items }) }
+    ensures narrow { IfOk result (λ level. length level.cuts ≤ width) }
+    ensures wide { IfErr result (λ fault. (fault ≡ LevelFault.Wide) × (width < length keys.items)) }
+{
+    if keys.len() as u64 > width {
+        return Err(LevelFault::Wide);
+    }
+    Ok(Level {
+        number,
+        processes,
+        keys,
+    })
+}
+
 impl Level {
-    /// Level 0, which has the empty cut alone. It fails where an allocation was refused.
+    /// Level 0, which has the empty cut alone.
+    ///
+    /// # Errors
+    /// An allocation was refused.
     pub fn first(alloc: Global, computation: &Computation<'_>) -> Result<Level, AllocError>
         ensures { IfOk result (λ level. level ≡ record { number = 0; cuts = empty_cut computation.now.events ∷ [] }) }
     {
@@ -52,8 +77,8 @@ impl Level {
     /// The cuts that have one event more than one of the level's, in lexicographic order: at most `width` of them. The
     /// number stays at the greatest `u64` once it is there.
     ///
-    /// `Wide` says that there are more, and `Memory` that an allocation was refused. The level itself stays as it is.
-    /// No process may have more than 10,000 events, so that each count is a digit.
+    /// # Errors
+    /// `Wide` says that there are more, and `Memory` that an allocation was refused.
     pub fn next(
         alloc: Global,
         computation: &Computation<'_>,
@@ -69,14 +94,8 @@ impl Level {
     {
         computation.limits();
         let keys = more_by_any(alloc, computation, &level.keys)?;
-        if keys.len() as u64 > width {
-            return Err(LevelFault::Wide);
-        }
-        Ok(Level {
-            number: level.number.saturating_add(1),
-            processes: computation.processes(),
-            keys,
-        })
+        let number = level.number.saturating_add(1);
+        level_within(number, computation.processes(), keys, width)
     }
 
     /// The number of the level, from 0: how many events each of its cuts has.

@@ -2,7 +2,7 @@
 //!
 //! A level is seen by contracts as its number and the list of its cuts, each as its counts. `first` gives the level
 //! with the empty cut alone, and `next` the cuts that have one event more than a cut of the level before, each once and
-//! in lexicographic order. A width bounds how many cuts a level may have, and where there are more the fault says so.
+//! in lexicographic order. A width bounds how many cuts a level may have, and if there are more the fault says so.
 //!
 //! Inside, a cut is one number whose digits are its counts, and a level the ascending list of these numbers. Each
 //! process gives the ascending list of the cuts that its events make, and these lists are merged.

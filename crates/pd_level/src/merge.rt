@@ -9,8 +9,8 @@ pub(crate) fn merge(alloc: Global, left: &[u128], right: &[u128]) -> Result<Vec<
     requires left { Ascending left.now }
     requires right { Ascending right.now }
     ensures ascending { IfOk result (λ both. Ascending both.items) }
-    ensures just { IfOk result (λ both. (x : ℕ) → Contains both.items x ↔ (Contains left.now x ⊎ Contains right.now x))
-        }
+    ensures just { IfOk result (λ both.
+        (x : ℕ) → Contains both.items x ↔ (Contains left.now x ⊎ Contains right.now x)) }
 {
     let mut both = Vec::with_capacity(alloc, left.len().saturating_add(right.len()))?;
     let mut i = 0;

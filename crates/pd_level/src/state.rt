@@ -1,5 +1,6 @@
 //! The state at a cut that is one number.
-ghost use Rattle.pd_level.specs.Keys.{digits};
+ghost use Rattle.pd_level.specs.Keys.{count_base, digits};
+ghost use Rattle.pd_format.specs.Limits.{process_limit};
 ghost use Rattle.pd_model.specs.Cuts.{FitsProcesses};
 ghost use Rattle.pd_model.specs.Predicates.{state_at};
 ghost use Rattle.std.specs.Prelude.{◌≡◌, ◌^◌, ◌<◌, ◌≤◌};
@@ -14,8 +15,8 @@ pub(crate) struct KeyState<'a, 'b> {
     computation: &'a Computation<'b>,
     key: u128,
     processes: usize,
-    ghost few: { processes ≤ 8 },
-    ghost below: { key < 65536 ^ processes },
+    ghost few: { processes ≤ process_limit },
+    ghost below: { key < count_base ^ processes },
     ghost fits: { FitsProcesses computation.now.events (digits processes key) },
 }
 
@@ -25,8 +26,8 @@ impl<'a, 'b> KeyState<'a, 'b> {
         key: u128,
         processes: usize,
     ) -> KeyState<'a, 'b>
-        requires few { processes ≤ 8 }
-        requires below { key < 65536 ^ processes }
+        requires few { processes ≤ process_limit }
+        requires below { key < count_base ^ processes }
         requires fits { FitsProcesses computation.now.events (digits processes key) }
         ensures computation { result.computation.now ≡ computation.now }
         ensures key { result.key ≡ key }

@@ -1,4 +1,5 @@
 //! The cuts that have one event more than those of a list.
+ghost use Rattle.pd_format.specs.Limits.{event_limit};
 ghost use Rattle.pd_level.specs.Keys.{AreCuts, Ascending, IsMoreBy};
 ghost use Rattle.pd_model.specs.Events.{event_count};
 ghost use Rattle.std.specs.Prelude.{◌≡◌, ◌<◌, ◌≤◌, ◌↔◌, ℕ, Contains, IfOk, length};
@@ -17,11 +18,11 @@ fn more_by(
     p: usize,
 ) -> Result<Vec<u128>, AllocError>
     requires within { p < length computation.now.events }
-    requires small { (q : ℕ) → event_count computation.now.events q ≤ 10000 }
+    requires small { (q : ℕ) → event_count computation.now.events q ≤ event_limit }
     requires cuts { AreCuts computation.now.events keys.now }
     ensures ascending { IfOk result (λ more. Ascending more.items) }
-    ensures just { IfOk result (λ more. (x : ℕ) → Contains more.items x ↔ IsMoreBy computation.now.events keys.now p x)
-        }
+    ensures just { IfOk result (λ more.
+        (x : ℕ) → Contains more.items x ↔ IsMoreBy computation.now.events keys.now p x) }
 {
     computation.limits();
     let added = weight(computation.processes(), p);
@@ -40,7 +41,7 @@ pub(crate) fn more_by_any(
     computation: &Computation<'_>,
     keys: &[u128],
 ) -> Result<Vec<u128>, AllocError>
-    requires small { (q : ℕ) → event_count computation.now.events q ≤ 10000 }
+    requires small { (q : ℕ) → event_count computation.now.events q ≤ event_limit }
     requires cuts { AreCuts computation.now.events keys.now }
     ensures ascending { IfOk result (λ more. Ascending more.items) }
     ensures just { IfOk result (λ more. (x : ℕ) → Contains more.items x

@@ -10,6 +10,7 @@ use Rattle.pd_model.specs.Events as events
 use Rattle.pd_model.specs.Messages.{IsMessage, IsMessageList}
 use Rattle.pd_model.proofs.Chains.{event_from_kind}
 use Rattle.pd_model.proofs.Consistency.{process_in_range}
+use Rattle.pd_model.proofs.ListPrefixes.{get_push_before, get_push_last}
 use Rattle.pd_match.specs.declared.place.Place.{Place}
 use Rattle.pd_match.specs.Views.{place_view}
 use Rattle.pd_match.specs.Noted.{event_place, items_in, kept, row_at, sender_at, sender_view}
@@ -117,18 +118,6 @@ module _ (c : Computation) (p n : ℕ) (pairs : List (events.Place × events.Pla
       subst (PairsBefore c (event_place p (suc n))) (sym (append_none pairs))
       (after_none (λ d m. let w : None ≡ Some d = (is d).1 m in cc))
   pairs_next (Some send) is = after_some send is
-
-get_push_before : {A : Type 0} (xs : List A) (x : A) (k : ℕ) → k < length xs
-    → slice_get (xs ++ x ∷ []) k ≡ slice_get xs k
-get_push_before [] x k lt = absurd (omega arith)
-get_push_before (y ∷ xs) x zero lt = refl
-get_push_before (y ∷ xs) x (suc k) lt = get_push_before xs x k (omega arith)
-
-get_push_last : {A : Type 0} (xs : List A) (x : A) (k : ℕ) → k ≡ length xs → slice_get (xs ++ x ∷ []) k ≡ Some x
-get_push_last [] x zero e = refl
-get_push_last [] x (suc k) e = absurd (omega arith)
-get_push_last (y ∷ xs) x zero e = absurd (omega arith)
-get_push_last (y ∷ xs) x (suc k) e = get_push_last xs x k (omega arith)
 
 length_push : {A : Type 0} (xs : List A) (x : A) (n : ℕ) → length xs ≡ n → length (xs ++ x ∷ []) ≡ suc n
 length_push xs x n e = length-append xs (x ∷ []) ∙ (add-one (length xs) ∙ ap suc e)

@@ -21,13 +21,13 @@ pub record MatchedBefore (c : Computation) (here : events.Place) (received : Lis
   pub good : NoneBadBefore c here
   pub matched : PairsBefore c here pairs
 
--- the row has the sends of the first so many events of the process
+-- the row has the sends of the first n events of the process
 pub record RowTells (c : Computation) (p : ℕ) (row : List (Option Place)) (n : ℕ) : Type 0 where
   pub same : length row ≡ n
   pub tells : (k : ℕ) (send : events.Place) → k < n → (sender_view (slice_get row k) ≡ Some send)
       ↔ IsMessage c send (event_place p k)
 
--- the rows are those of the first so many processes, whole
+-- the rows are those of the first p processes, whole
 pub record RowsTell (c : Computation) (rows : List (Vec (Option Place) Global)) (p : ℕ) : Type 0 where
   pub same : length rows ≡ p
   pub tell : (q : ℕ) → q < p → RowTells c q (row_at rows q) (event_count c q)

@@ -1,6 +1,6 @@
 //! The messages of a session: which send each receipt has.
 //!
-//! Traces are matched by the ids of their sends and receipts. Where every id is sent once, and received at most once by
+//! Traces are matched by the ids of their sends and receipts. If every id is sent once, and received at most once by
 //! another process, the messages are the pairs of a send and its receipt. Otherwise the first fault is reported, in the
 //! order of places.
 //!

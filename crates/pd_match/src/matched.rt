@@ -39,7 +39,8 @@ impl Matched {
         Matched { pairs, senders }
     }
 
-    /// The messages, each as its send and its receipt, in the order of the receipts.
+    /// The messages, each as its send and its receipt, in the order of the receipts. It is for programs that list them:
+    /// this workspace looks each up by its receipt.
     pub fn pairs(&self) -> &[(Place, Place)]
         ensures { pairs_view result.now ≡ self.now }
     {

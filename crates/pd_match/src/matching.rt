@@ -13,7 +13,7 @@ use std::alloc::Global;
 use std::hash::{BuildHasher, BuildHasherDefault, FoldHasher, RandomState};
 use std::random::RandomSource;
 
-/// Matches sends and receipts. Ids are looked up in maps that hash as reported.
+/// Matches sends and receipts. Ids are looked up in maps with this hasher.
 fn match_by<S: BuildHasher + Copy + Drop>(
     alloc: Global,
     traces: &[Trace],
@@ -35,11 +35,11 @@ fn match_by<S: BuildHasher + Copy + Drop>(
 }
 
 /// Matches the sends and receipts of traces, which stand in the order of the processes: each receipt with the send that
-/// has its id. Ids are looked up in a map that is hashed with keys from the system, or with fixed ones where it gives
+/// has its id. Ids are looked up in a map that is hashed with keys from the system, or with fixed ones if it gives
 /// none.
 ///
 /// # Errors
-/// The first send whose id is sent at an earlier place; where there is none, the first receipt that is at fault; or
+/// The first send whose id is sent at an earlier place; if there is none, the first receipt that is at fault; or
 /// `Memory`.
 pub fn match_messages<R: RandomSource>(
     rt: &R,

@@ -9,16 +9,15 @@ use indexmap::IndexMap;
 use std::alloc::AllocError;
 use std::hash::BuildHasher;
 
-/// Notes the place where an id stands, and tells whether one was noted before.
+/// Notes the place where an id stands. Whether one was noted before.
 pub(crate) fn note<'a, S: BuildHasher>(
     places: &mut IndexMap<&'a str, Place, S>,
     id: &'a str,
     here: Place,
 ) -> Result<bool, AllocError>
     ensures before { IfOk result (λ before. before ≡ is_some (place_noted places.old id.now)) }
-    ensures noted { OnOk result ((other : List ℕ)
-        → place_noted places.new other ≡ update bytes_eq (place_noted places.old) id.now (Some (place_view here)) other)
-            }
+    ensures noted { OnOk result ((other : List ℕ) → place_noted places.new other
+        ≡ update bytes_eq (place_noted places.old) id.now (Some (place_view here)) other) }
 {
     Ok(places.insert(id, here)?.is_some())
 }

@@ -33,7 +33,7 @@ fn trace_of(alloc: Global, process: usize, said: &[Said]) -> Result<Trace, Alloc
 }
 
 /// The messages of processes that do this.
-fn matched<R: RandomSource>(
+fn messages_of<R: RandomSource>(
     rt: &R,
     alloc: Global,
     processes: &[&[Said]],
@@ -50,7 +50,7 @@ fn fault_of(
     alloc: Global,
     processes: &[&[Said]],
 ) -> Result<Option<MatchFault>, Fail> {
-    Ok(matched(rt, alloc, processes)?.err())
+    Ok(messages_of(rt, alloc, processes)?.err())
 }
 
 fn place(process: usize, number: u64) -> Place {
@@ -74,7 +74,7 @@ impl RandomSource for NoKeys {
 
 #[test]
 fn messages_come_in_the_order_of_receipts(rt: HostRuntime) -> Result<(), Fail> {
-    match matched(&rt, rt.alloc(), &IN_ORDER)? {
+    match messages_of(&rt, rt.alloc(), &IN_ORDER)? {
         Ok(matched) => {
             let pairs = [(place(1, 3), place(0, 4)), (place(0, 2), place(1, 1))];
             assert_eq!(rt; matched.pairs(), pairs.as_slice());
@@ -98,7 +98,7 @@ fn messages_come_in_the_order_of_receipts(rt: HostRuntime) -> Result<(), Fail> {
 
 #[test]
 fn keys_of_the_system_are_not_needed(rt: HostRuntime) -> Result<(), Fail> {
-    match matched(&NoKeys, rt.alloc(), &IN_ORDER)? {
+    match messages_of(&NoKeys, rt.alloc(), &IN_ORDER)? {
         Ok(matched) => assert_eq!(rt; matched.messages(), 2),
         Err(_) => return Err(Fail::from("refused")),
     }

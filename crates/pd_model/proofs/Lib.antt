@@ -1,4 +1,6 @@
+-- The modules of lemmas of this crate.
 pub mod Lists
+pub mod ListPrefixes
 pub mod Counts
 pub mod Chains
 pub mod Consistency
@@ -14,4 +16,11 @@ pub mod LevelLists
 pub mod WalkSteps
 pub mod Tried
 pub mod Decisions
-pub mod NoMessages
+pub mod LevelsListed
+pub mod AvoidingPaths
+pub mod AddedEvents
+pub mod ClockSteps
+pub mod StuckWay
+pub mod Successors
+pub mod ListedCuts
+pub mod PrintedPlaces

@@ -1,3 +1,4 @@
+-- The model.
 pub mod Events
 pub mod Messages
 pub mod Order
@@ -6,6 +7,7 @@ pub mod Predicates
 pub mod Observations
 pub mod Answers
 pub mod Laws
-pub mod Walks
 pub mod Examples
-pub mod LocalEvents
+-- Tools of proofs.
+pub mod Walks
+pub mod Paths

@@ -3,9 +3,8 @@
 #![tactic(auto)]
 
 ghost use Rattle.pd_model.specs.Examples.{BothAtOnce, NoReceiptAlone, AvoidedUpToTwo, CycleOfReceipts};
-ghost use Rattle.pd_model.specs.LocalEvents.{LocalIsWellFormed, LocalHasNoMessage, LocalIsConsistent};
 ghost use Rattle.pd_model.specs.Walks.{ShortLevel, ShortAvoiding, FoundInLevel, NoneInLevels, WideNext, FreeLevel, PathOfLevels, UndoneByList, SomeUndone};
-ghost use Rattle.pd_model.specs.Laws.{CountsOfCut, CutOfCounts, OneEventMore, ClocksDecide, OneClock, CanUndo, FirstLevel, NextLevel, LastLevel, EmptyLevel, FullLevel, AvoidingLevel, NextAvoiding, FirstAvoidingList, NextAvoidingList, FreeLevelDecides, PathIsFound, PathAvoids, EveryCutIsObserved, PossiblyBothWays, NoYesBesideNo, CutBelowLevel, OnePossiblyAnswer, OneDefinitelyAnswer, OneList, OneFault, OneCycle, StuckStep, StuckReceipt, LeftAreStuck, NoneStuck};
+ghost use Rattle.pd_model.specs.Laws.{StepHappens, HappenedOnward, HappenedIsLeast, LevelHasList, AvoidingHasList, CountsOfCut, CutOfCounts, OneEventMore, ClocksDecide, OneClock, CanUndo, FirstLevel, NextLevel, LastLevel, EmptyLevel, FullLevel, AvoidingLevel, NextAvoiding, FirstAvoidingList, NextAvoidingList, FreeLevelDecides, PathIsFound, PathAvoids, EveryCutIsObserved, PossiblyBothWays, NoYesBesideNo, CutBelowLevel, OnePossiblyAnswer, OneDefinitelyAnswer, OneList, OneFault, OneCycle, StuckStep, StuckReceipt, LeftAreStuck, NoneStuck};
 
 /// A cut and its counts determine each other, and one event more is one count greater by 1.
 pub fn cuts_and_counts()
@@ -14,7 +13,7 @@ pub fn cuts_and_counts()
     ensures one_more { OneEventMore }
 {}
 
-/// Counts are consistent exactly where no clock of a last event is above them.
+/// Counts are consistent exactly if no clock of a last event is above them.
 pub fn clocks()
     ensures decide { ClocksDecide }
     ensures single { OneClock }
@@ -29,12 +28,11 @@ pub fn cycles()
     ensures single { OneCycle }
 {}
 
-/// Where every event is local there is no message, the computation is well formed, and all counts that fit are
-/// consistent.
-pub fn local_events()
-    ensures well_formed { LocalIsWellFormed }
-    ensures no_message { LocalHasNoMessage }
-    ensures consistent { LocalIsConsistent }
+/// Happened before holds of each step, goes on from one place to another, and is the least relation that does both.
+pub fn happened_before()
+    ensures step { StepHappens }
+    ensures onward { HappenedOnward }
+    ensures least { HappenedIsLeast }
 {}
 
 /// From a cut that isn't empty an event can be undone, so each level leads to the next.
@@ -45,6 +43,12 @@ pub fn levels()
     ensures last { LastLevel }
     ensures empty { EmptyLevel }
     ensures full { FullLevel }
+{}
+
+/// Each level has a list of its cuts, and one of its avoiding cuts.
+pub fn levels_have_lists()
+    ensures cuts { LevelHasList }
+    ensures avoiding { AvoidingHasList }
 {}
 
 /// Each level's avoiding cuts lead to those of the next.

@@ -9,6 +9,6 @@ pub enum PossiblyAnswer {
     Yes(Cut),
     /// None does.
     No,
-    /// The level of so many events is the first with more cuts than the bound, and no cut below it satisfies.
+    /// The level of this many events is the first with more cuts than the bound, and no cut below it satisfies.
     Unknown(u64),
 }

@@ -1,7 +1,7 @@
 //! Whether some consistent cut satisfies a predicate, under a bound on the width of the levels.
 //!
 //! The levels are walked from the empty cut on. The answer is the first satisfying cut of the least level that has one;
-//! no, where no level has one; or unknown, where a level is wider than the bound before a cut was found.
+//! no, if no level has one; or unknown, if a level is wider than the bound before a cut was found.
 //!
 //! - `answer`: the answer
 //! - `walk`: the walk

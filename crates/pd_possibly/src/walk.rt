@@ -1,11 +1,10 @@
 //! The walk up the levels.
 ghost use Rattle.pd_model.specs.Answers.{IsPossiblyAnswer};
 ghost use Rattle.pd_model.specs.Cuts.{IsConsistent, total};
-ghost use Rattle.pd_model.specs.Order.{HasNoCycle};
 ghost use Rattle.pd_model.specs.Predicates.{test_of};
 ghost use Rattle.pd_possibly.specs.Answers.{possibly_answer_view, IsFirstIn};
 ghost use Rattle.pd_pred.specs.Views.{predicate_view};
-ghost use Rattle.std.specs.Prelude.{◌≡◌, ◌+◌, ◌^◌, ◌<◌, ◌≤◌, false, All, IfOk, IfNone, IfSome, length};
+ghost use Rattle.std.specs.Prelude.{◌≡◌, ◌+◌, ◌^◌, ◌<◌, ◌≤◌, false, All, Err, IfErr, IfOk, IfNone, IfSome, length, MatchOption, Ok};
 
 use super::PossiblyAnswer;
 use pd_clock::{Computation, Cut};
@@ -13,8 +12,8 @@ use pd_level::{Gate, Level, LevelFault};
 use pd_pred::Pred;
 use std::alloc::{AllocError, Global};
 
-/// The answer for a predicate over a computation, under a bound on the width of the levels, from 1 on. `workers`, from
-/// 1 to 16, and the gate change nothing yet.
+/// The answer for a predicate over a computation, under a bound on the width of the levels, from 1 on. `_workers` and
+/// the gate change nothing yet.
 ///
 /// Source: Cooper and Marzullo, Consistent Detection of Global Predicates, 1991.
 pub fn possibly<G: Gate + Sync>(
@@ -25,7 +24,6 @@ pub fn possibly<G: Gate + Sync>(
     _workers: u64,
     _gate: &G,
 ) -> Result<PossiblyAnswer, AllocError>
-    requires acyclic { HasNoCycle computation.now.events }
     requires wide { 1 ≤ width }
     ensures { IfOk result (λ answer. IsPossiblyAnswer computation.now.events
         (test_of computation.now (predicate_view pred.now)) width (possibly_answer_view answer)) }
@@ -33,6 +31,7 @@ pub fn possibly<G: Gate + Sync>(
     // the laws that the proof uses
     pd_model::levels();
     pd_model::possibly_walk();
+    computation.limits();
     let total = computation.total();
     let mut level = Level::first(alloc, computation)?;
     for k in 0..total + 1 {
@@ -40,13 +39,25 @@ pub fn possibly<G: Gate + Sync>(
             Some(cut) => return Ok(PossiblyAnswer::Yes(cut)),
             None => {}
         }
-        match Level::next(alloc, computation, &level, width) {
-            Ok(next) => level = next,
-            Err(LevelFault::Wide) => return Ok(PossiblyAnswer::Unknown(k + 1)),
-            Err(LevelFault::Memory) => return Err(AllocError),
+        match unless_wide(Level::next(alloc, computation, &level, width))? {
+            Some(next) => level = next,
+            None => return Ok(PossiblyAnswer::Unknown(k + 1)),
         }
     }
     Ok(PossiblyAnswer::No)
+}
+
+/// The next level, or none exactly if it is too wide. It fails exactly where the level did so out of memory.
+fn unless_wide(next: Result<Level, LevelFault>) -> Result<Option<Level>, AllocError>
+    ensures found { IfOk result (λ found.
+        MatchOption found (next ≡ Err LevelFault.Wide) (λ level. next ≡ Ok level)) }
+    ensures memory { IfErr result (λ _. next ≡ Err LevelFault.Memory) }
+{
+    match next {
+        Ok(level) => Ok(Some(level)),
+        Err(LevelFault::Wide) => Ok(None),
+        Err(LevelFault::Memory) => Err(AllocError),
+    }
 }
 
 /// The first cut of the level that satisfies.

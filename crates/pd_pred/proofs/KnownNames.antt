@@ -1,4 +1,4 @@
--- Where no token is misplaced, each reference is known.
+-- If no token is misplaced, each reference is known.
 use Rattle.std.proofs.Common.{◌≡◌, ℕ, true, List, [], ◌∷◌, ◌++◌, refl, sym, ◌∙◌, ap, append_assoc, inl, inr}
 use Rattle.std.specs.Prelude.{Option, Some, None, is_some, option_and_then}
 use Rattle.pd_format.specs.Names.{ProcessNames, process_named, var_named}

@@ -4,7 +4,7 @@ use Rattle.std.specs.Prelude.{IsFalse}
 use Rattle.std.proofs.lemmas.List.{map_push, nil_from_length}
 use Rattle.pd_format.specs.Tokens.{Token, End, Placed, placed, Lexes, AreTokens, IsStray, BeginsNoToken, is_space}
 use Rattle.pd_pred.specs.Lexing.{IsFirstToken, SkipsSpaces}
-use Rattle.pd_pred.specs.Tokens.{token_of, placed_of, all_placed}
+use Rattle.pd_pred.specs.Tokens.{token_view, placed_view, lexed_view}
 use Rattle.pd_pred.specs.declared.token.Placed.{Placed as Code}
 use Rattle.pd_pred.specs.declared.token.Token.TheVariants.{End as TheEnd}
 
@@ -31,18 +31,18 @@ lexes_push at bytes [] end rest others new token first skip (spaces, h, e, k) = 
   first.longest,
   (skip.spaces, skip.are_spaces, skip.parts, refl),
 )
-lexes_push at bytes (t ∷ tokens) end rest others new token first skip (spaces, spelling, following, h, e, a, k, l, m) =
-    (
-  spaces,
-  spelling,
-  following,
-  h,
-  e,
-  a,
-  k,
-  l,
-  lexes_push (t.at + length spelling) following tokens end rest others new token first skip m,
-)
+lexes_push at bytes (t ∷ tokens) end rest others new token first skip
+    (spaces, spelling, following, h, e, a, k, l, m) = (
+      spaces,
+      spelling,
+      following,
+      h,
+      e,
+      a,
+      k,
+      l,
+      lexes_push (t.at + length spelling) following tokens end rest others new token first skip m,
+    )
 
 length_parts : (xs ys zs : List ℕ) → xs ≡ ys ++ zs → length xs ≡ length ys + length zs
 length_parts xs ys zs e = ap length e ∙ length-append ys zs
@@ -118,27 +118,28 @@ stray_at text tokens (byte ∷ others) at so_far some place none =
 -- ---- the same, as the program's tokens stand for those of the text
 
 pub lexed_at_start_in : (text rest : List ℕ) (items : List Code) → items ≡ [] → SkipsSpaces text rest
-    → IsLexedTo text (all_placed items) rest
+    → IsLexedTo text (lexed_view items) rest
 lexed_at_start_in text rest items e skip =
-    let P : List Code → Type 0 = λ z. IsLexedTo text (all_placed z) rest in
+    let P : List Code → Type 0 = λ z. IsLexedTo text (lexed_view z) rest in
     subst P (sym e) (lexed_at_start text rest skip)
 
-pushed : (items new : List Code) (one : Code) → new ≡ items ++ one ∷ [] → all_placed items ++ placed_of one ∷ []
-    ≡ all_placed new
-pushed items new one e = sym (ap all_placed e ∙ map_push placed_of items one)
+pushed : (items new : List Code) (one : Code) → new ≡ items ++ one ∷ [] → lexed_view items ++ placed_view one ∷ []
+    ≡ lexed_view new
+pushed items new one e = sym (ap lexed_view e ∙ map_push placed_view items one)
 
 pub lexed_more_in : (text : List ℕ) (items new_items : List Code) (one : Code) (rest others new : List ℕ)
-    → new_items ≡ items ++ one ∷ [] → IsLexedTo text (all_placed items) rest → one.at + length rest ≡ length text + 1
-    → IsFirstToken rest (token_of one.token) others → SkipsSpaces others new → IsLexedTo text (all_placed new_items) new
+    → new_items ≡ items ++ one ∷ [] → IsLexedTo text (lexed_view items) rest → one.at + length rest ≡ length text + 1
+    → IsFirstToken rest (token_view one.token) others → SkipsSpaces others new
+    → IsLexedTo text (lexed_view new_items) new
 lexed_more_in text items new_items one rest others new e so_far place first skip =
     let P : List Placed → Type 0 = λ z. IsLexedTo text z new in
     subst P (pushed items new_items one e)
-    (lexed_more text (all_placed items) rest others new one.at (token_of one.token) so_far place first skip)
+    (lexed_more text (lexed_view items) rest others new one.at (token_view one.token) so_far place first skip)
 
 pub all_lexed_in : (text : List ℕ) (items new_items : List Code) (at : ℕ) (rest : List ℕ)
-    → new_items ≡ items ++ (record { at = at; token = TheEnd }) ∷ [] → IsLexedTo text (all_placed items) rest
-    → length rest ≡ 0 → at + length rest ≡ length text + 1 → AreTokens text (all_placed new_items)
+    → new_items ≡ items ++ (record { at = at; token = TheEnd }) ∷ [] → IsLexedTo text (lexed_view items) rest
+    → length rest ≡ 0 → at + length rest ≡ length text + 1 → AreTokens text (lexed_view new_items)
 all_lexed_in text items new_items at rest e so_far empty place =
     let P : List Placed → Type 0 = λ z. AreTokens text z in
     subst P (pushed items new_items (record { at = at; token = TheEnd }) e)
-    (all_lexed text (all_placed items) rest at so_far (nil_from_length rest empty) place)
+    (all_lexed text (lexed_view items) rest at so_far (nil_from_length rest empty) place)

@@ -1,3 +1,4 @@
+-- The modules of lemmas of this crate.
 pub mod Positions
 pub mod WalkFacts
 pub mod PlacementFacts
@@ -8,7 +9,6 @@ pub mod Runs
 pub mod Symbols
 pub mod LexedSoFar
 pub mod Reading
-pub mod ClearNames
 pub mod Prefixes
 pub mod WalkSteps
 pub mod TermsRead

@@ -7,7 +7,7 @@ use Rattle.pd_format.specs.Tokens as format
 use Rattle.pd_format.specs.Tokens.{Token, End, placed}
 use Rattle.pd_format.specs.PredicateTexts.{tokens_of}
 use Rattle.pd_pred.specs.Placement.{Position, first_position, Steps, IsFaultAt, IsFirstMisplaced, IsSoundPlace}
-use Rattle.pd_pred.specs.Tokens.{token_of, placed_of, all_placed}
+use Rattle.pd_pred.specs.Tokens.{token_view, placed_view, lexed_view}
 use Rattle.pd_pred.specs.declared.error.PredErrorKind.{PredErrorKind}
 use Rattle.pd_pred.specs.declared.token.Placed.{Placed}
 use Rattle.pd_pred.proofs.PlacementFacts.{stands_after, fault_at, no_fault, well_placed_more, well_placed_nothing}
@@ -39,30 +39,30 @@ module _ (exact : PrefixesAreWalked) (go_on : WalksGoOn) (height : DepthsAreHeig
 
   -- the place after one token more
   pub sound_next : (names : List ProcessNames) (old new : Position) (tokens : List Placed) (i : ℕ) (d : Placed)
-      → i < length tokens → IsSoundPlace names old (all_placed (take i tokens))
-      → Steps names old (token_of (get_or tokens i d).token) new
-      → IsSoundPlace names new (all_placed (take (i + 1) tokens))
+      → i < length tokens → IsSoundPlace names old (lexed_view (take i tokens))
+      → Steps names old (token_view (get_or tokens i d).token) new
+      → IsSoundPlace names new (lexed_view (take (i + 1) tokens))
   sound_next names old new tokens i d h sound steps =
-      rw (take_more tokens i d h, map-append placed_of (take i tokens) (get_or tokens i d ∷ []))
-      (sound_more names old new (all_placed (take i tokens)) (placed_of (get_or tokens i d)) sound steps)
+      rw (take_more tokens i d h, map-append placed_view (take i tokens) (get_or tokens i d ∷ []))
+      (sound_more names old new (lexed_view (take i tokens)) (placed_view (get_or tokens i d)) sound steps)
 
   -- the first misplaced token
   pub first_fault : (names : List ProcessNames) (place : Position) (tokens : List Placed) (i : ℕ) (d : Placed)
-      (kind : PredErrorKind) → i < length tokens → IsSoundPlace names place (all_placed (take i tokens))
-      → IsFaultAt names place (token_of (get_or tokens i d).token) kind
-      → IsFirstMisplaced names (all_placed tokens) (record { kind = kind; at = (get_or tokens i d).at })
+      (kind : PredErrorKind) → i < length tokens → IsSoundPlace names place (lexed_view (take i tokens))
+      → IsFaultAt names place (token_view (get_or tokens i d).token) kind
+      → IsFirstMisplaced names (lexed_view tokens) (record { kind = kind; at = (get_or tokens i d).at })
   first_fault names place tokens i d kind h sound fault =
-      let f = fault_at exact go_on height stack_on names place (tokens_of (all_placed (take i tokens)))
-      (token_of (get_or tokens i d).token) kind sound.stands fault in
+      let f = fault_at exact go_on height stack_on names place (tokens_of (lexed_view (take i tokens)))
+      (token_view (get_or tokens i d).token) kind sound.stands fault in
       record {
         fault = f.0;
         is_fault = f.1;
-        before = all_placed (take i tokens);
-        token = token_of (get_or tokens i d).token;
-        after = all_placed (drop (suc i) tokens);
+        before = lexed_view (take i tokens);
+        token = token_view (get_or tokens i d).token;
+        after = lexed_view (drop (suc i) tokens);
         first = record {
-          parts = ap all_placed (parts_at tokens i d h)
-              ∙ map-append placed_of (take i tokens) (get_or tokens i d ∷ drop (suc i) tokens);
+          parts = ap lexed_view (parts_at tokens i d h)
+              ∙ map-append placed_view (take i tokens) (get_or tokens i d ∷ drop (suc i) tokens);
           here = (f.0, f.2);
           none_before = λ prefix y back e. sound.well_placed prefix y back e;
         };

@@ -5,16 +5,16 @@ use Rattle.pd_format.specs.Names.{ProcessNames}
 use Rattle.pd_format.specs.Tokens.{Token, Word, Dot}
 use Rattle.pd_format.specs.Tokens as format
 use Rattle.pd_format.specs.PredicateTexts.{NumbersFit}
-use Rattle.pd_pred.specs.Tokens.{placed_of, all_placed, token_of}
+use Rattle.pd_pred.specs.Tokens.{placed_view, lexed_view, token_view}
 use Rattle.pd_pred.specs.Building.{tokens_view, Follows, AreReadable, IsKnown}
 use Rattle.pd_pred.specs.declared.token.Placed.{Placed}
 
 pub tokens_view-append : (xs ys : List Placed) → tokens_view (xs ++ ys) ≡ tokens_view xs ++ tokens_view ys
 tokens_view-append [] ys = refl
-tokens_view-append (x ∷ xs) ys = ap (λ ts. token_of x.token ∷ ts) (tokens_view-append xs ys)
+tokens_view-append (x ∷ xs) ys = ap (λ ts. token_view x.token ∷ ts) (tokens_view-append xs ys)
 
-placed-append : (xs ys : List Placed) → all_placed (xs ++ ys) ≡ all_placed xs ++ all_placed ys
-placed-append xs ys = map-append placed_of xs ys
+placed-append : (xs ys : List Placed) → lexed_view (xs ++ ys) ≡ lexed_view xs ++ lexed_view ys
+placed-append xs ys = map-append placed_view xs ys
 
 pub tokens_view-parts : (tokens prefix rest : List Placed) → tokens ≡ prefix ++ rest
     → tokens_view tokens ≡ tokens_view prefix ++ tokens_view rest
@@ -38,12 +38,12 @@ known_rest names tokens prefix rest parts known before after process var e =
     ∙ ap (λ ts. tokens_view prefix ++ ts) e
     ∙ sym (append_assoc (tokens_view prefix) before (Word process ∷ Dot ∷ Word var ∷ after)))
 
-fit_rest : (tokens prefix rest : List Placed) → tokens ≡ prefix ++ rest → NumbersFit (all_placed tokens)
-    → NumbersFit (all_placed rest)
+fit_rest : (tokens prefix rest : List Placed) → tokens ≡ prefix ++ rest → NumbersFit (lexed_view tokens)
+    → NumbersFit (lexed_view rest)
 fit_rest tokens prefix rest parts fit = λ before t after e.
-    fit (all_placed prefix ++ before) t after (ap all_placed parts ∙ placed-append prefix rest
-    ∙ ap (λ (ts : List format.Placed). all_placed prefix ++ ts) e
-    ∙ sym (append_assoc (all_placed prefix) before (t ∷ after)))
+    fit (lexed_view prefix ++ before) t after (ap lexed_view parts ∙ placed-append prefix rest
+    ∙ ap (λ (ts : List format.Placed). lexed_view prefix ++ ts) e
+    ∙ sym (append_assoc (lexed_view prefix) before (t ∷ after)))
 
 -- what may be assumed of tokens may be assumed of the rest
 pub readable_rest : (names : List ProcessNames) (tokens prefix rest : List Placed) → tokens ≡ prefix ++ rest

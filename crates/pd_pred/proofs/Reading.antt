@@ -3,7 +3,7 @@ use Rattle.std.proofs.Common.{ℕ, ◌+◌, ◌<◌, ◌≤◌, List, [], ◌∷
 use Rattle.std.proofs.lemmas.List.{length-map}
 use Rattle.pd_format.specs.Tokens.{Token, End, Placed, placed, Lexes, AreTokens, IsSpelling}
 use Rattle.pd_format.specs.Limits.{predicate_byte_limit}
-use Rattle.pd_pred.specs.Tokens.{placed_of, all_placed}
+use Rattle.pd_pred.specs.Tokens.{placed_view, lexed_view}
 use Rattle.pd_pred.specs.declared.token.Placed.{Placed as Code}
 use Rattle.pd_pred.proofs.Symbols.{not_empty}
 
@@ -22,10 +22,11 @@ few_lexed at bytes (t ∷ tokens) end rest l =
     omega arith
 
 -- a text has no more tokens than bytes, and the end
-pub few_tokens : (text : List ℕ) (items : List Code) → length text ≤ predicate_byte_limit → AreTokens text (all_placed items)
-    → length items ≤ 4097
+pub few_tokens : (text : List ℕ) (items : List Code) → length text ≤ predicate_byte_limit
+    → AreTokens text (lexed_view items)
+    → length items ≤ predicate_byte_limit + 1
 few_tokens text items short l =
     let few = few_lexed 1 text l.0 (length text + 1) [] l.2 in
     let whole = ap length l.1 ∙ length-append l.0 (placed (length text + 1) End ∷ []) in
-    let same = length-map items placed_of in
+    let same = length-map items placed_view in
     omega arith

@@ -6,7 +6,7 @@ use Rattle.pd_format.specs.Names.{ProcessNames}
 use Rattle.pd_format.specs.Tokens.{Token, Word, OpenParen, CloseParen, Relates, End}
 use Rattle.pd_format.specs.Grammar.{NamedBy, Rule, OrRule, AndRule, NotRule, word_or, word_and, word_not, Spells, either, no_or, both, no_and, negated, in_parens, always, never, compare, SpellsWhole}
 use Rattle.pd_format.specs.PrefixWalk.{OnLeft, OnRight, AtOperand, AtTerm, AfterTerm, AfterOperand, Inside, AtEnd, walk, start}
-use Rattle.pd_pred.specs.Tokens.{token_of}
+use Rattle.pd_pred.specs.Tokens.{token_view}
 use Rattle.pd_pred.specs.Building.{tokens_view, Follows, begins_with_sign, begins_with_word, without_minus, Leads, GoesOn, IsSumRead, IsRead}
 use Rattle.pd_pred.specs.declared.token.Placed.{Placed}
 use Rattle.pd_pred.proofs.Prefixes.{tokens_view-append, tokens_view-parts, tokens_view-follows, fewer_follow}
@@ -184,12 +184,12 @@ leads_after_paren tokens inside (d, h) f = (suc d, after_paren d tokens inside f
 closes : (names : List ProcessNames) (d : ℕ) (tokens inside closing rest : List Placed) (x : Placed) (a : Predicate)
     → walk (Inside AtOperand d) (tokens_view tokens) ≡ Some AtEnd → Follows OpenParen tokens inside
     → IsRead names OrRule inside closing a → begins_with_word (codes "and") (tokens_view closing) ≡ false
-    → begins_with_word (codes "or") (tokens_view closing) ≡ false → closing ≡ x ∷ rest → token_of x.token ≡ CloseParen
+    → begins_with_word (codes "or") (tokens_view closing) ≡ false → closing ≡ x ∷ rest → token_view x.token ≡ CloseParen
 closes names d tokens inside closing rest x a h f r ands ors e =
-    paren_closes d (token_of x.token) (tokens_view rest)
+    paren_closes d (token_view x.token) (tokens_view rest)
     (sym (ap (λ ts. begins_with_word (codes "and") (tokens_view ts)) e) ∙ ands)
     (sym (ap (λ ts. begins_with_word (codes "or") (tokens_view ts)) e) ∙ ors)
-    (same_walk AfterOperand (suc d) (tokens_view closing) (token_of x.token ∷ tokens_view rest) (ap tokens_view e)
+    (same_walk AfterOperand (suc d) (tokens_view closing) (token_view x.token ∷ tokens_view rest) (ap tokens_view e)
     (r.goes_on (suc d) (after_paren d tokens inside f h)))
 
 pub parens_are_read : (names : List ProcessNames) (tokens inside closing rest : List Placed) (x : Placed)
@@ -198,7 +198,7 @@ pub parens_are_read : (names : List ProcessNames) (tokens inside closing rest : 
     → begins_with_word (codes "or") (tokens_view closing) ≡ false → closing ≡ x ∷ rest
     → IsRead names NotRule tokens rest a
 parens_are_read names tokens inside closing rest x a (k, l) f r ands ors e =
-    let close : token_of x.token ≡ CloseParen = closes names k tokens inside closing rest x a l f r ands ors e in
+    let close : token_view x.token ≡ CloseParen = closes names k tokens inside closing rest x a l f r ands ors e in
     let all : tokens_view (f.first ∷ (r.prefix ++ x ∷ [])) ≡ OpenParen ∷ (tokens_view r.prefix ++ CloseParen ∷ []) =
     ap (λ t. t ∷ tokens_view (r.prefix ++ x ∷ [])) f.is
     ∙ ap (λ ts. OpenParen ∷ ts) (tokens_view-append r.prefix (x ∷ [])

@@ -12,9 +12,9 @@ use Rattle.pd_format.specs.Tokens.{Token, Word, Digits, Signs, Star, Dot}
 use Rattle.pd_format.specs.PredicateTexts.{NumbersFit, is_too_large, begins_with_star as star_follows}
 use Rattle.pd_format.specs.Grammar.{Naming, NamedBy, SpellsTerm, SpellsSigned, SpellsSum}
 use Rattle.pd_format.specs.PrefixWalk.{Side, OnLeft, OnRight, Mode, AtTerm, AfterStar, AfterName, AfterTerm, Inside, AtEnd, walk}
-use Rattle.pd_pred.specs.Tokens.{all_placed, placed_of, token_of}
+use Rattle.pd_pred.specs.Tokens.{lexed_view, placed_view, token_view}
 use Rattle.pd_pred.specs.Building.{tokens_view, Follows, IsFirstSign, begins_with_sign, begins_with_star, without_minus, LeadsOnSide, AreReadable, IsKnown, IsTermRead, IsSumRead}
-use Rattle.pd_pred.specs.Trees.{terms_of, signed_term_of}
+use Rattle.pd_pred.specs.Trees.{terms_view, signed_term_view}
 use Rattle.pd_pred.specs.declared.token.Placed.{Placed}
 use Rattle.pd_pred.specs.declared.tree.SignedTerm.{SignedTerm}
 use Rattle.pd_pred.proofs.Prefixes.{tokens_view-append, tokens_view-follows, fewer_follow, readable_rest, readable_follows}
@@ -33,17 +33,17 @@ same_walk mode d ts us e h = sym (ap (walk (Inside mode d)) e) ∙ h
 not_over : (limit n : ℕ) → nat_lt limit n ≡ false → n ≤ limit
 not_over limit n h = grind (arith, nat_tests)
 
-fits_at : (n : ℕ) (tokens rest : List Placed) → Follows (Digits n) tokens rest → NumbersFit (all_placed tokens)
-    → ¬ (IsTrue (is_too_large (Digits n) (all_placed rest)))
+fits_at : (n : ℕ) (tokens rest : List Placed) → Follows (Digits n) tokens rest → NumbersFit (lexed_view tokens)
+    → ¬ (IsTrue (is_too_large (Digits n) (lexed_view rest)))
 fits_at n tokens rest f fit =
-    λ large. fit [] (placed_of f.first) (all_placed rest) (ap all_placed f.parts) (rw f.is large)
+    λ large. fit [] (placed_view f.first) (lexed_view rest) (ap lexed_view f.parts) (rw f.is large)
 
 or_false : (a b : Bool) → ¬ (IsTrue (a || b)) → (a ≡ false) × (b ≡ false)
 or_false true b h = absurd (h refl)
 or_false false true h = absurd (h refl)
 or_false false false h = (refl, refl)
 
-pub number_fits : (n : ℕ) (tokens rest : List Placed) → Follows (Digits n) tokens rest → NumbersFit (all_placed tokens)
+pub number_fits : (n : ℕ) (tokens rest : List Placed) → Follows (Digits n) tokens rest → NumbersFit (lexed_view tokens)
     → n ≤ 9223372036854775807
 number_fits n tokens rest f fit = not_over 9223372036854775807 n (or_false _ _ (fits_at n tokens rest f fit)).0
 
@@ -51,12 +51,12 @@ and_true : (a b : Bool) → b ≡ true → (a && b) ≡ false → a ≡ false
 and_true true b e h = sym e ∙ h
 and_true false b e h = refl
 
-star_first : (following factored : List Placed) → Follows Star following factored → star_follows (all_placed following)
+star_first : (following factored : List Placed) → Follows Star following factored → star_follows (lexed_view following)
     ≡ true
-star_first following factored s = ap star_follows (ap all_placed s.parts) ∙ (rw s.is refl)
+star_first following factored s = ap star_follows (ap lexed_view s.parts) ∙ (rw s.is refl)
 
 pub factor_fits : (n : ℕ) (tokens following factored : List Placed) → Follows (Digits n) tokens following
-    → Follows Star following factored → NumbersFit (all_placed tokens) → n ≤ 2147483647
+    → Follows Star following factored → NumbersFit (lexed_view tokens) → n ≤ 2147483647
 factor_fits n tokens following factored f s fit =
     not_over 2147483647 n (and_true _ _ (star_first following factored s)
     (or_false _ _ (fits_at n tokens following f fit)).1)
@@ -105,19 +105,19 @@ reference_step side d process var t rest h =
 
 view_reference : (tokens dotted following rest : List Placed) (process var : List ℕ) (x : Placed)
     → Follows (Word process) tokens dotted → dotted ≡ x ∷ following → Follows (Word var) following rest
-    → tokens_view tokens ≡ Word process ∷ token_of x.token ∷ Word var ∷ tokens_view rest
+    → tokens_view tokens ≡ Word process ∷ token_view x.token ∷ Word var ∷ tokens_view rest
 view_reference tokens dotted following rest process var x f e g =
     tokens_view-follows (Word process) tokens dotted f
     ∙ ap (λ ts. Word process ∷ ts) (ap tokens_view e
-    ∙ ap (λ ts. token_of x.token ∷ ts) (tokens_view-follows (Word var) following rest g))
+    ∙ ap (λ ts. token_view x.token ∷ ts) (tokens_view-follows (Word var) following rest g))
 
 steps_over : (side : Side) (d : ℕ) (tokens dotted following rest : List Placed) (process var : List ℕ) (x : Placed)
     → Follows (Word process) tokens dotted → dotted ≡ x ∷ following → Follows (Word var) following rest
     → walk (Inside (AfterStar side) d) (tokens_view tokens) ≡ Some AtEnd
-    → ReferenceStep side d process var (token_of x.token) (tokens_view rest)
+    → ReferenceStep side d process var (token_view x.token) (tokens_view rest)
 steps_over side d tokens dotted following rest process var x f e g h =
-    reference_step side d process var (token_of x.token) (tokens_view rest)
-    (same_walk (AfterStar side) d (tokens_view tokens) (Word process ∷ token_of x.token ∷ Word var
+    reference_step side d process var (token_view x.token) (tokens_view rest)
+    (same_walk (AfterStar side) d (tokens_view tokens) (Word process ∷ token_view x.token ∷ Word var
     ∷ tokens_view rest) (view_reference tokens dotted following rest process var x f e g) h)
 
 -- the names that stand there are known
@@ -239,10 +239,10 @@ pub readable_after_first : (names : List ProcessNames) (sign : Sign) (tokens fol
 readable_after_first names Plus tokens following (e, n) r = readable_rest names tokens [] following e r
 readable_after_first names Minus tokens following f r = readable_follows names (Signs Minus) tokens following f r
 
-pub terms-append : (xs : List SignedTerm) (x : SignedTerm) → terms_of (xs ++ x ∷ []) ≡ terms_of xs ++ signed_term_of x
-    ∷ []
+pub terms-append : (xs : List SignedTerm) (x : SignedTerm) → terms_view (xs ++ x ∷ [])
+    ≡ terms_view xs ++ signed_term_view x ∷ []
 terms-append [] x = refl
-terms-append (y ∷ ys) x = ap (λ (ts : List (Sign × Term)). signed_term_of y ∷ ts) (terms-append ys x)
+terms-append (y ∷ ys) x = ap (λ (ts : List (Sign × Term)). signed_term_view y ∷ ts) (terms-append ys x)
 
 pub first_is_read : (names : List ProcessNames) (sign : Sign) (x : Term) (tokens following rest : List Placed)
     → IsFirstSign sign tokens following → IsTermRead names AtTerm following rest x

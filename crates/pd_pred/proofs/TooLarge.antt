@@ -5,7 +5,7 @@ use Rattle.std.specs.Prelude.{Option, Some, None, MatchOption, if◌then◌else�
 use Rattle.pd_format.specs.Tokens.{Placed}
 use Rattle.pd_format.specs.PredicateTexts.{is_too_large, IsTooLarge, NumbersFit}
 use Rattle.pd_pred.specs.Numbers.{IsFirstTooLarge}
-use Rattle.pd_pred.specs.Tokens.{token_of, all_placed}
+use Rattle.pd_pred.specs.Tokens.{token_view, lexed_view}
 use Rattle.pd_pred.specs.declared.token.Placed.{Placed as Code}
 
 -- where the first number that is too large begins
@@ -86,17 +86,17 @@ first_where_some tokens at e =
     subst P e (too_large_at_is tokens)
 
 -- the program's tokens, from the prefix up to the first too large
-pub found_at : (tokens : List Code) (i : ℕ) (d : Code) → i < length tokens → too_large_at (all_placed (drop i tokens))
-    ≡ too_large_at (all_placed tokens) → true
-    ≡ is_too_large (token_of (get_or tokens i d).token) (all_placed (drop (i + 1) tokens))
-    → too_large_at (all_placed tokens) ≡ Some (get_or tokens i d).at
+pub found_at : (tokens : List Code) (i : ℕ) (d : Code) → i < length tokens → too_large_at (lexed_view (drop i tokens))
+    ≡ too_large_at (lexed_view tokens) → true
+    ≡ is_too_large (token_view (get_or tokens i d).token) (lexed_view (drop (i + 1) tokens))
+    → too_large_at (lexed_view tokens) ≡ Some (get_or tokens i d).at
 found_at tokens i d h so_far large =
-    let step = at_drop_more (λ (rest : List Code). too_large_at (all_placed rest)) tokens i d h in
-    let here : too_large_at (all_placed (get_or tokens i d ∷ drop (i + 1) tokens)) ≡ Some (get_or tokens i d).at =
+    let step = at_drop_more (λ (rest : List Code). too_large_at (lexed_view rest)) tokens i d h in
+    let here : too_large_at (lexed_view (get_or tokens i d ∷ drop (i + 1) tokens)) ≡ Some (get_or tokens i d).at =
     rw (← large) refl in
     sym so_far ∙ step ∙ here
 
-pub none_found : (tokens : List Code) (i : ℕ) → length tokens ≤ i → too_large_at (all_placed (drop i tokens))
-    ≡ too_large_at (all_placed tokens) → too_large_at (all_placed tokens) ≡ None
+pub none_found : (tokens : List Code) (i : ℕ) → length tokens ≤ i → too_large_at (lexed_view (drop i tokens))
+    ≡ too_large_at (lexed_view tokens) → too_large_at (lexed_view tokens) ≡ None
 none_found tokens i h so_far =
-    sym so_far ∙ at_drop_all (λ (rest : List Code). too_large_at (all_placed rest)) tokens i h
+    sym so_far ∙ at_drop_all (λ (rest : List Code). too_large_at (lexed_view rest)) tokens i h

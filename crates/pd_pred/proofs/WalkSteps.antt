@@ -1,4 +1,4 @@
--- What a walk that comes to the end tells of the first token, and where it goes on.
+-- What follows for the first token from a walk that comes to the end, and where the walk goes on.
 use Rattle.std.proofs.Common.{◌≡◌, ℕ, suc, false, List, [], ◌∷◌, refl, ap}
 use Rattle.std.specs.Prelude.{Some, option_and_then, codes}
 use Rattle.std.specs.Str.{bytes_eq}

@@ -1,4 +1,4 @@
--- What the beginning of an operand tells.
+-- How an operand begins.
 use Rattle.std.specs.Prelude.{List, codes}
 use Rattle.pd_format.specs.Tokens.{Word, OpenParen}
 use Rattle.pd_format.specs.Grammar.{word_not}
@@ -8,7 +8,7 @@ use Rattle.pd_pred.specs.declared.token.Placed.{Placed}
 use Rattle.pd_pred.specs.declared.build.Beginning.{Beginning}
 use Rattle.pd_pred.specs.declared.build.Beginning.TheVariants.{Paren, Negation, Truth, Falsehood, Comparison}
 
--- the tokens begin so, and go on with the rest; a comparison begins with a sum
+-- the tokens begin like this, and go on with the rest; a comparison begins with a sum
 abbrev pub BeginsAs : List Placed → Beginning → Type 0
 BeginsAs tokens (Paren rest) = Follows OpenParen tokens rest.now
 BeginsAs tokens (Negation rest) = Follows word_not tokens rest.now

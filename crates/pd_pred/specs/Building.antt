@@ -1,26 +1,27 @@
--- What is read from the prefix of tokens, and where a walk over them is then.
-use Rattle.std.specs.Prelude.{◌≡◌, ℕ, ◌<◌, ◌≤◌, Bool, true, false, IsFalse, List, [], ◌∷◌, ◌++◌, length, Some}
+-- What is read from the first tokens, and where a walk over them is then.
+use Rattle.std.specs.Prelude.{◌≡◌, ℕ, ◌<◌, ◌≤◌, ◌+◌, Bool, true, false, IsFalse, List, [], ◌∷◌, ◌++◌, length, Some}
 use Rattle.std.specs.Str.{bytes_eq}
 use Rattle.pd_model.specs.Predicates.{Term, Sign, Plus, Minus, Predicate}
 use Rattle.pd_format.specs.Names.{ProcessNames, process_named, var_named}
+use Rattle.pd_format.specs.Limits.{predicate_byte_limit}
 use Rattle.pd_format.specs.Tokens.{Token, Word, Digits, Relates, Dot, Signs}
 use Rattle.pd_format.specs.PredicateTexts.{tokens_of, NumbersFit, is_star}
 use Rattle.pd_format.specs.Grammar.{NamedBy, SpellsTerm, SpellsSum, Rule, Spells}
 use Rattle.pd_format.specs.PrefixWalk.{Side, Mode, AtTerm, AtOperand, AfterTerm, AfterOperand, Inside, AtEnd, walk}
-use Rattle.pd_pred.specs.Tokens.{all_placed, token_of}
+use Rattle.pd_pred.specs.Tokens.{lexed_view, token_view}
 use Rattle.pd_pred.specs.declared.token.Placed.{Placed}
 
 -- the tokens of the grammar that these stand for
 abbrev pub tokens_view : List Placed → List Token
-tokens_view tokens = tokens_of (all_placed tokens)
+tokens_view tokens = tokens_of (lexed_view tokens)
 
--- ---- what stands at the prefix
+-- ---- what the tokens begin with
 
 -- the first token is this one, and the rest follows it
 pub record Follows (token : Token) (tokens rest : List Placed) : Type 0 where
   pub first : Placed
   pub parts : tokens ≡ first ∷ rest
-  pub is : token_of first.token ≡ token
+  pub is : token_view first.token ≡ token
 
 abbrev pub is_this : List ℕ → Token → Bool
 is_this word (Word w) = bytes_eq w word
@@ -87,7 +88,7 @@ Leads mode tokens = (d : ℕ) × (walk (Inside mode d) tokens ≡ Some AtEnd)
 abbrev pub LeadsOnSide : (Side → Mode) → List Token → Type 0
 LeadsOnSide mode tokens = (side : Side) × Leads (mode side) tokens
 
--- Where the tokens lead to the end from the one mode, the rest does from the other.
+-- If the tokens lead to the end from the one mode, the rest does from the other.
 abbrev pub GoesOn : Mode → List Token → Mode → List Token → Type 0
 GoesOn from tokens to rest = (d : ℕ) → walk (Inside from d) tokens ≡ Some AtEnd → walk (Inside to d) rest ≡ Some AtEnd
 
@@ -101,8 +102,8 @@ IsKnown names process var = (p v : ℕ) × (process_named names process ≡ Some
 pub record AreReadable (names : List ProcessNames) (tokens : List Placed) : Type 0 where
   pub known : (before after : List Token) (process var : List ℕ) → tokens_view tokens ≡ before ++ Word process ∷ Dot
       ∷ Word var ∷ after → IsKnown names process var
-  pub fit : NumbersFit (all_placed tokens)
-  pub few : length tokens ≤ 4097
+  pub fit : NumbersFit (lexed_view tokens)
+  pub few : length tokens ≤ predicate_byte_limit + 1
 
 -- ---- what is read
 

@@ -1,4 +1,4 @@
--- What the lexer finds, step by step, and what its errors tell.
+-- What the lexer finds, step by step, and what its errors mean.
 use Rattle.std.specs.Prelude.{◌≡◌, ℕ, List, [], ◌∷◌, ◌++◌, IsFalse}
 use Rattle.pd_format.specs.Tokens.{Token, IsStray, IsSpelling, IsLongest, AreSpaces, is_space}
 use Rattle.pd_pred.specs.declared.lexer.LexError.{LexError}
@@ -8,7 +8,7 @@ abbrev pub IsLexErrorOf : List ℕ → LexError → Type 0
 IsLexErrorOf text (Stray at) = IsStray text at
 IsLexErrorOf text Memory = Unit {0}
 
--- the rest is what follows all spaces and tabs at the prefix of the bytes
+-- the rest is what follows all spaces and tabs that the bytes begin with
 pub record SkipsSpaces (bytes rest : List ℕ) : Type 0 where
   pub spaces : List ℕ
   pub are_spaces : AreSpaces spaces

@@ -5,10 +5,10 @@ use Rattle.pd_pred.specs.declared.openers.Opener.{Opener}
 use Rattle.pd_pred.specs.declared.openers.Opener.TheVariants.{Paren, Negation}
 use Rattle.pd_pred.specs.declared.openers.Openers.{Openers}
 
-abbrev pub opener_of : Opener → openers.Opener
-opener_of Paren = openers.Paren
-opener_of Negation = openers.Negation
+abbrev pub opener_view : Opener → openers.Opener
+opener_view Paren = openers.Paren
+opener_view Negation = openers.Negation
 
 -- the innermost first
-abbrev pub open_in : Openers → List openers.Opener
-open_in o = reverse (map opener_of o.stack.items)
+abbrev pub openers_view : Openers → List openers.Opener
+openers_view o = reverse (map opener_view o.stack.items)

@@ -8,7 +8,7 @@ use Rattle.pd_format.specs.PrefixWalk.{State, Inside, AfterName, AfterDot, step,
 use Rattle.pd_format.specs.OpenerStack.{Opener, opened, all_opened}
 use Rattle.pd_format.specs.PredicateTexts.{PredicateFault, IsFaulty, IsMisplaced, opens, tokens_of}
 use Rattle.pd_format.specs.Limits.{depth_limit}
-use Rattle.pd_pred.specs.Openers.{open_in}
+use Rattle.pd_pred.specs.Openers.{openers_view}
 use Rattle.pd_pred.specs.States.{parser_state_view}
 use Rattle.pd_pred.specs.Views.{predicate_fault_view}
 use Rattle.pd_pred.specs.declared.error.PredError.{PredError}
@@ -22,8 +22,8 @@ pub record Position : Type 0 where
   pub stack : List Opener
   pub process : ℕ
 
-abbrev pub position_of : Place → Position
-position_of p = record { state = parser_state_view p.state; stack = open_in p.openers; process = p.process }
+abbrev pub position_view : Place → Position
+position_view p = record { state = parser_state_view p.state; stack = openers_view p.openers; process = p.process }
 
 abbrev pub first_position : Position
 first_position = record { state = start; stack = []; process = 0 }
@@ -40,13 +40,13 @@ process_of_any_word names (Inside (AfterDot side) parens) process later word =
     option_map (λ var. process) (var_named names process word)
 process_of_any_word names _ process later word = process_of_word names process later word
 
--- the process that the last name refers to after a token that leads from one state to another; none where the token is
+-- the process that the last name refers to after a token that leads from one state to another; none if the token is
 -- an unknown name
 abbrev pub process_after : List ProcessNames → State → ℕ → State → Token → Option ℕ
 process_after names state process later (Word word) = process_of_any_word names state process later word
 process_after names state process later _ = Some process
 
--- the number is that of a process, where a name was read last
+-- the number is that of a process, if a name was read last
 abbrev pub IsInNames : List ProcessNames → State → ℕ → Type 0
 IsInNames names (Inside (AfterName side) parens) process = process < length names
 IsInNames names (Inside (AfterDot side) parens) process = process < length names
@@ -75,7 +75,7 @@ abbrev pub IsWellPlaced : List ProcessNames → List Placed → Type 0
 IsWellPlaced names tokens = (before : List Placed) (t : Placed) (after : List Placed) → tokens ≡ before ++ t ∷ after
     → ¬ (IsMisplaced names before t after)
 
--- the error tells the first misplaced token, and its fault
+-- the error is that of the first misplaced token
 pub record IsFirstMisplaced (names : List ProcessNames) (tokens : List Placed) (error : PredError) : Type 0 where
   pub fault : PredicateFault
   pub is_fault : predicate_fault_view error.kind ≡ Some fault

@@ -5,21 +5,21 @@ use Rattle.pd_format.specs.Tokens.{number_from}
 use Rattle.pd_pred.specs.declared.token.Token.{Token}
 use Rattle.pd_pred.specs.declared.token.Token.TheVariants.{Word, Digits, OpenParen, CloseParen, Relates, Signs, Star, Dot, End}
 use Rattle.pd_pred.specs.declared.token.Placed.{Placed}
-use Rattle.pd_pred.specs.Trees.{sign_of, comparison_of}
+use Rattle.pd_pred.specs.Trees.{sign_view, comparison_view}
 
-abbrev pub token_of : Token → format.Token
-token_of (Word word) = format.Word word.now
-token_of (Digits digits) = format.Digits (number_from 0 digits.now)
-token_of OpenParen = format.OpenParen
-token_of CloseParen = format.CloseParen
-token_of (Relates comparison) = format.Relates (comparison_of comparison)
-token_of (Signs sign) = format.Signs (sign_of sign)
-token_of Star = format.Star
-token_of Dot = format.Dot
-token_of End = format.End
+abbrev pub token_view : Token → format.Token
+token_view (Word word) = format.Word word.now
+token_view (Digits digits) = format.Digits (number_from 0 digits.now)
+token_view OpenParen = format.OpenParen
+token_view CloseParen = format.CloseParen
+token_view (Relates comparison) = format.Relates (comparison_view comparison)
+token_view (Signs sign) = format.Signs (sign_view sign)
+token_view Star = format.Star
+token_view Dot = format.Dot
+token_view End = format.End
 
-abbrev pub placed_of : Placed → format.Placed
-placed_of t = record { at = t.at; token = token_of t.token }
+abbrev pub placed_view : Placed → format.Placed
+placed_view t = record { at = t.at; token = token_view t.token }
 
-abbrev pub all_placed : List Placed → List format.Placed
-all_placed tokens = map placed_of tokens
+abbrev pub lexed_view : List Placed → List format.Placed
+lexed_view tokens = map placed_view tokens

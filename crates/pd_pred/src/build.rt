@@ -1,8 +1,9 @@
 //! The syntax tree of tokens that were checked before.
 //!
-//! Each function reads one rule of the grammar from the prefix of the tokens, as long as it can be, and gives the rest
-//! back. The tokens are known to be a predicate's, so what can't stand there is never met.
+//! Each function reads the longest prefix of the tokens that one rule of the grammar spells, and gives the rest.
+//! The tokens are known to be a predicate's, so what can't stand there is never met.
 ghost use Rattle.pd_format.specs.Grammar.{NamedBy, OrRule, AndRule, NotRule, SpellsWhole};
+ghost use Rattle.pd_format.specs.Limits.{predicate_byte_limit};
 ghost use Rattle.pd_format.specs.PredicateTexts.{NumbersFit, tokens_of};
 ghost use Rattle.pd_format.specs.PrefixWalk.{AtEnd, AtOperand, AtTerm, AfterStar, OnLeft, start, walk};
 ghost use Rattle.pd_format.specs.Tokens.{Digits, Relates, Signs, Star, Word};
@@ -28,10 +29,10 @@ ghost use Rattle.pd_pred.specs.Building.{
   IsTermRead,
 };
 ghost use Rattle.pd_pred.specs.Placement.{IsWellPlaced};
-ghost use Rattle.pd_pred.specs.Tokens.{all_placed};
-ghost use Rattle.pd_pred.specs.Trees.{comparison_of, sign_of, sum_of, term_of, tree_of};
+ghost use Rattle.pd_pred.specs.Tokens.{lexed_view};
+ghost use Rattle.pd_pred.specs.Trees.{comparison_view, sign_view, sum_view, term_view, tree_view};
 ghost use Rattle.pd_pred.specs.declared.token.Placed.{Placed};
-ghost use Rattle.std.specs.Prelude.{◌≡◌, ◌<◌, ◌≤◌, ◌∷◌, ◌++◌, IfOk, IsFalse, IsTrue, List, MatchOption, Some, codes, length};
+ghost use Rattle.std.specs.Prelude.{◌≡◌, ◌<◌, ◌≤◌, ◌+◌, ◌∷◌, ◌++◌, IfOk, IsFalse, IsTrue, List, MatchOption, Some, codes, length};
 
 use super::Names;
 use super::numbers::number_of;
@@ -44,11 +45,12 @@ use std::alloc::{AllocError, Global};
 /// # Errors
 /// Memory ran out.
 pub(crate) fn build(alloc: Global, names: &Names, tokens: &[Placed<'_>]) -> Result<Tree, AllocError>
-    requires walked { walk start (tokens_of (all_placed tokens.now)) ≡ Some AtEnd }
-    requires known { IsWellPlaced names.now (all_placed tokens.now) }
-    requires fit { NumbersFit (all_placed tokens.now) }
-    requires few { length tokens.now ≤ 4097 }
-    ensures { IfOk result (λ tree. SpellsWhole (NamedBy names.now) (tokens_of (all_placed tokens.now)) (tree_of tree)) }
+    requires walked { walk start (tokens_of (lexed_view tokens.now)) ≡ Some AtEnd }
+    requires known { IsWellPlaced names.now (lexed_view tokens.now) }
+    requires fit { NumbersFit (lexed_view tokens.now) }
+    requires few { length tokens.now ≤ predicate_byte_limit + 1 }
+    ensures { IfOk result (λ tree. SpellsWhole (NamedBy names.now) (tokens_of (lexed_view tokens.now))
+        (tree_view tree)) }
 {
     let (tree, _rest) = disjunction(alloc, names, tokens)?;
     Ok(tree)
@@ -63,7 +65,7 @@ fn disjunction<'a>(
 ) -> Result<(Tree, &'a [Placed<'a>]), AllocError>
     requires readable { AreReadable names.now tokens.now }
     requires leads { Leads AtOperand (tokens_view tokens.now) }
-    ensures read { IfOk result (λ built. IsRead names.now OrRule tokens.now built.1.now (tree_of built.0)) }
+    ensures read { IfOk result (λ built. IsRead names.now OrRule tokens.now built.1.now (tree_view built.0)) }
     ensures stops_at_and { IfOk result (λ built. IsFalse (begins_with_word (codes "and") (tokens_view built.1.now))) }
     ensures stops_at_or { IfOk result (λ built. IsFalse (begins_with_word (codes "or") (tokens_view built.1.now))) }
 {
@@ -87,7 +89,7 @@ fn conjunction<'a>(
 ) -> Result<(Tree, &'a [Placed<'a>]), AllocError>
     requires readable { AreReadable names.now tokens.now }
     requires leads { Leads AtOperand (tokens_view tokens.now) }
-    ensures read { IfOk result (λ built. IsRead names.now AndRule tokens.now built.1.now (tree_of built.0)) }
+    ensures read { IfOk result (λ built. IsRead names.now AndRule tokens.now built.1.now (tree_view built.0)) }
     ensures stops_at_and { IfOk result (λ built. IsFalse (begins_with_word (codes "and") (tokens_view built.1.now))) }
 {
     let (mut tree, mut rest) = operand(alloc, names, tokens)?;
@@ -110,7 +112,7 @@ fn operand<'a>(
 ) -> Result<(Tree, &'a [Placed<'a>]), AllocError>
     requires readable { AreReadable names.now tokens.now }
     requires leads { Leads AtOperand (tokens_view tokens.now) }
-    ensures { IfOk result (λ built. IsRead names.now NotRule tokens.now built.1.now (tree_of built.0)) }
+    ensures { IfOk result (λ built. IsRead names.now NotRule tokens.now built.1.now (tree_view built.0)) }
 {
     match beginning_of(tokens) {
         Beginning::Paren(inside) => {
@@ -128,7 +130,7 @@ fn operand<'a>(
     }
 }
 
-/// How an operand begins, with what follows the token that tells.
+/// How an operand begins, with what follows its first token.
 enum Beginning<'a> {
     /// `(`
     Paren(&'a [Placed<'a>]),
@@ -142,7 +144,7 @@ enum Beginning<'a> {
     Comparison,
 }
 
-/// How the operand at the prefix of the tokens begins.
+/// How the operand begins that these tokens begin with.
 fn beginning_of<'a>(tokens: &'a [Placed<'a>]) -> Beginning<'a>
     requires { Leads AtOperand (tokens_view tokens.now) }
     ensures { BeginsAs tokens.now result }
@@ -170,9 +172,9 @@ fn comparison<'a>(
 ) -> Result<(Tree, &'a [Placed<'a>]), AllocError>
     requires readable { AreReadable names.now tokens.now }
     requires leads { Leads (AtTerm OnLeft) (without_minus (tokens_view tokens.now)) }
-    requires begins { GoesOn AtOperand (tokens_view tokens.now) (AtTerm OnLeft) (without_minus (tokens_view tokens.now))
-        }
-    ensures { IfOk result (λ built. IsRead names.now NotRule tokens.now built.1.now (tree_of built.0)) }
+    requires begins { GoesOn AtOperand (tokens_view tokens.now) (AtTerm OnLeft)
+        (without_minus (tokens_view tokens.now)) }
+    ensures { IfOk result (λ built. IsRead names.now NotRule tokens.now built.1.now (tree_view built.0)) }
 {
     let (left, related) = sum(alloc, names, tokens)?;
     let (comparison, following) = after_comparison(related);
@@ -185,7 +187,7 @@ fn comparison<'a>(
     Ok((tree, rest))
 }
 
-/// Terms with their signs, where a first plus isn't written.
+/// Terms with their signs; a first plus isn't written.
 fn sum<'a>(
     alloc: Global,
     names: &Names,
@@ -193,7 +195,7 @@ fn sum<'a>(
 ) -> Result<(Sum, &'a [Placed<'a>]), AllocError>
     requires readable { AreReadable names.now tokens.now }
     requires leads { LeadsOnSide AtTerm (without_minus (tokens_view tokens.now)) }
-    ensures read { IfOk result (λ built. IsSumRead names.now tokens.now built.1.now (sum_of built.0)) }
+    ensures read { IfOk result (λ built. IsSumRead names.now tokens.now built.1.now (sum_view built.0)) }
     ensures stops { IfOk result (λ built. IsFalse (begins_with_sign (tokens_view built.1.now))) }
 {
     let (sign, following) = first_sign(tokens);
@@ -211,7 +213,7 @@ fn sum<'a>(
 /// The sign of a sum's first term, and what follows it.
 fn first_sign<'a>(tokens: &'a [Placed<'a>]) -> (Sign, &'a [Placed<'a>])
     requires { LeadsOnSide AtTerm (without_minus (tokens_view tokens.now)) }
-    ensures { IsFirstSign (sign_of result.0) tokens.now result.1.now }
+    ensures { IsFirstSign (sign_view result.0) tokens.now result.1.now }
 {
     match after_sign(tokens) {
         Some(signed) => signed,
@@ -223,7 +225,7 @@ fn first_sign<'a>(tokens: &'a [Placed<'a>]) -> (Sign, &'a [Placed<'a>])
 fn term<'a>(names: &Names, tokens: &'a [Placed<'a>]) -> (Term, &'a [Placed<'a>])
     requires readable { AreReadable names.now tokens.now }
     requires leads { LeadsOnSide AtTerm (tokens_view tokens.now) }
-    ensures { IsTermRead names.now AtTerm tokens.now result.1.now (term_of result.0) }
+    ensures { IsTermRead names.now AtTerm tokens.now result.1.now (term_view result.0) }
 {
     let Some((number, following)) = after_number(tokens) else {
         let (process, var, rest) = reference(names, tokens);
@@ -273,7 +275,7 @@ fn after_word<'a>(tokens: &'a [Placed<'a>], word: &str) -> Option<&'a [Placed<'a
 /// The sign and what follows it, if the tokens begin with one.
 fn after_sign<'a>(tokens: &'a [Placed<'a>]) -> Option<(Sign, &'a [Placed<'a>])>
     ensures { MatchOption result (IsFalse (begins_with_sign (tokens_view tokens.now))) (λ signed.
-        Follows (Signs (sign_of signed.0)) tokens.now signed.1.now) }
+        Follows (Signs (sign_view signed.0)) tokens.now signed.1.now) }
 {
     let (first, rest) = tokens.split_first()?;
     match first.token {
@@ -284,7 +286,7 @@ fn after_sign<'a>(tokens: &'a [Placed<'a>]) -> Option<(Sign, &'a [Placed<'a>])>
 
 /// The number and what follows it, if the tokens begin with one.
 fn after_number<'a>(tokens: &'a [Placed<'a>]) -> Option<(u64, &'a [Placed<'a>])>
-    requires { NumbersFit (all_placed tokens.now) }
+    requires { NumbersFit (lexed_view tokens.now) }
     ensures { MatchOption result (IsFalse (begins_with_number (tokens_view tokens.now))) (λ numbered.
         Follows (Digits numbered.0) tokens.now numbered.1.now) }
 {
@@ -307,7 +309,7 @@ fn after_star<'a>(tokens: &'a [Placed<'a>]) -> Option<&'a [Placed<'a>]>
     }
 }
 
-/// The word at the prefix of the tokens, and what follows it.
+/// The word with which the tokens begin, and what follows it.
 fn after_name<'a>(tokens: &'a [Placed<'a>]) -> (&'a str, &'a [Placed<'a>])
     requires { IsTrue (begins_with_any_word (tokens_view tokens.now)) }
     ensures { Follows (Word result.0.now) tokens.now result.1.now }
@@ -321,10 +323,10 @@ fn after_name<'a>(tokens: &'a [Placed<'a>]) -> (&'a str, &'a [Placed<'a>])
     (name, rest)
 }
 
-/// The comparison at the prefix of the tokens, and what follows it.
+/// The comparison with which the tokens begin, and what follows it.
 fn after_comparison<'a>(tokens: &'a [Placed<'a>]) -> (Comparison, &'a [Placed<'a>])
     requires { IsTrue (begins_with_relation (tokens_view tokens.now)) }
-    ensures { Follows (Relates (comparison_of result.0)) tokens.now result.1.now }
+    ensures { Follows (Relates (comparison_view result.0)) tokens.now result.1.now }
 {
     let Some((first, rest)) = tokens.split_first() else {
         unreachable!()

@@ -1,10 +1,11 @@
 //! Why a text is refused as a predicate.
-use std::alloc::{AllocError, AllocFailed};
+use pd_format::PREDICATE_BYTE_LIMIT;
+use std::alloc::AllocError;
 
 /// What is wrong with a predicate's text.
 #[derive(Clone, Copy, Debug, PartialEq, Eq)]
 pub enum PredErrorKind {
-    /// The text has over 4,096 bytes.
+    /// The text has over `PREDICATE_BYTE_LIMIT` bytes.
     Long,
     /// A byte begins no token and is neither space nor tab.
     Character,
@@ -14,7 +15,7 @@ pub enum PredErrorKind {
     Expected,
     /// A name that no process has, or that no variable of the process has.
     UnknownName,
-    /// A `(` or `not` inside 64 others.
+    /// A `(` or `not` inside `DEPTH_LIMIT` others.
     Depth,
     /// Memory ran out.
     Memory,
@@ -25,13 +26,19 @@ pub enum PredErrorKind {
 pub struct PredError {
     /// What is wrong.
     pub kind: PredErrorKind,
-    /// The byte where it is wrong, counted from 1; 0 where memory ran out.
+    /// The byte where it is wrong, counted from 1; 0 if memory ran out.
     pub at: u64,
 }
 
 impl PredError {
+    /// The refusal of a text that is too long: its first byte over the limit is at fault.
+    pub(crate) const LONG: PredError = PredError {
+        kind: PredErrorKind::Long,
+        at: PREDICATE_BYTE_LIMIT as u64 + 1,
+    };
+
     /// The refusal because memory ran out.
-    pub const MEMORY: PredError = PredError {
+    pub(crate) const MEMORY: PredError = PredError {
         kind: PredErrorKind::Memory,
         at: 0,
     };
@@ -44,17 +51,6 @@ impl From<AllocError> for PredError {
     ghost from_gives = { λ _ e. e ≡ memory_error };
 
     fn from(_e: AllocError) -> PredError {
-        PredError::MEMORY
-    }
-}
-
-impl<T: Drop> From<AllocFailed<T>> for PredError {
-    ghost use Rattle.std.specs.Prelude.{◌≡◌};
-    ghost use Rattle.pd_pred.specs.Views.{memory_error};
-
-    ghost from_gives = { λ _ e. e ≡ memory_error };
-
-    fn from(_e: AllocFailed<T>) -> PredError {
         PredError::MEMORY
     }
 }

@@ -1,7 +1,7 @@
 //! What a predicate means at a state.
 ghost use Rattle.pd_model.specs.Predicates as model;
 ghost use Rattle.pd_model.specs.Predicates.{holds_at};
-ghost use Rattle.pd_pred.specs.Trees.{comparison_of, sign_of, sum_of, term_of, tree_of};
+ghost use Rattle.pd_pred.specs.Trees.{comparison_view, sign_view, sum_view, term_view, tree_view};
 ghost use Rattle.std.specs.Int.RustNames.{unsigned_abs};
 ghost use Rattle.std.specs.Prelude.{◌≡◌, ◌<◌, ◌^◌};
 
@@ -10,7 +10,7 @@ use super::tree::{Comparison, Sign, SignedTerm, Sum, Term, Tree};
 
 /// Whether the predicate is true at the state.
 pub(crate) fn holds<V: Values>(tree: &Tree, values: &V) -> bool
-    ensures { result ≡ holds_at (V.state values.now) (tree_of tree.now) }
+    ensures { result ≡ holds_at (V.state values.now) (tree_view tree.now) }
 {
     match tree {
         Tree::Always => true,
@@ -32,7 +32,7 @@ pub(crate) fn holds<V: Values>(tree: &Tree, values: &V) -> bool
 
 /// The value of a term, without its sign.
 fn term_value<V: Values>(term: Term, values: &V) -> i128
-    ensures value { result ≡ model.term_value (V.state values.now) (term_of term) }
+    ensures value { result ≡ model.term_value (V.state values.now) (term_view term) }
     ensures bound { unsigned_abs result < 2 ^ 95 }
 {
     match term {
@@ -48,8 +48,8 @@ fn term_value<V: Values>(term: Term, values: &V) -> i128
 
 /// The value of a term with its sign.
 fn signed_value<V: Values>(signed: SignedTerm, values: &V) -> i128
-    ensures value { result ≡ model.signed (sign_of signed.sign)
-        (model.term_value (V.state values.now) (term_of signed.term)) }
+    ensures value { result ≡ model.signed (sign_view signed.sign)
+        (model.term_value (V.state values.now) (term_view signed.term)) }
     ensures bound { unsigned_abs result < 2 ^ 95 }
 {
     let value = term_value(signed.term, values);
@@ -61,7 +61,7 @@ fn signed_value<V: Values>(signed: SignedTerm, values: &V) -> i128
 
 /// The value of a sum, without bound: 128 bits hold it.
 fn sum_value<V: Values>(sum: &Sum, values: &V) -> i128
-    ensures { result ≡ model.sum_value (V.state values.now) (sum_of sum.now) }
+    ensures { result ≡ model.sum_value (V.state values.now) (sum_view sum.now) }
 {
     let mut total = 0;
     for term in &sum.terms {
@@ -71,7 +71,7 @@ fn sum_value<V: Values>(sum: &Sum, values: &V) -> i128
 }
 
 fn compares(comparison: Comparison, x: i128, y: i128) -> bool
-    ensures { result ≡ model.compares (comparison_of comparison) x y }
+    ensures { result ≡ model.compares (comparison_view comparison) x y }
 {
     match comparison {
         Comparison::Equals => x == y,

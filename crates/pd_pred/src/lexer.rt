@@ -1,12 +1,14 @@
 //! The tokens of a text.
 ghost use Rattle.pd_format.specs.Names as format;
+ghost use Rattle.pd_format.specs.Limits.{predicate_byte_limit};
 ghost use Rattle.pd_format.specs.Tokens as format_tokens;
 ghost use Rattle.pd_format.specs.Tokens.{AreTokens, BeginsNoToken, IsSpelling};
 ghost use Rattle.pd_pred.specs.Lexing.{BeginsNoDouble, IsFirstToken, IsLexErrorOf, SkipsSpaces, SpellsNoToken};
-ghost use Rattle.pd_pred.specs.Tokens.{all_placed, token_of};
+ghost use Rattle.pd_pred.specs.Tokens.{lexed_view, token_view};
 ghost use Rattle.std.specs.List.{prefix_len};
 ghost use Rattle.std.specs.Prelude.{◌≡◌, ◌≤◌, ◌+◌, [], ◌∷◌, length, slice_index, IsTrue, IsFalse, IfOk, IfErr, MatchOption};
 
+use super::name::{is_in_word, is_letter};
 use super::token::{Placed, Token};
 use super::tree::{Comparison, Sign};
 use std::alloc::{AllocFailed, Global};
@@ -35,18 +37,6 @@ fn is_space(byte: u8) -> bool
     ensures { result ≡ format_tokens.is_space byte }
 {
     byte == b' ' || byte == b'\t'
-}
-
-fn is_letter(byte: u8) -> bool
-    ensures { result ≡ format.is_letter byte }
-{
-    byte.is_ascii_lowercase() || byte.is_ascii_uppercase() || byte == b'_'
-}
-
-fn is_in_word(byte: u8) -> bool
-    ensures { result ≡ format.is_in_word byte }
-{
-    is_letter(byte) || byte.is_ascii_digit()
 }
 
 /// How many spaces and tabs the text begins with.
@@ -89,7 +79,7 @@ fn skip_spaces(text: &str) -> &str
 /// The word that the text begins with, and what follows it.
 fn first_word(text: &str) -> (Token<'_>, &str)
     requires { IsTrue (format.is_letter (slice_index text.now 0)) }
-    ensures { IsFirstToken text.now (token_of result.0) result.1.now }
+    ensures { IsFirstToken text.now (token_view result.0) result.1.now }
 {
     let (word, rest) = text.split_at(word_len(text));
     (Token::Word(word), rest)
@@ -98,7 +88,7 @@ fn first_word(text: &str) -> (Token<'_>, &str)
 /// The digits that the text begins with, and what follows them.
 fn first_digits(text: &str) -> (Token<'_>, &str)
     requires { IsTrue (format.is_digit (slice_index text.now 0)) }
-    ensures { IsFirstToken text.now (token_of result.0) result.1.now }
+    ensures { IsFirstToken text.now (token_view result.0) result.1.now }
 {
     let (digits, rest) = text.split_at(digits_len(text));
     (Token::Digits(digits), rest)
@@ -108,7 +98,7 @@ fn first_digits(text: &str) -> (Token<'_>, &str)
 fn single_symbol(byte: u8) -> Option<Token<'static>>
     requires no_letter { IsFalse (format.is_letter byte) }
     requires no_digit { IsFalse (format.is_digit byte) }
-    ensures { MatchOption result (SpellsNoToken (byte ∷ [])) (λ token. IsSpelling (byte ∷ []) (token_of token)) }
+    ensures { MatchOption result (SpellsNoToken (byte ∷ [])) (λ token. IsSpelling (byte ∷ []) (token_view token)) }
 {
     match byte {
         b'(' => Some(Token::OpenParen),
@@ -128,7 +118,7 @@ fn double_symbol(first: u8, second: u8) -> Option<Token<'static>>
     requires no_letter { IsFalse (format.is_letter first) }
     requires no_digit { IsFalse (format.is_digit first) }
     ensures { MatchOption result (SpellsNoToken (first ∷ second ∷ [])) (λ token.
-        IsSpelling (first ∷ second ∷ []) (token_of token)) }
+        IsSpelling (first ∷ second ∷ []) (token_view token)) }
 {
     match (first, second) {
         (b'=', b'=') => Some(Token::Relates(Comparison::Equals)),
@@ -144,7 +134,7 @@ fn first_double(text: &str) -> Option<(Token<'_>, &str)>
     requires no_letter { IsFalse (format.is_letter (slice_index text.now 0)) }
     requires no_digit { IsFalse (format.is_digit (slice_index text.now 0)) }
     ensures { MatchOption result (BeginsNoDouble text.now) (λ found.
-        IsFirstToken text.now (token_of found.0) found.1.now) }
+        IsFirstToken text.now (token_view found.0) found.1.now) }
 {
     let &[first, second, ..] = text.as_bytes() else {
         return None;
@@ -159,7 +149,7 @@ fn first_single(text: &str) -> Option<(Token<'_>, &str)>
     requires no_digit { IsFalse (format.is_digit (slice_index text.now 0)) }
     requires no_double { BeginsNoDouble text.now }
     ensures { MatchOption result (BeginsNoToken text.now) (λ found.
-        IsFirstToken text.now (token_of found.0) found.1.now) }
+        IsFirstToken text.now (token_view found.0) found.1.now) }
 {
     let first = *text.as_bytes().first()?;
     let token = single_symbol(first)?;
@@ -169,7 +159,7 @@ fn first_single(text: &str) -> Option<(Token<'_>, &str)>
 /// The token that the text begins with, and what follows it.
 fn first_token(text: &str) -> Option<(Token<'_>, &str)>
     ensures { MatchOption result (BeginsNoToken text.now) (λ found.
-        IsFirstToken text.now (token_of found.0) found.1.now) }
+        IsFirstToken text.now (token_view found.0) found.1.now) }
 {
     let first = *text.as_bytes().first()?;
     if is_letter(first) {
@@ -185,7 +175,7 @@ fn first_token(text: &str) -> Option<(Token<'_>, &str)>
 
 /// The number, from 1, of the byte of the text that begins this rest of it.
 fn place_of(text: &str, rest: &str) -> u64
-    requires short { length text.now ≤ 4096 }
+    requires short { length text.now ≤ predicate_byte_limit }
     requires inside { length rest.now ≤ length text.now }
     ensures { result + length rest.now ≡ length text.now + 1 }
 {
@@ -194,8 +184,8 @@ fn place_of(text: &str, rest: &str) -> u64
 
 /// The tokens of a text, with the end as the last.
 pub(crate) fn lex(alloc: Global, text: &str) -> Result<Vec<Placed<'_>>, LexError>
-    requires { length text.now ≤ 4096 }
-    ensures ok { IfOk result (λ tokens. AreTokens text.now (all_placed tokens.items)) }
+    requires { length text.now ≤ predicate_byte_limit }
+    ensures ok { IfOk result (λ tokens. AreTokens text.now (lexed_view tokens.items)) }
     ensures err { IfErr result (λ error. IsLexErrorOf text.now error) }
 {
     let mut tokens = Vec::new(alloc);
@@ -235,7 +225,7 @@ mod tests {
     }
 
     #[test]
-    fn tells_a_stray_byte(rt: HostRuntime) {
+    fn reports_a_stray_byte(rt: HostRuntime) {
         assert_eq!(rt; lex(rt.alloc(), "a.x = 1").err(), Some(LexError::Stray(5)));
         assert_eq!(rt; lex(rt.alloc(), "a.\u{e9}").err(), Some(LexError::Stray(3)));
     }

@@ -1,8 +1,9 @@
 //! The predicate language: names that a predicate may speak of, the reader of its text, and what it means at a state.
 //!
-//! A text is read exactly where it is a predicate of the grammar over the session's names; otherwise the first fault is
+//! A text is read exactly if it is a predicate of the grammar over the session's names; otherwise the first fault is
 //! reported with its byte. A predicate is evaluated over whole numbers without bound, and takes no memory for it.
 //!
+//! - `name`: what is a name
 //! - `names`: the processes of a session and their variables
 //! - `values`: where the values of variables come from
 //! - `error`: why a text is refused
@@ -10,7 +11,7 @@
 //! - `token`, `lexer`: the tokens of a text, and how they are read
 //! - `numbers`: the numbers that digits write, and their limits
 //! - `state`, `openers`, `placement`: what may stand next, what is open, and which token is misplaced
-//! - `tree`, `build`: the syntax tree, and how it is built of tokens that were checked before
+//! - `tree`, `build`: the syntax tree, and how it is built of tokens of which none is misplaced
 //! - `evaluate`: what a tree means at a state
 #![tactic(auto)]
 
@@ -18,6 +19,7 @@ mod build;
 mod error;
 mod evaluate;
 mod lexer;
+mod name;
 mod names;
 mod numbers;
 mod openers;
@@ -31,6 +33,7 @@ mod tree;
 mod values;
 
 pub use error::{PredError, PredErrorKind};
-pub use names::{Names, ProcessNames, distinct_names_are_clear};
+pub use name::is_name;
+pub use names::{Names, ProcessNames};
 pub use predicate::Pred;
 pub use values::Values;

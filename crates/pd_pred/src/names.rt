@@ -1,6 +1,7 @@
 //! The processes of a session and their variables.
 ghost use Rattle.pd_format.specs.Names.{process_named, var_named, vars_of, ProcessNames as Entry};
-ghost use Rattle.pd_pred.specs.Names.{entries, AreDistinct, DistinctAreClear};
+ghost use Rattle.pd_format.specs.Names.{AreDistinct};
+ghost use Rattle.pd_pred.specs.Names.{entries_view};
 ghost use Rattle.std.specs.Prelude.{◌≡◌, ◌<◌, List, length, map, string_bytes, slice_get, position, IfSome, Some};
 ghost use Rattle.std.specs.Str.{bytes_eq};
 
@@ -27,11 +28,12 @@ impl Model for Names {
 
     ghost Value = { List Entry };
 
-    ghost use Rattle.pd_pred.specs.Names.{entries, AreDistinct};
+    ghost use Rattle.pd_format.specs.Names.{AreDistinct};
+    ghost use Rattle.pd_pred.specs.Names.{entries_view};
 
-    ghost view = { λ n. entries n.processes.items };
+    ghost view = { λ n. entries_view n.processes.items };
 
-    ghost invariant = { λ n. AreDistinct (entries n.processes.items) };
+    ghost invariant = { λ n. AreDistinct (entries_view n.processes.items) };
 }
 
 fn process_at(processes: &[ProcessNames], name: &str) -> Option<usize>
@@ -51,8 +53,8 @@ fn text_at(texts: &[String], name: &str) -> Option<usize>
 impl Names {
     /// The names of these processes. The processes' names differ, and so do the variables' of each process.
     pub fn new(processes: Vec<ProcessNames>) -> Names
-        requires { AreDistinct (entries processes.items) }
-        ensures { result ≡ entries processes.items }
+        requires { AreDistinct (entries_view processes.items) }
+        ensures { result ≡ entries_view processes.items }
     {
         Names { processes }
     }
@@ -103,9 +105,3 @@ impl Names {
         self.processes[p].vars.as_slice()
     }
 }
-
-/// Where no two processes have one name, and no two variables of a process, two names together refer to one variable at
-/// most. It does nothing: its clause is a law that callers can use.
-pub fn distinct_names_are_clear()
-    ensures { DistinctAreClear }
-{}

@@ -3,7 +3,7 @@ ghost use Rattle.pd_format.specs.PredicateTexts as format;
 ghost use Rattle.pd_format.specs.PredicateTexts.{NumbersFit};
 ghost use Rattle.pd_format.specs.Tokens.{number_from};
 ghost use Rattle.pd_pred.specs.Numbers.{IsFirstTooLarge};
-ghost use Rattle.pd_pred.specs.Tokens.{all_placed, token_of};
+ghost use Rattle.pd_pred.specs.Tokens.{lexed_view, token_view};
 ghost use Rattle.std.specs.Prelude.{◌≡◌, ◌<◌, ◌-◌, ◌^◌, nat_lt, MatchOption};
 
 use super::token::{Placed, Token};
@@ -48,7 +48,7 @@ fn exceeds(digits: &str, limit: u64) -> bool
 }
 
 fn begins_with_star(tokens: &[Placed<'_>]) -> bool
-    ensures { result ≡ format.begins_with_star (all_placed tokens.now) }
+    ensures { result ≡ format.begins_with_star (lexed_view tokens.now) }
 {
     match tokens.first() {
         Some(first) => matches!(first.token, Token::Star),
@@ -58,7 +58,7 @@ fn begins_with_star(tokens: &[Placed<'_>]) -> bool
 
 /// Whether the token is a number too large for its place, which these tokens follow.
 fn is_too_large(token: Token<'_>, after: &[Placed<'_>]) -> bool
-    ensures { result ≡ format.is_too_large (token_of token.entry) (all_placed after.now) }
+    ensures { result ≡ format.is_too_large (token_view token.entry) (lexed_view after.now) }
 {
     match token {
         Token::Digits(digits) => {
@@ -70,7 +70,7 @@ fn is_too_large(token: Token<'_>, after: &[Placed<'_>]) -> bool
 
 /// The first byte of the first number that is too large, counted from 1.
 pub(crate) fn first_too_large(tokens: &[Placed<'_>]) -> Option<u64>
-    ensures { MatchOption result (NumbersFit (all_placed tokens.now)) (IsFirstTooLarge (all_placed tokens.now)) }
+    ensures { MatchOption result (NumbersFit (lexed_view tokens.now)) (IsFirstTooLarge (lexed_view tokens.now)) }
 {
     for (i, placed) in tokens.iter().enumerate() {
         if is_too_large(placed.token, &tokens[i + 1..]) {

@@ -1,18 +1,17 @@
 //! What is open around a token of a predicate.
+ghost use Rattle.pd_format.specs.Limits.{depth_limit};
 ghost use Rattle.pd_format.specs.OpenerStack.{drop_nots, opened};
 ghost use Rattle.pd_format.specs.Tokens as format;
 ghost use Rattle.pd_format.specs.PredicateTexts.{opens};
-ghost use Rattle.pd_pred.specs.Openers.{open_in};
-ghost use Rattle.pd_pred.specs.Tokens.{token_of};
+ghost use Rattle.pd_pred.specs.Openers.{openers_view};
+ghost use Rattle.pd_pred.specs.Tokens.{token_view};
 ghost use Rattle.std.specs.Prelude.{◌≡◌, ◌<◌, ◌≤◌, ◌==◌, [], length, IsTrue, codes};
 ghost use Rattle.std.specs.Str.{bytes_eq};
 
 use super::state::{WordKind, word_kind};
 use super::token::Token;
 use arrayvec::ArrayVec;
-
-/// How many `(` and `not` may be open around a token.
-const MAX_OPEN: usize = 64;
+use pd_format::DEPTH_LIMIT;
 
 /// A token that stands open around others.
 #[derive(Clone, Copy, Default)]
@@ -27,13 +26,13 @@ enum Opener {
 /// The parentheses and the `not`s around a token, the outermost first.
 #[derive(Drop)]
 pub(crate) struct Openers {
-    stack: ArrayVec<Opener, MAX_OPEN>,
+    stack: ArrayVec<Opener, DEPTH_LIMIT>,
 }
 
 impl Openers {
     /// Nothing is open.
     pub(crate) fn new() -> Openers
-        ensures { open_in result ≡ [] }
+        ensures { openers_view result ≡ [] }
     {
         Openers {
             stack: ArrayVec::new(),
@@ -42,16 +41,16 @@ impl Openers {
 
     /// Whether no more fits.
     pub(crate) fn is_full(&self) -> bool
-        ensures full { result ≡ (length (open_in self.now) == 64) }
-        ensures fits { length (open_in self.now) ≤ 64 }
+        ensures full { result ≡ (length (openers_view self.now) == depth_limit) }
+        ensures fits { length (openers_view self.now) ≤ depth_limit }
     {
         self.stack.is_full()
     }
 
     /// What is open after one token more.
     pub(crate) fn read(&mut self, token: Token<'_>)
-        requires { IsTrue (opens (token_of token)) → length (open_in self.old) < 64 }
-        ensures { open_in self.new ≡ opened (open_in self.old) (token_of token.entry) }
+        requires { IsTrue (opens (token_view token)) → length (openers_view self.old) < depth_limit }
+        ensures { openers_view self.new ≡ opened (openers_view self.old) (token_view token.entry) }
     {
         match token {
             Token::OpenParen => self.stack.push(Opener::Paren),
@@ -65,8 +64,8 @@ impl Openers {
     }
 
     fn read_word(&mut self, word: &str)
-        requires { IsTrue (bytes_eq word.now (codes "not")) → length (open_in self.old) < 64 }
-        ensures { open_in self.new ≡ opened (open_in self.old) (format.Word word.now) }
+        requires { IsTrue (bytes_eq word.now (codes "not")) → length (openers_view self.old) < depth_limit }
+        ensures { openers_view self.new ≡ opened (openers_view self.old) (format.Word word.now) }
     {
         match word_kind(word) {
             WordKind::Negates => self.stack.push(Opener::Negation),
@@ -77,7 +76,7 @@ impl Openers {
 
     /// Ends the operands of the innermost `not`s.
     fn drop_negations(&mut self)
-        ensures { open_in self.new ≡ drop_nots (open_in self.old) }
+        ensures { openers_view self.new ≡ drop_nots (openers_view self.old) }
     {
         while let Some(Opener::Negation) = self.stack.last() {
             let _negation = self.stack.pop();

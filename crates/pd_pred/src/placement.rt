@@ -9,11 +9,11 @@ ghost use Rattle.pd_pred.specs.Placement.{
   IsWellPlaced,
   Steps,
   first_position,
-  position_of,
+  position_view,
   process_after,
 };
 ghost use Rattle.pd_pred.specs.States.{open_parens, parser_state_view};
-ghost use Rattle.pd_pred.specs.Tokens.{all_placed, token_of};
+ghost use Rattle.pd_pred.specs.Tokens.{lexed_view, token_view};
 ghost use Rattle.std.specs.Prelude.{◌≡◌, ◌+◌, ◌<◌, ◌≤◌, [], ◌∷◌, ◌++◌, List, Some, IfErr, IfSome, OnOk, IfNone};
 
 use super::openers::Openers;
@@ -24,10 +24,10 @@ use super::{Names, PredError, PredErrorKind};
 /// The first misplaced token with its fault, if there is one.
 pub(crate) fn first_misplaced(names: &Names, tokens: &[Placed<'_>]) -> Option<PredError>
     ensures misplaced { IfSome result
-        (λ error. IsFirstMisplaced names.now (all_placed tokens.now) error) }
-    ensures well_placed { IfNone result (IsWellPlaced names.now (all_placed tokens.now)) }
-    ensures ends { IfNone result ((prefix : List FormatToken) → tokens_of (all_placed tokens.now) ≡ prefix ++ End ∷ [] →
-        walk start (tokens_of (all_placed tokens.now)) ≡ Some AtEnd) }
+        (λ error. IsFirstMisplaced names.now (lexed_view tokens.now) error) }
+    ensures well_placed { IfNone result (IsWellPlaced names.now (lexed_view tokens.now)) }
+    ensures ends { IfNone result ((prefix : List FormatToken) → tokens_of (lexed_view tokens.now) ≡ prefix ++ End ∷ [] →
+        walk start (tokens_of (lexed_view tokens.now)) ≡ Some AtEnd) }
 {
     pd_format::prefixes_are_walked();
     pd_format::depths_are_heights();
@@ -55,7 +55,7 @@ struct Place {
 impl Place {
     /// The place before the first token.
     fn new() -> Place
-        ensures { position_of result ≡ first_position }
+        ensures { position_view result ≡ first_position }
     {
         Place {
             state: State::Inside {
@@ -67,16 +67,16 @@ impl Place {
         }
     }
 
-    /// Goes after one token more, or tells what is wrong with it there.
+    /// Goes after one token more, or says what is wrong with it there.
     fn read(&mut self, names: &Names, token: Token<'_>) -> Result<(), PredErrorKind>
         requires few { open_parens (parser_state_view self.old.state) < usize.MAX }
         requires in_names { IsInNames names.now (parser_state_view self.old.state) self.old.process }
         ensures ok { OnOk result
-            (Steps names.now (position_of self.old) (token_of token.entry) (position_of self.new)) }
+            (Steps names.now (position_view self.old) (token_view token.entry) (position_view self.new)) }
         ensures few { OnOk result
             (open_parens (parser_state_view self.new.state) ≤ open_parens (parser_state_view self.old.state) + 1) }
         ensures err { IfErr result
-            (λ kind. IsFaultAt names.now (position_of self.old) (token_of token.entry) kind) }
+            (λ kind. IsFaultAt names.now (position_view self.old) (token_view token.entry) kind) }
     {
         let Some(state) = step(self.state, token) else {
             return Err(PredErrorKind::Expected);
@@ -93,13 +93,13 @@ impl Place {
         Ok(())
     }
 
-    /// The process that the last name refers to after this token, which leads to this state; none where the token is an
+    /// The process that the last name refers to after this token, which leads to this state; none if the token is an
     /// unknown name.
     fn process_after(&self, names: &Names, state: State, token: Token<'_>) -> Option<usize>
         requires { IsInNames names.now (parser_state_view self.now.state) self.now.process }
         ensures { result
             ≡ process_after names.now (parser_state_view self.now.state) self.now.process (parser_state_view state)
-            (token_of token.entry) }
+            (token_view token.entry) }
     {
         let Token::Word(word) = token else {
             return Some(self.process);
@@ -126,7 +126,7 @@ impl Place {
 
 /// Whether the token is a `(` or a `not`.
 fn is_opener(token: Token<'_>) -> bool
-    ensures { result ≡ opens (token_of token.entry) }
+    ensures { result ≡ opens (token_view token.entry) }
 {
     match token {
         Token::OpenParen => true,

@@ -1,8 +1,9 @@
 //! The predicate itself.
+ghost use Rattle.pd_format.specs.Limits.{predicate_byte_limit};
 ghost use Rattle.pd_format.specs.PredicateTexts.{IsPredicate};
-ghost use Rattle.pd_model.specs.Predicates.{holds_at};
-ghost use Rattle.pd_pred.specs.Views.{IsErrorOf, predicate_view};
-ghost use Rattle.std.specs.Prelude.{◌≡◌, IfOk, IfErr};
+ghost use Rattle.pd_model.specs.Predicates.{holds_at, Predicate};
+ghost use Rattle.pd_pred.specs.Views.{long_error, predicate_view, IsErrorOf};
+ghost use Rattle.std.specs.Prelude.{◌≡◌, ◌<◌, ◌≤◌, length, Err, IfOk, IfErr};
 
 use super::build::build;
 use super::evaluate::holds;
@@ -11,10 +12,8 @@ use super::numbers::first_too_large;
 use super::placement::first_misplaced;
 use super::tree::Tree;
 use super::{Names, PredError, PredErrorKind, Values};
+use pd_format::PREDICATE_BYTE_LIMIT;
 use std::alloc::Global;
-
-/// The greatest length of a text, in bytes.
-const MAX_LEN: usize = 4096;
 
 /// A predicate over the variables of a session.
 #[derive(Drop)]
@@ -29,14 +28,28 @@ impl Pred {
     /// The first fault of the text with its byte, or out of memory.
     pub fn parse(alloc: Global, names: &Names, text: &str) -> Result<Pred, PredError>
         ensures ok { IfOk result (λ pred. IsPredicate names.now text.now (predicate_view pred)) }
+        // The text is no other predicate.
+        ensures single { IfOk result (λ pred. (other : Predicate) → IsPredicate names.now text.now other
+            → other ≡ predicate_view pred) }
+        ensures err { IfErr result (λ error. IsErrorOf names.now text.now error) }
+        // A text that is too long is refused as such, and never as out of memory.
+        ensures long { predicate_byte_limit < length text.now → result ≡ Err long_error }
+    {
+        pd_format::one_predicate();
+        pd_format::distinct_names_are_clear();
+        names.differ();
+        if text.len() > PREDICATE_BYTE_LIMIT {
+            return Err(PredError::LONG);
+        }
+        Pred::of_short(alloc, names, text)
+    }
+
+    /// The predicate that a text within the limit spells.
+    fn of_short(alloc: Global, names: &Names, text: &str) -> Result<Pred, PredError>
+        requires { length text.now ≤ predicate_byte_limit }
+        ensures ok { IfOk result (λ pred. IsPredicate names.now text.now (predicate_view pred)) }
         ensures err { IfErr result (λ error. IsErrorOf names.now text.now error) }
     {
-        if text.len() > MAX_LEN {
-            return Err(PredError {
-                kind: PredErrorKind::Long,
-                at: MAX_LEN as u64 + 1,
-            });
-        }
         let tokens = match lex(alloc, text) {
             Ok(tokens) => tokens,
             Err(LexError::Stray(at)) => {

@@ -1,7 +1,7 @@
 //! What may stand next among a predicate's tokens.
 ghost use Rattle.pd_format.specs.PrefixWalk as walk;
 ghost use Rattle.pd_pred.specs.States.{word_kind_view, mode_view, open_parens, side_view, parser_state_view};
-ghost use Rattle.pd_pred.specs.Tokens.{token_of};
+ghost use Rattle.pd_pred.specs.Tokens.{token_view};
 ghost use Rattle.std.specs.Prelude.{◌≡◌, ◌+◌, ◌<◌, ◌≤◌, IfSome};
 ghost use Rattle.std.specs.Option.{option_map};
 
@@ -54,7 +54,7 @@ pub(crate) enum Mode {
 /// Where a reader of tokens is.
 #[derive(Clone, Copy)]
 pub(crate) enum State {
-    /// In a predicate, inside so many open parentheses.
+    /// In a predicate, inside this many open parentheses.
     Inside { mode: Mode, parens: usize },
     /// After the end.
     AtEnd,
@@ -75,7 +75,7 @@ pub(crate) fn word_kind(word: &str) -> WordKind
 /// The state after the token, if the token may stand there.
 pub(crate) fn step(state: State, token: Token<'_>) -> Option<State>
     requires { open_parens (parser_state_view state) < usize.MAX }
-    ensures value { option_map parser_state_view result ≡ walk.step (parser_state_view state) (token_of token.entry) }
+    ensures value { option_map parser_state_view result ≡ walk.step (parser_state_view state) (token_view token.entry) }
     ensures bound { IfSome result
         (λ later. open_parens (parser_state_view later) ≤ open_parens (parser_state_view state) + 1) }
 {
@@ -97,7 +97,7 @@ pub(crate) fn step(state: State, token: Token<'_>) -> Option<State>
 
 fn at_operand(parens: usize, token: Token<'_>) -> Option<State>
     requires { parens < usize.MAX }
-    ensures value { option_map parser_state_view result ≡ walk.operand_next parens (token_of token.entry) }
+    ensures value { option_map parser_state_view result ≡ walk.operand_next parens (token_view token.entry) }
     ensures bound { IfSome result (λ later. open_parens (parser_state_view later) ≤ parens + 1) }
 {
     let (mode, parens) = match token {
@@ -116,7 +116,7 @@ fn at_operand(parens: usize, token: Token<'_>) -> Option<State>
 }
 
 fn at_sum(parens: usize, token: Token<'_>) -> Option<State>
-    ensures value { option_map parser_state_view result ≡ walk.sum_next parens (token_of token.entry) }
+    ensures value { option_map parser_state_view result ≡ walk.sum_next parens (token_view token.entry) }
     ensures bound { IfSome result (λ later. open_parens (parser_state_view later) ≤ parens) }
 {
     match token {
@@ -130,7 +130,7 @@ fn at_sum(parens: usize, token: Token<'_>) -> Option<State>
 
 fn at_term(side: Side, parens: usize, token: Token<'_>) -> Option<State>
     ensures value { option_map parser_state_view result
-        ≡ walk.term_next (side_view side) parens (token_of token.entry) }
+        ≡ walk.term_next (side_view side) parens (token_view token.entry) }
     ensures bound { IfSome result (λ later. open_parens (parser_state_view later) ≤ parens) }
 {
     match token {
@@ -144,7 +144,7 @@ fn at_term(side: Side, parens: usize, token: Token<'_>) -> Option<State>
 
 fn after_number(side: Side, parens: usize, token: Token<'_>) -> Option<State>
     ensures value { option_map parser_state_view result
-        ≡ walk.after_number_next (side_view side) parens (token_of token.entry) }
+        ≡ walk.after_number_next (side_view side) parens (token_view token.entry) }
     ensures bound { IfSome result (λ later. open_parens (parser_state_view later) ≤ parens) }
 {
     match token {
@@ -159,7 +159,7 @@ fn after_number(side: Side, parens: usize, token: Token<'_>) -> Option<State>
 /// A name leads to the mode, and nothing else does.
 fn at_name(mode: Mode, parens: usize, token: Token<'_>) -> Option<State>
     ensures value { option_map parser_state_view result
-        ≡ walk.name_next (mode_view mode) parens (token_of token.entry) }
+        ≡ walk.name_next (mode_view mode) parens (token_view token.entry) }
     ensures bound { IfSome result (λ later. open_parens (parser_state_view later) ≤ parens) }
 {
     match token {
@@ -173,7 +173,7 @@ fn at_name(mode: Mode, parens: usize, token: Token<'_>) -> Option<State>
 
 fn at_dot(side: Side, parens: usize, token: Token<'_>) -> Option<State>
     ensures value { option_map parser_state_view result
-        ≡ walk.dot_next (side_view side) parens (token_of token.entry) }
+        ≡ walk.dot_next (side_view side) parens (token_view token.entry) }
     ensures bound { IfSome result (λ later. open_parens (parser_state_view later) ≤ parens) }
 {
     match token {
@@ -187,7 +187,7 @@ fn at_dot(side: Side, parens: usize, token: Token<'_>) -> Option<State>
 
 fn after_term(side: Side, parens: usize, token: Token<'_>) -> Option<State>
     ensures value { option_map parser_state_view result
-        ≡ walk.after_term_next (side_view side) parens (token_of token.entry) }
+        ≡ walk.after_term_next (side_view side) parens (token_view token.entry) }
     ensures bound { IfSome result (λ later. open_parens (parser_state_view later) ≤ parens) }
 {
     match (token, side) {
@@ -206,7 +206,7 @@ fn after_term(side: Side, parens: usize, token: Token<'_>) -> Option<State>
 
 fn after_operand(parens: usize, token: Token<'_>) -> Option<State>
     ensures value { option_map parser_state_view result
-        ≡ walk.after_operand_next parens (token_of token.entry) }
+        ≡ walk.after_operand_next parens (token_view token.entry) }
     ensures bound { IfSome result (λ later. open_parens (parser_state_view later) ≤ parens) }
 {
     match token {

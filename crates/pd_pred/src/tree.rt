@@ -1,8 +1,6 @@
 //! The syntax tree of a predicate.
+ghost use Rattle.pd_format.specs.Limits.{predicate_byte_limit};
 ghost use Rattle.std.specs.Prelude.{◌≤◌, vec_len};
-
-/// The greatest number of terms in a sum: no text has more.
-pub(crate) const MAX_TERMS: usize = 4096;
 
 /// A sign before a term.
 #[derive(Clone, Copy, Debug, PartialEq, Eq)]
@@ -33,11 +31,11 @@ pub(crate) struct SignedTerm {
     pub(crate) term: Term,
 }
 
-/// A sum of terms, few enough that its value fits 128 bits.
+/// A sum of terms, of which no text has more than bytes: few enough that its value fits 128 bits.
 #[derive(Drop)]
 pub(crate) struct Sum {
     pub(crate) terms: Vec<SignedTerm>,
-    ghost short: { vec_len terms ≤ 4096 },
+    ghost short: { vec_len terms ≤ predicate_byte_limit },
 }
 
 /// How two sums are compared.

@@ -1,9 +1,10 @@
--- What the reader's returns tell.
+-- What each exit of the reader means.
 use Rattle.std.proofs.Common.{◌≡◌, ℕ, suc, ◌+◌, ◌*◌, ◌-◌, ◌<◌, List, [], ◌∷◌, ◌++◌, length, take, drop, get_or, refl, sym, ap, ◌∙◌, subst, append_assoc, length-drop, arith}
 use Rattle.std.proofs.Math.Seq.{drop-cons}
 use Rattle.std.specs.Prelude.{flat_map}
 use Rattle.std.specs.List.{AllByRecursion}
 use Rattle.std.proofs.lemmas.List.{drop-drop, drop-map, length-map, take_rest}
+use Rattle.pd_format.specs.Limits.{predicate_limit}
 use Rattle.pd_format.specs.Reports.{Answer, AnswerIsLawful, Refusal, RefusalIsLawful, answer_lines}
 use Rattle.pd_report.specs.Pairs.{StopsAt, StopsInPair}
 use Rattle.pd_report.specs.Reading.{counts_text, refused_text, slices_view, CountsFit, StopsAfter}
@@ -17,14 +18,14 @@ pub at_line : (ls ms : Lines) (j n k : ℕ) → StopsAfter ls j → ls ≡ ms �
 at_line ls ms j n k s e p q = (j, omega arith, subst (λ z. StopsAfter z j) e s)
 
 pub full_stops : (counts : ℕ × ℕ × ℕ) → CountsFit counts → (xs : List Answer) → AllByRecursion AnswerIsLawful xs
-    → length xs ≡ 16 → (tail : Lines) → 0 < length tail
+    → length xs ≡ predicate_limit → (tail : Lines) → 0 < length tail
     → StopsAfter (counts_text counts ∷ (flat_map answer_lines xs ++ tail)) (2 * length xs + 1)
 full_stops counts fit xs h full [] some = absurd (omega arith)
 full_stops counts fit xs h full (line ∷ more) some =
     first_stops counts fit xs h (omega arith) line more (λ few v l e. omega arith)
 
 pub pair_stops : (counts : ℕ × ℕ × ℕ) → CountsFit counts → (xs : List Answer) → AllByRecursion AnswerIsLawful xs
-    → length xs < 16 → (line : List ℕ) (others : Lines) → StopsInPair line others
+    → length xs < predicate_limit → (line : List ℕ) (others : Lines) → StopsInPair line others
     → StopsAfter (counts_text counts ∷ (flat_map answer_lines xs ++ line ∷ others)) (2 * length xs + 2)
 pair_stops counts fit xs h few line [] s = second_lacks counts fit xs h few line s.reported s.lawful s.same
 pair_stops counts fit xs h few line (second ∷ more) s =

@@ -1,3 +1,4 @@
+-- The modules of lemmas of this crate.
 pub mod Joins
 pub mod Texts
 pub mod Pieces

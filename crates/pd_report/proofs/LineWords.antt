@@ -5,7 +5,7 @@ use Rattle.std.specs.List.{AllByRecursion}
 use Rattle.pd_format.specs.Reports as reports
 use Rattle.pd_format.specs.Reports.{Definitely, Refusal, RefusalIsLawful, DefinitelyIsLawful, Fits, IsName, definitely_words, possibly_words, refusal_words, spaced}
 use Rattle.pd_format.proofs.OneReport.{Lacks, Plain, plain_lacks, name_plain, possibly_plain, definitely_plain, refused_line, session_line}
-use Rattle.pd_report.specs.Reading.{first_text, pieces, second_text, FirstIsLawful, Tells}
+use Rattle.pd_report.specs.Reading.{first_text, pieces, second_text, FirstIsLawful, IsFoundAs}
 use Rattle.pd_report.proofs.Pieces.{pieces_of_joined, joined_of_pieces}
 
 plain_words : (words : List (List ℕ)) → AllByRecursion Plain words → AllByRecursion (Lacks 32) words
@@ -27,14 +27,15 @@ second_words line name n d h e =
     words_of line name (codes "definitely" ∷ definitely_words d) (name_plain name n, (refl, definitely_plain d h)) e
 
 -- what is reported of the words of a line is reported of the line
-pub tells_line : {X V : Type 0} (view : X → V) (words : V → List (List ℕ)) (P : V → Type 0) (prefix : List (List ℕ))
+pub found_line : {X V : Type 0} (view : X → V) (words : V → List (List ℕ)) (P : V → Type 0) (prefix : List (List ℕ))
     (line : List ℕ) (rest : List (List ℕ)) → pieces 32 line ≡ prefix ++ rest
     → ((v : V) → P v → line ≡ spaced (prefix ++ words v) → pieces 32 line ≡ prefix ++ words v)
     → ((v : V) → prefix ++ rest ≡ prefix ++ words v → rest ≡ words v)
-    → (found : Option X) → Tells view words P rest found → Tells view (λ v. spaced (prefix ++ words v)) P line found
-tells_line view words P prefix line rest cut taken following None h =
+    → (found : Option X) → IsFoundAs view words P rest found
+    → IsFoundAs view (λ v. spaced (prefix ++ words v)) P line found
+found_line view words P prefix line rest cut taken following None h =
     λ v l e. h v l (following v (sym cut ∙ taken v l e))
-tells_line view words P prefix line rest cut taken following (Some x) h =
+found_line view words P prefix line rest cut taken following (Some x) h =
     (h.0, joined_of_pieces 32 line (prefix ++ words (view x)) (cut ∙ ap (λ ws. prefix ++ ws) h.1))
 
 pub refused_words : (line : List ℕ) (r : Refusal) → RefusalIsLawful r

@@ -6,7 +6,7 @@ use Rattle.std.proofs.lemmas.List.{get_or-map, length-map, map-append, take_more
 use Rattle.std.proofs.lemmas.List.Splits.{length-slice_split}
 use Rattle.pd_format.specs.Reports.{with_commas}
 use Rattle.pd_format.proofs.OneReport.{Lacks}
-use Rattle.pd_report.specs.Reading.{pieces, Tells}
+use Rattle.pd_report.specs.Reading.{pieces, IsFoundAs}
 use Rattle.pd_report.proofs.Pieces.{pieces_of_joined, joined_of_pieces}
 
 pub map_same : {A : Type 0} (xs : List A) → map (λ x. x) xs ≡ xs
@@ -18,7 +18,7 @@ pub all_push : {V : Type 0} (P : V → Type 0) (vs : List V) (v : V) → AllByRe
 all_push P [] v h k = (k, tt)
 all_push P (w ∷ vs) v h k = (h.0, all_push P vs v h.1 k)
 
--- where one part is no text of a lawful value, the parts are no texts of such values
+-- if one part is no text of a lawful value, the parts are no texts of such values
 pub one_is_none : {V : Type 0} (text : V → List ℕ) (P : V → Type 0) (parts : List (List ℕ)) (i : ℕ) (part : List ℕ)
     → i < length parts → get_or parts i [] ≡ part → ((v : V) → P v → ¬ (part ≡ text v))
     → (vs : List V) → AllByRecursion P vs → ¬ (parts ≡ map text vs)
@@ -58,11 +58,11 @@ read_more now text xs i d vs v below so_far e =
     ∙ ap (λ w. take i (map now xs) ++ w ∷ []) (sym e ∙ sym (get_or-map now xs i d [] below))
     ∙ sym (take_more (map now xs) i [] (omega (arith, length-map xs now)))
 
-pub tells_listed : {X V : Type 0} (view : X → List V) (texts : List V → List (List ℕ)) (P : List V
+pub found_listed : {X V : Type 0} (view : X → List V) (texts : List V → List (List ℕ)) (P : List V
     → Type 0) (count : (vs : List V) → length (texts vs) ≡ length vs) (lacks : (vs : List V) → P vs
     → AllByRecursion (Lacks 44) (texts vs)) (bytes : List ℕ) (parts : List (List ℕ)) → parts ≡ pieces 44 bytes
-    → (found : Option X) → Tells view texts P parts found
-    → Tells view (λ vs. with_commas (texts vs)) (λ vs. (0 < length vs) × P vs) bytes found
-tells_listed view texts P count lacks bytes parts cut None h = listed_none texts P count lacks bytes parts cut h
-tells_listed view texts P count lacks bytes parts cut (Some x) h =
+    → (found : Option X) → IsFoundAs view texts P parts found
+    → IsFoundAs view (λ vs. with_commas (texts vs)) (λ vs. (0 < length vs) × P vs) bytes found
+found_listed view texts P count lacks bytes parts cut None h = listed_none texts P count lacks bytes parts cut h
+found_listed view texts P count lacks bytes parts cut (Some x) h =
     listed_some texts P count bytes parts cut (view x) h.0 h.1

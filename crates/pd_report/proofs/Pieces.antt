@@ -1,7 +1,7 @@
 -- Taking joined texts apart.
-use Rattle.std.proofs.Common.{◌≡◌, ℕ, ◌<◌, ◌^◌, true, List, [], ◌∷◌, ◌++◌, map, refl, sym, ap, ◌∙◌, arith}
-use Rattle.std.specs.Prelude.{not, ◌==◌, ◌||◌, All, Bool, decimal}
-use Rattle.std.specs.List.{onto_first, list_all, list_any, AllByRecursion, join_with_byte}
+use Rattle.std.proofs.Common.{◌≡◌, ℕ, ◌<◌, ◌^◌, true, List, [], ◌∷◌, ◌++◌, refl, sym, ap, ◌∙◌, arith}
+use Rattle.std.specs.Prelude.{not, ◌==◌, All, decimal}
+use Rattle.std.specs.List.{onto_first, list_all, AllByRecursion, join_with_byte}
 use Rattle.std.specs.Str.{IsUtf8}
 use Rattle.std.proofs.lemmas.Bool.Decides.{nat_tests}
 use Rattle.std.proofs.lemmas.Fmt.{IsAscii-decimal}
@@ -9,23 +9,24 @@ use Rattle.std.proofs.lemmas.List.Elements.{All-cons}
 use Rattle.std.proofs.lemmas.List.Splits.{slice_split-cons_yes, slice_split-cons_no, join_with_byte-slice_split}
 use Rattle.std.proofs.lemmas.Str.{IsUtf8-from_ascii}
 use Rattle.std.proofs.lemmas.Str.Ascii.{IsAscii-from_all}
+use Rattle.std.proofs.lemmas.Bool.{and_parts, not-true}
 use Rattle.pd_format.specs.Names.{is_in_word}
 use Rattle.pd_format.specs.Reports.{NamedPlace, PlaceIsLawful, place_text}
-use Rattle.pd_format.proofs.OneReport.{Lacks, InWord, and_parts, not_true, same_byte, in_word_lacks, name_in_word, decimal_in_word}
+use Rattle.pd_format.proofs.OneReport.{Lacks, InWord, same_byte, in_word_lacks, name_in_word, decimal_in_word}
 use Rattle.pd_report.specs.Reading.{pieces}
 
 word_first : (c : ℕ) (w rest : List ℕ) → Lacks c w → pieces c (w ++ c ∷ rest) ≡ w ∷ pieces c rest
 word_first c [] rest h = slice_split-cons_yes (λ b. b == c) c rest (same_byte c)
 word_first c (x ∷ w) rest h =
     let parts = and_parts (not (x == c)) (list_all (λ b. not (b == c)) w) h in
-    slice_split-cons_no (λ b. b == c) x (w ++ c ∷ rest) (not_true (x == c) parts.0)
+    slice_split-cons_no (λ b. b == c) x (w ++ c ∷ rest) (not-true (x == c) parts.0)
     ∙ ap (onto_first x) (word_first c w rest parts.1)
 
-word_last : (c : ℕ) (w : List ℕ) → Lacks c w → pieces c w ≡ w ∷ []
+pub word_last : (c : ℕ) (w : List ℕ) → Lacks c w → pieces c w ≡ w ∷ []
 word_last c [] h = refl
 word_last c (x ∷ w) h =
     let parts = and_parts (not (x == c)) (list_all (λ b. not (b == c)) w) h in
-    slice_split-cons_no (λ b. b == c) x w (not_true (x == c) parts.0) ∙ ap (onto_first x) (word_last c w parts.1)
+    slice_split-cons_no (λ b. b == c) x w (not-true (x == c) parts.0) ∙ ap (onto_first x) (word_last c w parts.1)
 
 pub pieces_join : (c : ℕ) (w : List ℕ) (ws : List (List ℕ)) → AllByRecursion (Lacks c) (w ∷ ws)
     → pieces c (join_with_byte c (w ∷ ws)) ≡ w ∷ ws
@@ -55,11 +56,6 @@ word_is_text w h = IsUtf8-from_ascii w (IsAscii-from_all w (all_ascii w h))
 
 pub number_is_text : (n : ℕ) (w : List ℕ) → n < 2 ^ 64 → w ≡ decimal n → IsUtf8 w
 number_is_text n w h e = IsUtf8-from_ascii w (rw e (IsAscii-decimal n h))
-
-pub any_map : {X Y : Type 0} (test : Y → Bool) (f : X → Y) (xs : List X)
-    → list_any (λ x. test (f x)) xs ≡ list_any test (map f xs)
-any_map test f [] = refl
-any_map test f (x ∷ xs) = ap (λ b. test (f x) || b) (any_map test f xs)
 
 -- an event's name and number
 pub place_pieces : (word : List ℕ) (place : NamedPlace) → PlaceIsLawful place → word ≡ place_text place

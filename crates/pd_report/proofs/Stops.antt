@@ -2,6 +2,7 @@
 use Rattle.std.proofs.Common.{◌≡◌, ℕ, zero, suc, ◌+◌, ◌*◌, ◌<◌, ◌≤◌, List, [], ◌∷◌, ◌++◌, length, take, refl, sym, ap, ◌∙◌, subst, append_assoc, append-nil, length-append, arith}
 use Rattle.std.specs.Prelude.{codes, flat_map}
 use Rattle.std.specs.List.{AllByRecursion}
+use Rattle.pd_format.specs.Limits.{predicate_limit}
 use Rattle.pd_format.specs.Reports as reports
 use Rattle.pd_format.specs.Reports.{Answer, AnswerIsLawful, Definitely, DefinitelyIsLawful, IsLawful, IsName, Possibly, Refusal, RefusalIsLawful, Report, Judged, Refused, answer_lines, refusal_words, report_lines, spaced}
 use Rattle.pd_report.specs.Reading.{counts_text, first_text, refused_text, second_text, Begins, CountsFit, FirstIsLawful, StopsAfter}
@@ -51,7 +52,7 @@ record GoesOn (xs : List Answer) (tail : Lines) : Type 0 where
   zs : List Answer
   lawful : AllByRecursion AnswerIsLawful zs
   some : 1 ≤ length xs + length zs
-  few : length xs + length zs ≤ 16
+  few : length xs + length zs ≤ predicate_limit
   same : flat_map answer_lines zs ≡ tail
 
 goes_on : (counts : ℕ × ℕ × ℕ) (xs : List Answer) (tail : Lines) (r : Report) → IsLawful r
@@ -89,7 +90,7 @@ answer_more (y ∷ xs) x = ap (λ z. answer_lines y ++ z) (answer_more xs x)
 
 -- one answer more
 with_one : (counts : ℕ × ℕ × ℕ) → CountsFit counts → (xs : List Answer) (x : Answer) → AllByRecursion AnswerIsLawful xs
-    → AnswerIsLawful x → length xs < 16 → (prefix rest : Lines) → answer_lines x ≡ prefix ++ rest
+    → AnswerIsLawful x → length xs < predicate_limit → (prefix rest : Lines) → answer_lines x ≡ prefix ++ rest
     → Begins (counts_text counts ∷ (flat_map answer_lines xs ++ prefix))
 with_one counts fit xs x h k few prefix rest e = record {
   report = Judged counts.0 counts.1 counts.2 (xs ++ x ∷ []);
@@ -107,7 +108,7 @@ with_one counts fit xs x h k few prefix rest e = record {
 }
 
 whole_answers : (counts : ℕ × ℕ × ℕ) → CountsFit counts → (xs : List Answer) → AllByRecursion AnswerIsLawful xs
-    → length xs ≤ 16 → Begins (counts_text counts ∷ flat_map answer_lines xs)
+    → length xs ≤ predicate_limit → Begins (counts_text counts ∷ flat_map answer_lines xs)
 whole_answers counts fit [] h few =
     with_one counts fit [] some_answer tt some_lawful (omega arith) [] (answer_lines some_answer) refl
 whole_answers counts fit (x ∷ xs) h few = record {
@@ -148,13 +149,13 @@ stops_end prefix j e b none = record {
 record FirstLine (xs : List Answer) (line : List ℕ) : Type 0 where
   v : List ℕ × Possibly
   lawful : FirstIsLawful v
-  few : length xs < 16
+  few : length xs < predicate_limit
   same : line ≡ first_text v
 
 next_first : (xs : List Answer) (line : List ℕ) (rest : Lines) → GoesOn xs (line ∷ rest) → FirstLine xs line
 next_first xs line rest g = go g.zs g.lawful g.few g.same
   where
-    go : (zs : List Answer) → AllByRecursion AnswerIsLawful zs → length xs + length zs ≤ 16
+    go : (zs : List Answer) → AllByRecursion AnswerIsLawful zs → length xs + length zs ≤ predicate_limit
         → flat_map answer_lines zs ≡ line ∷ rest → FirstLine xs line
     go [] l f e = absurd (cc)
     go (z ∷ zs) l f e = record {
@@ -167,8 +168,8 @@ next_first xs line rest g = go g.zs g.lawful g.few g.same
 
 -- no answer goes on with this line
 pub first_stops : (counts : ℕ × ℕ × ℕ) → CountsFit counts → (xs : List Answer) → AllByRecursion AnswerIsLawful xs
-    → length xs ≤ 16 → (line : List ℕ) (more : Lines)
-    → (length xs < 16 → (v : List ℕ × Possibly) → FirstIsLawful v → ¬ (line ≡ first_text v))
+    → length xs ≤ predicate_limit → (line : List ℕ) (more : Lines)
+    → (length xs < predicate_limit → (v : List ℕ × Possibly) → FirstIsLawful v → ¬ (line ≡ first_text v))
     → StopsAfter (counts_text counts ∷ (flat_map answer_lines xs ++ line ∷ more)) (2 * length xs + 1)
 first_stops counts fit xs h few line more none =
     stops_in (counts_text counts ∷ flat_map answer_lines xs) line more (2 * length xs + 1) (omega (arith, two_each xs))
@@ -180,7 +181,7 @@ first_stops counts fit xs h few line more none =
     none first.few first.v first.lawful first.same)
 
 one_begun : (counts : ℕ × ℕ × ℕ) → CountsFit counts → (xs : List Answer) → AllByRecursion AnswerIsLawful xs
-    → length xs < 16 → (line : List ℕ) (v : List ℕ × Possibly) → FirstIsLawful v → line ≡ first_text v
+    → length xs < predicate_limit → (line : List ℕ) (v : List ℕ × Possibly) → FirstIsLawful v → line ≡ first_text v
     → Begins (counts_text counts ∷ (flat_map answer_lines xs ++ line ∷ []))
 one_begun counts fit xs h few line v l e =
     with_one counts fit xs (record { name = v.0; possibly = v.1; definitely = Definitely.Unknown 0 }) h (
@@ -192,7 +193,7 @@ one_begun counts fit xs h few line v l e =
 
 -- the second line is not there
 pub second_lacks : (counts : ℕ × ℕ × ℕ) → CountsFit counts → (xs : List Answer) → AllByRecursion AnswerIsLawful xs
-    → length xs < 16 → (line : List ℕ) (v : List ℕ × Possibly) → FirstIsLawful v → line ≡ first_text v
+    → length xs < predicate_limit → (line : List ℕ) (v : List ℕ × Possibly) → FirstIsLawful v → line ≡ first_text v
     → StopsAfter (counts_text counts ∷ (flat_map answer_lines xs ++ line ∷ [])) (2 * length xs + 2)
 second_lacks counts fit xs h few line v l e =
     stops_end (counts_text counts ∷ (flat_map answer_lines xs ++ line ∷ [])) (2 * length xs + 2)
@@ -206,7 +207,7 @@ second_lacks counts fit xs h few line v l e =
 
 -- the second line doesn't go with the first
 pub second_stops : (counts : ℕ × ℕ × ℕ) → CountsFit counts → (xs : List Answer) → AllByRecursion AnswerIsLawful xs
-    → length xs < 16 → (line : List ℕ) (v : List ℕ × Possibly) → FirstIsLawful v → line ≡ first_text v
+    → length xs < predicate_limit → (line : List ℕ) (v : List ℕ × Possibly) → FirstIsLawful v → line ≡ first_text v
     → (second : List ℕ) (more : Lines) → ((d : Definitely) → DefinitelyIsLawful d → ¬ (second ≡ second_text v.0 d))
     → StopsAfter (counts_text counts ∷ (flat_map answer_lines xs ++ line ∷ second ∷ more)) (2 * length xs + 2)
 second_stops counts fit xs h few line v l e second more none =

@@ -5,9 +5,10 @@ use Rattle.std.specs.List.{onto_first, AllByRecursion, join_with_byte, list_all}
 use Rattle.std.proofs.lemmas.Grind.{flat_map-append}
 use Rattle.std.proofs.lemmas.List.{append_cancel_left, take_all}
 use Rattle.std.proofs.lemmas.List.Splits.{slice_split-cons_yes, slice_split-cons_no}
+use Rattle.std.proofs.lemmas.Bool.{and_parts, not-true}
 use Rattle.pd_format.specs.Lines.{ended_lines, line_feed}
 use Rattle.pd_format.specs.Reports.{Agrees, IsLawful, IsNoReport, IsReport, Report, report_lines, text_of_lines}
-use Rattle.pd_format.proofs.OneReport.{Lacks, and_parts, ended_line, lines_lack, lines_of_text, not_true}
+use Rattle.pd_format.proofs.OneReport.{Lacks, ended_line, lines_lack, lines_of_text}
 use Rattle.pd_report.specs.Reading.{pieces, Begins, StopsAfter}
 use Rattle.pd_report.specs.Pairs.{StopsAt}
 use Rattle.pd_report.proofs.Pieces.{joined_of_pieces}
@@ -48,7 +49,7 @@ no_ended : (last : List ℕ) → Lacks 10 last → ended_lines last ≡ []
 no_ended [] h = refl
 no_ended (x ∷ last) h =
     let parts = and_parts (not (x == 10)) (list_all (λ b. not (b == 10)) last) h in
-    rw (not_true (x == 10) parts.0, no_ended last parts.1) refl
+    rw (not-true (x == 10) parts.0, no_ended last parts.1) refl
 
 ended_prefix : (ls : Lines) (rest : List ℕ) → AllByRecursion (Lacks 10) ls → ended_lines (text_of_lines ls ++ rest)
     ≡ ls ++ ended_lines rest

@@ -1,6 +1,7 @@
 -- What reading lines gives.
 use Rattle.std.specs.Prelude.{◌≡◌, ℕ, ◌+◌, ◌≤◌, List, ◌∷◌, ◌++◌, drop, length, map}
 use Rattle.std.specs.List.{AllByRecursion}
+use Rattle.pd_format.specs.Limits.{predicate_limit}
 use Rattle.pd_format.specs.Reports as reports
 use Rattle.pd_format.specs.Reports.{answer_lines, AnswerIsLawful, DefinitelyIsLawful}
 use Rattle.pd_report.specs.Reading.{first_text, second_text, FirstIsLawful, StopsAfter}
@@ -13,9 +14,9 @@ use Rattle.pd_report.specs.declared.reader.Pair.TheVariants.{Reported, First, Se
 abbrev pub StopsAt : List (List ℕ) → ℕ → Type 0
 StopsAt lines number = (before : ℕ) × (number ≡ before + 1) × StopsAfter lines before
 
--- 1 to 16 lawful answers
+-- at least one lawful answer, and no more than a document has predicates
 abbrev pub AnswersFit : List Answer → Type 0
-AnswersFit answers = (1 ≤ length answers) × (length answers ≤ 16)
+AnswersFit answers = (1 ≤ length answers) × (length answers ≤ predicate_limit)
     × AllByRecursion AnswerIsLawful (map answer_view answers)
 
 -- a first line with which the second, if it is there, doesn't go

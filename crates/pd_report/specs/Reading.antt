@@ -5,8 +5,9 @@ use Rattle.std.specs.Option.{MatchOption}
 use Rattle.std.specs.declared.alloc.Global.{Global}
 use Rattle.std.specs.declared.string.String.{String}
 use Rattle.pd_format.specs.Reports as reports
-use Rattle.pd_format.specs.Reports.{Spec, Predicate, Streams, Stream, Absent, Match, Cycle, IsLawful, RefusalIsLawful, definitely_words, possibly_words, predicate_words, refusal_words, report_lines, spaced, stream_words, Fits, IsName, PossiblyIsLawful}
+use Rattle.pd_format.specs.Reports.{IsLawful, RefusalIsLawful, definitely_words, possibly_words, predicate_words, refusal_words, report_lines, spaced, stream_words, Fits, IsName, PossiblyIsLawful}
 use Rattle.pd_format.specs.Lists.{is_one_of}
+use Rattle.pd_format.specs.RefusalKinds.{RefusalKind, refusal_kind}
 use Rattle.pd_report.specs.Views.{possibly_view}
 use Rattle.pd_report.specs.declared.possibly.Possibly.{Possibly}
 use denote.Ref.{Bor}
@@ -19,9 +20,9 @@ pieces at bytes = slice_split (λ b. b == at) bytes
 abbrev pub slices_view : List (Bor (List ℕ)) → List (List ℕ)
 slices_view slices = map (λ slice. slice.now) slices
 
--- A value is found where one that is lawful has this text. Where none has, nothing is found.
-abbrev pub Tells : {X V T : Type 0} → (X → V) → (V → T) → (V → Type 0) → T → Option X → Type 0
-Tells {V = V} view text Lawful reported found =
+-- The value is found that is lawful and has this text. If none has, nothing is found.
+abbrev pub IsFoundAs : {X V T : Type 0} → (X → V) → (V → T) → (V → Type 0) → T → Option X → Type 0
+IsFoundAs {V = V} view text Lawful reported found =
     MatchOption found ((v : V) → Lawful v → ¬ (reported ≡ text v)) (λ x. Lawful (view x) × (reported ≡ text (view x)))
 
 -- an answer's first line: the name, and whether the predicate possibly holds
@@ -50,8 +51,8 @@ abbrev pub CountsFit : ℕ × ℕ × ℕ → Type 0
 CountsFit counts = Fits counts.0 × Fits counts.1 × Fits counts.2
 
 -- a predicate's number, the word of its fault, and the byte at fault
-abbrev pub at_fault_of : ℕ × String Global × ℕ → ℕ × List ℕ × ℕ
-at_fault_of fault = (fault.0, string_bytes fault.1, fault.2)
+abbrev pub at_fault_view : ℕ × String Global × ℕ → ℕ × List ℕ × ℕ
+at_fault_view fault = (fault.0, string_bytes fault.1, fault.2)
 
 abbrev pub at_fault_words : ℕ × List ℕ × ℕ → List (List ℕ)
 at_fault_words fault = decimal fault.0 ∷ fault.1 ∷ codes "at" ∷ decimal fault.2 ∷ []
@@ -60,8 +61,8 @@ abbrev pub AtFaultIsLawful : ℕ × List ℕ × ℕ → Type 0
 AtFaultIsLawful fault = (1 ≤ fault.0) × Fits fault.0 × IsTrue (is_one_of predicate_words fault.1) × Fits fault.2
 
 -- a stream's number, the number of its line at fault, and the word of its fault
-abbrev pub stream_fault_of : ℕ × ℕ × String Global → ℕ × ℕ × List ℕ
-stream_fault_of fault = (fault.0, fault.1, string_bytes fault.2)
+abbrev pub stream_fault_view : ℕ × ℕ × String Global → ℕ × ℕ × List ℕ
+stream_fault_view fault = (fault.0, fault.1, string_bytes fault.2)
 
 abbrev pub stream_fault_words : ℕ × ℕ × List ℕ → List (List ℕ)
 stream_fault_words fault = decimal fault.0 ∷ codes "line" ∷ decimal fault.1 ∷ fault.2 ∷ []
@@ -72,18 +73,8 @@ StreamFaultIsLawful fault = Fits fault.0 × Fits fault.1 × IsTrue (is_one_of st
 abbrev pub refused_text : reports.Refusal → List ℕ
 refused_text refusal = spaced (codes "refused" ∷ refusal_words refusal)
 
--- which words a refusal has
-abbrev pub refusal_number : reports.Refusal → ℕ
-refusal_number (Spec word) = 1
-refusal_number (Predicate number word at) = 2
-refusal_number Streams = 3
-refusal_number (Stream stream line word) = 4
-refusal_number (Absent name) = 5
-refusal_number (Match word place) = 6
-refusal_number (Cycle places) = 7
-
-abbrev pub IsOfKind : ℕ → reports.Refusal → Type 0
-IsOfKind kind refusal = RefusalIsLawful refusal × (refusal_number refusal ≡ kind)
+abbrev pub IsOfKind : RefusalKind → reports.Refusal → Type 0
+IsOfKind kind refusal = RefusalIsLawful refusal × (refusal_kind refusal ≡ kind)
 
 -- some lawful report begins with these lines
 pub record Begins (lines : List (List ℕ)) : Type 0 where
@@ -92,7 +83,8 @@ pub record Begins (lines : List (List ℕ)) : Type 0 where
   pub rest : List (List ℕ)
   pub begins : report_lines report ≡ lines ++ rest
 
--- The lines are those of no report. Some report begins with so many of them, and if there are more, none with one more.
+-- The lines are those of no report. Some report begins with this many of them, and if there are more, none with one
+-- more.
 pub record StopsAfter (lines : List (List ℕ)) (count : ℕ) : Type 0 where
   pub no_report : (report : reports.Report) → IsLawful report → ¬ (lines ≡ report_lines report)
   pub there : count ≤ length lines

@@ -1,6 +1,6 @@
 //! Reads the lines of an answer.
 ghost use Rattle.pd_format.specs.Reports.{definitely_words, path_text, possibly_words, with_commas, DefinitelyIsLawful, Fits, IsName, PossiblyIsLawful};
-ghost use Rattle.pd_report.specs.Reading.{first_part_view, first_text, second_text, slices_view, FirstIsLawful, Tells};
+ghost use Rattle.pd_report.specs.Reading.{first_part_view, first_text, second_text, slices_view, FirstIsLawful, IsFoundAs};
 ghost use Rattle.pd_report.specs.Views.{definitely_view, names_view, possibly_view};
 ghost use Rattle.std.specs.List.{AllByRecursion};
 ghost use Rattle.std.specs.Prelude.{◌≡◌, ◌<◌, ◌∷◌, [], decimal, length, map, IfOk};
@@ -13,7 +13,7 @@ use std::alloc::{AllocError, Global};
 
 /// A level, in the only word.
 fn level(words: &[&[u8]]) -> Option<u64>
-    ensures { Tells (λ level. level) (λ level. decimal level ∷ []) Fits (slices_view words.now) result }
+    ensures { IsFoundAs (λ level. level) (λ level. decimal level ∷ []) Fits (slices_view words.now) result }
 {
     let Some(word) = single(words) else {
         return None;
@@ -23,8 +23,8 @@ fn level(words: &[&[u8]]) -> Option<u64>
 
 /// The counts of a cut, in the only word.
 fn counts(alloc: Global, words: &[&[u8]]) -> Result<Option<Vec<u64>>, AllocError>
-    ensures { IfOk result (Tells (λ found. found.items) (λ ns. with_commas (map decimal ns) ∷ []) (λ ns. (0 < length ns)
-        × AllByRecursion Fits ns) (slices_view words.now)) }
+    ensures { IfOk result (IsFoundAs (λ found. found.items) (λ ns. with_commas (map decimal ns) ∷ [])
+        (λ ns. (0 < length ns) × AllByRecursion Fits ns) (slices_view words.now)) }
 {
     let Some(word) = single(words) else {
         return Ok(None);
@@ -34,7 +34,7 @@ fn counts(alloc: Global, words: &[&[u8]]) -> Result<Option<Vec<u64>>, AllocError
 
 /// A path, in the only word.
 fn only_path(alloc: Global, words: &[&[u8]]) -> Result<Option<Vec<String>>, AllocError>
-    ensures { IfOk result (Tells (λ found. names_view found.items) (λ ns. path_text ns ∷ [])
+    ensures { IfOk result (IsFoundAs (λ found. names_view found.items) (λ ns. path_text ns ∷ [])
         (λ ns. AllByRecursion IsName ns) (slices_view words.now)) }
 {
     let Some(word) = single(words) else {
@@ -45,7 +45,7 @@ fn only_path(alloc: Global, words: &[&[u8]]) -> Result<Option<Vec<String>>, Allo
 
 /// Whether a predicate possibly holds.
 fn possibly(alloc: Global, words: &[&[u8]]) -> Result<Option<Possibly>, AllocError>
-    ensures { IfOk result (Tells possibly_view possibly_words PossiblyIsLawful (slices_view words.now)) }
+    ensures { IfOk result (IsFoundAs possibly_view possibly_words PossiblyIsLawful (slices_view words.now)) }
 {
     if let Some(rest) = after(words, "yes") {
         let Some(counts) = counts(alloc, rest)? else {
@@ -71,7 +71,7 @@ fn possibly(alloc: Global, words: &[&[u8]]) -> Result<Option<Possibly>, AllocErr
 
 /// Whether a predicate definitely holds.
 fn definitely(alloc: Global, words: &[&[u8]]) -> Result<Option<Definitely>, AllocError>
-    ensures { IfOk result (Tells definitely_view definitely_words DefinitelyIsLawful (slices_view words.now)) }
+    ensures { IfOk result (IsFoundAs definitely_view definitely_words DefinitelyIsLawful (slices_view words.now)) }
 {
     if let Some(rest) = after(words, "yes") {
         let Some(level) = level(rest) else {
@@ -99,7 +99,7 @@ pub(crate) fn first_line(
     alloc: Global,
     line: &[u8],
 ) -> Result<Option<(String, Possibly)>, AllocError>
-    ensures { IfOk result (Tells first_part_view first_text FirstIsLawful line.now) }
+    ensures { IfOk result (IsFoundAs first_part_view first_text FirstIsLawful line.now) }
 {
     let words = pieces(alloc, line, b' ')?;
     let Some((first, rest)) = words.split_first() else {
@@ -124,7 +124,7 @@ pub(crate) fn second_line(
     line: &[u8],
 ) -> Result<Option<Definitely>, AllocError>
     requires { IsName name.now }
-    ensures { IfOk result (Tells definitely_view (second_text name.now) DefinitelyIsLawful line.now) }
+    ensures { IfOk result (IsFoundAs definitely_view (second_text name.now) DefinitelyIsLawful line.now) }
 {
     let words = pieces(alloc, line, b' ')?;
     let Some(rest) = after(&words, name) else {

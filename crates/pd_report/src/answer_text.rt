@@ -26,7 +26,7 @@ fn push_possibly(out: &mut Vec<u8>, possibly: &Possibly) -> Result<(), AllocErro
     }
 }
 
-/// Appends a path: names with a comma between each two, or `-` where there is none.
+/// Appends a path: names with a comma between each two, or `-` if there is none.
 fn push_path(out: &mut Vec<u8>, path: &[String]) -> Result<(), AllocError>
     ensures { OnOk result (out.new.items ≡ out.old.items ++ path_text (names_view path.now)) }
 {
@@ -38,8 +38,8 @@ fn push_path(out: &mut Vec<u8>, path: &[String]) -> Result<(), AllocError>
 
 /// Appends the words for whether a predicate definitely holds.
 fn push_definitely(out: &mut Vec<u8>, definitely: &Definitely) -> Result<(), AllocError>
-    ensures { OnOk result (out.new.items ≡ out.old.items ++ spaced (definitely_words (definitely_view definitely.now)))
-        }
+    ensures { OnOk result (out.new.items ≡ out.old.items
+        ++ spaced (definitely_words (definitely_view definitely.now))) }
 {
     match definitely {
         Definitely::Yes(level) => {

@@ -9,7 +9,7 @@ use std::alloc::AllocError;
 /// Appends bytes.
 ///
 /// # Errors
-/// Where memory runs out.
+/// Out of memory.
 pub fn push_bytes(out: &mut Vec<u8>, bytes: &[u8]) -> Result<(), AllocError>
     ensures { OnOk result (out.new.items ≡ out.old.items ++ bytes.now) }
 {
@@ -19,7 +19,7 @@ pub fn push_bytes(out: &mut Vec<u8>, bytes: &[u8]) -> Result<(), AllocError>
 /// Appends a number in decimal digits.
 ///
 /// # Errors
-/// Where memory runs out.
+/// Out of memory.
 pub fn push_number(out: &mut Vec<u8>, number: u64) -> Result<(), AllocError>
     ensures { OnOk result (out.new.items ≡ out.old.items ++ decimal number) }
 {
@@ -68,8 +68,8 @@ pub(crate) fn push_place(out: &mut Vec<u8>, name: &str, number: u64) -> Result<(
 
 /// Appends events with a comma between each two.
 pub(crate) fn push_places(out: &mut Vec<u8>, places: &[(String, u64)]) -> Result<(), AllocError>
-    ensures { OnOk result (out.new.items ≡ out.old.items ++ with_commas (map place_text (named_places_view places.now)))
-        }
+    ensures { OnOk result (out.new.items ≡ out.old.items
+        ++ with_commas (map place_text (named_places_view places.now))) }
 {
     let Some(((name, number), others)) = places.split_first() else {
         return Ok(());

@@ -1,7 +1,7 @@
 //! The report of a session: as a value, as text, written, and read.
 //!
 //! A report's text is exactly the one that the definitions give; it reaches a writer whole, or the call fails. Bytes
-//! are read as a report exactly where they are its text, and otherwise the first line is reported with which they stop
+//! are read as a report exactly if they are its text, and otherwise the first line is reported with which they stop
 //! being one.
 //!
 //! - `report`: what is reported about a session
@@ -16,7 +16,7 @@
 //! - `same`: compares refusals
 //! - `output`: writes a text, and a report
 //! - `fault`: why a report is not written
-//! - `name`: what is a name
+//! - `fault_words`: the words for faults that the reader accepts
 //! - `words`: words, and what stands between others
 //! - `listed`: words with a comma between each two
 //! - `session_line`: reads the line that counts what a session has
@@ -31,9 +31,9 @@ mod answer_line;
 mod answer_text;
 mod definitely;
 mod fault;
+mod fault_words;
 mod fields;
 mod listed;
-mod name;
 mod output;
 mod possibly;
 mod read_fault;

@@ -1,6 +1,6 @@
 //! Words with a comma between each two.
 ghost use Rattle.pd_format.specs.Reports.{path_text, place_text, with_commas, Fits, IsName, PlaceIsLawful};
-ghost use Rattle.pd_report.specs.Reading.{slices_view, Tells};
+ghost use Rattle.pd_report.specs.Reading.{slices_view, IsFoundAs};
 ghost use Rattle.pd_report.specs.Views.{names_view, named_place_view, named_places_view};
 ghost use Rattle.std.specs.List.{AllByRecursion};
 ghost use Rattle.std.specs.Prelude.{◌≡◌, ◌<◌, decimal, length, map, IfOk};
@@ -10,7 +10,8 @@ use std::alloc::{AllocError, Global};
 
 /// Numbers, one in each piece.
 fn all_numbers(alloc: Global, pieces: &[&[u8]]) -> Result<Option<Vec<u64>>, AllocError>
-    ensures { IfOk result (Tells (λ found. found.items) (map decimal) (AllByRecursion Fits) (slices_view pieces.now)) }
+    ensures { IfOk result (IsFoundAs (λ found. found.items) (map decimal) (AllByRecursion Fits)
+        (slices_view pieces.now)) }
 {
     let mut numbers = Vec::new(alloc);
     for piece in pieces {
@@ -24,7 +25,7 @@ fn all_numbers(alloc: Global, pieces: &[&[u8]]) -> Result<Option<Vec<u64>>, Allo
 
 /// Numbers, at least one.
 pub(crate) fn numbers(alloc: Global, word: &[u8]) -> Result<Option<Vec<u64>>, AllocError>
-    ensures { IfOk result (Tells (λ found. found.items) (λ ns. with_commas (map decimal ns)) (λ ns. (0 < length ns)
+    ensures { IfOk result (IsFoundAs (λ found. found.items) (λ ns. with_commas (map decimal ns)) (λ ns. (0 < length ns)
         × AllByRecursion Fits ns) word.now) }
 {
     let pieces = pieces(alloc, word, b',')?;
@@ -33,7 +34,7 @@ pub(crate) fn numbers(alloc: Global, word: &[u8]) -> Result<Option<Vec<u64>>, Al
 
 /// Names, one in each piece.
 fn all_names(alloc: Global, pieces: &[&[u8]]) -> Result<Option<Vec<String>>, AllocError>
-    ensures { IfOk result (Tells (λ found. names_view found.items) (map (λ name. name)) (AllByRecursion IsName)
+    ensures { IfOk result (IsFoundAs (λ found. names_view found.items) (map (λ name. name)) (AllByRecursion IsName)
         (slices_view pieces.now)) }
 {
     let mut names = Vec::new(alloc);
@@ -48,17 +49,17 @@ fn all_names(alloc: Global, pieces: &[&[u8]]) -> Result<Option<Vec<String>>, All
 
 /// Names, at least one.
 pub(crate) fn names(alloc: Global, word: &[u8]) -> Result<Option<Vec<String>>, AllocError>
-    ensures { IfOk result (Tells (λ found. names_view found.items) (λ ns. with_commas (map (λ name. name) ns))
+    ensures { IfOk result (IsFoundAs (λ found. names_view found.items) (λ ns. with_commas (map (λ name. name) ns))
         (λ ns. (0 < length ns) × AllByRecursion IsName ns) word.now) }
 {
     let pieces = pieces(alloc, word, b',')?;
     all_names(alloc, &pieces)
 }
 
-/// A path: names, or `-` where there is none.
+/// A path: names, or `-` if there is none.
 pub(crate) fn path(alloc: Global, word: &[u8]) -> Result<Option<Vec<String>>, AllocError>
-    ensures { IfOk result (Tells (λ found. names_view found.items) path_text (λ ns. AllByRecursion IsName ns) word.now)
-        }
+    ensures { IfOk result (IsFoundAs (λ found. names_view found.items) path_text (λ ns. AllByRecursion IsName ns)
+        word.now) }
 {
     if is(word, "-") {
         return Ok(Some(Vec::new(alloc)));
@@ -68,7 +69,7 @@ pub(crate) fn path(alloc: Global, word: &[u8]) -> Result<Option<Vec<String>>, Al
 
 /// An event: the name of its process, and its number.
 pub(crate) fn place(alloc: Global, word: &[u8]) -> Result<Option<(String, u64)>, AllocError>
-    ensures { IfOk result (Tells named_place_view place_text PlaceIsLawful word.now) }
+    ensures { IfOk result (IsFoundAs named_place_view place_text PlaceIsLawful word.now) }
 {
     let pieces = pieces(alloc, word, b'#')?;
     let Some((first, rest)) = pieces.split_first() else {
@@ -88,7 +89,7 @@ pub(crate) fn place(alloc: Global, word: &[u8]) -> Result<Option<(String, u64)>,
 
 /// Events, one in each piece.
 fn all_places(alloc: Global, pieces: &[&[u8]]) -> Result<Option<Vec<(String, u64)>>, AllocError>
-    ensures { IfOk result (Tells (λ found. named_places_view found.items) (map place_text)
+    ensures { IfOk result (IsFoundAs (λ found. named_places_view found.items) (map place_text)
         (AllByRecursion PlaceIsLawful) (slices_view pieces.now)) }
 {
     let mut places = Vec::new(alloc);
@@ -103,7 +104,7 @@ fn all_places(alloc: Global, pieces: &[&[u8]]) -> Result<Option<Vec<(String, u64
 
 /// Events, at least one.
 pub(crate) fn places(alloc: Global, word: &[u8]) -> Result<Option<Vec<(String, u64)>>, AllocError>
-    ensures { IfOk result (Tells (λ found. named_places_view found.items) (λ ps. with_commas (map place_text ps))
+    ensures { IfOk result (IsFoundAs (λ found. named_places_view found.items) (λ ps. with_commas (map place_text ps))
         (λ ps. (0 < length ps) × AllByRecursion PlaceIsLawful ps) word.now) }
 {
     let pieces = pieces(alloc, word, b',')?;

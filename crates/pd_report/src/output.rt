@@ -13,7 +13,7 @@ use std::io::Write;
 /// Writes the whole text. It doesn't flush the writer.
 ///
 /// # Errors
-/// `Write`, where the writer fails, in whatever way, or takes nothing. A prefix of the text was written then, and not
+/// `Write`, if the writer fails, in whatever way, or takes nothing. A prefix of the text was written then, and not
 /// all of it.
 pub fn write_all<W: Write>(text: &[u8], writer: &mut W) -> Result<(), WriteFault>
     ensures written { OnOk result (Appends (W.contents writer.old) (W.contents writer.new) text.now) }
@@ -34,7 +34,7 @@ pub fn write_all<W: Write>(text: &[u8], writer: &mut W) -> Result<(), WriteFault
 /// Writes a report's text. It doesn't flush the writer.
 ///
 /// # Errors
-/// `Memory` leaves nothing written. `Write`, where the writer fails, in whatever way, or takes nothing, leaves a prefix
+/// `Memory` leaves nothing written. `Write`, if the writer fails, in whatever way, or takes nothing, leaves a prefix
 /// of the text written, and not all of it.
 pub fn write<W: Write>(alloc: Global, report: &Report, writer: &mut W) -> Result<(), WriteFault>
     ensures written { OnOk result (Appends (W.contents writer.old) (W.contents writer.new)

@@ -1,11 +1,11 @@
 //! Why bytes are not read as a report.
-use std::alloc::{AllocError, AllocFailed};
+use std::alloc::AllocError;
 use thiserror::Error;
 
 /// What kept a report from being read.
 #[derive(Debug, Drop, Error)]
 pub enum ReportFault {
-    /// The bytes are no report: the number, counted from 1, of the first line with which they stop being one. Where the
+    /// The bytes are no report: the number, counted from 1, of the first line with which they stop being one. If the
     /// text stops too early, it is the number after the last line's.
     #[error("line {0}")]
     Line(u64),
@@ -21,17 +21,6 @@ impl From<AllocError> for ReportFault {
     ghost from_gives = { λ _ fault. fault ≡ Memory };
 
     fn from(_e: AllocError) -> ReportFault {
-        ReportFault::Memory
-    }
-}
-
-impl<T: Drop> From<AllocFailed<T>> for ReportFault {
-    ghost use Rattle.pd_report.specs.declared.read_fault.ReportFault.TheVariants.{Memory};
-    ghost use Rattle.std.specs.Prelude.{◌≡◌};
-
-    ghost from_gives = { λ _ fault. fault ≡ Memory };
-
-    fn from(_e: AllocFailed<T>) -> ReportFault {
         ReportFault::Memory
     }
 }

@@ -1,11 +1,12 @@
 //! Reads a report.
+ghost use Rattle.pd_format.specs.Lines.{line_feed};
 ghost use Rattle.pd_format.specs.Reports.{answer_lines, report_lines, AnswerIsLawful, IsLawful, IsNoReport, IsReport};
 ghost use Rattle.pd_report.specs.Reading.{counts_text, first_text, second_text, slices_view, CountsFit, FirstIsLawful, StopsAfter};
 ghost use Rattle.pd_report.specs.Pairs.{AnswersFit, IsPair, StopsAt};
 ghost use Rattle.pd_report.specs.Views.{answer_view, report_view};
 ghost use Rattle.pd_report.specs.declared.read_fault.ReportFault.TheVariants.{Line};
-ghost use Rattle.std.specs.List.{AllByRecursion};
-ghost use Rattle.std.specs.Prelude.{◌≡◌, ◌∷◌, ◌+◌, ◌<◌, ◌≤◌, ℕ, List, Err, Ok, flat_map, length, map, IfOk, drop};
+ghost use Rattle.std.specs.List.{list_all, AllByRecursion};
+ghost use Rattle.std.specs.Prelude.{◌≡◌, ◌==◌, not, true, ◌∷◌, ◌+◌, ◌<◌, ◌≤◌, ℕ, List, Err, Ok, flat_map, length, map, IfOk, drop};
 
 use super::answer::Answer;
 use super::answer_line::{first_line, second_line};
@@ -13,13 +14,11 @@ use super::read_fault::ReportFault;
 use super::refusal_line::refused_line;
 use super::report::Report;
 use super::session_line::session_line;
-use super::words::pieces;
+use super::words::{has_no_line_feed, pieces};
+use pd_format::PREDICATE_LIMIT;
 use std::alloc::{AllocError, Global};
 
-/// The most answers of a report.
-const MAX_ANSWERS: usize = 16;
-
-/// What the first two of the lines tell.
+/// What the first two of the lines are.
 #[derive(Drop)]
 enum Pair {
     /// An answer.
@@ -64,11 +63,15 @@ fn answers(
     let mut answers = Vec::new(alloc);
     let mut at = 0;
     while at < lines.len() {
-        if answers.len() == MAX_ANSWERS {
+        if answers.len() == PREDICATE_LIMIT {
             return Err(ReportFault::Line(at as u64 + 2));
         }
         match read_pair(alloc, lines[at], &lines[at + 1..])? {
-            Pair::Reported(answer) => answers.push(answer)?,
+            Pair::Reported(answer) => {
+                let Ok(()) = answers.push(answer) else {
+                    return Err(ReportFault::Memory);
+                };
+            }
             Pair::First => return Err(ReportFault::Line(at as u64 + 2)),
             Pair::Second => return Err(ReportFault::Line(at as u64 + 3)),
         }
@@ -113,13 +116,18 @@ fn read_lines(alloc: Global, lines: &[&[u8]]) -> Result<Report, ReportFault>
 /// Reads a report: the one whose text the bytes are.
 ///
 /// # Errors
-/// `Line`, where they are no report, with the number of the first line, counted from 1 and with its LF, with which they
-/// stop being one. Where the text stops too early, it is the number after the last line's. `Memory`, where an
+/// `Line`, if they are no report, with the number of the first line, counted from 1 and with its LF, with which they
+/// stop being one. If the text stops too early, it is the number after the last line's. `Memory`, if an
 /// allocation is refused.
 pub fn read(alloc: Global, bytes: &[u8]) -> Result<Report, ReportFault>
     ensures reported { IfOk result (λ report. IsReport bytes.now (report_view report)) }
     ensures line { (k : ℕ) → result ≡ Err (Line k) → IsNoReport bytes.now k }
+    // Bytes with no LF are refused at once, and never as out of memory.
+    ensures early { list_all (λ byte. not (byte == line_feed)) bytes.now ≡ true → result ≡ Err (Line 1) }
 {
+    if has_no_line_feed(bytes) {
+        return Err(ReportFault::Line(1));
+    }
     let pieces = pieces(alloc, bytes, b'\n')?;
     let Some((last, lines)) = pieces.split_last() else {
         return Err(ReportFault::Line(1));

@@ -21,8 +21,8 @@ fn push_predicate(out: &mut Vec<u8>, k: u64, word: &str, at: u64) -> Result<(), 
 
 /// Appends the words for a refused stream.
 fn push_stream(out: &mut Vec<u8>, stream: u64, line: u64, word: &str) -> Result<(), AllocError>
-    ensures { OnOk result (out.new.items ≡ out.old.items ++ spaced (refusal_words (RefusedStream stream line word.now)))
-        }
+    ensures { OnOk result (out.new.items ≡ out.old.items
+        ++ spaced (refusal_words (RefusedStream stream line word.now))) }
 {
     push_bytes(out, b"stream ")?;
     push_number(out, stream)?;

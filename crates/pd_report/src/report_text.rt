@@ -30,7 +30,7 @@ fn push_session(
 /// A report's text: a line for the session and two for each answer, or one for the refusal, each ended by an LF.
 ///
 /// # Errors
-/// Where memory runs out.
+/// Out of memory.
 pub fn text(alloc: Global, report: &Report) -> Result<Vec<u8>, AllocError>
     ensures { IfOk result (λ text. text.items ≡ report_text (report_view report.now)) }
 {

@@ -33,7 +33,7 @@ fn same_places(a: &[(String, u64)], b: &[(String, u64)]) -> bool
     true
 }
 
-/// Whether two refusals tell the same.
+/// Whether two refusals are the same.
 pub fn same_refusal(a: &Refusal, b: &Refusal) -> bool
     ensures { IsTrue result ↔ (refusal_view a.now ≡ refusal_view b.now) }
 {

@@ -19,7 +19,7 @@ fn is_refused_as(alloc: Global, refusal: Refusal, line: &str) -> Result<bool, Al
 }
 
 /// A report with three answers.
-fn judged(alloc: Global) -> Result<Report, AllocError> {
+fn judged_report(alloc: Global) -> Result<Report, AllocError> {
     let ahead = Answer {
         name: string(alloc, "ahead")?,
         possibly: Possibly::Yes(vec![in alloc; 1, 0]?),
@@ -49,13 +49,16 @@ fn judged(alloc: Global) -> Result<Report, AllocError> {
 }
 
 /// The text of that report.
-const JUDGED: &str =
-    "session 2 processes 2 events 0 messages\nahead possibly yes 1,0\nahead definitely no b,a\nboth possibly no\nboth definitely no -\nwide possibly unknown 12\nwide definitely unknown 0\nall possibly yes 18446744073709551615\nall definitely yes 3\n";
+const JUDGED: &str = "session 2 processes 2 events 0 messages\n\
+    ahead possibly yes 1,0\nahead definitely no b,a\n\
+    both possibly no\nboth definitely no -\n\
+    wide possibly unknown 12\nwide definitely unknown 0\n\
+    all possibly yes 18446744073709551615\nall definitely yes 3\n";
 
 #[test]
 fn judged_reports_have_texts(rt: HostRuntime) -> Result<(), Fail> {
     let alloc = rt.alloc();
-    let report = judged(alloc)?;
+    let report = judged_report(alloc)?;
     assert_eq!(rt; text(alloc, &report)?.as_slice(), JUDGED.as_bytes());
     Ok(())
 }
@@ -125,7 +128,7 @@ impl Write for Limited {
 #[test]
 fn reports_are_written(rt: HostRuntime) -> Result<(), Fail> {
     let alloc = rt.alloc();
-    let report = judged(alloc)?;
+    let report = judged_report(alloc)?;
     let mut out = Vec::new(alloc);
     assert!(rt; write(alloc, &report, &mut out).is_ok());
     assert_eq!(rt; out.as_slice(), JUDGED.as_bytes());
@@ -156,12 +159,12 @@ fn texts_are_read(rt: HostRuntime) -> Result<(), Fail> {
         JUDGED,
     ];
     for want in texts {
-        assert!(rt; is_read_back(alloc, want)?);
+        assert!(rt; is_read_back(alloc, want)?, "{want}");
     }
     Ok(())
 }
 
-/// The line at which the bytes stop being a report, or 0 where they are one.
+/// The line at which the bytes stop being a report, or 0 if they are one.
 fn fault_line(alloc: Global, bytes: &str) -> Result<u64, AllocError> {
     match read(alloc, bytes.as_bytes()) {
         Ok(_) => Ok(0),
@@ -173,44 +176,62 @@ fn fault_line(alloc: Global, bytes: &str) -> Result<u64, AllocError> {
 #[test]
 fn faults_have_lines(rt: HostRuntime) -> Result<(), Fail> {
     let cases = [
-        ("", 1),
-        ("refused streams", 1),
-        ("refused  streams\n", 1),
-        ("refused streams\r\n", 1),
-        ("refused stream 02 line 1 taken\n", 1),
-        ("refused stream 18446744073709551616 line 1 taken\n", 1),
-        ("refused predicate 0 long at 1\n", 1),
-        ("refused streams\n\n", 2),
-        ("refused streams\nx", 2),
-        ("session 2 processes 2 events 0 messages\n", 2),
-        ("session 2 processes 2 events 0 messages\na possibly no", 2),
+        ("no byte", "", 1),
+        ("no LF", "refused streams", 1),
+        ("two spaces", "refused  streams\n", 1),
+        ("a CR before the LF", "refused streams\r\n", 1),
         (
+            "a zero before a number",
+            "refused stream 02 line 1 taken\n",
+            1,
+        ),
+        (
+            "a number over 64 bits",
+            "refused stream 18446744073709551616 line 1 taken\n",
+            1,
+        ),
+        ("predicate 0", "refused predicate 0 long at 1\n", 1),
+        ("a line after a refusal", "refused streams\n\n", 2),
+        ("a byte after a refusal", "refused streams\nx", 2),
+        ("no answer", "session 2 processes 2 events 0 messages\n", 2),
+        (
+            "an answer without LF",
+            "session 2 processes 2 events 0 messages\na possibly no",
+            2,
+        ),
+        (
+            "a word of the language as a name",
             "session 2 processes 2 events 0 messages\nand possibly no\n",
             2,
         ),
         (
+            "a count left out",
             "session 2 processes 2 events 0 messages\na possibly yes ,1\n",
             2,
         ),
         (
+            "no second line",
             "session 2 processes 2 events 0 messages\na possibly no\n",
             3,
         ),
         (
+            "a second line of another name",
             "session 2 processes 2 events 0 messages\na possibly no\nb definitely no -\n",
             3,
         ),
         (
+            "a path left out",
             "session 2 processes 2 events 0 messages\na possibly no\na definitely no\n",
             3,
         ),
         (
+            "an answer that is cut",
             "session 2 processes 2 events 0 messages\na possibly no\na definitely no -\na\n",
             4,
         ),
     ];
-    for (bytes, want) in cases {
-        assert_eq!(rt; fault_line(rt.alloc(), bytes)?, want);
+    for (row, bytes, want) in cases {
+        assert_eq!(rt; fault_line(rt.alloc(), bytes)?, want, "{row}");
     }
     Ok(())
 }
@@ -244,14 +265,15 @@ fn damaged_texts_are_no_other_report(rt: HostRuntime) -> Result<(), Fail> {
     let texts = [
         "session 2 processes 4 events 0 messages\nboth possibly yes 1,1\nboth definitely no b,a\n",
         "session 1 processes 0 events 0 messages\np possibly no\np definitely no -\n",
-        "session 3 processes 9 events 4 messages\na possibly yes 0,0\na definitely yes 10\nb possibly unknown 5\nb definitely unknown 5\n",
+        "session 3 processes 9 events 4 messages\na possibly yes 0,0\na definitely yes 10\n\
+        b possibly unknown 5\nb definitely unknown 5\n",
         "refused predicate 1 expected at 10\n",
         "refused stream 2 line 10 unended\n",
         "refused cycle a#1,b#10\n",
         "refused absent no_one\n",
     ];
     for whole in texts {
-        assert!(rt; is_own_text_if_damaged(rt.alloc(), whole)?);
+        assert!(rt; is_own_text_if_damaged(rt.alloc(), whole)?, "{whole}");
     }
     Ok(())
 }

@@ -1,13 +1,13 @@
 //! Words, and what stands between others.
-ghost use Rattle.pd_format.specs.Lists.{is_one_of as is_one_of_texts};
+ghost use Rattle.pd_format.specs.Lines.{line_feed};
 ghost use Rattle.pd_format.specs.Names.{is_in_word};
-ghost use Rattle.pd_format.specs.Reports.{match_words, predicate_words, spec_words, stream_words, Fits, IsName};
-ghost use Rattle.pd_report.specs.Reading.{pieces as pieces_of, slices_view, Tells};
+ghost use Rattle.pd_format.specs.Reports.{Fits, IsName};
+ghost use Rattle.pd_report.specs.Reading.{pieces as pieces_of, slices_view, IsFoundAs};
 ghost use Rattle.std.specs.List.{list_all};
-ghost use Rattle.std.specs.Prelude.{◌≡◌, ◌∷◌, [], ℕ, List, MatchOption, true, decimal, string_bytes, IfOk, ◌↔◌, IsTrue, false};
+ghost use Rattle.std.specs.Prelude.{◌≡◌, ◌==◌, not, ◌∷◌, [], ℕ, List, MatchOption, true, decimal, string_bytes, IfOk, ◌↔◌, IsTrue, false};
 
-use super::name::is_name;
 use itoa::Buffer;
+use pd_pred::is_name;
 use std::alloc::{AllocError, Global};
 
 /// The pieces between these bytes.
@@ -25,82 +25,11 @@ pub(crate) fn is(word: &[u8], text: &str) -> bool
     word == text.as_bytes()
 }
 
-/// Whether the bytes are one of these texts.
-pub(crate) fn is_one_of(word: &[u8], texts: &[&str]) -> bool
-    ensures { result ≡ is_one_of_texts (slices_view texts.now) word.now }
+/// Whether no byte is an LF.
+pub(crate) fn has_no_line_feed(bytes: &[u8]) -> bool
+    ensures { result ≡ list_all (λ byte. not (byte == line_feed)) bytes.now }
 {
-    texts.iter().any(|text| word == text.as_bytes())
-}
-
-/// Whether the bytes are a word for a document's fault.
-pub(crate) fn is_spec_word(word: &[u8]) -> bool
-    ensures { result ≡ is_one_of_texts spec_words word.now }
-{
-    is_one_of(
-        word,
-        &[
-            "long",
-            "json",
-            "shape",
-            "processes",
-            "name",
-            "nametwice",
-            "vars",
-            "predicates",
-            "width",
-        ],
-    )
-}
-
-/// Whether the bytes are a word for a predicate's fault.
-pub(crate) fn is_predicate_word(word: &[u8]) -> bool
-    ensures { result ≡ is_one_of_texts predicate_words word.now }
-{
-    is_one_of(
-        word,
-        &[
-            "long",
-            "character",
-            "number",
-            "expected",
-            "unknownname",
-            "depth",
-        ],
-    )
-}
-
-/// Whether the bytes are a word for a stream's fault.
-pub(crate) fn is_stream_word(word: &[u8]) -> bool
-    ensures { result ≡ is_one_of_texts stream_words word.now }
-{
-    is_one_of(
-        word,
-        &[
-            "linetoolong",
-            "streamtoolong",
-            "json",
-            "shape",
-            "join",
-            "unknownprocess",
-            "unknownvar",
-            "value",
-            "messageid",
-            "events",
-            "unended",
-            "read",
-            "taken",
-        ],
-    )
-}
-
-/// Whether the bytes are a word for messages that don't match.
-pub(crate) fn is_match_word(word: &[u8]) -> bool
-    ensures { result ≡ is_one_of_texts match_words word.now }
-{
-    is_one_of(
-        word,
-        &["sendtwice", "orphan", "selfmessage", "receivedtwice"],
-    )
+    bytes.iter().all(|byte| *byte != b'\n')
 }
 
 /// The text of letters and digits.
@@ -116,7 +45,7 @@ pub(crate) fn word_text(alloc: Global, word: &[u8]) -> Result<String, AllocError
 
 /// The name, if it is one.
 pub(crate) fn name(alloc: Global, word: &[u8]) -> Result<Option<String>, AllocError>
-    ensures { IfOk result (Tells string_bytes (λ name. name) IsName word.now) }
+    ensures { IfOk result (IsFoundAs string_bytes (λ name. name) IsName word.now) }
 {
     if !is_name(word) {
         return Ok(None);
@@ -126,7 +55,7 @@ pub(crate) fn name(alloc: Global, word: &[u8]) -> Result<Option<String>, AllocEr
 
 /// The number of 64 bits, in digits with no zero before them.
 pub(crate) fn number(word: &[u8]) -> Option<u64>
-    ensures { Tells (λ n. n) decimal Fits word.now result }
+    ensures { IsFoundAs (λ n. n) decimal Fits word.now result }
 {
     let Ok(text) = str::from_utf8(word) else {
         return None;
@@ -172,7 +101,7 @@ pub(crate) fn single<'a>(words: &[&'a [u8]]) -> Option<&'a [u8]>
 }
 
 /// The number that the words begin with, and the words after it.
-pub(crate) fn counted<'w, 'a>(words: &'w [&'a [u8]]) -> Option<(u64, &'w [&'a [u8]])>
+pub(crate) fn leading_number<'w, 'a>(words: &'w [&'a [u8]]) -> Option<(u64, &'w [&'a [u8]])>
     ensures { MatchOption result ((n : ℕ) (rest : List (List ℕ)) → Fits n
         → ¬ (slices_view words.now ≡ decimal n ∷ rest)) (λ found. Fits found.0
         × (slices_view words.now ≡ decimal found.0 ∷ slices_view found.1.now)) }

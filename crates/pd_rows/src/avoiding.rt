@@ -151,7 +151,7 @@ fn write_steps(text: &mut String, session: &Session, steps: &[usize]) -> Result<
     Ok(())
 }
 
-/// Appends the line that tells whether each observation has a satisfying cut.
+/// Appends the line that says whether each observation has a satisfying cut.
 pub(crate) fn write_definite(
     text: &mut String,
     session: &Session,

@@ -1,5 +1,5 @@
 //! Bundles with their reports.
-use super::slow::judged;
+use super::slow::judge_slowly;
 use pd_engine::Outcome;
 use std::alloc::{AllocError, Global};
 use std::str;
@@ -7,6 +7,8 @@ use std::test::Fail;
 
 /// A bundle, line by line or several lines at once, and the text of its report.
 pub(crate) struct Row {
+    /// What the row shows.
+    pub name: &'static str,
     pub lines: &'static [&'static str],
     pub report: &'static str,
 }
@@ -27,7 +29,8 @@ pub(crate) const TOP: &str =
     r#""predicates":[{"name":"top","text":"a.n + b.n + c.n == 30"},{"name":"never","text":"a.n == 99"}]"#;
 
 const FOUND: &str =
-    "session 3 processes 30 events 0 messages\ntop possibly yes 10,10,10\ntop definitely yes 30\nnever possibly no\nnever definitely no c,c,c,c,c,c,c,c,c,c,b,b,b,b,b,b,b,b,b,b,a,a,a,a,a,a,a,a,a,a\n";
+    "session 3 processes 30 events 0 messages\ntop possibly yes 10,10,10\ntop definitely yes 30\nnever possibly no\n\
+never definitely no c,c,c,c,c,c,c,c,c,c,b,b,b,b,b,b,b,b,b,b,a,a,a,a,a,a,a,a,a,a\n";
 
 pub(crate) const CLOSE: &str = "}\n";
 
@@ -46,32 +49,39 @@ pub(crate) const Y0: &str = "{\"set\":{\"y\":0}}\n";
 pub(crate) const Y1: &str = "{\"set\":{\"y\":1}}\n";
 
 const TEN: &str =
-    "{\"set\":{\"n\":1}}\n{\"set\":{\"n\":2}}\n{\"set\":{\"n\":3}}\n{\"set\":{\"n\":4}}\n{\"set\":{\"n\":5}}\n{\"set\":{\"n\":6}}\n{\"set\":{\"n\":7}}\n{\"set\":{\"n\":8}}\n{\"set\":{\"n\":9}}\n{\"set\":{\"n\":10}}\n";
+    "{\"set\":{\"n\":1}}\n{\"set\":{\"n\":2}}\n{\"set\":{\"n\":3}}\n{\"set\":{\"n\":4}}\n{\"set\":{\"n\":5}}\n\
+{\"set\":{\"n\":6}}\n{\"set\":{\"n\":7}}\n{\"set\":{\"n\":8}}\n{\"set\":{\"n\":9}}\n{\"set\":{\"n\":10}}\n";
 
 pub(crate) const END: &str = "{\"end\":true}\n";
 
 pub(crate) static JUDGED: [Row; 9] = [
     Row {
+        name: "a state in one cut alone",
         lines: &[TWO, BOTH, CLOSE, A, X1, X0, END, B, Y1, Y0, END],
         report: "session 2 processes 4 events 0 messages\nboth possibly yes 1,1\nboth definitely no b,b,a,a\n",
     },
     Row {
+        name: "streams in another order",
         lines: &[TWO, BOTH, CLOSE, B, Y1, Y0, END, A, X1, X0, END],
         report: "session 2 processes 4 events 0 messages\nboth possibly yes 1,1\nboth definitely no b,b,a,a\n",
     },
     Row {
+        name: "a width of one cut",
         lines: &[TWO, BOTH, ",\"width\":1}\n", A, X1, X0, END, B, Y1, Y0, END],
         report: "session 2 processes 4 events 0 messages\nboth possibly unknown 1\nboth definitely unknown 1\n",
     },
     Row {
+        name: "one process ahead",
         lines: &[TWO, AHEAD, CLOSE, A, X1, END, B, Y1, END],
         report: "session 2 processes 2 events 0 messages\nahead possibly yes 1,0\nahead definitely no b,a\n",
     },
     Row {
+        name: "one process ahead, under a width of one cut",
         lines: &[TWO, AHEAD, ",\"width\":1}\n", A, X1, END, B, Y1, END],
         report: "session 2 processes 2 events 0 messages\nahead possibly unknown 1\nahead definitely no b,a\n",
     },
     Row {
+        name: "a sum of products over 64 bits",
         lines: &[
             ONE,
             r#""predicates":[{"name":"big","text":"2147483647 * a.x + a.x > 0"}]}"#,
@@ -83,10 +93,12 @@ pub(crate) static JUDGED: [Row; 9] = [
         report: "session 1 processes 1 events 0 messages\nbig possibly yes 1\nbig definitely yes 1\n",
     },
     Row {
+        name: "thirty events in parallel",
         lines: &[THREE, TOP, CLOSE, A, TEN, END, B, TEN, END, C, TEN, END],
         report: FOUND,
     },
     Row {
+        name: "a width that is just enough",
         lines: &[
             THREE,
             TOP,
@@ -104,6 +116,7 @@ pub(crate) static JUDGED: [Row; 9] = [
         report: FOUND,
     },
     Row {
+        name: "a width one too small",
         lines: &[
             THREE,
             TOP,
@@ -118,28 +131,34 @@ pub(crate) static JUDGED: [Row; 9] = [
             TEN,
             END,
         ],
-        report: "session 3 processes 30 events 0 messages\ntop possibly unknown 15\ntop definitely unknown 15\nnever possibly unknown 15\nnever definitely unknown 15\n",
+        report: "session 3 processes 30 events 0 messages\ntop possibly unknown 15\ntop definitely unknown 15\n\
+never possibly unknown 15\nnever definitely unknown 15\n",
     },
 ];
 
 pub(crate) static REFUSED: [Row; 16] = [
     Row {
+        name: "nothing at all",
         lines: &[],
         report: "refused spec json\n",
     },
     Row {
+        name: "a document cut off",
         lines: &[TWO, CLOSE],
         report: "refused spec json\n",
     },
     Row {
+        name: "no width",
         lines: &[TWO, BOTH, ",\"width\":0}\n"],
         report: "refused spec width\n",
     },
     Row {
+        name: "a predicate cut off",
         lines: &[ONE, r#""predicates":[{"name":"p","text":"a.x"}]}"#],
         report: "refused predicate 1 expected at 4\n",
     },
     Row {
+        name: "an unknown variable in the second predicate",
         lines: &[
             ONE,
             r#""predicates":[{"name":"p","text":"true"},{"name":"q","text":"a.y < 1"}]}"#,
@@ -147,42 +166,51 @@ pub(crate) static REFUSED: [Row; 16] = [
         report: "refused predicate 2 unknownname at 3\n",
     },
     Row {
+        name: "seventeen streams",
         lines: &[
             TWO, AHEAD, CLOSE, A, A, A, A, A, A, A, A, A, A, A, A, A, A, A, A, A,
         ],
         report: "refused streams\n",
     },
     Row {
+        name: "sixteen streams, of which the third has no end",
         lines: &[
             TWO, AHEAD, CLOSE, A, END, B, END, A, A, A, A, A, A, A, A, A, A, A, A, A, A,
         ],
         report: "refused stream 3 line 2 unended\n",
     },
     Row {
+        name: "a process without its stream",
         lines: &[TWO, AHEAD, CLOSE, A, X1, END],
         report: "refused absent b\n",
     },
     Row {
+        name: "no stream",
         lines: &[TWO, AHEAD, CLOSE],
         report: "refused absent a\n",
     },
     Row {
+        name: "a process twice",
         lines: &[TWO, AHEAD, CLOSE, A, X1, END, A, X1, END],
         report: "refused stream 2 line 1 taken\n",
     },
     Row {
+        name: "a stream without its end",
         lines: &[TWO, AHEAD, CLOSE, A, X1, END, B, Y1],
         report: "refused stream 2 line 3 unended\n",
     },
     Row {
+        name: "an empty line before the missing end",
         lines: &[TWO, AHEAD, CLOSE, A, X1, END, B, Y1, "\n", A],
         report: "refused stream 2 line 4 unended\n",
     },
     Row {
+        name: "an unknown variable",
         lines: &[TWO, AHEAD, CLOSE, A, X1, END, B, Y1, X1, END],
         report: "refused stream 2 line 3 unknownvar\n",
     },
     Row {
+        name: "a value over 63 bits",
         lines: &[
             TWO,
             AHEAD,
@@ -196,10 +224,12 @@ pub(crate) static REFUSED: [Row; 16] = [
         report: "refused stream 1 line 2 value\n",
     },
     Row {
+        name: "an empty first line",
         lines: &[TWO, AHEAD, CLOSE, "---\n\r\n", X1, END, B, END],
         report: "refused stream 1 line 2 join\n",
     },
     Row {
+        name: "an unknown process",
         lines: &[TWO, AHEAD, CLOSE, A, END, C, END],
         report: "refused stream 2 line 1 unknownprocess\n",
     },
@@ -223,32 +253,51 @@ pub(crate) fn bundle_of(
     Ok(bundle)
 }
 
-/// Whether the line ends change nothing, and neither does the last byte where it ends the last line.
-#[test]
-fn judged_bundles(rt: HostRuntime) -> Result<(), Fail> {
-    for row in &JUDGED {
-        for line_end in ["\n", "\r\n", "\n\n", "\n \t\r\n"] {
-            let mut bundle = bundle_of(rt.alloc(), row.lines, line_end)?;
-            let (outcome, report) = judged(&rt, &bundle)?;
-            assert_eq!(rt; str::from_utf8(&report)?, row.report);
-            assert_eq!(rt; outcome, Outcome::Judged);
-            assert_eq!(rt; bundle.pop(), Some(b'\n'));
-            let (_, cut_report) = judged(&rt, &bundle)?;
-            assert_eq!(rt; str::from_utf8(&cut_report)?, row.report);
+/// The name of the first row whose bundle, with one of these line ends, has another report or outcome.
+pub(crate) fn first_wrong(
+    rt: &HostRuntime,
+    rows: &[Row],
+    line_ends: &[&str],
+    want: Outcome,
+) -> Result<Option<&'static str>, Fail> {
+    for row in rows {
+        for line_end in line_ends {
+            let bundle = bundle_of(rt.alloc(), row.lines, line_end)?;
+            let (outcome, report) = judge_slowly(rt, &bundle)?;
+            if report.as_slice() != row.report.as_bytes() || outcome != want {
+                return Ok(Some(row.name));
+            }
         }
     }
+    Ok(None)
+}
+
+#[test]
+fn judged_bundles(rt: HostRuntime) -> Result<(), Fail> {
+    let line_ends = ["\n", "\r\n", "\n\n", "\n \t\r\n"];
+    let wrong = first_wrong(&rt, &JUDGED, &line_ends, Outcome::Judged)?;
+    assert_eq!(rt; wrong, None);
     Ok(())
 }
 
 #[test]
 fn refused_bundles(rt: HostRuntime) -> Result<(), Fail> {
-    for row in &REFUSED {
-        for line_end in ["\n", "\r\n"] {
-            let bundle = bundle_of(rt.alloc(), row.lines, line_end)?;
-            let (outcome, report) = judged(&rt, &bundle)?;
-            assert_eq!(rt; str::from_utf8(&report)?, row.report);
-            assert_eq!(rt; outcome, Outcome::Refused);
-        }
+    let wrong = first_wrong(&rt, &REFUSED, &["\n", "\r\n"], Outcome::Refused)?;
+    assert_eq!(rt; wrong, None);
+    Ok(())
+}
+
+/// The last byte changes nothing if it ends the last line.
+#[test]
+fn bundles_without_their_last_byte(rt: HostRuntime) -> Result<(), Fail> {
+    for row in &JUDGED {
+        let mut bundle = bundle_of(rt.alloc(), row.lines, "\n")?;
+        assert_eq!(rt; (row.name, bundle.pop()), (row.name, Some(b'\n')));
+        let (_, report) = judge_slowly(&rt, &bundle)?;
+        assert_eq!(rt;
+            (row.name, str::from_utf8(&report)?),
+            (row.name, row.report)
+        );
     }
     Ok(())
 }

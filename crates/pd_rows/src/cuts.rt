@@ -11,7 +11,7 @@ pub(crate) const CUTS: usize = COUNTS * COUNTS * COUNTS;
 /// How many of each process's events there are.
 pub(crate) type Cut = [usize; MOST_PROCESSES];
 
-/// The list of counts before which so many stand in lexicographic order.
+/// The list of counts before which this many stand in lexicographic order.
 pub(crate) fn counts_at(number: usize) -> Cut {
     [
         number / (COUNTS * COUNTS),
@@ -73,7 +73,7 @@ pub(crate) fn satisfies(session: &Session, predicate: &Predicate, cut: Cut) -> b
     holds(predicate, [value(a, i), value(b, j), value(c, k)])
 }
 
-/// Whether the event at this place is among the first so many of its process.
+/// Whether the event at this place is among this many first of its process.
 fn includes(cut: Cut, place: usize) -> bool {
     match cut.get(process_of(place)) {
         Some(count) => number_of(place) <= *count,

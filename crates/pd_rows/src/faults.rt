@@ -5,7 +5,8 @@ use std::io::ErrorKind;
 use std::test::Fail;
 
 const JUDGED: &str =
-    "{\"processes\":[{\"name\":\"a\",\"vars\":{\"x\":0}}],\"predicates\":[{\"name\":\"up\",\"text\":\"a.x > 0\"}]}\n---\n{\"process\":\"a\"}\n{}\n{\"set\":{\"x\":1}}\n{\"end\":true}\n";
+    "{\"processes\":[{\"name\":\"a\",\"vars\":{\"x\":0}}],\"predicates\":[{\"name\":\"up\",\"text\":\"a.x > 0\"}]}\n\
+---\n{\"process\":\"a\"}\n{}\n{\"set\":{\"x\":1}}\n{\"end\":true}\n";
 
 const JUDGED_REPORT: &str =
     "session 1 processes 2 events 0 messages\nup possibly yes 2\nup definitely yes 2\n";

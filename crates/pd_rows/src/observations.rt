@@ -4,7 +4,7 @@ use super::cuts::{Cut, full, is_consistent, satisfies, size};
 use super::plain::{lines_with, report};
 use super::relation::{MOST_PROCESSES, Table, happened_before};
 use super::sessions::{Numbers, Predicate, Session, make_session};
-use super::slow::judged;
+use super::slow::judge_slowly;
 use super::written::bundle;
 use std::alloc::{AllocError, Global};
 use std::str;
@@ -20,7 +20,7 @@ const FEW: usize = 8;
 const WIDE: u64 = 200;
 
 /// Parts of lines, and in how many lines each of them stands at least.
-const TOLD: [(&str, usize); 3] = [
+const LINES_WANTED: [(&str, usize); 3] = [
     (" definitely ", 48),
     (" definitely yes ", 10),
     (" definitely no ", 10),
@@ -138,7 +138,7 @@ fn observed(alloc: Global, session: &Session) -> Result<String, AllocError> {
     Ok(text)
 }
 
-/// The lines of a report that tell whether each observation has a satisfying cut.
+/// The lines of a report that say whether each observation has a satisfying cut.
 fn definite_lines(alloc: Global, report: &str) -> Result<String, AllocError> {
     let mut text = String::new(alloc);
     for line in report.lines() {
@@ -163,13 +163,13 @@ fn all_observations(rt: HostRuntime) -> Result<(), Fail> {
             let want = observed(alloc, &session)?;
             let bundle = bundle(alloc, &session)?;
             assert_eq!(rt; definite_lines(alloc, &plain)?, want, "{bundle}");
-            let (_, found) = judged(&rt, bundle.as_bytes())?;
+            let (_, found) = judge_slowly(&rt, bundle.as_bytes())?;
             let found = definite_lines(alloc, str::from_utf8(&found)?)?;
             assert_eq!(rt; found, want, "{bundle}");
             reported.push_str(&want)?;
         }
     }
-    for (part, least) in TOLD {
+    for (part, least) in LINES_WANTED {
         let lines = lines_with(&reported, part);
         assert!(rt; least <= lines, "{lines} lines with {part}");
     }

@@ -5,7 +5,7 @@ use super::relation::{
     Fault, Table, cycle, first_fault, happened_before, messages, number_of, process_of,
 };
 use super::sessions::{Numbers, Predicate, Session, make_session};
-use super::slow::judged;
+use super::slow::judge_slowly;
 use super::written::bundle;
 use std::alloc::{AllocError, Global};
 use std::fmt::Write;
@@ -16,7 +16,7 @@ use std::test::Fail;
 const SESSIONS: u64 = 160;
 
 /// Parts of lines, and in how many lines of the reports of sessions with messages each of them stands at least.
-const TOLD: [(&str, usize); 12] = [
+const LINES_WANTED: [(&str, usize); 12] = [
     ("session ", 50),
     (" possibly yes ", 15),
     (" possibly no", 15),
@@ -83,7 +83,7 @@ fn write_place(text: &mut String, session: &Session, place: usize) -> Result<(),
 }
 
 /// The report of a session whose messages have this fault.
-fn refused(alloc: Global, session: &Session, fault: Fault) -> Result<String, AllocError> {
+fn refusal_report(alloc: Global, session: &Session, fault: Fault) -> Result<String, AllocError> {
     let (word, place) = match fault {
         Fault::SendTwice(place) => ("sendtwice", place),
         Fault::Orphan(place) => ("orphan", place),
@@ -109,7 +109,7 @@ fn cyclic(alloc: Global, session: &Session, places: &[usize]) -> Result<String, 
     Ok(text)
 }
 
-/// Appends the line that tells whether a cut satisfies.
+/// Appends the line that says whether a cut satisfies.
 fn write_verdict(
     text: &mut String,
     session: &Session,
@@ -145,7 +145,7 @@ fn write_answers(
 }
 
 /// The report of a session in which no event happened before itself.
-fn answered(alloc: Global, session: &Session, before: &Table) -> Result<String, AllocError> {
+fn answers_report(alloc: Global, session: &Session, before: &Table) -> Result<String, AllocError> {
     let count = session.count;
     let events = size(full(session));
     let messages = messages(&session.kinds);
@@ -160,12 +160,12 @@ fn answered(alloc: Global, session: &Session, before: &Table) -> Result<String, 
 /// The report that a session must have.
 pub(crate) fn report(alloc: Global, session: &Session) -> Result<String, AllocError> {
     if let Some(fault) = first_fault(&session.kinds) {
-        return refused(alloc, session, fault);
+        return refusal_report(alloc, session, fault);
     }
     let before = happened_before(&session.kinds);
     match cycle(alloc, &session.kinds, &before)? {
         Some(places) => cyclic(alloc, session, &places),
-        None => answered(alloc, session, &before),
+        None => answers_report(alloc, session, &before),
     }
 }
 
@@ -185,14 +185,14 @@ fn all_counts(rt: HostRuntime) -> Result<(), Fail> {
     for _ in 0..SESSIONS {
         let session = make_session(&mut numbers);
         let bundle = bundle(rt.alloc(), &session)?;
-        let (_, found) = judged(&rt, bundle.as_bytes())?;
+        let (_, found) = judge_slowly(&rt, bundle.as_bytes())?;
         let want = report(rt.alloc(), &session)?;
         assert_eq!(rt; str::from_utf8(&found)?, want.as_str(), "{bundle}");
         if !want.contains(" 0 messages") {
             reported.push_str(&want)?;
         }
     }
-    for (part, least) in TOLD {
+    for (part, least) in LINES_WANTED {
         let lines = lines_with(&reported, part);
         assert!(rt; least <= lines, "{lines} lines with {part}");
     }

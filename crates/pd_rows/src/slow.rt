@@ -57,7 +57,7 @@ pub(crate) struct SlowWriter {
 }
 
 impl SlowWriter {
-    /// A writer that takes so many bytes.
+    /// A writer that takes this many bytes.
     pub(crate) fn new(alloc: Global, room: usize, full: Full) -> Result<SlowWriter, AllocError> {
         let taken = Vec::with_capacity(alloc, ROOM)?;
         Ok(SlowWriter { taken, room, full })
@@ -86,7 +86,10 @@ impl Write for SlowWriter {
 }
 
 /// The outcome and the report of a bundle that is read and written a byte a call.
-pub(crate) fn judged(rt: &HostRuntime, bundle: &[u8]) -> Result<(Outcome, Vec<u8>), EngineFault> {
+pub(crate) fn judge_slowly(
+    rt: &HostRuntime,
+    bundle: &[u8],
+) -> Result<(Outcome, Vec<u8>), EngineFault> {
     let alloc = rt.alloc();
     let reader = SlowReader {
         bytes: bundle,

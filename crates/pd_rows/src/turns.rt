@@ -8,13 +8,16 @@ use std::alloc::AllocError;
 use std::test::Fail;
 
 const DOCUMENT: &str =
-    "{\"processes\":[{\"name\":\"a\",\"vars\":{\"x\":0,\"y\":0}},{\"name\":\"b\",\"vars\":{\"n\":0}}],\"predicates\":[{\"name\":\"p\",\"text\":\"true\"}]}";
+    "{\"processes\":[{\"name\":\"a\",\"vars\":{\"x\":0,\"y\":0}},{\"name\":\"b\",\"vars\":{\"n\":0}}],\
+\"predicates\":[{\"name\":\"p\",\"text\":\"true\"}]}";
 
 /// What a stream gives: its process, the line of its join and how many events it has, or its fault.
 type Given = Result<(usize, u64, usize), StreamFault>;
 
 /// The bytes of two streams, and what each gives, whether it comes in one piece or both come in turns of one byte.
 struct Case {
+    /// What the row shows.
+    name: &'static str,
     first: &'static str,
     second: &'static str,
     given_first: Given,
@@ -23,18 +26,21 @@ struct Case {
 
 static CASES: [Case; 5] = [
     Case {
+        name: "line ends of each kind, and bytes after an end",
         first: "{\"process\":\"a\"}\r\n\r\n{\"set\":{\"x\":1}}\r\n\n{\"set\":{\"x\":0}}\r\n \t\r\n{\"end\":true}",
         second: "{\"process\":\"b\"}\n{\"end\":true}\n{ x",
         given_first: Ok((0, 1, 2)),
         given_second: Ok((1, 1, 0)),
     },
     Case {
+        name: "two variables set in one event, and empty lines first",
         first: "{\"process\":\"a\"}\n{\"set\":{\"y\":2,\"x\":-1}}\n{}\n{\"end\":true}\n",
         second: "\n \t\r\n{\"process\":\"b\"}\r\n{\"end\":true}",
         given_first: Ok((0, 1, 2)),
         given_second: Ok((1, 3, 0)),
     },
     Case {
+        name: "a missing end, of a process that both streams give",
         first: "{\"process\":\"b\"}\n{}\n{}\n{}",
         second: "{\"process\":\"b\"}\n{\"end\":true}\n not read",
         given_first: Err(StreamFault {
@@ -44,6 +50,7 @@ static CASES: [Case; 5] = [
         given_second: Ok((1, 1, 0)),
     },
     Case {
+        name: "an empty stream, and a variable of another process",
         first: "",
         second: "{\"process\":\"a\"}\n{\"set\":{\"n\":1}}\n{\"set\":",
         given_first: Err(StreamFault {
@@ -56,6 +63,7 @@ static CASES: [Case; 5] = [
         }),
     },
     Case {
+        name: "a value that is no number, and no join",
         first: "{\"process\":\"a\"}\n{\"set\":{\"x\":1}}\n{\"set\":{\"x\":1.5}}\n",
         second: "{\"end\":true}\n{",
         given_first: Err(StreamFault {
@@ -80,7 +88,7 @@ fn feed_whole(core: &mut Core<'_>, case: &Case) -> Result<(), AllocError>
     core.step(1, Input::End)
 }
 
-/// The byte with this number, from 0, or nothing where there is none.
+/// The byte with this number, from 0, or nothing if there is none.
 fn byte_at(text: &str, at: usize) -> &[u8] {
     match text.as_bytes().get(at..) {
         Some(bytes) => &bytes[..bytes.len().min(1)],
@@ -109,14 +117,15 @@ fn feed_cut(core: &mut Core<'_>, case: &Case, cut: usize) -> Result<(), AllocErr
     ensures { length core.new ≡ 2 }
 {
     let first = case.first.as_bytes();
-    let (prefix, back) = first.split_at(cut.min(first.len()));
+    let (prefix, rest) = first.split_at(cut.min(first.len()));
     core.step(0, Input::Piece(prefix))?;
     core.step(1, Input::Piece(case.second.as_bytes()))?;
-    core.step(0, Input::Piece(back))?;
+    core.step(0, Input::Piece(rest))?;
     core.step(0, Input::End)?;
     core.step(1, Input::End)
 }
 
+/// What a reading gives.
 fn given(reading: &Result<Trace, StreamFault>) -> Given {
     match reading {
         Ok(trace) => Ok((trace.process, trace.join_line, trace.events.len())),
@@ -133,15 +142,21 @@ fn turns_change_nothing(rt: HostRuntime) -> Result<(), Fail> {
         feed_whole(&mut whole, case)?;
         let mut turns = Core::new(alloc, 2, &spec)?;
         feed_in_turns(&mut turns, case)?;
-        assert!(rt; whole.closed());
-        assert!(rt; turns.closed());
+        assert!(rt; whole.closed(), "{}", case.name);
+        assert!(rt; turns.closed(), "{}", case.name);
         let whole = whole.outcome();
         let turns = turns.outcome();
-        assert!(rt; whole.readings == turns.readings);
+        assert!(rt; whole.readings == turns.readings, "{}", case.name);
         assert_eq!(rt; (whole.streams, turns.streams), (2, 2));
         assert_eq!(rt; whole.readings.len(), 2);
-        assert_eq!(rt; given(&whole.readings[0]), case.given_first);
-        assert_eq!(rt; given(&whole.readings[1]), case.given_second);
+        assert_eq!(rt;
+            (case.name, given(&whole.readings[0])),
+            (case.name, case.given_first)
+        );
+        assert_eq!(rt;
+            (case.name, given(&whole.readings[1])),
+            (case.name, case.given_second)
+        );
     }
     Ok(())
 }
@@ -154,11 +169,17 @@ fn every_cut_in_two_changes_nothing(rt: HostRuntime) -> Result<(), Fail> {
         for cut in 0..=case.first.len() {
             let mut core = Core::new(alloc, 2, &spec)?;
             feed_cut(&mut core, case, cut)?;
-            assert!(rt; core.closed());
+            assert!(rt; core.closed(), "{}", case.name);
             let gathered = core.outcome();
             assert_eq!(rt; gathered.readings.len(), 2);
-            assert_eq!(rt; given(&gathered.readings[0]), case.given_first);
-            assert_eq!(rt; given(&gathered.readings[1]), case.given_second);
+            assert_eq!(rt;
+                (case.name, given(&gathered.readings[0])),
+                (case.name, case.given_first)
+            );
+            assert_eq!(rt;
+                (case.name, given(&gathered.readings[1])),
+                (case.name, case.given_second)
+            );
         }
     }
     Ok(())

@@ -1,5 +1,5 @@
 -- The bytes of a document, from what the steps of the reader say.
-use Rattle.std.proofs.Common.{◌≡◌, ℕ, ◌<◌, ◌≤◌, List, Option, None, Some, Ok, Err, length, inl, inr, refl, ap, ◌∙◌}
+use Rattle.std.proofs.Common.{◌≡◌, ℕ, ◌<◌, ◌≤◌, List, Option, None, Some, Ok, Err, length, refl, ap, ◌∙◌}
 use Rattle.std.specs.Prelude.{MatchOption}
 use Rattle.std.proofs.lemmas.Bool.{lt-ltb, le-ltb}
 use Rattle.serde_json.specs.Data.{Data}
@@ -11,7 +11,7 @@ use Rattle.pd_format.specs.PredicateTexts.{PredicateFault}
 use Rattle.pd_format.specs.Records.{json_value}
 use Rattle.pd_pred.specs.Views.{predicate_fault_view}
 use Rattle.pd_spec.specs.DocumentParts.{IsDocumentOf}
-use Rattle.pd_spec.specs.Faults.{IsMemoryOr, Tells}
+use Rattle.pd_spec.specs.Faults.{IsFaultFound}
 use Rattle.pd_spec.specs.Predicates.{IsFaultAmong, IsRefusedAmong}
 use Rattle.pd_spec.specs.Views.{IsFaultOf}
 use Rattle.pd_spec.specs.declared.fault.SpecFault.{SpecFault}
@@ -26,11 +26,11 @@ short_bytes : (bytes : List ℕ) → length bytes ≤ document_byte_limit
 unfolding outline_of_bytes
 short_bytes bytes short = rw (le-ltb document_byte_limit (length bytes) short) refl
 
-no_json : (bytes : List ℕ) → length bytes ≤ document_byte_limit → json_value bytes ≡ None
+pub no_json : (bytes : List ℕ) → length bytes ≤ document_byte_limit → json_value bytes ≡ None
     → outline_of_bytes bytes ≡ Err faults.Json
 no_json bytes short none = short_bytes bytes short ∙ ap outline_of_json none
 
-no_shape : (bytes : List ℕ) (value : Data) → length bytes ≤ document_byte_limit → json_value bytes ≡ Some value
+pub no_shape : (bytes : List ℕ) (value : Data) → length bytes ≤ document_byte_limit → json_value bytes ≡ Some value
     → outline_of value ≡ None → outline_of_bytes bytes ≡ Err faults.Shape
 no_shape bytes value short is none = short_bytes bytes short ∙ (ap outline_of_json is ∙ ap checked_outline none)
 
@@ -46,41 +46,31 @@ pub sound_bytes : (bytes : List ℕ) (value : Data) (outline : Outline) → leng
 sound_bytes bytes value outline short is shape none = with_shape bytes value outline short is shape
     ∙ ap (λ fault. unless fault outline) none
 
-pub json_fault : (bytes : List ℕ) (fault : SpecFault) → length bytes ≤ document_byte_limit
-    → IsMemoryOr fault kinds.Json (json_value bytes ≡ None) → IsFaultOf bytes fault
-json_fault bytes fault short (inl memory) = rw memory tt
-json_fault bytes fault short (inr reported) = rw reported.0 (no_json bytes short reported.1)
-
-pub shape_fault : (bytes : List ℕ) (value : Data) (fault : SpecFault) → length bytes ≤ document_byte_limit
-    → json_value bytes ≡ Some value → IsMemoryOr fault kinds.Shape (outline_of value ≡ None) → IsFaultOf bytes fault
-shape_fault bytes value fault short is (inl memory) = rw memory tt
-shape_fault bytes value fault short is (inr reported) = rw reported.0 (no_shape bytes value short is reported.1)
-
 refused_with : (bytes : List ℕ) (outline : Outline) (fault : faults.DocumentFault)
     → outline_of_bytes bytes ≡ unless (outline_fault outline) outline → outline_fault outline ≡ Some fault
     → outline_of_bytes bytes ≡ Err fault
 refused_with bytes outline fault e reported = e ∙ ap (λ o. unless o outline) reported
 
-tells_fault : (bytes : List ℕ) (outline : Outline) (fault : SpecFault)
-    → outline_of_bytes bytes ≡ unless (outline_fault outline) outline → Tells fault (outline_fault outline)
+fault_found : (bytes : List ℕ) (outline : Outline) (fault : SpecFault)
+    → outline_of_bytes bytes ≡ unless (outline_fault outline) outline → IsFaultFound fault (outline_fault outline)
     → IsFaultOf bytes fault
-tells_fault bytes outline kinds.Long e reported = refused_with bytes outline faults.Long e reported
-tells_fault bytes outline kinds.Json e reported = refused_with bytes outline faults.Json e reported
-tells_fault bytes outline kinds.Shape e reported = refused_with bytes outline faults.Shape e reported
-tells_fault bytes outline kinds.Processes e reported = refused_with bytes outline faults.Processes e reported
-tells_fault bytes outline kinds.Name e reported = refused_with bytes outline faults.Name e reported
-tells_fault bytes outline kinds.NameTwice e reported = refused_with bytes outline faults.NameTwice e reported
-tells_fault bytes outline kinds.Vars e reported = refused_with bytes outline faults.Vars e reported
-tells_fault bytes outline kinds.Predicates e reported = refused_with bytes outline faults.Predicates e reported
-tells_fault bytes outline kinds.Width e reported = refused_with bytes outline faults.Width e reported
-tells_fault bytes outline (kinds.Predicate number error) e reported = cc
-tells_fault bytes outline kinds.Memory e reported = tt
+fault_found bytes outline kinds.Long e reported = refused_with bytes outline faults.Long e reported
+fault_found bytes outline kinds.Json e reported = refused_with bytes outline faults.Json e reported
+fault_found bytes outline kinds.Shape e reported = refused_with bytes outline faults.Shape e reported
+fault_found bytes outline kinds.Processes e reported = refused_with bytes outline faults.Processes e reported
+fault_found bytes outline kinds.Name e reported = refused_with bytes outline faults.Name e reported
+fault_found bytes outline kinds.NameTwice e reported = refused_with bytes outline faults.NameTwice e reported
+fault_found bytes outline kinds.Vars e reported = refused_with bytes outline faults.Vars e reported
+fault_found bytes outline kinds.Predicates e reported = refused_with bytes outline faults.Predicates e reported
+fault_found bytes outline kinds.Width e reported = refused_with bytes outline faults.Width e reported
+fault_found bytes outline (kinds.Predicate number error) e reported = cc
+fault_found bytes outline kinds.Memory e reported = tt
 
 pub outline_fault_reported : (bytes : List ℕ) (value : Data) (outline : Outline) (fault : SpecFault)
     → length bytes ≤ document_byte_limit → json_value bytes ≡ Some value → outline_of value ≡ Some outline
-    → Tells fault (outline_fault outline) → IsFaultOf bytes fault
+    → IsFaultFound fault (outline_fault outline) → IsFaultOf bytes fault
 outline_fault_reported bytes value outline fault short is shape reported =
-    tells_fault bytes outline fault (with_shape bytes value outline short is shape) reported
+    fault_found bytes outline fault (with_shape bytes value outline short is shape) reported
 
 pub predicate_fault : (bytes : List ℕ) (outline : Outline) (fault : SpecFault) → outline_of_bytes bytes ≡ Ok outline
     → IsFaultAmong (names_of_outline outline) outline.predicates fault → IsFaultOf bytes fault

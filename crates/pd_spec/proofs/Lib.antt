@@ -1,12 +1,11 @@
+-- The modules of lemmas of this crate.
 pub mod Mapped
 pub mod MemberViews
 pub mod Distinct
 pub mod DocumentFacts
 pub mod Each
 pub mod Faultless
-pub mod JsonValues
 pub mod OutlineViews
 pub mod PredicateFaults
 pub mod Rows
 pub mod TwiceLemmas
-pub mod Words

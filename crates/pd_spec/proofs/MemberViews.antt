@@ -1,24 +1,15 @@
 -- The members of a JSON object beside the entries of the map that holds them.
 use Rattle.std.proofs.Common.{◌≡◌, ℕ, List, [], ◌∷◌, Bool, Bor, length, map, String, Global, string_bytes, refl, ap}
-use Rattle.std.specs.Map.{keys_of}
+use Rattle.std.specs.Map.{keys_of, values_of}
 use Rattle.std.specs.Str.{bytes_eq}
-use Rattle.std.specs.Prelude.{◌||◌, ◌&&◌, nat_le, is_some}
+use Rattle.std.specs.Prelude.{◌&&◌}
 use Rattle.std.proofs.lemmas.List.{length-map}
-use Rattle.pd_format.specs.Documents.{vars_fit}
+use Rattle.pd_format.proofs.ListTests.{list_any-map}
 use Rattle.std.specs.List.{list_any, list_all}
+use Rattle.serde_json.specs.Data.{Data}
 use Rattle.serde_json.specs.View.{view, members_view}
 use Rattle.serde_json.specs.declared.value.Value.{Value}
-use Rattle.pd_format.specs.Records.{keys, values, has_only, whole_number}
-
-pub list_any-map : {A B : Type 0} (test : B → Bool) (f : A → B) (xs : List A)
-    → list_any test (map f xs) ≡ list_any (λ x. test (f x)) xs
-list_any-map test f [] = refl
-list_any-map test f (x ∷ xs) = ap (λ b. test (f x) || b) (list_any-map test f xs)
-
-pub list_all-map : {A B : Type 0} (test : B → Bool) (f : A → B) (xs : List A)
-    → list_all test (map f xs) ≡ list_all (λ x. test (f x)) xs
-list_all-map test f [] = refl
-list_all-map test f (x ∷ xs) = ap (λ b. test (f x) && b) (list_all-map test f xs)
+use Rattle.pd_format.specs.Records.{keys, values, has_only}
 
 pub keys-members_view : (entries : List (String Global × Value))
     → keys (members_view entries) ≡ map (λ entry. string_bytes entry.0) entries
@@ -41,15 +32,14 @@ has_only-entries names (entry ∷ entries) =
     (ap (λ b. list_any (λ (other : Bor (List ℕ)). bytes_eq (string_bytes entry.0) other.now) names && b)
     (has_only-entries names entries))
 
-pub vars_fit-entries : (name : List ℕ) (entries : List (String Global × Value))
-    → vars_fit (name, members_view entries)
-    ≡ (nat_le (length entries) 16 && list_all (λ value. is_some (whole_number (view value)))
-    (map (λ (entry : String Global × Value). entry.1) entries))
-vars_fit-entries name entries =
-    rw (
-      keys-members_view entries,
-      values-members_view entries,
-      length-map entries (λ (entry : String Global × Value). string_bytes entry.0),
-      list_all-map (λ value. is_some (whole_number value)) (λ (entry : String Global × Value). view entry.1) entries,
-      list_all-map (λ value. is_some (whole_number (view value))) (λ (entry : String Global × Value). entry.1) entries,
-    ) refl
+-- there are as many fields as entries
+pub keys-length : (entries : List (String Global × Value)) → length (keys (members_view entries)) ≡ length entries
+keys-length entries =
+    rw (keys-members_view entries) (length-map entries (λ (entry : String Global × Value). string_bytes entry.0))
+
+-- a test of each value
+pub all_values-entries : (test : Data → Bool) (entries : List (String Global × Value))
+    → list_all (λ (value : Value). test (view value)) (values_of entries)
+    ≡ list_all test (values (members_view entries))
+all_values-entries test [] = refl
+all_values-entries test (entry ∷ entries) = ap (λ b. test (view entry.1) && b) (all_values-entries test entries)

@@ -13,7 +13,7 @@ use Rattle.pd_spec.specs.Outlines.{process_view, predicate_outline_view, outline
 use Rattle.pd_spec.specs.declared.outline.ProcessOutline.{ProcessOutline}
 use Rattle.pd_spec.specs.declared.outline.PredicateOutline.{PredicateOutline}
 use Rattle.pd_spec.specs.declared.outline.Outline.{Outline as Parts}
-use Rattle.pd_spec.proofs.MemberViews.{list_all-map}
+use Rattle.std.proofs.lemmas.List.Folds.{list_all-map}
 use Rattle.pd_spec.proofs.TwiceLemmas.{texts_of}
 
 pub texts_of-processes : (processes : List ProcessOutline)

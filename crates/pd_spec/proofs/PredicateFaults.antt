@@ -7,7 +7,7 @@ use Rattle.pd_format.specs.Documents.{IsNamedPredicate, NamedPredicate}
 use Rattle.pd_format.specs.Names.{ProcessNames}
 use Rattle.pd_format.specs.PredicateTexts.{PredicateFault, IsRefusedPredicate}
 use Rattle.pd_pred.specs.Views.{predicate_fault_view}
-use Rattle.pd_spec.specs.Named.{named_of}
+use Rattle.pd_spec.specs.Named.{named_view}
 use Rattle.pd_spec.specs.Outlines.{predicate_outline_view}
 use Rattle.pd_spec.specs.Predicates.{IsFaultIn, IsFaultAmong, IsRefusedAmong, IsSomePredicate}
 use Rattle.pd_spec.specs.declared.fault.SpecFault.{SpecFault}
@@ -54,7 +54,7 @@ split_here xs i x within at = ap (λ first. take i xs ++ first ∷ drop (suc i) 
 -- a text of the list is refused, and those before it are predicates
 pub fault_at : (names : List ProcessNames) (predicates : List PredicateOutline) (i : ℕ) (one : PredicateOutline)
     (parsed : List NamedPred) (fault : SpecFault) → i < length predicates → one ≡ get_or predicates i one
-    → AllZip (IsNamedPredicate names) (map predicate_outline_view (take i predicates)) (map named_of parsed)
+    → AllZip (IsNamedPredicate names) (map predicate_outline_view (take i predicates)) (map named_view parsed)
     → IsFaultIn names (predicate_outline_view one) (i + 1) fault
     → IsFaultAmong names (map predicate_outline_view predicates) fault
 fault_at names predicates i one parsed fault within at all reported =
@@ -66,7 +66,7 @@ fault_at names predicates i one parsed fault within at all reported =
     rw (length-map (take i predicates) predicate_outline_view, length-take-le i predicates (omega arith)) refl in
     fault_among names (map predicate_outline_view predicates) (map predicate_outline_view (take i predicates))
     (predicate_outline_view one) (map predicate_outline_view (drop (suc i) predicates)) (i + 1) fault parts place
-    (some_of_each names (map predicate_outline_view (take i predicates)) (map named_of parsed) all) reported
+    (some_of_each names (map predicate_outline_view (take i predicates)) (map named_view parsed) all) reported
 
 zip_push : {A B : Type 0} (R : A → B → Type 0) (xs : List A) (ys : List B) (x : A) (y : B) → AllZip R xs ys → R x y
     → AllZip R (xs ++ x ∷ []) (ys ++ y ∷ [])
@@ -78,16 +78,16 @@ zip_push R (first ∷ xs) (other ∷ ys) x y all one = (all.0, zip_push R xs ys 
 -- one predicate more
 pub all_more : (names : List ProcessNames) (predicates : List PredicateOutline) (i : ℕ) (one : PredicateOutline)
     (done new : List NamedPred) (made : NamedPred) → i < length predicates → one ≡ get_or predicates i one
-    → AllZip (IsNamedPredicate names) (map predicate_outline_view (take i predicates)) (map named_of done)
-    → new ≡ done ++ made ∷ [] → IsNamedPredicate names (predicate_outline_view one) (named_of made)
-    → AllZip (IsNamedPredicate names) (map predicate_outline_view (take (i + 1) predicates)) (map named_of new)
+    → AllZip (IsNamedPredicate names) (map predicate_outline_view (take i predicates)) (map named_view done)
+    → new ≡ done ++ made ∷ [] → IsNamedPredicate names (predicate_outline_view one) (named_view made)
+    → AllZip (IsNamedPredicate names) (map predicate_outline_view (take (i + 1) predicates)) (map named_view new)
 all_more names predicates i one done new made within at all pushed is =
     rw (
       pushed,
-      map-append named_of done (made ∷ []),
+      map-append named_view done (made ∷ []),
       take_more predicates i one within,
       ← at,
       map-append predicate_outline_view (take i predicates) (one ∷ []),
     )
-    (zip_push (IsNamedPredicate names) (map predicate_outline_view (take i predicates)) (map named_of done)
-    (predicate_outline_view one) (named_of made) all is)
+    (zip_push (IsNamedPredicate names) (map predicate_outline_view (take i predicates)) (map named_view done)
+    (predicate_outline_view one) (named_view made) all is)

@@ -1,29 +1,25 @@
--- The faults that a step of the reader tells.
-use Rattle.std.specs.Prelude.{◌≡◌, ◌⊎◌, Option, Some, None, MatchOption}
+-- The faults that a step of the reader finds.
+use Rattle.std.specs.Prelude.{◌≡◌, Option, Some, None, MatchOption}
 use Rattle.pd_format.specs.Documents.{DocumentFault}
 use Rattle.pd_format.specs.Documents as faults
 use Rattle.pd_spec.specs.declared.fault.SpecFault.TheVariants as kinds
 use Rattle.pd_spec.specs.declared.fault.SpecFault.{SpecFault}
 use Rattle.pd_spec.specs.declared.fault.SpecFault.TheVariants.{Memory}
 
--- the fault is out of memory, or it is this one and the fact holds
-abbrev pub IsMemoryOr : SpecFault → SpecFault → Type 0 → Type 0
-IsMemoryOr fault other P = (fault ≡ Memory) ⊎ ((fault ≡ other) × P)
+-- the document's fault that a fault of the program is, but for those in predicates
+abbrev pub document_fault_view : SpecFault → Option DocumentFault
+document_fault_view kinds.Long = Some faults.Long
+document_fault_view kinds.Json = Some faults.Json
+document_fault_view kinds.Shape = Some faults.Shape
+document_fault_view kinds.Processes = Some faults.Processes
+document_fault_view kinds.Name = Some faults.Name
+document_fault_view kinds.NameTwice = Some faults.NameTwice
+document_fault_view kinds.Vars = Some faults.Vars
+document_fault_view kinds.Predicates = Some faults.Predicates
+document_fault_view kinds.Width = Some faults.Width
+document_fault_view (kinds.Predicate number error) = None
+document_fault_view kinds.Memory = None
 
--- the fault that a fault of the program tells, but for those in predicates
-abbrev pub reported_by : SpecFault → Option DocumentFault
-reported_by kinds.Long = Some faults.Long
-reported_by kinds.Json = Some faults.Json
-reported_by kinds.Shape = Some faults.Shape
-reported_by kinds.Processes = Some faults.Processes
-reported_by kinds.Name = Some faults.Name
-reported_by kinds.NameTwice = Some faults.NameTwice
-reported_by kinds.Vars = Some faults.Vars
-reported_by kinds.Predicates = Some faults.Predicates
-reported_by kinds.Width = Some faults.Width
-reported_by (kinds.Predicate number error) = None
-reported_by kinds.Memory = None
-
--- the fault tells what the answer is, or that memory ran out
-abbrev pub Tells : SpecFault → Option DocumentFault → Type 0
-Tells fault answer = MatchOption (reported_by fault) (fault ≡ Memory) (λ reported. answer ≡ Some reported)
+-- the fault is the one that is found, or out of memory
+abbrev pub IsFaultFound : SpecFault → Option DocumentFault → Type 0
+IsFaultFound fault found = MatchOption (document_fault_view fault) (fault ≡ Memory) (λ reported. found ≡ Some reported)

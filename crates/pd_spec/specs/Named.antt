@@ -4,5 +4,5 @@ use Rattle.pd_format.specs.Documents.{NamedPredicate}
 use Rattle.pd_pred.specs.Views.{predicate_view}
 use Rattle.pd_spec.specs.declared.named.NamedPred.{NamedPred}
 
-abbrev pub named_of : NamedPred → NamedPredicate
-named_of predicate = record { name = string_bytes predicate.name; predicate = predicate_view predicate.pred }
+abbrev pub named_view : NamedPred → NamedPredicate
+named_view predicate = record { name = string_bytes predicate.name; predicate = predicate_view predicate.pred }

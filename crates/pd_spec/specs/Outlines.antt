@@ -11,11 +11,11 @@ use Rattle.pd_spec.specs.declared.outline.ProcessOutline.{ProcessOutline}
 use Rattle.pd_spec.specs.declared.outline.PredicateOutline.{PredicateOutline}
 use Rattle.pd_spec.specs.declared.outline.Outline.{Outline as Parts}
 
--- a process with its variables, as a value tells it
+-- a process with its variables, as a value has it
 abbrev pub process_in : Data → Option (List ℕ × Members)
 process_in = named_object (codes "vars") as_object
 
--- a predicate with its text, as a value tells it
+-- a predicate with its text, as a value has it
 abbrev pub predicate_in : Data → Option (List ℕ × List ℕ)
 predicate_in = named_object (codes "text") as_str
 

@@ -8,7 +8,7 @@ use Rattle.pd_pred.specs.Views.{predicate_fault_view}
 use Rattle.pd_spec.specs.declared.fault.SpecFault.{SpecFault}
 use Rattle.pd_spec.specs.declared.fault.SpecFault.TheVariants as kinds
 
--- the fault tells why this predicate's text is refused, or that memory ran out
+-- the fault says why this predicate's text is refused, or that memory ran out
 abbrev pub IsFaultIn : List ProcessNames → List ℕ × List ℕ → ℕ → SpecFault → Type 0
 IsFaultIn names written number kinds.Memory = Unit {0}
 IsFaultIn names written number (kinds.Predicate k error) =
@@ -31,7 +31,7 @@ pub record IsRefusedAmong (names : List ProcessNames) (written : List (List ℕ 
   pub stands : IsRefusedPredicate names refused.1 fault at
   pub none_before : AllByRecursion (IsSomePredicate names) before
 
--- the fault tells the first predicate that is refused, or that memory ran out
+-- the fault is that of the first predicate that is refused, or that memory ran out
 abbrev pub IsFaultAmong : List ProcessNames → List (List ℕ × List ℕ) → SpecFault → Type 0
 IsFaultAmong names written kinds.Memory = Unit {0}
 IsFaultAmong names written (kinds.Predicate number error) =

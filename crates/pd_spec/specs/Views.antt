@@ -6,18 +6,18 @@ use Rattle.pd_pred.specs.Views.{predicate_fault_view}
 use Rattle.pd_spec.specs.declared.fault.SpecFault.{SpecFault}
 use Rattle.pd_spec.specs.declared.fault.SpecFault.TheVariants as kinds
 use Rattle.pd_spec.specs.declared.spec.Spec.{Spec}
-use Rattle.pd_spec.specs.Named.{named_of}
+use Rattle.pd_spec.specs.Named.{named_view}
 
 abbrev pub document_view : Spec → Document
 document_view spec = record {
   names = spec.names;
   initial = map (λ row. row.items) spec.initial.items;
   predicates =
-      map named_of spec.predicates.items;
+      map named_view spec.predicates.items;
   width = spec.width;
 }
 
--- the fault tells why the bytes are refused, or that memory ran out
+-- the fault says why the bytes are refused, or that memory ran out
 abbrev pub IsFaultOf : List ℕ → SpecFault → Type 0
 IsFaultOf bytes kinds.Long = IsRefusedDocument bytes faults.Long
 IsFaultOf bytes kinds.Json = IsRefusedDocument bytes faults.Json

@@ -1,33 +1,24 @@
 //! The faults of a document of right shape, but for those in the texts of predicates.
 ghost use Rattle.std.specs.Prelude.{◌≡◌, ◌||◌, length, map, string_bytes, is_some, ◌&&◌, IfOk, IfErr, OnOk, None, option_map, option_and_then};
 ghost use Rattle.std.specs.List.{list_all};
-ghost use Rattle.std.specs.BTreeMap.{keys, values};
+ghost use Rattle.std.specs.BTreeMap.{keys};
 ghost use Rattle.serde_json.specs.Find.{as_number, as_i64};
 ghost use Rattle.serde_json.specs.View.{view};
 ghost use Rattle.pd_format.specs.Documents.{has_twice, is_within, outline_fault, predicate_names, process_names, vars_fit, width_fits};
+ghost use Rattle.pd_format.specs.Limits.{predicate_limit, process_limit};
 ghost use Rattle.pd_format.specs.Names.{is_name};
 ghost use Rattle.pd_format.specs.Records.{whole_number};
-ghost use Rattle.pd_spec.specs.Faults.{Tells};
+ghost use Rattle.pd_spec.specs.Faults.{IsFaultFound};
 ghost use Rattle.pd_spec.specs.Outlines.{process_view, predicate_outline_view, outline_view, has_names};
 
 use super::SpecFault;
-use super::name::is_name;
+use super::fields::are_whole;
 use super::outline::{Outline, PredicateOutline, ProcessOutline};
 use super::twice::has_twice;
+use pd_format::{PREDICATE_LIMIT, PROCESS_LIMIT, VAR_LIMIT, WIDTH_LIMIT};
+use pd_pred::is_name;
 use serde_json::{Map, Value};
 use std::alloc::{AllocError, Global};
-
-/// The most processes of a session.
-const PROCESS_LIMIT: usize = 8;
-
-/// The most variables of a process.
-const VAR_LIMIT: usize = 16;
-
-/// The most predicates of a session.
-const PREDICATE_LIMIT: usize = 16;
-
-/// The greatest width.
-const WIDTH_LIMIT: i64 = 65_536;
 
 fn process_names<'a>(
     alloc: Global,
@@ -68,13 +59,15 @@ fn predicates_have_twice(alloc: Global, predicates: &[PredicateOutline]) -> Resu
 fn are_var_names(vars: &Map<String, Value>) -> bool
     ensures { result ≡ list_all (λ key. is_name (string_bytes key)) (keys vars.now) }
 {
-    vars.keys().all(|key| is_name(key.as_str()))
+    vars.keys().all(|key| is_name(key.as_bytes()))
 }
 
 fn processes_are_named(processes: &[ProcessOutline]) -> bool
     ensures { result ≡ list_all (λ process. is_name process.name.now) processes.now }
 {
-    processes.iter().all(|process| is_name(process.name))
+    processes
+        .iter()
+        .all(|process| is_name(process.name.as_bytes()))
 }
 
 fn vars_are_named(processes: &[ProcessOutline]) -> bool
@@ -87,19 +80,15 @@ fn vars_are_named(processes: &[ProcessOutline]) -> bool
 fn predicates_are_named(predicates: &[PredicateOutline]) -> bool
     ensures { result ≡ list_all (λ predicate. is_name predicate.name.now) predicates.now }
 {
-    predicates.iter().all(|predicate| is_name(predicate.name))
-}
-
-fn are_whole_numbers(vars: &Map<String, Value>) -> bool
-    ensures { result ≡ list_all (λ value. is_some (whole_number (view value))) (values vars.now) }
-{
-    vars.values().all(|value| value.as_i64().is_some())
+    predicates
+        .iter()
+        .all(|predicate| is_name(predicate.name.as_bytes()))
 }
 
 fn vars_fit(process: &ProcessOutline) -> bool
     ensures { result ≡ vars_fit (process_view process.now) }
 {
-    process.vars.len() <= VAR_LIMIT && are_whole_numbers(process.vars)
+    process.vars.len() <= VAR_LIMIT && are_whole(process.vars)
 }
 
 fn all_vars_fit(processes: &[ProcessOutline]) -> bool
@@ -114,7 +103,7 @@ fn width_fits(width: Option<&Value>) -> bool
     match width {
         None => true,
         Some(value) => match value.as_i64() {
-            Some(width) => 1 <= width && width <= WIDTH_LIMIT,
+            Some(width) => 1 <= width && width <= WIDTH_LIMIT as i64,
             None => false,
         },
     }
@@ -122,7 +111,7 @@ fn width_fits(width: Option<&Value>) -> bool
 
 impl Outline<'_> {
     fn processes_fit(&self) -> bool
-        ensures { result ≡ is_within 1 8 (length (outline_view self.now).processes) }
+        ensures { result ≡ is_within 1 process_limit (length (outline_view self.now).processes) }
     {
         1 <= self.processes.len() && self.processes.len() <= PROCESS_LIMIT
     }
@@ -153,7 +142,7 @@ impl Outline<'_> {
     }
 
     fn predicates_fit(&self) -> bool
-        ensures { result ≡ is_within 1 16 (length (outline_view self.now).predicates) }
+        ensures { result ≡ is_within 1 predicate_limit (length (outline_view self.now).predicates) }
     {
         1 <= self.predicates.len() && self.predicates.len() <= PREDICATE_LIMIT
     }
@@ -164,7 +153,7 @@ impl Outline<'_> {
     /// The first fault of the outline, or out of memory.
     pub(crate) fn check(&self, alloc: Global) -> Result<(), SpecFault>
         ensures ok { OnOk result (outline_fault (outline_view self.now) ≡ None) }
-        ensures err { IfErr result (λ fault. Tells fault (outline_fault (outline_view self.now))) }
+        ensures err { IfErr result (λ fault. IsFaultFound fault (outline_fault (outline_view self.now))) }
     {
         if !self.processes_fit() {
             return Err(SpecFault::Processes);

@@ -1,11 +1,11 @@
 //! The fields of a JSON object.
-ghost use Rattle.std.specs.Prelude.{◌≡◌, map, string_bytes, option_map, option_and_then};
+ghost use Rattle.std.specs.Prelude.{◌≡◌, map, string_bytes, option_map, option_and_then, is_some};
 ghost use Rattle.serde_json.specs.Find.{as_str, as_object, as_array, get_member};
 ghost use Rattle.serde_json.specs.View.{view, members_view, items_view};
 ghost use Rattle.std.specs.List.{list_any, list_all};
-ghost use Rattle.std.specs.BTreeMap.{keys};
+ghost use Rattle.std.specs.BTreeMap.{keys, values};
 ghost use Rattle.std.specs.Str.{bytes_eq};
-ghost use Rattle.pd_format.specs.Records.{has_only};
+ghost use Rattle.pd_format.specs.Records.{has_only, whole_number, values as values_of};
 ghost use Rattle.pd_format.specs.Documents.{field};
 
 use serde_json::{Map, Value};
@@ -24,14 +24,27 @@ fn keys_are_among(names: &[&str], fields: &Map<String, Value>) -> bool
 }
 
 /// Whether each field of the object is one of these.
-pub(crate) fn has_only(names: &[&str], fields: &Map<String, Value>) -> bool
+pub fn has_only(names: &[&str], fields: &Map<String, Value>) -> bool
     ensures { result ≡ has_only (map (λ name. name.now) names.now) (members_view fields.now.entries) }
 {
     keys_are_among(names, fields)
 }
 
+fn values_are_whole(fields: &Map<String, Value>) -> bool
+    ensures { result ≡ list_all (λ value. is_some (whole_number (view value))) (values fields.now) }
+{
+    fields.values().all(|value| value.as_i64().is_some())
+}
+
+/// Whether each field's value is a whole number of 64 bits.
+pub fn are_whole(fields: &Map<String, Value>) -> bool
+    ensures { result ≡ list_all (λ value. is_some (whole_number value)) (values_of (members_view fields.now.entries)) }
+{
+    values_are_whole(fields)
+}
+
 /// The value of this field, if it is there.
-pub(crate) fn value_at<'a>(fields: &'a Map<String, Value>, name: &str) -> Option<&'a Value>
+pub fn value_at<'a>(fields: &'a Map<String, Value>, name: &str) -> Option<&'a Value>
     ensures { option_map (λ value. view value.now) result ≡ get_member name.now (members_view fields.now.entries) }
 {
     fields.get(name)

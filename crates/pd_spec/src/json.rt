@@ -1,30 +1,34 @@
 //! The JSON value of bytes.
-ghost use Rattle.std.specs.Prelude.{◌≡◌, ◌⊎◌, IfOk, IfErr, Some, None};
+ghost use Rattle.std.specs.Prelude.{◌≡◌, true, false, option_map, IfOk};
 ghost use Rattle.serde_json.specs.View.{view};
 ghost use Rattle.pd_format.specs.Records.{json_value};
 
-use super::SpecFault;
 use serde_json::{Category, Value};
-use std::alloc::Global;
+use std::alloc::{AllocError, Global};
 
-/// The value that the bytes are in JSON. Bytes that are none are reported as `Json`.
-pub(crate) fn value_of(alloc: Global, bytes: &[u8]) -> Result<Value, SpecFault>
-    ensures ok { IfOk result (λ value. json_value bytes.now ≡ Some (view value)) }
-    ensures err { IfErr result (λ fault. (fault ≡ SpecFault.Memory)
-        ⊎ ((fault ≡ SpecFault.Json) × (json_value bytes.now ≡ None))) }
+/// Whether errors of this category come of memory that ran out.
+fn is_memory(category: Category) -> bool
+    ensures yes { result ≡ true → category ≡ Category.Memory }
+    ensures no { result ≡ false → ¬ (category ≡ Category.Memory) }
 {
-    match Value::from_slice(alloc, bytes) {
-        Ok(value) => Ok(value),
-        Err(error) => Err(fault_of(error.classify())),
-    }
+    matches!(category, Category::Memory)
 }
 
-fn fault_of(category: Category) -> SpecFault
-    ensures memory { category ≡ Category.Memory → result ≡ SpecFault.Memory }
-    ensures json { (result ≡ SpecFault.Memory) ⊎ ((result ≡ SpecFault.Json) × ¬ (category ≡ Category.Memory)) }
+/// The value that the bytes are in JSON, if they are one.
+///
+/// # Errors
+/// Out of memory.
+pub fn json_value(alloc: Global, bytes: &[u8]) -> Result<Option<Value>, AllocError>
+    ensures { IfOk result (λ found. option_map view found ≡ json_value bytes.now) }
 {
-    match category {
-        Category::Memory => SpecFault::Memory,
-        Category::Io | Category::Syntax | Category::Data | Category::Eof => SpecFault::Json,
+    match Value::from_slice(alloc, bytes) {
+        Ok(value) => Ok(Some(value)),
+        Err(error) => {
+            if is_memory(error.classify()) {
+                Err(AllocError)
+            } else {
+                Ok(None)
+            }
+        }
     }
 }

@@ -8,11 +8,10 @@
 //! - `spec`: the document, and its reader
 //! - `named`: a predicate with its name
 //! - `fault`: why bytes are no document
-//! - `json`: the JSON value of bytes
-//! - `fields`: the fields of a JSON object
+//! - `json`: the JSON value of bytes, for readers of other formats too
+//! - `fields`: the fields of a JSON object, for readers of other formats too
 //! - `outline`: the parts of a document, borrowed from the JSON value
 //! - `checks`: the faults of an outline, in their order
-//! - `name`: what is a name
 //! - `twice`: whether a text stands twice in a list
 //! - `parts`: the names and the initial values, made from an outline
 //! - `predicates`: the predicates, parsed one after another
@@ -22,7 +21,6 @@ mod checks;
 mod fault;
 mod fields;
 mod json;
-mod name;
 mod named;
 mod outline;
 mod parts;
@@ -33,5 +31,7 @@ mod tests;
 mod twice;
 
 pub use fault::SpecFault;
+pub use fields::{are_whole, has_only, value_at};
+pub use json::json_value;
 pub use named::NamedPred;
 pub use spec::Spec;

@@ -1,14 +1,12 @@
 //! The outline of a document: its parts, borrowed from the JSON value.
-ghost use Rattle.std.specs.Prelude.{◌≡◌, IfOk, IfErr, Some, None, map, option_map};
+ghost use Rattle.std.specs.Prelude.{◌≡◌, IfOk, map, option_map};
 ghost use Rattle.serde_json.specs.View.{view, items_view};
 ghost use Rattle.pd_format.specs.Documents.{each, outline_of};
-ghost use Rattle.pd_spec.specs.Faults.{IsMemoryOr};
 ghost use Rattle.pd_spec.specs.Outlines.{process_in, predicate_in, process_view, predicate_outline_view, outline_view};
 
-use super::SpecFault;
 use super::fields::{array_at, has_only, object_at, text_at, value_at};
 use serde_json::{Map, Value};
-use std::alloc::Global;
+use std::alloc::{AllocError, Global};
 
 /// A process with its variables and their initial values.
 #[derive(Clone, Copy)]
@@ -56,57 +54,70 @@ fn predicate_outline(value: &Value) -> Option<PredicateOutline<'_>>
     Some(PredicateOutline { name, text })
 }
 
-fn process_outlines(alloc: Global, items: &[Value]) -> Result<Vec<ProcessOutline<'_>>, SpecFault>
-    ensures ok { IfOk result (λ processes. each process_in (items_view items.now)
-        ≡ Some (map process_view processes.items)) }
-    ensures err { IfErr result (λ fault. IsMemoryOr fault SpecFault.Shape (each process_in (items_view items.now)
-        ≡ None)) }
+fn process_outlines(
+    alloc: Global,
+    items: &[Value],
+) -> Result<Option<Vec<ProcessOutline<'_>>>, AllocError>
+    ensures { IfOk result (λ found. option_map (λ processes. map process_view processes.items) found
+        ≡ each process_in (items_view items.now)) }
 {
     let mut processes = Vec::new(alloc);
     for item in items {
         match process_outline(item) {
             Some(process) => processes.push(process)?,
-            None => return Err(SpecFault::Shape),
+            None => return Ok(None),
         }
     }
-    Ok(processes)
+    Ok(Some(processes))
 }
 
 fn predicate_outlines(
     alloc: Global,
     items: &[Value],
-) -> Result<Vec<PredicateOutline<'_>>, SpecFault>
-    ensures ok { IfOk result (λ predicates. each predicate_in (items_view items.now)
-        ≡ Some (map predicate_outline_view predicates.items)) }
-    ensures err { IfErr result (λ fault. IsMemoryOr fault SpecFault.Shape (each predicate_in (items_view items.now)
-        ≡ None)) }
+) -> Result<Option<Vec<PredicateOutline<'_>>>, AllocError>
+    ensures { IfOk result (λ found. option_map (λ predicates. map predicate_outline_view predicates.items) found
+        ≡ each predicate_in (items_view items.now)) }
 {
     let mut predicates = Vec::new(alloc);
     for item in items {
         match predicate_outline(item) {
             Some(predicate) => predicates.push(predicate)?,
-            None => return Err(SpecFault::Shape),
+            None => return Ok(None),
         }
     }
-    Ok(predicates)
+    Ok(Some(predicates))
 }
 
 impl<'a> Outline<'a> {
-    /// The outline of the document that the value is. A value of another shape is reported as `Shape`.
-    pub(crate) fn read(alloc: Global, value: &'a Value) -> Result<Outline<'a>, SpecFault>
-        ensures ok { IfOk result (λ outline. outline_of (view value.now) ≡ Some (outline_view outline)) }
-        ensures err { IfErr result (λ fault. IsMemoryOr fault SpecFault.Shape (outline_of (view value.now) ≡ None)) }
+    /// The outline of the document that the value is, if it has the shape of one.
+    ///
+    /// # Errors
+    /// Out of memory.
+    pub(crate) fn read(alloc: Global, value: &'a Value) -> Result<Option<Outline<'a>>, AllocError>
+        ensures { IfOk result (λ found. option_map outline_view found ≡ outline_of (view value.now)) }
     {
-        let fields = value.as_object().ok_or(SpecFault::Shape)?;
+        let Some(fields) = value.as_object() else {
+            return Ok(None);
+        };
         if !has_only(&["processes", "predicates", "width"], fields) {
-            return Err(SpecFault::Shape);
+            return Ok(None);
         }
-        let processes = array_at(fields, "processes").ok_or(SpecFault::Shape)?;
-        let predicates = array_at(fields, "predicates").ok_or(SpecFault::Shape)?;
-        Ok(Outline {
-            processes: process_outlines(alloc, processes)?,
-            predicates: predicate_outlines(alloc, predicates)?,
+        let Some(processes) = array_at(fields, "processes") else {
+            return Ok(None);
+        };
+        let Some(predicates) = array_at(fields, "predicates") else {
+            return Ok(None);
+        };
+        let Some(processes) = process_outlines(alloc, processes)? else {
+            return Ok(None);
+        };
+        let Some(predicates) = predicate_outlines(alloc, predicates)? else {
+            return Ok(None);
+        };
+        Ok(Some(Outline {
+            processes,
+            predicates,
             width: value_at(fields, "width"),
-        })
+        }))
     }
 }

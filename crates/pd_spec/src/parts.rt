@@ -3,7 +3,7 @@ ghost use Rattle.std.specs.Prelude.{◌≡◌, ◌++◌, IfOk, false, map, strin
 ghost use Rattle.std.specs.BTreeMap.{keys, values};
 ghost use Rattle.serde_json.specs.View.{view};
 ghost use Rattle.pd_format.specs.Documents.{has_twice, initial_of, names_of_outline, process_names};
-ghost use Rattle.pd_pred.specs.Names.{entry, entries};
+ghost use Rattle.pd_pred.specs.Names.{entry_view, entries_view};
 ghost use Rattle.pd_spec.specs.Outlines.{process_view, outline_view, entry_in, row_in, initial_value, HasDistinctVars, AllHaveDistinctVars, AreDistinctTexts};
 
 use super::outline::{Outline, ProcessOutline};
@@ -23,8 +23,8 @@ fn var_names(alloc: Global, vars: &Map<String, Value>) -> Result<Vec<String>, Al
 }
 
 fn process_entry(alloc: Global, process: &ProcessOutline) -> Result<ProcessNames, AllocError>
-    ensures names { IfOk result (λ names. entry names ≡ entry_in (process_view process.now)) }
-    ensures distinct { IfOk result (λ names. HasDistinctVars (entry names)) }
+    ensures names { IfOk result (λ names. entry_view names ≡ entry_in (process_view process.now)) }
+    ensures distinct { IfOk result (λ names. HasDistinctVars (entry_view names)) }
 {
     let name = String::from_str(alloc, process.name)?;
     let vars = var_names(alloc, process.vars)?;
@@ -35,8 +35,8 @@ fn process_entries(
     alloc: Global,
     processes: &[ProcessOutline],
 ) -> Result<Vec<ProcessNames>, AllocError>
-    ensures names { IfOk result (λ names. entries names.items ≡ map entry_in (map process_view processes.now)) }
-    ensures distinct { IfOk result (λ names. AllHaveDistinctVars (entries names.items)) }
+    ensures names { IfOk result (λ names. entries_view names.items ≡ map entry_in (map process_view processes.now)) }
+    ensures distinct { IfOk result (λ names. AllHaveDistinctVars (entries_view names.items)) }
 {
     let mut names = Vec::new(alloc);
     for process in processes {

@@ -3,7 +3,7 @@ ghost use Rattle.std.specs.Prelude.{◌≡◌, IfOk, IfErr, map};
 ghost use Rattle.std.specs.List.{AllZip};
 ghost use Rattle.pd_format.specs.Documents.{IsNamedPredicate};
 ghost use Rattle.pd_pred.specs.Views.{IsErrorOf};
-ghost use Rattle.pd_spec.specs.Named.{named_of};
+ghost use Rattle.pd_spec.specs.Named.{named_view};
 ghost use Rattle.pd_spec.specs.Outlines.{predicate_outline_view};
 ghost use Rattle.pd_spec.specs.Predicates.{IsFaultIn, IsFaultAmong};
 
@@ -29,7 +29,7 @@ fn parse(
     number: u64,
 ) -> Result<NamedPred, SpecFault>
     ensures ok { IfOk result (λ parsed. IsNamedPredicate names.now (predicate_outline_view predicate.now)
-        (named_of parsed)) }
+        (named_view parsed)) }
     ensures err { IfErr result (λ fault. IsFaultIn names.now (predicate_outline_view predicate.now) number fault) }
 {
     let name = String::from_str(alloc, predicate.name)?;
@@ -49,13 +49,16 @@ pub(crate) fn parse_all(
     predicates: &[PredicateOutline],
 ) -> Result<Vec<NamedPred>, SpecFault>
     ensures ok { IfOk result (λ parsed. AllZip (IsNamedPredicate names.now) (map predicate_outline_view predicates.now)
-        (map named_of parsed.items)) }
+        (map named_view parsed.items)) }
     ensures err { IfErr result (λ fault. IsFaultAmong names.now (map predicate_outline_view predicates.now) fault) }
 {
     let mut parsed = Vec::new(alloc);
     for (index, predicate) in predicates.iter().enumerate() {
         let number = index as u64 + 1;
-        parsed.push(parse(alloc, names, predicate, number)?)?;
+        let named = parse(alloc, names, predicate, number)?;
+        let Ok(()) = parsed.push(named) else {
+            return Err(SpecFault::Memory);
+        };
     }
     Ok(parsed)
 }

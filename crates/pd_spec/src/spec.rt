@@ -4,19 +4,14 @@ ghost use Rattle.serde_json.specs.View.{view};
 ghost use Rattle.pd_format.specs.Documents.{width_of};
 ghost use Rattle.pd_spec.specs.Sound.{IsSound};
 
-use super::json::value_of;
+use super::json::json_value;
 use super::outline::Outline;
 use super::predicates::parse_all;
 use super::{NamedPred, SpecFault};
+use pd_format::{DEFAULT_WIDTH, DOCUMENT_BYTE_LIMIT};
 use pd_pred::Names;
 use serde_json::Value;
 use std::alloc::Global;
-
-/// The most bytes of a document.
-const DOCUMENT_LIMIT: usize = 262_144;
-
-/// The width where the document has none.
-const DEFAULT_WIDTH: u64 = 4_096;
 
 /// What a session document says: the processes with their variables and initial values, the predicates, and the width.
 #[derive(Drop)]
@@ -40,7 +35,7 @@ fn width_of(width: Option<&Value>) -> u64
     }
 }
 
-fn value_at(row: &[i64], v: usize) -> i64
+fn value_in(row: &[i64], v: usize) -> i64
     requires { v < length row.now }
     ensures { slice_get row.now v ≡ Some result }
 {
@@ -48,11 +43,12 @@ fn value_at(row: &[i64], v: usize) -> i64
 }
 
 impl Spec {
-    ghost use Rattle.std.specs.Prelude.{IfOk, IfErr, None, [], slice_index_or};
+    ghost use Rattle.std.specs.Prelude.{Err, IfOk, IfErr, None, [], slice_index_or};
     ghost use Rattle.pd_format.specs.Documents.{IsDocument, names_of_outline, outline_fault};
+    ghost use Rattle.pd_format.specs.Limits.{document_byte_limit};
     ghost use Rattle.pd_format.specs.Names.{vars_of};
     ghost use Rattle.pd_spec.specs.DocumentParts.{IsDocumentOf};
-    ghost use Rattle.pd_spec.specs.Named.{named_of};
+    ghost use Rattle.pd_spec.specs.Named.{named_view};
     ghost use Rattle.pd_spec.specs.Outlines.{outline_view};
     ghost use Rattle.pd_spec.specs.Predicates.{IsFaultAmong};
     ghost use Rattle.pd_spec.specs.Views.{document_view, IsFaultOf};
@@ -64,12 +60,18 @@ impl Spec {
     pub fn read(alloc: Global, bytes: &[u8]) -> Result<Spec, SpecFault>
         ensures ok { IfOk result (λ spec. IsDocument bytes.now (document_view spec)) }
         ensures err { IfErr result (λ fault. IsFaultOf bytes.now fault) }
+        // Bytes that are too many are refused as such, and never as out of memory.
+        ensures long { document_byte_limit < length bytes.now → result ≡ Err SpecFault.Long }
     {
-        if bytes.len() > DOCUMENT_LIMIT {
+        if bytes.len() > DOCUMENT_BYTE_LIMIT {
             return Err(SpecFault::Long);
         }
-        let value = value_of(alloc, bytes)?;
-        let outline = Outline::read(alloc, &value)?;
+        let Some(value) = json_value(alloc, bytes)? else {
+            return Err(SpecFault::Json);
+        };
+        let Some(outline) = Outline::read(alloc, &value)? else {
+            return Err(SpecFault::Shape);
+        };
         outline.check(alloc)?;
         Spec::of_outline(alloc, &outline)
     }
@@ -103,7 +105,7 @@ impl Spec {
         requires { v < length (vars_of (document_view self.now).names p) }
         ensures { slice_get (slice_index_or (document_view self.now).initial p []) v ≡ Some result }
     {
-        value_at(self.initial_row(p), v)
+        value_in(self.initial_row(p), v)
     }
 
     /// The initial values of the variables of process `p`, which is counted from 0, in the variables' order.
@@ -123,12 +125,12 @@ impl Spec {
 
     /// The predicates, in the document's order.
     pub fn predicates(&self) -> &[NamedPred]
-        ensures { map named_of result.now ≡ (document_view self.now).predicates }
+        ensures { map named_view result.now ≡ (document_view self.now).predicates }
     {
         self.predicates.as_slice()
     }
 
-    /// How many cuts a level may have, from 1 to 65,536.
+    /// How many cuts a level may have, from 1 to `WIDTH_LIMIT`.
     pub fn width(&self) -> u64
         ensures { result ≡ (document_view self.now).width }
     {

@@ -1,5 +1,6 @@
 //! Documents that are read, and a document for each fault.
 use super::{Spec, SpecFault};
+use pd_format::{DEFAULT_WIDTH, DOCUMENT_BYTE_LIMIT, PREDICATE_LIMIT, PROCESS_LIMIT, VAR_LIMIT};
 use pd_pred::{PredError, PredErrorKind};
 use std::alloc::{AllocError, Global};
 use std::test::Fail;
@@ -31,7 +32,8 @@ fn fault_of(
 #[test]
 fn reads_a_document(rt: HostRuntime) -> Result<(), Fail> {
     let text =
-        r#"{"width":7,"processes":[{"name":"a","vars":{"y":-2,"x":1}},{"name":"b","vars":{}}],"predicates":[{"name":"p","text":"a.x == 1"},{"name":"q","text":"true"}]}"#;
+        r#"{"width":7,"processes":[{"name":"a","vars":{"y":-2,"x":1}},{"name":"b","vars":{}}],
+            "predicates":[{"name":"p","text":"a.x == 1"},{"name":"q","text":"true"}]}"#;
     let spec = match Spec::read(rt.alloc(), text.as_bytes()) {
         Ok(spec) => spec,
         Err(_) => return Err(Fail::from("refused")),
@@ -57,57 +59,68 @@ fn has_a_width_by_default(rt: HostRuntime) -> Result<(), Fail> {
         Ok(spec) => spec,
         Err(_) => return Err(Fail::from("refused")),
     };
-    assert_eq!(rt; spec.width(), 4096);
+    assert_eq!(rt; spec.width(), DEFAULT_WIDTH);
     Ok(())
 }
 
 #[test]
-fn tells_each_fault(rt: HostRuntime) {
+fn reports_each_fault(rt: HostRuntime) {
     let cases = [
-        ("", SpecFault::Json),
-        (r#"{"processes":1"#, SpecFault::Json),
-        ("[]", SpecFault::Shape),
+        ("no byte", "", SpecFault::Json),
+        ("a cut object", r#"{"processes":1"#, SpecFault::Json),
+        ("an array", "[]", SpecFault::Shape),
         (
+            "a field too many",
             r#"{"processes":[],"predicates":[],"more":1}"#,
             SpecFault::Shape,
         ),
         (
+            "a process without variables",
             r#"{"processes":[{"name":"a"}],"predicates":[]}"#,
             SpecFault::Shape,
         ),
-        (r#"{"processes":[],"predicates":[]}"#, SpecFault::Processes),
         (
+            "no process",
+            r#"{"processes":[],"predicates":[]}"#,
+            SpecFault::Processes,
+        ),
+        (
+            "a process whose name is a number",
             r#"{"processes":[{"name":"1","vars":{"x":""}}],"predicates":[]}"#,
             SpecFault::Name,
         ),
         (
+            "a variable whose name is and",
             r#"{"processes":[{"name":"a","vars":{"and":0}}],"predicates":[]}"#,
             SpecFault::Name,
         ),
         (
+            "two processes of one name",
             r#"{"processes":[{"name":"a","vars":{}},{"name":"a","vars":{"x":1.5}}],"predicates":[]}"#,
             SpecFault::NameTwice,
         ),
         (
+            "an initial value that is not whole",
             r#"{"processes":[{"name":"a","vars":{"x":1.5}}],"predicates":[]}"#,
             SpecFault::Vars,
         ),
         (
+            "no predicate",
             r#"{"processes":[{"name":"a","vars":{}}],"predicates":[]}"#,
             SpecFault::Predicates,
         ),
     ];
-    for (text, want) in cases {
+    for (row, text, want) in cases {
         assert_eq!(rt;
             Spec::read(rt.alloc(), text.as_bytes()).err(),
             Some(want),
-            "at {text}"
+            "{row}"
         );
     }
 }
 
 #[test]
-fn tells_the_first_refused_predicate(rt: HostRuntime) -> Result<(), Fail> {
+fn reports_the_first_refused_predicate(rt: HostRuntime) -> Result<(), Fail> {
     let unknown = PredError {
         kind: PredErrorKind::UnknownName,
         at: 1,
@@ -138,17 +151,17 @@ fn tells_the_first_refused_predicate(rt: HostRuntime) -> Result<(), Fail> {
 #[test]
 fn keeps_to_the_width(rt: HostRuntime) -> Result<(), Fail> {
     let cases = [
-        (r#","width":0"#, Some(SpecFault::Width)),
-        (r#","width":1"#, None),
-        (r#","width":65536"#, None),
-        (r#","width":65537"#, Some(SpecFault::Width)),
-        (r#","width":"7""#, Some(SpecFault::Width)),
+        ("none", r#","width":0"#, Some(SpecFault::Width)),
+        ("the least", r#","width":1"#, None),
+        ("the greatest", r#","width":65536"#, None),
+        ("one more", r#","width":65537"#, Some(SpecFault::Width)),
+        ("a text", r#","width":"7""#, Some(SpecFault::Width)),
     ];
-    for (rest, want) in cases {
+    for (row, rest, want) in cases {
         assert_eq!(rt;
             fault_of(rt.alloc(), PROCESS, PREDICATE, rest)?,
             want,
-            "at {rest}"
+            "{row}"
         );
     }
     Ok(())
@@ -165,14 +178,14 @@ fn keeps_to_the_lengths(rt: HostRuntime) -> Result<(), Fail> {
         fault_of(rt.alloc(), &too_long, always, "")?,
         Some(SpecFault::Name)
     );
-    let most = vec![in rt.alloc(); b' '; 262_144]?;
+    let most = vec![in rt.alloc(); b' '; DOCUMENT_BYTE_LIMIT]?;
     assert_eq!(rt; Spec::read(rt.alloc(), &most).err(), Some(SpecFault::Json));
-    let more = vec![in rt.alloc(); b' '; 262_145]?;
+    let more = vec![in rt.alloc(); b' '; DOCUMENT_BYTE_LIMIT + 1]?;
     assert_eq!(rt; Spec::read(rt.alloc(), &more).err(), Some(SpecFault::Long));
     Ok(())
 }
 
-/// So many pieces of text, numbered, with a comma between them.
+/// This many pieces of text, numbered, with a comma between them.
 fn numbered(alloc: Global, count: u8, before: &str, after: &str) -> Result<String, AllocError> {
     let mut text = String::new(alloc);
     for number in 0..count {
@@ -187,18 +200,33 @@ fn numbered(alloc: Global, count: u8, before: &str, after: &str) -> Result<Strin
 #[test]
 fn keeps_to_the_counts(rt: HostRuntime) -> Result<(), Fail> {
     let always = r#"{"name":"p","text":"true"}"#;
-    for (count, want) in [(8, None), (9, Some(SpecFault::Processes))] {
+    let most = PROCESS_LIMIT as u8;
+    for (count, want) in [(most, None), (most + 1, Some(SpecFault::Processes))] {
         let processes = numbered(rt.alloc(), count, r#"{"name":"a"#, r#"","vars":{}}"#)?;
-        assert_eq!(rt; fault_of(rt.alloc(), &processes, always, "")?, want);
+        assert_eq!(rt;
+            fault_of(rt.alloc(), &processes, always, "")?,
+            want,
+            "{count} processes"
+        );
     }
-    for (count, want) in [(16, None), (17, Some(SpecFault::Predicates))] {
+    let most = PREDICATE_LIMIT as u8;
+    for (count, want) in [(most, None), (most + 1, Some(SpecFault::Predicates))] {
         let predicates = numbered(rt.alloc(), count, r#"{"name":"p"#, r#"","text":"true"}"#)?;
-        assert_eq!(rt; fault_of(rt.alloc(), PROCESS, &predicates, "")?, want);
+        assert_eq!(rt;
+            fault_of(rt.alloc(), PROCESS, &predicates, "")?,
+            want,
+            "{count} predicates"
+        );
     }
-    for (count, want) in [(16, None), (17, Some(SpecFault::Vars))] {
+    let most = VAR_LIMIT as u8;
+    for (count, want) in [(most, None), (most + 1, Some(SpecFault::Vars))] {
         let vars = numbered(rt.alloc(), count, "\"x", "\":1")?;
         let process = format!(in rt.alloc(); "{{\"name\":\"a\",\"vars\":{{{vars}}}}}")?;
-        assert_eq!(rt; fault_of(rt.alloc(), &process, always, "")?, want);
+        assert_eq!(rt;
+            fault_of(rt.alloc(), &process, always, "")?,
+            want,
+            "{count} variables"
+        );
     }
     Ok(())
 }

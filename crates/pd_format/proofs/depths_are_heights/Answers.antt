@@ -1,3 +1,4 @@
+-- The depth after tokens is the height of a stack, which goes on from what it was.
 use Rattle.pd_format.proofs.Depths.{depth_is_height, all_opened-append}
 use Rattle.pd_format.proofs.depths_are_heights.Goals as goal
 

@@ -1,3 +1,4 @@
+-- What bytes without an LF, and an LF, add to sound bytes.
 use Rattle.pd_format.proofs.PartFacts.{part_goes_on, feed_ends_line, part_is_faulty, feed_is_faulty}
 use Rattle.pd_format.proofs.lines_grow.Goals as goal
 

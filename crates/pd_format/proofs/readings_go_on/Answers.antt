@@ -1,3 +1,4 @@
+-- An open reading has no fault, and goes on line by line.
 use Rattle.pd_format.proofs.ReadingSteps.{open_is_sound, reading_goes_on, reading_ends, reading_fails}
 use Rattle.pd_format.proofs.readings_go_on.Goals as goal
 

@@ -1,4 +1,4 @@
--- The report of traces tells the truth.
+-- The report of traces says the truth.
 use Rattle.pd_judgement.proofs.HeadlineFacts.{headline_lem}
 use Rattle.pd_judgement.proofs.headline.Goals as goal
 

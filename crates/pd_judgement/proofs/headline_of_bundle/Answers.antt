@@ -1,4 +1,4 @@
--- The report of a bundle's bytes tells the truth.
+-- The report of a bundle's bytes says the truth.
 use Rattle.pd_judgement.proofs.HeadlineOfBundles.{headline_of_bundle_lem}
 use Rattle.pd_judgement.proofs.headline_of_bundle.Goals as goal
 

@@ -1,3 +1,4 @@
+-- A check finds one thing.
 use Rattle.pd_judgement.proofs.FindingsAreSingle.{one_finding_lem}
 use Rattle.pd_judgement.proofs.one_finding.Goals as goal
 

@@ -1,3 +1,4 @@
+-- A bundle has one report, so none is both judged and refused.
 use Rattle.pd_judgement.proofs.ReportsAreSingle.{one_report_of_bundle_lem, not_judged_and_refused}
 use Rattle.pd_judgement.proofs.one_report_of_bundle.Goals as goal
 

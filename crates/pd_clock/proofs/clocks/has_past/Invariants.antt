@@ -1,3 +1,4 @@
+-- What the loops of `has_past` keep.
 use Rattle.std.proofs.Common.{◌≢◌, ℕ, ◌+◌, ◌<◌, ◌≤◌, get_or}
 use Rattle.pd_clock.proofs.clocks.has_past.Given as goal
 

@@ -1,3 +1,4 @@
+-- What the loops of `has_pasts` keep.
 use Rattle.std.proofs.Common.{ℕ, ◌<◌, get_or}
 use Rattle.pd_clock.specs.Orders.{clocks_of}
 use Rattle.pd_clock.specs.Pasts.{HasPast}

@@ -1,3 +1,4 @@
+-- What the loops of `histories` keep.
 use Rattle.std.proofs.Common.{◌≡◌, ℕ, ◌<◌, ◌++◌, length}
 use Rattle.pd_model.specs.Events.{events_of}
 use Rattle.pd_events.specs.Views.{computation_view}

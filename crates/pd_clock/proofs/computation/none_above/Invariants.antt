@@ -1,3 +1,4 @@
+-- What the loops of `none_above` keep.
 use Rattle.std.proofs.Common.{ℕ, ◌<◌, ◌≤◌, get_or}
 use Rattle.pd_model.specs.Events.{event_count}
 use Rattle.pd_events.specs.Views.{computation_view}

@@ -2,6 +2,7 @@
 use Rattle.std.proofs.Common.{◌≡◌, ℕ, ◌+◌, ◌<◌, ◌≤◌, ◌++◌, List, [], ◌∷◌, length, take, sum, sym, ap, ◌∙◌, arith}
 use Rattle.std.proofs.lemmas.List.{length-map, map-append, take_more}
 use Rattle.std.proofs.lemmas.List.Sums.{sum_by-append}
+use Rattle.pd_format.specs.Limits.{event_limit}
 use Rattle.pd_model.specs.Cuts.{total, full_cut}
 use Rattle.pd_model.specs.Events.{Computation, Event, events_of, event_count}
 use Rattle.pd_events.specs.Views.{event_view}
@@ -28,7 +29,7 @@ loop-process-preserved c =
     let count : event_count (computation_view c.args.traces.now) c.loop-process.process-index
     ≡ length c.process-item.result.events.items =
     ap length events ∙ length-map c.process-item.result.events.items (λ (event : Happened). event_view event) in
-    let short : event_count (computation_view c.args.traces.now) c.loop-process.process-index ≤ 10000 =
+    let short : event_count (computation_view c.args.traces.now) c.loop-process.process-index ≤ event_limit =
     c.requires.short c.loop-process.process-index in
     let len : c.len.result ≡ length c.process-item.result.events.items =
     c.len.ensures ∙ c.process-item.result.events.ok.0 in

@@ -1,4 +1,6 @@
+-- What the loops of `total_of` keep.
 use Rattle.std.proofs.Common.{◌≡◌, ◌≤◌, ◌*◌, take}
+use Rattle.pd_format.specs.Limits.{event_limit}
 use Rattle.pd_model.specs.Cuts.{total}
 use Rattle.pd_events.specs.Views.{computation_view}
 use Rattle.pd_clock.proofs.computation.total_of.Given as goal
@@ -6,5 +8,5 @@ use Rattle.pd_clock.proofs.computation.total_of.Given as goal
 abbrev pub invariant-loop-process : goal.invariant-loop-process
 invariant-loop-process l = record {
   so_far : l.total ≡ total (computation_view (take l.process-index l.traces));
-  bound : l.total ≤ 10000 * l.process-index;
+  bound : l.total ≤ event_limit * l.process-index;
 }

@@ -9,7 +9,8 @@ use Rattle.pd_events.specs.declared.event.Trace.{Trace}
 use Rattle.pd_events.specs.Views.{computation_view, events_view}
 use Rattle.pd_match.specs.Views.{place_view}
 use Rattle.pd_clock.specs.Orders.{places_view}
-use Rattle.pd_clock.proofs.Cycles.{IsWay, is_of, way_start, way_more, way_short, way_back, new_from_none, taken_from_some}
+use Rattle.pd_model.proofs.StuckWay.{IsWay, way_start, way_more, way_short, way_back}
+use Rattle.pd_clock.proofs.Cycles.{is_of, new_from_none, taken_from_some}
 use Rattle.pd_clock.proofs.cycle.cycle_from.Goals as goal
 
 pub loop-start-init : goal.loop-start-init
@@ -58,9 +59,9 @@ loop-start-preserved c =
     ap (position (is_of c.loop-start.here.process)) (sym c.deref.ensures.value)
     ∙ (sym c.place_of.ensures ∙ c.in_default.is) in
     subst (λ (xs : List events.Place). IsWay (computation_view c.args.traces.now) (place_view c.args.first) xs
-    (place_view c.gone_back-here.result))
+    (place_view c.first_stuck_of_sender-here.result))
     (sym (map-append place_view c.loop-start.taken.items (c.loop-start.here ∷ []))
     ∙ ap places_view (sym c.in_ok-push.ensures.items))
     (way_more (computation_view c.args.traces.now) (place_view c.args.first) (places_view c.loop-start.taken.items)
-    (place_view c.loop-start.here) (place_view c.gone_back-here.result) c.loop-start.invariant
-    (new_from_none c.loop-start.taken.items c.loop-start.here found) c.gone_back-here.ensures)
+    (place_view c.loop-start.here) (place_view c.first_stuck_of_sender-here.result) c.loop-start.invariant
+    (new_from_none c.loop-start.taken.items c.loop-start.here found) c.first_stuck_of_sender-here.ensures)

@@ -6,7 +6,7 @@ use Rattle.pd_model.specs.Order.{IsStuck}
 use Rattle.pd_model.proofs.Consistency.{process_in_range}
 use Rattle.pd_events.specs.declared.event.Trace.{Trace}
 use Rattle.pd_events.specs.Views.{computation_view, events_view}
-use Rattle.pd_clock.proofs.Cycles.{stuck_event}
+use Rattle.pd_model.proofs.StuckWay.{stuck_event}
 use Rattle.pd_clock.proofs.cycle.least_stuck.Goals as goal
 
 pub returns-in-Some-clause-some : goal.returns-in-Some-clause-some

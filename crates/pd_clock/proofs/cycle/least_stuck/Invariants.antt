@@ -1,3 +1,4 @@
+-- What the loops of `least_stuck` keep.
 use Rattle.std.proofs.Common.{ℕ, ◌<◌}
 use Rattle.pd_events.specs.Views.{computation_view}
 use Rattle.pd_model.specs.Events.{place}

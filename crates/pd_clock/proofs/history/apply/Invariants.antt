@@ -1,3 +1,4 @@
+-- What the loops of `apply` keep.
 use Rattle.std.proofs.Common.{◌≡◌, drop}
 use Rattle.pd_clock.specs.Histories.{row_after}
 use Rattle.pd_clock.proofs.history.apply.Given as goal

@@ -1,3 +1,4 @@
+-- What the loops of `history` keep.
 use Rattle.std.proofs.Common.{◌≡◌, ◌++◌, drop, map, length}
 use Rattle.pd_clock.specs.Histories.{rows_after}
 use Rattle.pd_events.specs.Views.{event_view}

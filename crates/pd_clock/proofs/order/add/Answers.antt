@@ -1,6 +1,7 @@
 -- The row of the next event stands after the others of its process.
 use Rattle.std.proofs.Common.{◌≡◌, ◌<◌, ℕ, List, length, get_or, set, take, ◌+◌, ◌++◌, sym, ap, ◌∙◌, subst, arith}
 use Rattle.std.proofs.lemmas.List.{get_or_read, length-map, length-set, length-take, get_or-take}
+use Rattle.pd_format.specs.Limits.{process_limit}
 use Rattle.pd_model.specs.Cuts.{one_more}
 use Rattle.pd_model.specs.Order.{IsClock}
 use Rattle.pd_clock.specs.Orders.{HasClocks, clocks_of, next_of}
@@ -26,8 +27,9 @@ returns-clause-clocks c =
     let was : clocks_of c.args.order.now.clocks.items c.args.p ≡ c.index_mut.result.now.items =
     rows_read c.args.order.now.clocks.items c.args.p c.index_mut.result.now within c.index_mut.ensures.value in
     let row : List ℕ = take (length c.args.traces.now) c.next_row-row.result in
-    let wide : length row ≡ length (computation_view c.args.traces.now) = let eight : length c.next_row-row.result ≡ 8 =
-    c.next_row-row.ensures.eight in omega (
+    let wide : length row ≡ length (computation_view c.args.traces.now) =
+    let eight : length c.next_row-row.result ≡ process_limit =
+    c.next_row-row.ensures.room in omega (
       arith,
       length-take (length c.args.traces.now) c.next_row-row.result,
       c.requires.few,

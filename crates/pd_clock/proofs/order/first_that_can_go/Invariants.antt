@@ -1,3 +1,4 @@
+-- What the loops of `first_that_can_go` keep.
 use Rattle.std.proofs.Common.{ℕ, ◌<◌, ◌≤◌}
 use Rattle.pd_events.specs.Views.{computation_view}
 use Rattle.pd_clock.specs.Orders.{Waits}

@@ -2,6 +2,7 @@
 use Rattle.std.proofs.Common.{◌≡◌, ◌≢◌, ◌<◌, ℕ, List, length, get_or, max, sym, ap, ◌∙◌, subst, inl, inr, arith}
 use Rattle.std.specs.Prelude.{option_map, Option, Some, None, IfSome}
 use Rattle.std.proofs.lemmas.List.{get_or_read, length-map}
+use Rattle.pd_format.specs.Limits.{process_limit}
 use Rattle.pd_model.specs.Cuts.{Includes}
 use Rattle.pd_clock.specs.Orders.{next_of, count_of}
 use Rattle.pd_clock.proofs.OrderSteps.{IsSendOf, next_found, sent_some, go_within}
@@ -74,7 +75,7 @@ returns-clause-clock c = λ q lt.
             ∙ ap (λ (n : ℕ). Some (place c.args.p n)) read,
       )
     ] in
-    let eight : length c.loop-q.row ≡ 8 = c.loop-q.invariant.eight in
+    let eight : length c.loop-q.row ≡ process_limit = c.loop-q.invariant.eight in
     let greater : (k : ℕ) → k < length (computation_view c.args.traces.now)
     → get_or c.loop-q.row k 0 ≡ max (count_of (length (computation_view c.args.traces.now))
     c.args.order.now.clocks.items (option_map place_view c.if-number-eq0.previous) k)

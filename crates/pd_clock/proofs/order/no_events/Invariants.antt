@@ -1,3 +1,4 @@
+-- What the loops of `no_events` keep.
 use Rattle.std.proofs.Common.{◌≡◌, ℕ, length, [], replicate}
 use Rattle.pd_clock.specs.Orders.{clocks_of}
 use Rattle.pd_clock.proofs.order.no_events.Given as goal

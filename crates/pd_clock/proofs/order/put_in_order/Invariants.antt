@@ -1,3 +1,4 @@
+-- What the loops of `put_in_order` keep.
 use Rattle.std.proofs.Common.{◌-◌, ◌≤◌, length, sum}
 use Rattle.pd_events.specs.Views.{computation_view}
 use Rattle.pd_model.specs.Cuts.{total}

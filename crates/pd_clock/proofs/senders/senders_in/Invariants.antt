@@ -1,3 +1,4 @@
+-- What the loops of `senders_in` keep.
 use Rattle.pd_events.specs.Views.{computation_view}
 use Rattle.pd_clock.specs.Senders.{HasSenders}
 use Rattle.pd_clock.proofs.senders.senders_in.Given as goal

@@ -1,3 +1,4 @@
+-- What the loops of `senders_of` keep.
 use Rattle.pd_events.specs.Views.{computation_view}
 use Rattle.pd_clock.specs.Senders.{KeepsSenders}
 use Rattle.pd_clock.proofs.senders.senders_of.Given as goal

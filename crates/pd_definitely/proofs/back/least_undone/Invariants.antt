@@ -1,3 +1,4 @@
+-- What the loops of `least_undone` keep.
 use Rattle.std.proofs.Common.{◌<◌, ◌-◌, ℕ, length}
 use Rattle.pd_definitely.specs.Answers.{LeavesOneOf}
 use Rattle.pd_definitely.proofs.back.least_undone.Given as goal

@@ -6,7 +6,8 @@ use Rattle.pd_model.specs.Cuts.{IsOfLevel, empty_cut, full_cut, one_less, total}
 use Rattle.pd_model.specs.Observations.{IsAvoiding}
 use Rattle.pd_model.specs.Predicates.{test_of}
 use Rattle.pd_pred.specs.Views.{predicate_view}
-use Rattle.pd_definitely.proofs.Listed.{last_read, level_read, listed_got, some_listed}
+use Rattle.pd_model.proofs.ListedCuts.{listed_got, some_listed}
+use Rattle.pd_definitely.proofs.Listed.{last_read, level_read}
 use Rattle.pd_definitely.proofs.back.path_back.Goals as goal
 
 pub cut-cut-requires : goal.cut-cut-requires
@@ -83,8 +84,8 @@ least_undone-p-requires-clause-some c =
           c.index-levels-k-in-loop-k.result.cuts list c.loop-k.cut at.1 some.0).0 some.2,
     )
 
-pub undone-cut-requires-clause-few : goal.undone-cut-requires-clause-few
-undone-cut-requires-clause-few c =
+pub without_last-cut-requires-clause-few : goal.without_last-cut-requires-clause-few
+without_last-cut-requires-clause-few c =
     let at : IsOfLevel c.args.computation.now.events c.loop-k.k c.loop-k.cut =
     c.avoiding_levels.ensures.level c.args.computation.now.events
     (test_of c.args.computation.now (predicate_view c.args._pred.now)) c.loop-k.k c.loop-k.cut
@@ -121,7 +122,7 @@ loop-k-preserved c =
     (test_of c.args.computation.now (predicate_view c.args._pred.now)) (c.loop-k.k - 1)
     c.index-levels-k-in-loop-k.result.cuts list c.loop-k.cut at.1 c.least_undone-p.result).1
     c.least_undone-p.ensures.leaves in
-    let less : c.undone-cut.result ≡ one_less c.loop-k.cut c.least_undone-p.result = c.undone-cut.ensures in
+    let less : c.without_last-cut.result ≡ one_less c.loop-k.cut c.least_undone-p.result = c.without_last-cut.ensures in
     let pushed : c.push.new.self.items ≡ c.loop-k.path.items ++ c.least_undone-p.result ∷ [] =
     c.in_ok-push.ensures.items in
     record {

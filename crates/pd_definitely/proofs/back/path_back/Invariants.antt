@@ -1,3 +1,4 @@
+-- What the loops of `path_back` keep.
 use Rattle.std.proofs.Common.{ℕ, ◌≤◌, ◌++◌, List}
 use Rattle.pd_model.specs.Answers.{IsUndoing}
 use Rattle.pd_model.specs.Cuts.{full_cut, total}

@@ -7,7 +7,7 @@ use Rattle.pd_model.specs.Observations.{IsAvoiding}
 use Rattle.pd_model.specs.Predicates.{test_of}
 use Rattle.pd_level.specs.Levels.{Levelled}
 use Rattle.pd_pred.specs.Views.{predicate_view}
-use Rattle.pd_definitely.proofs.Listed.{level_consistent}
+use Rattle.pd_model.proofs.ListedCuts.{level_consistent}
 use Rattle.pd_definitely.proofs.level.first_avoiding.Goals as goal
 
 pub without_satisfying-requires : goal.without_satisfying-requires

@@ -1,3 +1,4 @@
+-- What the loops of `marks` keep.
 use Rattle.std.proofs.Common.{◌≡◌, map, take}
 use Rattle.pd_model.specs.Predicates.{test_of}
 use Rattle.pd_pred.specs.Views.{predicate_view}

@@ -7,8 +7,8 @@ use Rattle.pd_model.specs.Observations.{IsAvoiding}
 use Rattle.pd_model.specs.Predicates.{test_of}
 use Rattle.pd_level.specs.Levels.{Levelled}
 use Rattle.pd_pred.specs.Views.{predicate_view}
-use Rattle.pd_definitely.proofs.Listed.{next_consistent}
-use Rattle.pd_definitely.proofs.Successors.{not_wide}
+use Rattle.pd_model.proofs.ListedCuts.{next_consistent}
+use Rattle.pd_model.proofs.Successors.{not_wide}
 use Rattle.pd_definitely.proofs.level.next_avoiding.Goals as goal
 
 pub without_satisfying-requires : goal.without_satisfying-requires

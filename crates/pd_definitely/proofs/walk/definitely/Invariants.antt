@@ -1,3 +1,4 @@
+-- What the loops of `definitely` keep.
 use Rattle.std.proofs.Common.{◌≡◌, length}
 use Rattle.pd_model.specs.Answers.{IsListOf}
 use Rattle.pd_model.specs.Observations.{IsAvoiding}

@@ -1,3 +1,4 @@
+-- The first line ends with the first LF.
 use Rattle.std.proofs.Common.{add-one, arith}
 use Rattle.pd_engine.proofs.Parts.{ended_line, unended_line}
 use Rattle.pd_engine.proofs.bundle.first_line_len.Goals as goal

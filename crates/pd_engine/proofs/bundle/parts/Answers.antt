@@ -1,3 +1,4 @@
+-- A line separates or is added to its part.
 use Rattle.std.proofs.Common.{◌≡◌, ◌+◌, ◌-◌, true, false, ◌∷◌, ◌++◌, take, drop, map, sym, ap, ◌∙◌, arith}
 use Rattle.std.proofs.lemmas.List.{map_push, take_rest}
 use Rattle.pd_format.specs.Bundles.{is_separator, whole_lines}

@@ -1,3 +1,4 @@
+-- The parts so far, and the lines that are left.
 use Rattle.std.proofs.Common.{◌≡◌, ◌-◌, ◌≤◌, ◌++◌, length, take, drop, map}
 use Rattle.pd_format.specs.Bundles.{onto_part, parts_of}
 use Rattle.pd_engine.proofs.bundle.parts.Given as goal

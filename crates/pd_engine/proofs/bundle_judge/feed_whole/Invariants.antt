@@ -1,3 +1,4 @@
+-- What the pieces so far gave.
 use Rattle.std.proofs.Common.{◌≡◌, ℕ, List, ◌++◌, length}
 use Rattle.pd_format.specs.Names.{ProcessNames}
 use Rattle.pd_format.specs.Sessions.{Interleaving}

@@ -1,9 +1,10 @@
 -- What whole streams give.
-use Rattle.std.proofs.Common.{◌≡◌, ℕ, ◌≤◌, List, [], length, map, sym, ap, ◌∙◌, subst, arith}
+use Rattle.std.proofs.Common.{◌≡◌, ℕ, ◌≤◌, List, [], length, map, sym, ◌∙◌, subst, arith}
 use Rattle.std.proofs.lemmas.List.{length-map}
 use Rattle.std.proofs.Math.ListN.{get_or-map}
 use Rattle.std.specs.Borrow.{Bor}
-use Rattle.pd_format.specs.Judgements.{ended_streams, results_of}
+use Rattle.pd_judgement.specs.Judgements.{AreResultsOf, RawStream, ended_streams}
+use Rattle.pd_gather.specs.Views.{results_view}
 use Rattle.pd_gather.specs.Taken.{raw_streams}
 use Rattle.pd_spec.specs.Views.{document_view}
 use Rattle.pd_engine.specs.Openings.{HasFed}
@@ -41,8 +42,8 @@ outcome-requires c =
     (HasFed c.loop-stream.core (document_view c.args.spec.now).names (map (λ part. part.now) c.args.streams.now))
     c.loop-stream.invariant.readers c.loop-stream-test.false c.loop-stream.auto.stream-end c.loop-stream.invariant.fed)
 
-pub returns-clause-reported : goal.returns-clause-reported
-returns-clause-reported c few =
+pub returns-clause-results : goal.returns-clause-results
+returns-clause-results c few =
     let count : length (map (λ part. part.now) c.args.streams.now) ≡ length c.args.streams.now =
     length-map c.args.streams.now (λ part. part.now) in
     let fed : HasFed c.loop-stream.core (document_view c.args.spec.now).names
@@ -56,5 +57,11 @@ returns-clause-reported c few =
     ≡ ended_streams (map (λ part. part.now) c.args.streams.now) =
     rw readers (all_reported c.loop-stream.core (document_view c.args.spec.now).names
     (map (λ part. part.now) c.args.streams.now) fed) in
-    c.outcome.ensures.reported (document_view c.args.spec.now).names fed.steps fed.taken
-    ∙ ap (results_of (document_view c.args.spec.now).names) same
+    subst (λ (streams : List RawStream). AreResultsOf (document_view c.args.spec.now).names streams
+    (results_view c.outcome.result.readings.items)) same
+    (c.outcome.ensures.results (document_view c.args.spec.now).names fed.steps fed.taken)
+
+pub returns-clause-fit : goal.returns-clause-fit
+returns-clause-fit c =
+    let fed = c.loop-stream.invariant.fed in
+    c.outcome.ensures.fit (document_view c.args.spec.now).names fed.steps fed.taken

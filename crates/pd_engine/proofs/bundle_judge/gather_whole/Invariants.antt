@@ -1,3 +1,4 @@
+-- The streams so far were handed over.
 use Rattle.std.proofs.Common.{◌≡◌, map, length}
 use Rattle.pd_spec.specs.Views.{document_view}
 use Rattle.pd_engine.specs.Openings.{HasFed}

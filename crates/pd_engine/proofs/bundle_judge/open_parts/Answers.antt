@@ -2,7 +2,7 @@
 use Rattle.std.proofs.Common.{◌≡◌, ℕ, ◌-◌, List, [], length, take, drop, get_or, map, sym, ◌∙◌, subst}
 use Rattle.std.specs.Borrow.{Bor}
 use Rattle.std.proofs.lemmas.List.{take_rest, length-map}
-use Rattle.pd_format.specs.Judgements.{IsReportOfParts, ended_streams}
+use Rattle.pd_judgement.specs.Judgements.{IsReportOfParts, ended_streams}
 use Rattle.pd_format.specs.Reports.{Refused}
 use Rattle.pd_gather.specs.Views.{results_view}
 use Rattle.pd_spec.specs.Views.{document_view}
@@ -21,7 +21,7 @@ returns-in_ok-gathered-in-Ok-clause-opened c =
     let rest : take (length c.args.parts.now - 1) (drop 1 c.args.parts.now) ≡ drop 1 c.args.parts.now =
     take_rest c.args.parts.now 1 in
     let count = rw rest at c.in_ok-gathered-in-Ok.ensures.streams in
-    let reported = rw rest at c.in_ok-gathered-in-Ok.ensures.reported in
+    let results = rw rest at c.in_ok-gathered-in-Ok.ensures.results in
     let same : length (bytes_in (drop 1 c.args.parts.now)) ≡ length (drop 1 c.args.parts.now) =
     length-map (drop 1 c.args.parts.now) (λ (part : Bor (List ℕ)). part.now) in (
       c.in_ok-gathered-in-Ok.ensures.fit,
@@ -30,7 +30,7 @@ returns-in_ok-gathered-in-Ok-clause-opened c =
           (read_judged (get_or c.args.parts.now 0 nowhere).now (bytes_in (drop 1 c.args.parts.now))
           (document_view c.in-Ok.spec) c.in_ok-gathered-in-Ok.gathered.streams
           (results_view c.in_ok-gathered-in-Ok.gathered.readings.items)
-          c.in-Ok.ensures.ok (count ∙ sym same) (λ few. reported (rw (← same) few)) report judged),
+          c.in-Ok.ensures.ok (count ∙ sym same) (λ few. results (rw (← same) few)) report judged),
     )
 
 pub returns-in_ok-of_document-in-Err-clause-opened : goal.returns-in_ok-of_document-in-Err-clause-opened

@@ -1,17 +1,25 @@
 -- What is written is what is found, and whether it is clean is reported.
-use Rattle.std.proofs.Common.{◌↔◌, ◌∙◌, Bool, IsTrue, sym, subst}
+use Rattle.std.proofs.Common.{◌↔◌, ◌∙◌, Bool, IsTrue, sym, subst, refl}
 use Rattle.std.specs.Io.KnownBytes.{Appends}
+use Rattle.pd_format.specs.OtherTexts.{check_text}
 use Rattle.pd_judgement.specs.Findings.{IsClean}
 use Rattle.pd_engine.specs.FindingViews.{finding_view}
 use Rattle.pd_engine.proofs.checks.check.Goals as goal
 
 pub returns-clause-written : goal.returns-clause-written
-returns-clause-written g c = record {
-  finding = finding_view c.in_ok-finding.finding;
-  found = c.in_ok-finding.ensures.found;
-  clean = subst (λ (good : Bool). IsTrue good ↔ IsClean (finding_view c.in_ok-finding.finding)) (sym c.is_clean.ensures)
-      (c.clean_is_clean.ensures (finding_view c.in_ok-finding.finding));
-  written =
+returns-clause-written g c =
+    let finding = finding_view c.in_ok-finding.finding in
+    let found = c.in_ok-finding.ensures.found in (
+      check_text finding,
+      record {
+        streams = found.streams;
+        are_given = found.are_given;
+        finding = finding;
+        right = found.right;
+        clean = subst (λ (good : Bool). IsTrue good ↔ IsClean finding) (sym c.is_clean.ensures)
+            (c.clean_is_clean.ensures finding);
+        is_text = refl;
+      },
       subst (Appends (g.W.Write.contents c.args.writer.now) (g.W.Write.contents c.write_all.new.writer))
-      (c.deref.ensures.value ∙ c.in_ok-text.ensures) c.in_ok-write_all.ensures.written;
-}
+          (c.deref.ensures.value ∙ c.in_ok-text.ensures) c.in_ok-write_all.ensures.written,
+    )

@@ -3,11 +3,11 @@ use Rattle.std.proofs.Common.{◌≡◌, length, map, ◌∙◌, arith}
 use Rattle.std.proofs.lemmas.List.{length-map}
 use Rattle.std.proofs.lemmas.Result.{IfOk-weaker}
 use Rattle.std.specs.Prelude.{vec_len}
-use Rattle.pd_format.specs.Judgements.{IsReportOfResults}
+use Rattle.pd_judgement.specs.Judgements.{IsReportOfResults}
 use Rattle.pd_gather.specs.Views.{results_view}
 use Rattle.pd_report.specs.Views as views
 use Rattle.pd_spec.specs.Views.{document_view}
-use Rattle.pd_engine.specs.Claims.{FindsClaim, HoldsOutcomes, IsClaimFinding}
+use Rattle.pd_engine.specs.Claims.{FindsClaim, HoldsResults, IsClaimFinding}
 use Rattle.pd_engine.specs.FindingViews.{finding_view}
 use Rattle.pd_engine.proofs.GivenStreams.{refusal_found, streams_found}
 use Rattle.pd_engine.proofs.checks.find_claim.Goals as goal
@@ -21,7 +21,7 @@ returns-in_ok-gathered-in-Ok-clause-found g c =
     IfOk-weaker c.find_gathered.result (λ finding.
     IsClaimFinding (IsReportOfResults (document_view c.in-Ok.spec) gathered.streams
     (results_view gathered.readings.items))
-    (HoldsOutcomes (document_view c.in-Ok.spec) gathered.streams (results_view gathered.readings.items))
+    (HoldsResults (document_view c.in-Ok.spec) gathered.streams (results_view gathered.readings.items))
     (views.report_view c.args.claimed.now) (finding_view finding))
     (λ finding. FindsClaim c.args.spec.now (views.report_view c.args.claimed.now) inputs (finding_view finding))
     (λ finding found.

@@ -2,11 +2,11 @@
 use Rattle.std.proofs.Common.{List, subst}
 use Rattle.std.proofs.lemmas.Result.{IfOk-weaker}
 use Rattle.pd_events.specs.declared.event.Trace.{Trace}
-use Rattle.pd_format.specs.Judgements.{IsReportOfResults, IsTracesReport}
+use Rattle.pd_judgement.specs.Judgements.{IsReportOfResults, IsTracesReport}
 use Rattle.pd_gather.specs.Views.{results_view, traces_view}
 use Rattle.pd_spec.specs.Views.{document_view}
 use Rattle.pd_report.specs.Views as views
-use Rattle.pd_engine.specs.Claims.{HoldsOutcomes, HoldsTraces, IsClaimFinding, of_refused_session}
+use Rattle.pd_engine.specs.Claims.{HoldsResults, HoldsTraces, IsClaimFinding, of_refused_session}
 use Rattle.pd_engine.specs.FindingViews.{finding_view}
 use Rattle.pd_engine.proofs.ClaimFacts.{of_traces}
 use Rattle.pd_engine.proofs.claims.find_gathered.Goals as goal
@@ -20,7 +20,7 @@ returns-in-Traces-clause-found g c =
     (views.report_view c.args.claimed.now) (finding_view finding))
     (λ finding. IsClaimFinding (IsReportOfResults (document_view c.args.spec.now) c.args.gathered.streams
     (results_view c.args.gathered.readings.items))
-    (HoldsOutcomes (document_view c.args.spec.now) c.args.gathered.streams
+    (HoldsResults (document_view c.args.spec.now) c.args.gathered.streams
     (results_view c.args.gathered.readings.items)) (views.report_view c.args.claimed.now) (finding_view finding))
     (λ finding found.
     of_traces (document_view c.args.spec.now) c.args.gathered.streams (results_view c.args.gathered.readings.items)

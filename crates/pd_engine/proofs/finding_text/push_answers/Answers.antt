@@ -1,3 +1,4 @@
+-- One more predicate has two more lines.
 use Rattle.pd_engine.proofs.FindingTexts.{verdicts_more}
 use Rattle.pd_engine.proofs.finding_text.push_answers.Goals as goal
 

@@ -1,3 +1,4 @@
+-- The lines so far.
 use Rattle.std.proofs.Common.{◌≡◌, ◌++◌, take}
 use Rattle.pd_engine.specs.FindingViews.{verdicts_text}
 use Rattle.pd_engine.proofs.finding_text.push_answers.Given as goal

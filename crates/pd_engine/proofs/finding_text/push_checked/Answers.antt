@@ -1,3 +1,4 @@
+-- Two lines one after the other.
 use Rattle.std.proofs.Common.{arith}
 use Rattle.std.proofs.lemmas.Grind.{common_steps}
 use Rattle.pd_engine.specs.FindingViews.{checked_view}

@@ -1,12 +1,11 @@
 -- The computation of traces whose messages are lawful, or the refusal.
-use Rattle.std.proofs.Common.{List, map, length, sym, subst}
-use Rattle.std.specs.Prelude.{ℤ, string_bytes, All}
+use Rattle.std.proofs.Common.{List, length, sym, subst}
+use Rattle.std.specs.Prelude.{All}
 use Rattle.std.proofs.lemmas.Simd.{map-map}
 use Rattle.pd_model.specs.Order.{IsReportedCycle}
-use Rattle.pd_format.specs.Judgements.{named_place}
+use Rattle.pd_format.specs.RefusalWords.{named_place}
 use Rattle.pd_format.specs.Names.{ProcessNames}
 use Rattle.pd_gather.specs.Views.{traces_view}
-use Rattle.pd_spec.specs.Sound.{IsSound}
 use Rattle.pd_spec.specs.Views.{document_view}
 use Rattle.pd_events.specs.Views.{computation_view}
 use Rattle.pd_match.specs.Views.{place_view}
@@ -14,17 +13,9 @@ use Rattle.pd_clock.specs.Orders.{places_view}
 use Rattle.pd_clock.specs.Computations.{recorded_view}
 use Rattle.pd_engine.specs.Formings.{AreWellFormed}
 use Rattle.pd_engine.specs.Refusals.{HasNames}
-use Rattle.pd_engine.proofs.FitTraces.{well_formed, cycle_report, fits_initial, traces_length}
+use Rattle.pd_engine.proofs.FitTraces.{well_formed, cycle_report, traces_length}
 use Rattle.pd_engine.proofs.RefusedPlaces.{cycle_named, cycle_reported}
 use Rattle.pd_engine.proofs.formed.build.Goals as goal
-
-pub build-requires-clause-fits : goal.build-requires-clause-fits
-build-requires-clause-fits c =
-    fits_initial (document_view c.args.spec.now).names c.initial_rows.result.now
-    (map (λ p. string_bytes p.name) c.args.spec.now.predicates.items) c.args.spec.now.width c.args.traces.now
-    (subst (λ (rows : List (List ℤ)). IsSound (document_view c.args.spec.now).names rows
-    (map (λ p. string_bytes p.name) c.args.spec.now.predicates.items) c.args.spec.now.width)
-    (sym c.initial_rows.ensures) c.args.spec.now.sound) c.requires.traces
 
 pub of_cycle-requires : goal.of_cycle-requires
 of_cycle-requires c =
@@ -38,9 +29,9 @@ pub returns-in-Ok-clause-formed : goal.returns-in-Ok-clause-formed
 returns-in-Ok-clause-formed c =
     let names : List ProcessNames = (document_view c.args.spec.now).names in
     let well : AreWellFormed (document_view c.args.spec.now) (traces_view c.args.traces.now)
-    (recorded_view c.initial_rows.result.now c.args.traces.now) (length c.args.matched.now) =
-    well_formed (document_view c.args.spec.now) c.initial_rows.result.now c.args.traces.now c.args.matched.now
-    c.initial_rows.ensures (traces_length names c.args.traces.now c.requires.traces) c.requires.lawful
+    (recorded_view (document_view c.args.spec.now).initial c.args.traces.now) (length c.args.matched.now) =
+    well_formed (document_view c.args.spec.now) c.args.traces.now c.args.matched.now
+    (traces_length names c.args.traces.now c.requires.traces) c.requires.lawful
     c.in-Ok.ensures.acyclic c.requires.messages in
     rw (c.in-Ok.ensures.recorded, c.messages.ensures) well
 

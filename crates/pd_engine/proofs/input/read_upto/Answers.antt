@@ -1,3 +1,4 @@
+-- At first nothing was read.
 use Rattle.std.proofs.Common.{arith}
 use Rattle.pd_engine.proofs.Inputs.{nothing_read}
 use Rattle.pd_engine.proofs.input.read_upto.Goals as goal

@@ -1,3 +1,4 @@
+-- The bytes so far are what the reader gave.
 use Rattle.std.proofs.Common.{◌-◌, ◌<◌, ◌≤◌, vec_len}
 use Rattle.std.specs.Io.KnownBytes.{Consumes}
 use Rattle.pd_engine.proofs.input.read_upto.Given as goal

@@ -1,6 +1,7 @@
+-- The places so far have their names.
 use Rattle.std.proofs.Common.{◌≡◌, map, take}
 use Rattle.pd_report.specs.Views.{named_places_view}
-use Rattle.pd_format.specs.Judgements.{named_place}
+use Rattle.pd_format.specs.RefusalWords.{named_place}
 use Rattle.pd_match.specs.Views.{place_view}
 use Rattle.pd_engine.proofs.refusal.of_cycle.Given as goal
 

@@ -1,3 +1,4 @@
+-- The names so far are alike.
 use Rattle.std.proofs.Common.{◌≡◌, map, take}
 use Rattle.std.specs.Prelude.{string_bytes}
 use Rattle.pd_engine.proofs.verdicts.are_for.Given as goal

@@ -1,3 +1,4 @@
+-- The processes so far have the names so far.
 use Rattle.std.proofs.Common.{map, take}
 use Rattle.std.specs.Prelude.{string_bytes}
 use Rattle.pd_engine.specs.Verdicts.{AreNamed}

@@ -8,7 +8,7 @@ use Rattle.pd_format.specs.Names.{ProcessNames}
 use Rattle.pd_report.specs.declared.answer.Answer.{Answer}
 use Rattle.pd_spec.specs.declared.named.NamedPred.{NamedPred}
 use Rattle.pd_report.specs.Views.{answer_view}
-use Rattle.pd_spec.specs.Named.{named_of}
+use Rattle.pd_spec.specs.Named.{named_view}
 use Rattle.pd_spec.specs.Views.{document_view}
 use Rattle.pd_engine.specs.FindingViews.{checked_view}
 use Rattle.pd_engine.specs.Verdicts.{IsCheckedBy}
@@ -30,17 +30,17 @@ loop-i-preserved c =
     string_bytes predicate.name) c.args.answers.now asked (c.if-not-are_for.ensures.0 refl) in
     let lt : c.loop-i.i < length asked = omega (arith, c.loop-i-test.true, same) in
     let here : IsCheckedBy names c.args.computation.now (
-      named_of c.index-asked-i.result,
+      named_view c.index-asked-i.result,
       answer_view c.index-answers-i.result,
-    ) (checked_view c.in_ok-checked.field-0) =
+    ) (checked_view c.in_ok-answer_verdicts.field-0) =
     subst (λ (n : List ProcessNames). IsCheckedBy n c.args.computation.now (
-      named_of c.index-asked-i.result,
+      named_view c.index-asked-i.result,
       answer_view c.index-answers-i.result,
-    ) (checked_view c.in_ok-checked.field-0)) c.names.ensures
-    c.in_ok-checked.ensures in
+    ) (checked_view c.in_ok-answer_verdicts.field-0)) c.names.ensures
+    c.in_ok-answer_verdicts.ensures in
     rw c.in_ok-push.ensures.items
-    (pairs_push (IsCheckedBy names c.args.computation.now) named_of answer_view checked_view asked c.args.answers.now
-    c.loop-i.verdicts.items c.loop-i.i c.index-asked-i.result c.index-answers-i.result c.in_ok-checked.field-0
+    (pairs_push (IsCheckedBy names c.args.computation.now) named_view answer_view checked_view asked c.args.answers.now
+    c.loop-i.verdicts.items c.loop-i.i c.index-asked-i.result c.index-answers-i.result c.in_ok-answer_verdicts.field-0
     (sym same) lt c.index-asked-i.is c.index-answers-i.is c.loop-i.invariant here)
 
 pub returns : goal.returns
@@ -54,12 +54,12 @@ returns c traces seen =
     take_all c.loop-i.i c.args.answers.now (omega arith) in
     let all_asked : take c.loop-i.i asked ≡ asked = take_all c.loop-i.i asked (omega arith) in
     let all : AllZip (IsCheckedBy names c.args.computation.now)
-    (zip (map named_of asked) (map answer_view c.args.answers.now)) (map checked_view c.loop-i.verdicts.items) =
+    (zip (map named_view asked) (map answer_view c.args.answers.now)) (map checked_view c.loop-i.verdicts.items) =
     subst (λ (answers : List Answer). AllZip (IsCheckedBy names c.args.computation.now)
-    (zip (map named_of asked) (map answer_view answers)) (map checked_view c.loop-i.verdicts.items)) all_answers
+    (zip (map named_view asked) (map answer_view answers)) (map checked_view c.loop-i.verdicts.items)) all_answers
     (subst (λ (predicates : List NamedPred).
     AllZip (IsCheckedBy names c.args.computation.now)
-    (zip (map named_of predicates) (map answer_view (take c.loop-i.i c.args.answers.now)))
+    (zip (map named_view predicates) (map answer_view (take c.loop-i.i c.args.answers.now)))
     (map checked_view c.loop-i.verdicts.items)) all_asked c.loop-i.invariant) in
     all_checked (document_view c.args.spec.now) traces c.args.computation.now asked c.args.answers.now
     (map checked_view c.loop-i.verdicts.items) c.predicates-asked.ensures (c.if-not-are_for.ensures.0 refl) seen all

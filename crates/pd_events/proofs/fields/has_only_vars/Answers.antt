@@ -1,3 +1,4 @@
+-- Whether each field is one of these variables.
 use Rattle.std.proofs.Common.{◌∙◌}
 use Rattle.pd_events.proofs.FieldViews.{has_only_vars-entries}
 use Rattle.pd_events.proofs.fields.has_only_vars.Goals as goal

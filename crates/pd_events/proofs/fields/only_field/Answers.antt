@@ -1,3 +1,4 @@
+-- The name and the value of the field, if there is one alone.
 use Rattle.std.proofs.Common.{ℕ, List, sym, ◌∙◌, ap}
 use Rattle.serde_json.specs.Data.{member, no_members}
 use Rattle.serde_json.specs.View.{view}

@@ -1,3 +1,4 @@
+-- What the loops of `sets_of` keep.
 use Rattle.std.proofs.Common.{◌≡◌, ◌++◌, map, drop, string_bytes}
 use Rattle.serde_json.specs.View.{members_view}
 use Rattle.pd_format.specs.Records.{sets_from}

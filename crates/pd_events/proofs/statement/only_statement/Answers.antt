@@ -1,3 +1,4 @@
+-- The join or the end that the fields say, if there is one alone.
 use Rattle.std.proofs.Common.{sym}
 use Rattle.pd_events.proofs.StatementFacts.{none_alone}
 use Rattle.pd_events.proofs.statement.only_statement.Goals as goal

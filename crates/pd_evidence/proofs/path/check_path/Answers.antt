@@ -6,9 +6,9 @@ use Rattle.pd_model.specs.Cuts.{empty_cut, full_cut, one_more}
 use Rattle.pd_model.specs.Answers.{IsAvoidingObservation}
 use Rattle.pd_model.specs.Predicates.{test_of}
 use Rattle.pd_pred.specs.Views.{predicate_view}
-use Rattle.pd_evidence.specs.Paths.{IsAvoidingCut, AvoidsFrom}
+use Rattle.pd_model.specs.Paths.{IsAvoidingCut, AvoidsFrom}
 use Rattle.pd_model.proofs.Counts.{length_more}
-use Rattle.pd_evidence.proofs.Steps.{refused_here, refused_step, rest_after, ended_full}
+use Rattle.pd_model.proofs.AvoidingPaths.{refused_here, refused_step, rest_after, ended_full}
 use Rattle.pd_evidence.proofs.path.check_path.Goals as goal
 
 pub returns-then-not-branch : goal.returns-then-not-branch

@@ -1,3 +1,4 @@
+-- The same of a part that an LF ends, which may be the first byte at fault.
 use Rattle.std.proofs.Common.{arith}
 use Rattle.pd_frames.proofs.Steps.{faces_end}
 use Rattle.pd_frames.proofs.cut.ended_fault.Goals as goal

@@ -1,3 +1,4 @@
+-- Whether a line ends in these bytes.
 use Rattle.std.proofs.Common.{◌∙◌}
 use Rattle.pd_frames.proofs.Feeds.{found_feed}
 use Rattle.pd_frames.proofs.cut.has_line_feed.Goals as goal

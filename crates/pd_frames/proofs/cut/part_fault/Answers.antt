@@ -1,3 +1,4 @@
+-- The fault of the first byte that has one, of a part without LF that comes next in the line.
 use Rattle.std.proofs.Common.{arith}
 use Rattle.pd_frames.proofs.Steps.{faces_long_line, faces_long_stream}
 use Rattle.pd_frames.proofs.cut.part_fault.Goals as goal

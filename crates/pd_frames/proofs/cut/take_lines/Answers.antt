@@ -1,3 +1,4 @@
+-- Takes the lines that end off a piece.
 use Rattle.std.proofs.Common.{refl, arith}
 use Rattle.pd_frames.specs.Views.{lines_view, frame_fault_view}
 use Rattle.pd_frames.proofs.Steps.{begin, next_line, faulty_line, any_tail, if_none, sound_tail}

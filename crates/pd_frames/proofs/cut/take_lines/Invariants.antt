@@ -1,3 +1,4 @@
+-- What the loops of `take_lines` keep.
 use Rattle.std.proofs.Common.{◌≡◌, ◌<◌, ℕ, List, length}
 use Rattle.pd_frames.specs.Cuts.{Cuts, Fits, IsOpen}
 use Rattle.pd_frames.specs.Views.{lines_view}

@@ -1,3 +1,4 @@
+-- What the loops of `framed` keep.
 use Rattle.std.proofs.Common.{◌≡◌, false}
 use Rattle.pd_frames.proofs.tests.framed.Given as goal
 

@@ -1,3 +1,4 @@
+-- The fault of a stream after these.
 use Rattle.std.proofs.Common.{◌≡◌, true, false, refl, sym, ◌∙◌}
 use Rattle.pd_format.specs.Sessions.{has_joined}
 use Rattle.pd_gather.specs.Views.{results_view}

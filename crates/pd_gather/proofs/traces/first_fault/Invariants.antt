@@ -1,3 +1,4 @@
+-- What the loops of `first_fault` keep.
 use Rattle.std.proofs.Common.{◌≡◌, []}
 use Rattle.pd_format.specs.Sessions.{first_stream_fault}
 use Rattle.pd_gather.specs.Views.{results_view}

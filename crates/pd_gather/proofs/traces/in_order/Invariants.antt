@@ -1,3 +1,4 @@
+-- What the loops of `in_order` keep.
 use Rattle.std.proofs.Common.{◌≡◌, ℕ, ◌≤◌, length, drop, All}
 use Rattle.std.specs.Prelude.{Some, slice_get}
 use Rattle.pd_format.specs.ReadingLaws.{FitsSession}

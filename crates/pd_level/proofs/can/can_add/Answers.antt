@@ -12,7 +12,7 @@ use Rattle.pd_model.proofs.Consistency.{process_in_range}
 use Rattle.pd_match.specs.Views.{place_view}
 use Rattle.pd_match.specs.declared.place.Place.{Place}
 use Rattle.pd_clock.specs.Senders.{IsSender}
-use Rattle.pd_clock.proofs.Adding.{HasSend, added, one_more_exactly}
+use Rattle.pd_model.proofs.AddedEvents.{HasSend, added, one_more_exactly}
 use Rattle.pd_level.specs.Keys.{digits}
 use Rattle.pd_level.proofs.can.can_add.Goals as goal
 

@@ -1,4 +1,4 @@
--- What is kept so far stands in prefix.
+-- What is kept so far stands first.
 use Rattle.std.proofs.Common.{◌≡◌, ◌≤◌, ◌∙◌, get_or, arith}
 use Rattle.std.proofs.lemmas.List.{get_or_read}
 use Rattle.pd_level.proofs.Kept.{none_read, keep_one, pass_one, all_read}

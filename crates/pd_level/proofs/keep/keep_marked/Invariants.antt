@@ -1,3 +1,4 @@
+-- What the loops of `keep_marked` keep.
 use Rattle.pd_level.proofs.Kept.{IsKeptSo}
 use Rattle.pd_level.proofs.keep.keep_marked.Given as goal
 

@@ -1,3 +1,4 @@
+-- The count of process `p` among those of which a number is made.
 use Rattle.std.proofs.Common.{sym}
 use Rattle.pd_level.proofs.Keys.{digit_at}
 use Rattle.pd_level.proofs.key.digit.Goals as goal

@@ -1,3 +1,4 @@
+-- What the loops of `pack` keep.
 use Rattle.std.proofs.Common.{◌≡◌, take}
 use Rattle.pd_level.specs.Keys.{AreDigits, key_of}
 use Rattle.pd_level.proofs.key.pack.Given as goal

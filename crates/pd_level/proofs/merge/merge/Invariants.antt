@@ -1,3 +1,4 @@
+-- What the loops of `merge` keep.
 use Rattle.std.proofs.Common.{length, ◌-◌, ◌+◌}
 use Rattle.pd_level.proofs.Merges.{IsMerged}
 use Rattle.pd_level.proofs.merge.merge.Given as goal

@@ -2,7 +2,7 @@
 use Rattle.std.proofs.Common.{◌≡◌, ℕ, ◌+◌, ◌-◌, ◌^◌, ◌<◌, List, length, get_or, take, Contains, sym, ap, ◌∙◌, subst, ◌↔◌, arith}
 use Rattle.std.proofs.lemmas.Bool.{false≢true}
 use Rattle.std.proofs.lemmas.List.{take_all}
-use Rattle.pd_level.specs.Keys.{IsMoreBy}
+use Rattle.pd_level.specs.Keys.{count_base, IsMoreBy}
 use Rattle.pd_level.proofs.Steps.{room, step_no, step_yes}
 use Rattle.pd_level.proofs.step.more_by.Goals as goal
 use Rattle.pd_level.proofs.step.more_by.Goals.{then-can_add+in_ok-push, else-can_add}
@@ -10,19 +10,19 @@ use Rattle.pd_level.proofs.step.more_by.Goals.{then-can_add+in_ok-push, else-can
 pub overflow_add-keys : goal.overflow_add-keys
 overflow_add-keys c =
     let lt : c.loop-i.i < length c.args.keys.now = omega arith in
-    let fits : get_or c.args.keys.now c.loop-i.i 0 + 65536 ^ (length c.args.computation.now.events - 1 - c.args.p)
-    < 65536 ^ 8 =
+    let fits : get_or c.args.keys.now c.loop-i.i 0 + count_base ^ (length c.args.computation.now.events - 1 - c.args.p)
+    < count_base ^ 8 =
     room c.args.computation.now.events c.args.keys.now c.args.p c.loop-i.i c.requires.small c.requires.cuts
     c.requires.within c.limits.ensures.few lt (c.can_add.ensures.0 c.if-can_add.true) in
-    let weight : c.weight-added.result ≡ 65536 ^ (length c.args.computation.now.events - 1 - c.args.p) =
-    c.weight-added.ensures ∙ ap (λ (n : ℕ). 65536 ^ (n - 1 - c.args.p)) c.processes.ensures in
+    let weight : c.weight-added.result ≡ count_base ^ (length c.args.computation.now.events - 1 - c.args.p) =
+    c.weight-added.ensures ∙ ap (λ (n : ℕ). count_base ^ (n - 1 - c.args.p)) c.processes.ensures in
     omega arith
 
 pub loop-i-preserved : goal.loop-i-preserved
 loop-i-preserved c =
     let lt : c.loop-i.i < length c.args.keys.now = omega arith in
-    let weight : c.weight-added.result ≡ 65536 ^ (length c.args.computation.now.events - 1 - c.args.p) =
-    c.weight-added.ensures ∙ ap (λ (n : ℕ). 65536 ^ (n - 1 - c.args.p)) c.processes.ensures in
+    let weight : c.weight-added.result ≡ count_base ^ (length c.args.computation.now.events - 1 - c.args.p) =
+    c.weight-added.ensures ∙ ap (λ (n : ℕ). count_base ^ (n - 1 - c.args.p)) c.processes.ensures in
     elim c.if-can_add.branch [
       | then-can_add+in_ok-push w ↦
           rw (

@@ -1,3 +1,4 @@
+-- What the loops of `more_by` keep.
 use Rattle.pd_level.proofs.Steps.{IsMoreSo}
 use Rattle.pd_level.proofs.step.more_by.Given as goal
 

@@ -1,3 +1,4 @@
+-- What the loops of `more_by_any` keep.
 use Rattle.pd_level.proofs.Steps.{IsMoreUpTo}
 use Rattle.pd_level.proofs.step.more_by_any.Given as goal
 

@@ -1,3 +1,4 @@
+-- Matches sends and receipts.
 use Rattle.std.proofs.Common.{◌≡◌, ◌∙◌, add-one, arith, length, suc, subst, sym, ℕ, List}
 use Rattle.std.proofs.lemmas.List.{length-map}
 use Rattle.pd_events.specs.declared.event.Trace.{Trace}

@@ -1,3 +1,4 @@
+-- What the loops of `match_by` keep.
 use Rattle.pd_events.specs.Views.{computation_view}
 use Rattle.pd_match.specs.Noted.{event_place, place_noted}
 use Rattle.pd_match.specs.Progress.{MatchedBefore, RowsTell}

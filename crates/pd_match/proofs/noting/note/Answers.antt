@@ -1,3 +1,4 @@
+-- Notes the place where an id stands.
 use Rattle.std.proofs.lemmas.Map.Text.{hash_map_updates_str}
 use Rattle.pd_match.proofs.Ids.{noted_update}
 use Rattle.pd_match.proofs.noting.note.Goals as goal

@@ -1,3 +1,4 @@
+-- The send of the receipt of this id, which stands here.
 use Rattle.std.proofs.Common.{◌≡◌, ◌∙◌, Some, ap, option_map, refl, sym}
 use Rattle.pd_match.specs.Noted.{place_noted}
 use Rattle.pd_match.specs.Views.{place_view}

@@ -1,3 +1,4 @@
+-- The send of the event at index `n` of process `p`, if it is a receipt.
 use Rattle.std.proofs.Common.{◌≡◌, ◌∙◌, ℕ, Some, ap, rules, subst, sym, List}
 use Rattle.std.specs.Prelude.{IfSome}
 use Rattle.pd_events.specs.Views.{computation_view, kind_view}

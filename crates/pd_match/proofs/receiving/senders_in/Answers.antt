@@ -1,3 +1,4 @@
+-- For each event of process `p` its send, if it is a receipt.
 use Rattle.std.proofs.Common.{◌≡◌, ◌∙◌, ◌++◌, add-one, arith, ap, option_map, suc, subst, sym}
 use Rattle.pd_events.specs.Views.{computation_view}
 use Rattle.pd_model.specs.Events.{Receive, event_count}

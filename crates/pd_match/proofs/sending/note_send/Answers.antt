@@ -1,3 +1,4 @@
+-- Notes the event at index `n` of process `p`, if it is a send.
 use Rattle.std.proofs.Common.{◌≡◌, ◌∙◌, sym, subst, Some}
 use Rattle.pd_events.specs.Views.{computation_view, kind_view}
 use Rattle.pd_model.specs.Events.{Send, kind_at}

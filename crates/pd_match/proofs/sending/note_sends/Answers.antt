@@ -1,3 +1,4 @@
+-- Notes the sends of process `p`.
 use Rattle.std.proofs.Common.{◌≡◌, ◌∙◌, add-one, arith, subst, sym}
 use Rattle.pd_events.specs.Views.{computation_view}
 use Rattle.pd_model.specs.Events.{Send, event_count}

@@ -1,3 +1,4 @@
+-- The place of each send, by its id.
 use Rattle.std.proofs.Common.{◌≡◌, ◌∙◌, add-one, arith, length, subst, sym}
 use Rattle.std.proofs.lemmas.List.{length-map}
 use Rattle.pd_events.specs.declared.event.Trace.{Trace}

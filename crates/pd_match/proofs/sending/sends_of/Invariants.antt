@@ -1,3 +1,4 @@
+-- What the loops of `sends_of` keep.
 use Rattle.pd_events.specs.Views.{computation_view}
 use Rattle.pd_match.specs.Noted.{HasBefore, event_place, place_noted}
 use Rattle.pd_model.specs.Events.{Send}

@@ -1,3 +1,4 @@
+-- What the loops of `first_satisfying` keep.
 use Rattle.std.proofs.Common.{◌≡◌, ℕ, ◌<◌, false, [], get_or}
 use Rattle.pd_model.specs.Predicates.{test_of}
 use Rattle.pd_pred.specs.Views.{predicate_view}

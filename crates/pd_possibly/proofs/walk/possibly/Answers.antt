@@ -1,12 +1,12 @@
 -- The walk for Possibly.
-use Rattle.std.proofs.Common.{◌≡◌, ℕ, ◌+◌, Bool, false, List, [], ◌∷◌, length, get_or, All, sym, ap, ◌∙◌, subst, arith, below_more, Err}
-use Rattle.std.proofs.lemmas.List.{get_or_default}
+use Rattle.std.proofs.Common.{◌≡◌, ℕ, ◌+◌, Bool, false, List, [], ◌∷◌, length, All, sym, ap, ◌∙◌, subst, arith, below_more, Ok}
 use Rattle.std.proofs.lemmas.List.Elements.{All-contains}
 use Rattle.pd_model.specs.Answers.{IsListOf, MoreThan, IsPossiblyAnswer, PossiblyYes}
-use Rattle.pd_model.specs.Cuts.{IsConsistent, IsOfLevel, empty_cut}
+use Rattle.pd_model.specs.Cuts.{IsOfLevel, empty_cut}
 use Rattle.pd_model.specs.Events.{Computation}
 use Rattle.pd_model.specs.Predicates.{test_of}
 use Rattle.pd_model.specs.Walks.{NoneBelow}
+use Rattle.pd_model.proofs.ListedCuts.{level_consistent}
 use Rattle.pd_level.specs.Levels.{Levelled}
 use Rattle.pd_pred.specs.Views.{predicate_view}
 use Rattle.pd_possibly.specs.Answers.{IsFirstIn}
@@ -18,12 +18,6 @@ none_more : (c : Computation) (test : List ℕ → Bool) (k : ℕ) (cuts : List 
 none_more c test k cuts list none fails j cut lt level =
     below_more (λ i. IsOfLevel c i cut → test cut ≡ false) k (λ i h. none i cut h)
     (λ at. All-contains (λ x. test x ≡ false) cuts cut fails ((list.just cut).1 at)) j lt level
-
--- the cuts of a level are consistent
-consistent_cuts : (c : Computation) (k : ℕ) (cuts : List (List ℕ)) → IsListOf (IsOfLevel c k) cuts
-    → All (IsConsistent c) cuts
-consistent_cuts c k cuts list i d lt =
-    ((list.just (get_or cuts i d)).0 (i, lt, get_or_default cuts i (get_or cuts i d) d lt)).0
 
 pub loop-k-init : goal.loop-k-init
 loop-k-init g c =
@@ -40,11 +34,11 @@ loop-k-init g c =
 
 pub first_satisfying-requires : goal.first_satisfying-requires
 first_satisfying-requires g c =
-    consistent_cuts c.args.computation.now.events c.loop-k.k c.loop-k.level.cuts c.loop-k.invariant.list
+    level_consistent c.args.computation.now.events c.loop-k.k c.loop-k.level.cuts c.loop-k.invariant.list
 
 pub next-requires-clause-cuts : goal.next-requires-clause-cuts
 next-requires-clause-cuts g c =
-    consistent_cuts c.args.computation.now.events c.loop-k.k c.loop-k.level.cuts c.loop-k.invariant.list
+    level_consistent c.args.computation.now.events c.loop-k.k c.loop-k.level.cuts c.loop-k.invariant.list
 
 pub returns-in-Some : goal.returns-in-Some
 returns-in-Some g c =
@@ -58,12 +52,13 @@ returns-in-Some g c =
     c.loop-k.invariant.narrow w.0 w.1 (ap (test_of c.args.computation.now (predicate_view c.args.pred.now)) w.2
     ∙ w.3) w.4)
 
-pub returns-in-Err-Wide : goal.returns-in-Err-Wide
-returns-in-Err-Wide g c =
+pub returns-in-None-2 : goal.returns-in-None-2
+returns-in-None-2 g c =
     let fails = rw c.in-None.is at c.first_satisfying.ensures.none in
+    let wide = rw c.in-None-2.is at c.in_ok-next.ensures.found in
     record {
-      wide = c.possibly_walk.ensures.wide c.args.computation.now.events c.requires.acyclic c.args.width c.loop-k.k
-          c.loop-k.level.cuts c.loop-k.invariant.list (c.in-Err-Wide.ensures.wide (ap Err c.in-Err-Wide.field-0-is));
+      wide = c.possibly_walk.ensures.wide c.args.computation.now.events c.limits.ensures.acyclic c.args.width c.loop-k.k
+          c.loop-k.level.cuts c.loop-k.invariant.list (c.next.ensures.wide wide);
       least = below_more (λ (j : ℕ). ¬ MoreThan c.args.width (IsOfLevel c.args.computation.now.events j)) c.loop-k.k
           c.loop-k.invariant.below (c.possibly_walk.ensures.short c.args.computation.now.events c.args.width c.loop-k.k
           c.loop-k.level.cuts c.loop-k.invariant.list c.loop-k.invariant.narrow);
@@ -75,10 +70,11 @@ returns-in-Err-Wide g c =
 pub loop-k-preserved : goal.loop-k-preserved
 loop-k-preserved g c =
     let fails = rw c.in-None.is at c.first_satisfying.ensures.none in
+    let made : c.next.result ≡ Ok c.in-Some-2.next = rw c.in-Some-2.is at c.in_ok-next.ensures.found in
     record {
-      list = c.levels.ensures.next c.args.computation.now.events c.requires.acyclic c.loop-k.k c.loop-k.level.cuts
-          c.in-Ok.next.cuts c.loop-k.invariant.list c.in-Ok.ensures.list;
-      narrow = c.in-Ok.ensures.narrow;
+      list = c.levels.ensures.next c.args.computation.now.events c.limits.ensures.acyclic c.loop-k.k c.loop-k.level.cuts
+          c.in-Some-2.next.cuts c.loop-k.invariant.list (rw made at c.next.ensures.list);
+      narrow = rw made at c.next.ensures.narrow;
       below = below_more (λ (j : ℕ). ¬ MoreThan c.args.width (IsOfLevel c.args.computation.now.events j)) c.loop-k.k
           c.loop-k.invariant.below (c.possibly_walk.ensures.short c.args.computation.now.events c.args.width c.loop-k.k
           c.loop-k.level.cuts c.loop-k.invariant.list c.loop-k.invariant.narrow);

@@ -1,14 +1,15 @@
+-- The tree of the predicate that the tokens spell, the end among them.
 use Rattle.std.proofs.Common.{◌<◌, length, arith, rules}
 use Rattle.pd_format.specs.Tokens.{OpenParen}
 use Rattle.pd_format.specs.Grammar.{OrRule, AndRule, word_or, word_and, word_not}
-use Rattle.pd_pred.specs.Trees.{tree_of}
+use Rattle.pd_pred.specs.Trees.{tree_view}
 use Rattle.pd_pred.proofs.Prefixes.{readable_rest, readable_follows, fewer_follow}
 use Rattle.pd_pred.proofs.RulesRead.{alone_in_or, alone_in_and, one_more_in_or, one_more_in_and, leads_after_or, leads_after_and, leads_after_not, negation_is_read, truth_is_read, falsehood_is_read, leads_after_paren, parens_are_read}
 use Rattle.pd_pred.proofs.build.+build.Goals as goal
 
 pub conjunction-loop-following-init : goal.conjunction-loop-following-init
 conjunction-loop-following-init t c =
-    alone_in_and c.args.names.now c.args.tokens.now c.in_ok-tree.rest.now (tree_of c.in_ok-tree.tree)
+    alone_in_and c.args.names.now c.args.tokens.now c.in_ok-tree.rest.now (tree_view c.in_ok-tree.tree)
     c.in_ok-tree.ensures
 
 pub conjunction-operand-requires-in-Some : goal.conjunction-operand-requires-in-Some
@@ -27,7 +28,7 @@ conjunction-operand-requires-in-Some t c =
             (readable_rest c.args.names.now c.args.tokens.now so_far.prefix c.loop-following.rest.now so_far.parts
             c.requires.readable),
         leads_after_and c.args.names.now AndRule c.args.tokens.now c.loop-following.rest.now c.in-Some.following.now
-            (tree_of c.loop-following.tree) c.requires.leads so_far c.in-Some.ensures,
+            (tree_view c.loop-following.tree) c.requires.leads so_far c.in-Some.ensures,
       ),
     )
 
@@ -35,13 +36,13 @@ pub conjunction-loop-following-preserved : goal.conjunction-loop-following-prese
 conjunction-loop-following-preserved t c =
     let read =
     one_more_in_and c.args.names.now c.args.tokens.now c.loop-following.rest.now c.in-Some.following.now
-    c.in_ok-right.later.now (tree_of c.loop-following.tree) (tree_of c.in_ok-right.right) c.loop-following.invariant
+    c.in_ok-right.later.now (tree_view c.loop-following.tree) (tree_view c.in_ok-right.right) c.loop-following.invariant
     c.in-Some.ensures c.in_ok-right.ensures in
     rw (c.in_ok-left.ensures.ok, c.in_ok-right-2.ensures.ok) read
 
 pub disjunction-loop-following-init : goal.disjunction-loop-following-init
 disjunction-loop-following-init t c = record {
-  read = alone_in_or c.args.names.now c.args.tokens.now c.in_ok-tree.rest.now (tree_of c.in_ok-tree.tree)
+  read = alone_in_or c.args.names.now c.args.tokens.now c.in_ok-tree.rest.now (tree_view c.in_ok-tree.tree)
       c.in_ok-tree.ensures.read;
   stops_at_and = c.in_ok-tree.ensures.stops_at_and;
 }
@@ -62,7 +63,7 @@ disjunction-conjunction-requires-in-Some t c =
             (readable_rest c.args.names.now c.args.tokens.now so_far.prefix c.loop-following.rest.now so_far.parts
             c.requires.readable),
         leads_after_or c.args.names.now OrRule c.args.tokens.now c.loop-following.rest.now c.in-Some.following.now
-            (tree_of c.loop-following.tree) c.requires.leads so_far c.in-Some.ensures,
+            (tree_view c.loop-following.tree) c.requires.leads so_far c.in-Some.ensures,
       ),
     )
 
@@ -70,7 +71,7 @@ pub disjunction-loop-following-preserved : goal.disjunction-loop-following-prese
 disjunction-loop-following-preserved t c =
     let read =
     one_more_in_or c.args.names.now c.args.tokens.now c.loop-following.rest.now c.in-Some.following.now
-    c.in_ok-right.later.now (tree_of c.loop-following.tree) (tree_of c.in_ok-right.right)
+    c.in_ok-right.later.now (tree_view c.loop-following.tree) (tree_view c.in_ok-right.right)
     c.loop-following.invariant.read c.in-Some.ensures c.in_ok-right.ensures.read in
     record {
       read = rw (c.in_ok-left.ensures.ok, c.in_ok-right-2.ensures.ok) read;
@@ -105,14 +106,14 @@ pub operand-returns-in_ok-tree-in-Paren : goal.operand-returns-in_ok-tree-in-Par
 operand-returns-in_ok-tree-in-Paren t c =
     let inside = c.in_ok-tree-in-Paren in
     parens_are_read c.args.names.now c.args.tokens.now c.in-Paren.inside.now inside.closing.now c.after_first.result.now
-    c.after_first.ensures.0 (tree_of inside.tree) c.requires.leads c.in-Paren.ensures inside.ensures.read
+    c.after_first.ensures.0 (tree_view inside.tree) c.requires.leads c.in-Paren.ensures inside.ensures.read
     inside.ensures.stops_at_and inside.ensures.stops_at_or c.after_first.ensures.1
 
 pub operand-returns-in_ok-operand-in-Negation-2 : goal.operand-returns-in_ok-operand-in-Negation-2
 operand-returns-in_ok-operand-in-Negation-2 t c =
     let read =
     negation_is_read c.args.names.now c.args.tokens.now c.in-Negation.following.now
-    c.in_ok-operand-in-Negation.rest.now (tree_of c.in_ok-operand-in-Negation.operand) c.in-Negation.ensures
+    c.in_ok-operand-in-Negation.rest.now (tree_view c.in_ok-operand-in-Negation.operand) c.in-Negation.ensures
     c.in_ok-operand-in-Negation.ensures in
     rw c.in_ok-operand-in-Negation-2.ensures.ok read
 

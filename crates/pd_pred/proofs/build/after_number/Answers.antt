@@ -1,6 +1,7 @@
+-- The number and what follows it, if the tokens begin with one.
 use Rattle.std.proofs.Common.{ap, arith}
 use Rattle.pd_format.specs.Tokens.{number_from}
-use Rattle.pd_pred.specs.Tokens.{token_of}
+use Rattle.pd_pred.specs.Tokens.{token_view}
 use Rattle.pd_pred.proofs.TermsRead.{number_fits}
 use Rattle.pd_pred.proofs.build.after_number.Goals as goal
 
@@ -12,6 +13,6 @@ number_of-requires c =
       first = c.in_ok-first.first.now;
       parts = c.in_ok-first.ensures.cases.0;
       is =
-          ap token_of c.in-Digits.is;
+          ap token_view c.in-Digits.is;
     }) c.requires in
     omega arith

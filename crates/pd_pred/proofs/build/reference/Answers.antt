@@ -1,3 +1,4 @@
+-- The numbers of the process and the variable that the tokens name.
 use Rattle.std.proofs.Common.{◌≡◌, ◌∙◌, sym, Some}
 use Rattle.pd_format.specs.Names.{process_named}
 use Rattle.pd_pred.proofs.TermsRead.{reference_is_known, reference_is_read}

@@ -1,3 +1,4 @@
+-- A number, a variable, or a number times a variable.
 use Rattle.std.proofs.Common.{arith}
 use Rattle.pd_pred.proofs.Prefixes.{readable_follows}
 use Rattle.pd_format.specs.Tokens.{Digits, Star}

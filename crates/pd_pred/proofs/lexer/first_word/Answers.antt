@@ -1,3 +1,4 @@
+-- The word that the text begins with, and what follows it.
 use Rattle.std.proofs.Common.{◌∙◌, ap, take, drop}
 use Rattle.pd_format.specs.Names.{is_in_word}
 use Rattle.pd_pred.proofs.Runs.{run_boundary, word_ascii, word_is_first}

@@ -1,6 +1,7 @@
+-- The tokens of a text, with the end as the last.
 use Rattle.std.proofs.Common.{◌≡◌, ◌<◌, length, arith}
 use Rattle.std.proofs.lemmas.Bool.Decides.{nat_tests}
-use Rattle.pd_pred.specs.Tokens.{all_placed}
+use Rattle.pd_pred.specs.Tokens.{lexed_view}
 use Rattle.pd_pred.proofs.LexedSoFar.{lexed_inside, stray_at, lexed_at_start_in, lexed_more_in, all_lexed_in}
 use Rattle.pd_pred.proofs.lexer.lex.Goals as goal
 
@@ -13,7 +14,7 @@ loop-token-init c = (
 
 pub place_of-at-requires-clause-inside : goal.place_of-at-requires-clause-inside
 place_of-at-requires-clause-inside c =
-    lexed_inside c.args.text.now (all_placed c.loop-token.tokens.items) c.loop-token.rest.now c.loop-token.invariant.0
+    lexed_inside c.args.text.now (lexed_view c.loop-token.tokens.items) c.loop-token.rest.now c.loop-token.invariant.0
 
 pub loop-token-preserved : goal.loop-token-preserved
 loop-token-preserved c = (
@@ -26,13 +27,13 @@ loop-token-preserved c = (
 
 pub place_of-at-requires-2-clause-inside : goal.place_of-at-requires-2-clause-inside
 place_of-at-requires-2-clause-inside c =
-    lexed_inside c.args.text.now (all_placed c.loop-token.tokens.items) c.loop-token.rest.now c.loop-token.invariant.0
+    lexed_inside c.args.text.now (lexed_view c.loop-token.tokens.items) c.loop-token.rest.now c.loop-token.invariant.0
 
 pub returns-then-not-is_empty-clause-err : goal.returns-then-not-is_empty-clause-err
 returns-then-not-is_empty-clause-err c =
     let some : 0 < length c.loop-token.rest.now =
     grind (arith, nat_tests, c.is_empty.ensures, c.if-not-is_empty.true) in
-    stray_at c.args.text.now (all_placed c.loop-token.tokens.items) c.loop-token.rest.now c.place_of-at-2.result
+    stray_at c.args.text.now (lexed_view c.loop-token.tokens.items) c.loop-token.rest.now c.place_of-at-2.result
     c.loop-token.invariant.0 some c.place_of-at-2.ensures c.in_default.ensures
 
 pub returns-clause-ok : goal.returns-clause-ok

@@ -1,3 +1,4 @@
+-- Whether the digits, of which there may be any number, write a number over the limit.
 use Rattle.std.proofs.Common.{◌+◌, ◌*◌, ◌-◌, ◌≤◌, get_or, arith}
 use Rattle.std.proofs.lemmas.Bool.Decides.{nat_tests}
 use Rattle.pd_format.specs.Tokens.{number_from}

@@ -1,3 +1,4 @@
+-- What the loops of `exceeds` keep.
 use Rattle.std.proofs.Common.{◌≡◌, ◌≤◌, drop}
 use Rattle.pd_format.specs.Tokens.{number_from}
 use Rattle.pd_pred.proofs.numbers.exceeds.Given as goal

@@ -1,3 +1,4 @@
+-- An answer's first line.
 use Rattle.std.proofs.Common.{◌≡◌, ◌∙◌, ◌∷◌, sym, ap}
 use Rattle.std.specs.Prelude.{codes, string_bytes}
 use Rattle.pd_format.specs.Reports.{possibly_words}

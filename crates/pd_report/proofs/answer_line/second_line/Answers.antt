@@ -1,10 +1,11 @@
+-- An answer's second line, under this name.
 use Rattle.std.proofs.Common.{◌∙◌, ◌∷◌, [], sym, ap}
 use Rattle.std.specs.Prelude.{codes}
 use Rattle.std.proofs.lemmas.Result.{IfOk-weaker}
 use Rattle.pd_format.specs.Reports.{definitely_words, DefinitelyIsLawful}
 use Rattle.pd_report.specs.Reading.{slices_view}
 use Rattle.pd_report.specs.Views.{definitely_view}
-use Rattle.pd_report.proofs.LineWords.{second_words, tells_line}
+use Rattle.pd_report.proofs.LineWords.{second_words, found_line}
 use Rattle.pd_report.proofs.Pieces.{tail_is}
 use Rattle.pd_report.proofs.answer_line.second_line.Goals as goal
 
@@ -25,7 +26,7 @@ returns c =
     let name = c.args.name.now in
     let prefix = name ∷ codes "definitely" ∷ [] in
     IfOk-weaker c.definitely.result _ _
-    (tells_line definitely_view definitely_words DefinitelyIsLawful prefix line (slices_view c.in-Some-after.rest.now)
+    (found_line definitely_view definitely_words DefinitelyIsLawful prefix line (slices_view c.in-Some-after.rest.now)
     (sym c.in_ok-words.ensures ∙ sym (ap slices_view c.deref.ensures.value) ∙ c.in-Some.ensures
     ∙ ap (λ rest. name ∷ rest) c.in-Some-after.ensures)
     (second_words line name c.requires) (λ v e. tail_is _ _ _ _ (tail_is _ _ _ _ e))) c.definitely.ensures

@@ -1,3 +1,4 @@
+-- Appends an answer's two lines.
 use Rattle.std.proofs.Common.{arith}
 use Rattle.std.proofs.lemmas.Grind.{common_steps}
 use Rattle.pd_report.specs.Views.{answer_view}

@@ -1,3 +1,4 @@
+-- What the loops of `push_answers` keep.
 use Rattle.std.proofs.Common.{◌≡◌, ◌++◌, take}
 use Rattle.pd_report.specs.Views.{answers_text}
 use Rattle.pd_report.proofs.answer_text.push_answers.Given as goal

@@ -1,3 +1,4 @@
+-- Appends names with a comma between each two.
 use Rattle.std.proofs.Common.{arith}
 use Rattle.std.specs.Prelude.{string_bytes}
 use Rattle.std.proofs.lemmas.List.{take_all}

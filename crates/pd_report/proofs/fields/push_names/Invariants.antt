@@ -1,3 +1,4 @@
+-- What the loops of `push_names` keep.
 use Rattle.std.proofs.Common.{◌≡◌, ◌∷◌, ◌++◌, take}
 use Rattle.std.specs.Prelude.{string_bytes}
 use Rattle.std.specs.List.{flat_map}

@@ -1,3 +1,4 @@
+-- Appends numbers with a comma between each two.
 use Rattle.std.proofs.Common.{arith}
 use Rattle.std.specs.Prelude.{decimal}
 use Rattle.std.proofs.lemmas.List.{take_all}

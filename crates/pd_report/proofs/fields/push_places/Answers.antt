@@ -1,3 +1,4 @@
+-- Appends events with a comma between each two.
 use Rattle.std.proofs.Common.{◌++◌, sym, ap, ◌∙◌, arith}
 use Rattle.std.specs.List.{join_with_byte}
 use Rattle.std.proofs.lemmas.List.{take_all}

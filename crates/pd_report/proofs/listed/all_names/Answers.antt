@@ -1,3 +1,4 @@
+-- Names, one in each piece.
 use Rattle.std.proofs.Common.{◌∷◌, [], arith}
 use Rattle.std.specs.Prelude.{string_bytes}
 use Rattle.std.proofs.lemmas.List.{get_or-map, length-map, map-append}

@@ -1,3 +1,4 @@
+-- What the loops of `all_names` keep.
 use Rattle.std.proofs.Common.{◌≡◌, take}
 use Rattle.std.specs.List.{AllByRecursion}
 use Rattle.pd_format.specs.Reports.{IsName}

@@ -1,3 +1,4 @@
+-- Numbers, one in each piece.
 use Rattle.std.proofs.Common.{[], arith}
 use Rattle.std.specs.Prelude.{decimal}
 use Rattle.std.proofs.lemmas.List.{get_or-map, length-map}

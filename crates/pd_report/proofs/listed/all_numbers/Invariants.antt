@@ -1,3 +1,4 @@
+-- What the loops of `all_numbers` keep.
 use Rattle.std.proofs.Common.{◌≡◌, take, map}
 use Rattle.std.specs.Prelude.{decimal}
 use Rattle.std.specs.List.{AllByRecursion}

@@ -1,3 +1,4 @@
+-- Events, one in each piece.
 use Rattle.std.proofs.Common.{◌∷◌, [], arith}
 use Rattle.std.proofs.lemmas.List.{get_or-map, length-map, map-append}
 use Rattle.pd_format.specs.Reports.{PlaceIsLawful, place_text}

@@ -1,3 +1,4 @@
+-- What the loops of `all_places` keep.
 use Rattle.std.proofs.Common.{◌≡◌, take, map}
 use Rattle.std.specs.List.{AllByRecursion}
 use Rattle.pd_format.specs.Reports.{PlaceIsLawful, place_text}

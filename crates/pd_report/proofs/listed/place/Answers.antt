@@ -1,3 +1,4 @@
+-- An event.
 use Rattle.std.proofs.Common.{◌≡◌, ◌∙◌, ◌∷◌, [], sym, ap}
 use Rattle.std.specs.Prelude.{decimal, string_bytes}
 use Rattle.pd_report.specs.Reading.{pieces, slices_view}

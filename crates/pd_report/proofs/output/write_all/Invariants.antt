@@ -1,3 +1,4 @@
+-- What the loops of `write_all` keep.
 use Rattle.std.proofs.Common.{◌≤◌, ◌-◌, length, take}
 use Rattle.std.specs.Io.KnownBytes.{Appends}
 use Rattle.pd_report.proofs.output.write_all.Given as goal

@@ -1,3 +1,4 @@
+-- Reads the answers after the line of these counts.
 use Rattle.std.proofs.Common.{◌≡◌, ◌+◌, ◌*◌, ◌∙◌, ◌∷◌, ◌++◌, [], ℕ, length, drop, map, refl, sym, ap, length-append, length-drop, arith}
 use Rattle.std.specs.Prelude.{flat_map}
 use Rattle.std.proofs.lemmas.Bool.Decides.{nat_tests}
@@ -10,8 +11,8 @@ use Rattle.pd_report.proofs.Lists.{all_push}
 use Rattle.pd_report.proofs.Stops.{answers_lack, first_stops}
 use Rattle.pd_report.proofs.reader.answers.Goals as goal
 
-pub returns-then-len-eq-MAX_ANSWERS-clause-line : goal.returns-then-len-eq-MAX_ANSWERS-clause-line
-returns-then-len-eq-MAX_ANSWERS-clause-line c = λ k e.
+pub returns-then-len-eq-PREDICATE_LIMIT-clause-line : goal.returns-then-len-eq-PREDICATE_LIMIT-clause-line
+returns-then-len-eq-PREDICATE_LIMIT-clause-line c = λ k e.
     let same : c.loop-at.at + 2 ≡ k = cc in
     let lines = c.args.lines.now in
     let at = c.loop-at.at in
@@ -21,7 +22,7 @@ returns-then-len-eq-MAX_ANSWERS-clause-line c = λ k e.
     length-map (drop at lines) (λ slice. slice.now) in
     at_line _ _ (2 * length xs + 1) (at + 2) k
     (full_stops c.args.counts c.requires xs c.loop-at.invariant.lawful
-    (omega (arith, count, c.len.ensures, c.if-len-eq-MAX_ANSWERS.true)) (slices_view (drop at lines))
+    (omega (arith, count, c.len.ensures, c.if-len-eq-PREDICATE_LIMIT.true)) (slices_view (drop at lines))
     (omega (arith, left, length-drop at lines)))
     (ap (λ z. counts_text c.args.counts ∷ z) (sym c.loop-at.invariant.reported))
     (omega (arith, count, c.loop-at.invariant.count)) same
@@ -50,7 +51,7 @@ returns-in-Second-clause-line c = λ k e.
     let none = rw c.in-Second.is at c.in_ok-answer.ensures in
     at_line _ _ (2 * length xs + 2) (at + 3) k
     (pair_stops c.args.counts c.requires xs c.loop-at.invariant.lawful
-    (omega (arith, count, c.len.ensures, c.if-len-eq-MAX_ANSWERS.false)) _ _ none)
+    (omega (arith, count, c.len.ensures, c.if-len-eq-PREDICATE_LIMIT.false)) _ _ none)
     (ap (λ z. counts_text c.args.counts ∷ z)
     (ap (λ z. flat_map answer_lines xs ++ z) (sym (next_view lines at _ (omega arith)))
     ∙ sym c.loop-at.invariant.reported)) (omega (arith, count, c.loop-at.invariant.count)) same
@@ -62,12 +63,12 @@ loop-at-preserved c =
     let items = c.loop-at.answers.items in
     let answer = c.in-Reported.answer in
     let pair = rw c.in-Reported.is at c.in_ok-answer.ensures in
-    let pushed = c.in_ok-push-in-Reported.ensures.items in
+    let pushed = c.in-Ok.ensures.items in
     let size : length c.push.new.self.items ≡ length items + 1 = ap length pushed ∙ length-append items (answer ∷ []) in
     record {
       within = omega (arith, pair.1, others_count lines at);
       count = omega (arith, size, c.loop-at.invariant.count);
-      few = omega (arith, size, c.len.ensures, c.if-len-eq-MAX_ANSWERS.false, c.loop-at.invariant.few);
+      few = omega (arith, size, c.len.ensures, c.if-len-eq-PREDICATE_LIMIT.false, c.loop-at.invariant.few);
       lawful = rw (pushed, map-append answer_view items (answer ∷ []))
           (all_push AnswerIsLawful (map answer_view items) (answer_view answer) c.loop-at.invariant.lawful pair.0);
       reported =

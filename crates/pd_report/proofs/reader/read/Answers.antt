@@ -1,12 +1,23 @@
-use Rattle.std.proofs.Common.{rules, ◌≡◌, ◌+◌, ◌<◌, ◌∙◌, ◌∷◌, [], length, sym, ap, arith}
+-- The bytes as lines, and what is found of the lines is found of the bytes.
+use Rattle.std.proofs.Common.{rules, ◌≡◌, ℕ, ◌+◌, ◌<◌, ◌∙◌, ◌∷◌, [], length, sym, ap, arith}
 use Rattle.std.proofs.lemmas.Bool.Decides.{nat_tests}
 use Rattle.std.proofs.lemmas.List.{length-map, map-append}
 use Rattle.pd_report.specs.Reading.{pieces, slices_view}
 use Rattle.pd_report.specs.Views.{report_view}
-use Rattle.pd_report.proofs.Whole.{at_number, empty_is, stops_at, unended, whole_report}
+use Rattle.pd_format.proofs.OneReport.{Lacks}
+use Rattle.pd_report.proofs.Pieces.{word_last}
+use Rattle.pd_report.proofs.Stops.{nothing_stops}
+use Rattle.pd_report.proofs.Whole.{at_number, empty_is, stops, stops_at, unended, whole_report}
 use Rattle.std.proofs.lemmas.List.Splits.{length-slice_split}
 use Rattle.std.specs.Prelude.{◌==◌}
 use Rattle.pd_report.proofs.reader.read.Goals as goal
+
+pub returns-then-has_no_line_feed-clause-line : goal.returns-then-has_no_line_feed-clause-line
+returns-then-has_no_line_feed-clause-line c = λ k e.
+    let same : ◌≡◌ {A = ℕ} 1 k = cc in
+    let bytes = c.args.bytes.now in
+    let lacks : Lacks 10 bytes = sym c.has_no_line_feed.ensures ∙ c.if-has_no_line_feed.true in
+    at_number bytes 1 k (stops bytes [] bytes (word_last 10 bytes lacks) 0 nothing_stops) same
 
 pub returns-in_default-clause-line : goal.returns-in_default-clause-line
 returns-in_default-clause-line c = λ k e.

@@ -1,3 +1,4 @@
+-- Reads the first two of the lines.
 use Rattle.std.proofs.Common.{◌∙◌, length, sym, ap, arith}
 use Rattle.std.proofs.lemmas.List.{length-map}
 use Rattle.std.specs.Prelude.{string_bytes}

@@ -1,3 +1,4 @@
+-- A send or a receive that matches none.
 use Rattle.std.proofs.Common.{◌∙◌, sym}
 use Rattle.pd_format.proofs.OneReport.{match_word}
 use Rattle.pd_report.proofs.refusal_line.match_refusal.Goals as goal

@@ -1,3 +1,4 @@
+-- A predicate's number, counted from 1, the word of its fault, and the byte at fault.
 use Rattle.std.proofs.Common.{◌≡◌, ◌∙◌, sym, arith}
 use Rattle.pd_format.proofs.OneReport.{one_decimal}
 use Rattle.pd_report.proofs.Pieces.{head_is}

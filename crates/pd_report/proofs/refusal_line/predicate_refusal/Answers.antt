@@ -1,3 +1,4 @@
+-- A refused predicate, of the words after `predicate`.
 use Rattle.pd_report.specs.Reading.{slices_view}
 use Rattle.pd_report.proofs.RefusalKinds.{no_predicate}
 use Rattle.pd_report.proofs.refusal_line.predicate_refusal.Goals as goal

@@ -1,3 +1,4 @@
+-- A refused stream, of the words after `stream`.
 use Rattle.pd_report.specs.Reading.{slices_view}
 use Rattle.pd_report.proofs.RefusalKinds.{no_stream}
 use Rattle.pd_report.proofs.refusal_line.stream_refusal.Goals as goal

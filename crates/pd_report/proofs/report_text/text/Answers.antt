@@ -1,3 +1,4 @@
+-- A report's text.
 use Rattle.std.proofs.Common.{[], ◌∷◌, ◌++◌, sym, ap, ◌∙◌}
 use Rattle.std.specs.Prelude.{codes}
 use Rattle.pd_format.specs.Reports.{refusal_words, report_text, spaced}

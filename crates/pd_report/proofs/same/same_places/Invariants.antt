@@ -1,3 +1,4 @@
+-- What the loops of `same_places` keep.
 use Rattle.std.proofs.Common.{◌≡◌, map, take}
 use Rattle.pd_report.specs.Views.{named_place_view}
 use Rattle.pd_report.proofs.same.same_places.Given as goal

@@ -1,3 +1,4 @@
+-- The pieces between these bytes.
 use Rattle.std.proofs.lemmas.Iterator.Consumers.{map_from_collect}
 use Rattle.std.proofs.lemmas.Iterator.Splits.{YieldsList-from_slice_split}
 use Rattle.std.proofs.Common.{rules, ◌==◌}

@@ -1,3 +1,4 @@
+-- The text of letters and digits.
 use Rattle.pd_report.proofs.Pieces.{word_is_text}
 use Rattle.pd_report.proofs.words.word_text.Goals as goal
 

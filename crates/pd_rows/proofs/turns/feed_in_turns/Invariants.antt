@@ -1,3 +1,4 @@
+-- What the loops of `feed_in_turns` keep.
 use Rattle.std.proofs.Common.{◌≡◌, length}
 use Rattle.pd_rows.proofs.turns.feed_in_turns.Given as goal
 

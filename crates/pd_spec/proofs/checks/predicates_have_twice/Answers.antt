@@ -1,3 +1,4 @@
+-- That `predicates_have_twice` meets its contract.
 use Rattle.pd_spec.proofs.OutlineViews.{texts_of-predicates}
 use Rattle.pd_spec.proofs.checks.predicates_have_twice.Goals as goal
 

@@ -1,3 +1,4 @@
+-- That `processes_have_twice` meets its contract.
 use Rattle.pd_spec.proofs.OutlineViews.{texts_of-processes}
 use Rattle.pd_spec.proofs.checks.processes_have_twice.Goals as goal
 

@@ -1,3 +1,4 @@
+-- Whether each field of the object is one of these.
 use Rattle.std.proofs.Common.{◌∙◌}
 use Rattle.pd_spec.proofs.MemberViews.{has_only-entries}
 use Rattle.pd_spec.proofs.fields.has_only.Goals as goal

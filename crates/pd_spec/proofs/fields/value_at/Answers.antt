@@ -1,3 +1,4 @@
+-- The value of this field, if it is there.
 use Rattle.std.proofs.Common.{ap, ◌∙◌, option_map}
 use Rattle.serde_json.specs.View.{view}
 use Rattle.serde_json.proofs.Views.{view_of_ref, view-lookup}

@@ -1,4 +1,5 @@
-use Rattle.std.proofs.Common.{sym, ◌∙◌, arith, inr, refl}
+-- The predicates of the items so far, and those of the items that are left, are those of all.
+use Rattle.std.proofs.Common.{sym, ◌∙◌, arith}
 use Rattle.serde_json.specs.View.{items_view}
 use Rattle.pd_format.specs.Documents.{each}
 use Rattle.pd_spec.specs.Outlines.{predicate_in, predicate_outline_view}
@@ -16,10 +17,7 @@ loop-item-preserved c =
     c.loop-item.predicates.items _ c.in-Some.predicate (omega arith) c.item-item.is c.in-Some.ensures
     c.in_ok-push-in-Some.ensures.items
 
-pub returns-in-None-clause-err : goal.returns-in-None-clause-err
-returns-in-None-clause-err c =
-    inr (
-      refl,
-      c.loop-item.invariant ∙ each_none predicate_in c.args.items.now c.loop-item.item-index c.item-item.result
-          _ (omega arith) c.item-item.is c.in-None.ensures,
-    )
+pub returns-in-None : goal.returns-in-None
+returns-in-None c =
+    sym (c.loop-item.invariant ∙ each_none predicate_in c.args.items.now c.loop-item.item-index c.item-item.result _
+    (omega arith) c.item-item.is c.in-None.ensures)

@@ -1,4 +1,5 @@
-use Rattle.std.proofs.Common.{sym, ◌∙◌, arith, inr, refl}
+-- The processes of the items so far, and those of the items that are left, are those of all.
+use Rattle.std.proofs.Common.{sym, ◌∙◌, arith}
 use Rattle.serde_json.specs.View.{items_view}
 use Rattle.pd_format.specs.Documents.{each}
 use Rattle.pd_spec.specs.Outlines.{process_in, process_view}
@@ -15,10 +16,7 @@ loop-item-preserved c =
     c.loop-item.processes.items _ c.in-Some.process (omega arith) c.item-item.is c.in-Some.ensures
     c.in_ok-push-in-Some.ensures.items
 
-pub returns-in-None-clause-err : goal.returns-in-None-clause-err
-returns-in-None-clause-err c =
-    inr (
-      refl,
-      c.loop-item.invariant ∙ each_none process_in c.args.items.now c.loop-item.item-index c.item-item.result _
-          (omega arith) c.item-item.is c.in-None.ensures,
-    )
+pub returns-in-None : goal.returns-in-None
+returns-in-None c =
+    sym (c.loop-item.invariant ∙ each_none process_in c.args.items.now c.loop-item.item-index c.item-item.result _
+    (omega arith) c.item-item.is c.in-None.ensures)

@@ -1,3 +1,4 @@
+-- What the loops of `process_outlines` keep.
 use Rattle.std.proofs.Common.{◌≡◌, map, drop}
 use Rattle.serde_json.specs.View.{items_view}
 use Rattle.pd_format.specs.Documents.{each}

@@ -1,3 +1,4 @@
+-- What the loops of `initial_row` keep.
 use Rattle.std.proofs.Common.{◌≡◌, ◌++◌, map}
 use Rattle.std.specs.BTreeMap.{values}
 use Rattle.serde_json.specs.View.{view}

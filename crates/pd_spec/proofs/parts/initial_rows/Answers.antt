@@ -1,3 +1,4 @@
+-- The initial values of each process's variables, in the order of the processes.
 use Rattle.std.proofs.Common.{ℤ, Vec, Global, ◌∙◌}
 use Rattle.pd_spec.specs.Outlines.{row_in, process_view}
 use Rattle.pd_spec.proofs.Mapped.{mapped_more, numbers_of_values}

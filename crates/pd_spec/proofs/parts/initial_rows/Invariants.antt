@@ -1,3 +1,4 @@
+-- What the loops of `initial_rows` keep.
 use Rattle.std.proofs.Common.{◌≡◌, ℤ, Vec, Global, map, take}
 use Rattle.pd_spec.specs.Outlines.{row_in, process_view}
 use Rattle.pd_spec.proofs.parts.initial_rows.Given as goal

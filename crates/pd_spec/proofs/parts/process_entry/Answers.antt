@@ -1,3 +1,4 @@
+-- That `process_entry` meets its contract.
 use Rattle.std.proofs.Common.{refl}
 use Rattle.pd_spec.proofs.Mapped.{bytes_of_keys}
 use Rattle.pd_spec.proofs.parts.process_entry.Goals as goal

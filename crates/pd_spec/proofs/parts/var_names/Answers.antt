@@ -1,3 +1,4 @@
+-- That `var_names` meets its contract.
 use Rattle.std.proofs.Common.{◌≡◌, map, string_bytes, arith}
 use Rattle.std.proofs.lemmas.Grind.{common_steps}
 use Rattle.std.specs.BTreeMap.{keys}

@@ -1,3 +1,4 @@
+-- What the loops of `var_names` keep.
 use Rattle.std.proofs.Common.{◌≡◌, ◌++◌, map, string_bytes}
 use Rattle.std.specs.BTreeMap.{keys}
 use Rattle.pd_spec.proofs.parts.var_names.Given as goal

@@ -1,3 +1,4 @@
+-- Whether some text is among these twice.
 use Rattle.std.proofs.Common.{sym, ap, ◌∙◌}
 use Rattle.std.proofs.lemmas.List.{take_all}
 use Rattle.pd_format.specs.Documents.{has_twice}

@@ -1,3 +1,4 @@
+-- What the loops of `has_twice` keep.
 use Rattle.std.proofs.Common.{◌≡◌, ℕ, List, Bor, false, map, take, nat_cmp, is_eq}
 use Rattle.std.specs.Cmp.Lexicographic.{slice_cmp}
 use Rattle.std.specs.List.{list_any}

@@ -1,8 +1,16 @@
--- Where no cycle is reported all events have their clocks.
-use Rattle.std.proofs.Common.{◌≡◌, Option, Some, None, refl}
-use Rattle.std.specs.Prelude.{IfNone}
+-- The traces fit the document, and if no cycle is reported all events have their clocks.
+use Rattle.std.proofs.Common.{◌≡◌, ℤ, List, map, Option, Some, None, refl, sym, subst}
+use Rattle.std.specs.Prelude.{IfNone, string_bytes, Vec}
+use Rattle.std.specs.Global.{Global}
 use Rattle.pd_model.specs.Order.{HasNoCycle}
 use Rattle.pd_events.specs.Views.{computation_view}
+use Rattle.pd_events.specs.SessionTraces.{AreTraces}
+use Rattle.pd_events.specs.declared.event.Trace.{Trace}
+use Rattle.pd_spec.specs.Sound.{IsSound}
+use Rattle.pd_spec.specs.Views.{document_view}
+use Rattle.pd_spec.specs.declared.spec.Spec.{Spec}
+use Rattle.pd_clock.specs.Computations.{FitsInitial, initial_view}
+use Rattle.pd_clock.proofs.FitTraces.{fits_initial}
 use Rattle.pd_clock.proofs.PastFacts.{all_clocks}
 use Rattle.pd_clock.proofs.computation.Computation.build.Goals as goal
 
@@ -10,6 +18,30 @@ none_reported : {A : Type 0} (reported : Option A) (P : Type 0) → ((x : A) →
     → P
 none_reported None P no_place holds = holds
 none_reported (Some x) P no_place holds = absurd (no_place x refl)
+
+-- the traces fit the document's values, which are these
+fits : (spec : Spec) (rows : List (Vec ℤ Global)) (traces : List Trace) → initial_view rows
+    ≡ (document_view spec).initial → AreTraces (document_view spec).names traces → FitsInitial rows traces
+fits spec rows traces same are =
+    fits_initial (document_view spec).names rows (map (λ p. string_bytes p.name) spec.predicates.items) spec.width
+    traces
+    (subst (λ (values : List (List ℤ)). IsSound (document_view spec).names values
+    (map (λ p. string_bytes p.name) spec.predicates.items) spec.width) (sym same) spec.sound) are
+
+pub put_in_order-requires-clause-few : goal.put_in_order-requires-clause-few
+put_in_order-requires-clause-few c =
+    (fits c.args.spec.now c.initial_rows-initial.result.now c.args.traces.now c.initial_rows-initial.ensures
+    c.requires.traces).few
+
+pub put_in_order-requires-clause-short : goal.put_in_order-requires-clause-short
+put_in_order-requires-clause-short c =
+    (fits c.args.spec.now c.initial_rows-initial.result.now c.args.traces.now c.initial_rows-initial.ensures
+    c.requires.traces).short
+
+pub histories-requires : goal.histories-requires
+histories-requires c =
+    fits c.args.spec.now c.initial_rows-initial.result.now c.args.traces.now c.initial_rows-initial.ensures
+    c.requires.traces
 
 pub invariant_of-result : goal.invariant_of-result
 invariant_of-result c =

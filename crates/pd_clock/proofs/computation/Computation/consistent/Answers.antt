@@ -1,4 +1,4 @@
--- Counts that fit are consistent where they have what the clocks tell.
+-- Counts that fit are consistent if they have what is in the clocks of their last events.
 use Rattle.std.proofs.Common.{◌≡◌, ◌↔◌, ap}
 use Rattle.pd_model.specs.Cuts.{FitsProcesses, IsConsistent}
 use Rattle.pd_model.specs.Predicates.{Recorded}

@@ -1,3 +1,4 @@
+-- What holds of every computation.
 use Rattle.std.proofs.Common.{subst}
 use Rattle.pd_model.specs.Order.{HasNoCycle}
 use Rattle.pd_model.specs.Predicates.{Recorded}

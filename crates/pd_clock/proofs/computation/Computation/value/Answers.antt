@@ -15,8 +15,8 @@ row_read : (rows : List (Vec ℤ Global)) (p : ℕ) (row : Vec ℤ Global) (item
     → row ≡ get_or rows p row → items ≡ (get_or rows p row).items → values_at rows p ≡ items
 row_read rows p row items lt is at = values_read rows p row lt is ∙ (ap (λ (r : Vec ℤ Global). r.items) is ∙ sym at)
 
-pub looked_up-requires : goal.looked_up-requires
-looked_up-requires c =
+pub value_in_history-requires : goal.value_in_history-requires
+value_in_history-requires c =
     let lt : c.args.process < length c.self.inside.initial.now = c.if-process-self.false in
     let le : c.args.count ≤ event_count (computation_view c.self.inside.traces.now) c.args.process =
     count_there c.self.inside.initial.now c.self.inside.traces.now c.self.inside.histories.items c.self.invariant.0
@@ -49,11 +49,11 @@ returns c =
     λ counts at.
     let here : get_or counts c.args.process 0 ≤ event_count (computation_view c.self.inside.traces.now) c.args.process =
     rw at le in
-    let read : c.looked_up.result ≡ value_in (values_at c.self.inside.initial.now c.args.process)
+    let read : c.value_in_history.result ≡ value_in (values_at c.self.inside.initial.now c.args.process)
     (values_at c.self.inside.histories.items c.args.process) (get_or counts c.args.process 0) c.args.var =
-    rw (start, history, at) c.looked_up.ensures in
-    to_z-of_z w64 c.looked_up.result (record { sfits = c.looked_up.type_inv }) ∙
-    subst (λ (r : Recorded). c.looked_up.result ≡ state_at r.initial r.events counts c.args.process c.args.var)
+    rw (start, history, at) c.value_in_history.ensures in
+    to_z-of_z w64 c.value_in_history.result (record { sfits = c.value_in_history.type_inv }) ∙
+    subst (λ (r : Recorded). c.value_in_history.result ≡ state_at r.initial r.events counts c.args.process c.args.var)
     c.self.view_is
     (read ∙ value_is_state c.self.inside.initial.now c.self.inside.traces.now c.self.inside.histories.items
     c.self.invariant.0 counts c.args.process c.args.var here)

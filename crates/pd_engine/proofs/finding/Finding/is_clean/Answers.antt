@@ -1,12 +1,12 @@
 -- Whether a verdict is bad.
-use Rattle.std.proofs.Common.{rules, tests, ◌≡◌, ◌∙◌, refl, Bool, true, List, map, Option, Some}
+use Rattle.std.proofs.Common.{rules, tests, ◌≡◌, ◌∙◌, refl, sym, Bool, true, List, map, Option, Some}
 use Rattle.std.specs.Prelude.{not, Vec}
 use Rattle.std.specs.Global.{Global}
 use Rattle.std.specs.List.{list_any}
 use Rattle.std.proofs.lemmas.Iterator.{YieldsList-from_slice}
 use Rattle.std.proofs.lemmas.Iterator.Search.{any_from_yields_List}
 use Rattle.pd_judgement.specs.Findings.{has_bad, is_clean}
-use Rattle.pd_report.proofs.Pieces.{any_map}
+use Rattle.pd_format.proofs.ListTests.{list_any-map}
 use Rattle.pd_engine.specs.FindingViews.{checked_view, finding_view}
 use Rattle.pd_engine.specs.declared.finding.Checked.{Checked}
 use Rattle.pd_engine.specs.declared.finding.Finding.{Finding}
@@ -26,6 +26,6 @@ returns-then-good c =
     let found =
     any_from_yields_List (λ checked. has_bad (checked_view checked)) _ _ _ c.any.ensures.ran
     (YieldsList-from_slice c.deref.result.now c.iter.ensures.rest) (λ x b q k. search (rules, tests))
-    ∙ any_map has_bad checked_view c.deref.result.now in
+    ∙ sym (list_any-map has_bad checked_view c.deref.result.now) in
     by_verdicts c.args.self.now c.in-OfSession.good c.in-OfSession.answers c.in-Some.answers c.in-OfSession.is
     c.in-Some.is c.if-good.true c.deref.result.now c.deref.ensures.value c.any.result found

@@ -1,3 +1,4 @@
+-- Whether the end line or a fault has come.
 use Rattle.pd_format.specs.Readings.{by_end_line, by_fault}
 use Rattle.pd_events.proofs.progress.Phase.is_closed.Goals as goal
 

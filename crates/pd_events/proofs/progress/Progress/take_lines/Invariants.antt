@@ -1,3 +1,4 @@
+-- What the loops of `take_lines` keep.
 use Rattle.std.proofs.Common.{◌≡◌, ◌++◌, drop}
 use Rattle.pd_frames.specs.Views.{lines_view}
 use Rattle.pd_format.specs.ReadingLaws.{read_on}

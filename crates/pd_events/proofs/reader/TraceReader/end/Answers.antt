@@ -1,3 +1,4 @@
+-- Takes the end of the input, after which the reader is closed.
 use Rattle.std.proofs.Common.{true, ap}
 use Rattle.pd_format.specs.Readings.{Reading, Ended}
 use Rattle.pd_frames.specs.Views.{lines_view}

@@ -1,3 +1,4 @@
+-- The same of bytes without an LF, so that no line ends.
 use Rattle.std.proofs.Common.{[]}
 use Rattle.pd_frames.specs.Views.{frame_faults_view, lines_view}
 use Rattle.pd_events.proofs.ReaderSteps.{open_stop, fed, no_line}

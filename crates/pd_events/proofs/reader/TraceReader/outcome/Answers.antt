@@ -1,3 +1,4 @@
+-- The trace of a stream that has its end line, otherwise its fault.
 use Rattle.std.proofs.Common.{refl, sym, ◌∙◌, ap}
 use Rattle.pd_format.specs.Readings.{Reading, result_of}
 use Rattle.pd_events.proofs.reader.TraceReader.outcome.Goals as goal

@@ -1,3 +1,4 @@
+-- Takes the next bytes of the stream, and gives the lines that end in them.
 use Rattle.std.proofs.Common.{rules}
 use Rattle.pd_frames.proofs.Ends.{faulty_batch}
 use Rattle.pd_frames.proofs.framer.Framer.feed.Goals as goal

@@ -1,3 +1,4 @@
+-- What the loops of `new` keep.
 use Rattle.std.proofs.Common.{◌≡◌, [], All}
 use Rattle.std.specs.Vec.{vec_len}
 use Rattle.pd_format.specs.Readings.{Open}

@@ -1,3 +1,4 @@
+-- What the streams gave.
 use Rattle.std.proofs.Common.{◌≡◌, ◌+◌, ◌++◌, ◌∷◌, [], List, map, refl, sym, ◌∙◌, ap, subst, arith}
 use Rattle.std.specs.List.{AllZip}
 use Rattle.std.specs.Vec.{vec_len}
@@ -8,7 +9,7 @@ use Rattle.pd_events.specs.Reads.{ReaderState}
 use Rattle.pd_events.specs.declared.event.Trace.{Trace}
 use Rattle.pd_events.specs.declared.fault.StreamFault.{StreamFault}
 use Rattle.std.specs.Prelude.{Result}
-use Rattle.pd_gather.proofs.Outcomes.{Gives, gives_push, outcomes_reported, outcomes_each, outcomes_fit}
+use Rattle.pd_gather.proofs.Outcomes.{Gives, gives_push, outcomes_are_results, outcomes_fit}
 use Rattle.pd_gather.proofs.streams.Core.outcome.Goals as goal
 
 pub loop-reader-preserved : goal.loop-reader-preserved
@@ -36,23 +37,13 @@ all_given : (readers : List ReaderState) (core : List ReaderState) (yielded : Li
 all_given readers core yielded room e f =
     subst (λ (xs : List ReaderState). AllZip Gives xs room) (sym (map_same yielded) ∙ (f ∙ e))
 
-pub returns-clause-reported : goal.returns-clause-reported
-returns-clause-reported c =
+pub returns-clause-results : goal.returns-clause-results
+returns-clause-results c =
     let end =
     YieldsList-end (YieldsList-from_vec {s = c.into_iter-reader-iterator.result} c.self.inside.readers.items (cc)
     (cc)) c.loop-reader.yielded c.loop-reader.reader-iterator c.loop-reader.yielded_by c.next.result c.next.new.self
     c.in-None.is c.next.ensures.steps in
-    outcomes_reported c.args.self c.loop-reader.room.items
-    (all_given c.self.inside.readers.items c.args.self c.loop-reader.yielded c.loop-reader.room.items c.self.view_is
-    end.0 c.loop-reader.invariant.gives)
-
-pub returns-clause-each : goal.returns-clause-each
-returns-clause-each c =
-    let end =
-    YieldsList-end (YieldsList-from_vec {s = c.into_iter-reader-iterator.result} c.self.inside.readers.items (cc)
-    (cc)) c.loop-reader.yielded c.loop-reader.reader-iterator c.loop-reader.yielded_by c.next.result c.next.new.self
-    c.in-None.is c.next.ensures.steps in
-    outcomes_each c.args.self c.loop-reader.room.items
+    outcomes_are_results c.args.self c.loop-reader.room.items
     (all_given c.self.inside.readers.items c.args.self c.loop-reader.yielded c.loop-reader.room.items c.self.view_is
     end.0 c.loop-reader.invariant.gives)
 

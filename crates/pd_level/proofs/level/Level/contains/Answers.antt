@@ -1,4 +1,4 @@
--- A cut is there where it has a key, and that is found.
+-- A cut is there if it has a key, and that is found.
 use Rattle.std.proofs.Common.{◌≡◌, false, length, Contains, sym, ap, ◌∙◌, subst, ◌↔◌}
 use Rattle.std.specs.Prelude.{IsTrue}
 use Rattle.std.specs.Result.{is_ok}

@@ -1,3 +1,4 @@
+-- The send of this receipt, if the place is that of a receipt.
 use Rattle.std.proofs.Common.{◌≡◌, ◌∙◌, ◌<◌, ◌≤◌, ap, get_or, length, option_map, refl, subst, sym}
 use Rattle.std.proofs.lemmas.Option.{slice_get_past, slice_get_read}
 use Rattle.pd_match.specs.Noted.{sender_view}

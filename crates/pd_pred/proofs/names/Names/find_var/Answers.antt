@@ -1,3 +1,4 @@
+-- The number of this process's variable of this name, from 0.
 use Rattle.std.proofs.Common.{sym, ◌∙◌, ap, ℕ, string_bytes}
 use Rattle.std.specs.Prelude.{List, position}
 use Rattle.std.specs.Str.{bytes_eq}

@@ -1,9 +1,10 @@
-use Rattle.std.proofs.Common.{ap, arith, length}
-use Rattle.pd_pred.proofs.Reading.{few_tokens}
+-- A text that is read is one predicate, by the law of the language over names that are clear.
+use Rattle.std.proofs.lemmas.Result.{MatchResult-weaker}
+use Rattle.pd_pred.specs.Views.{predicate_view}
 use Rattle.pd_pred.proofs.predicate.Pred.parse.Goals as goal
 
-pub build-requires-clause-few : goal.build-requires-clause-few
-build-requires-clause-few c =
-    let few = few_tokens c.args.text.now c.in-Ok.tokens.items (omega arith) c.in-Ok.ensures.ok in
-    let same = ap length c.deref-3.ensures.value in
-    omega arith
+pub returns-clause-single : goal.returns-clause-single
+returns-clause-single c =
+    let clear = c.distinct_names_are_clear.ensures c.args.names.now c.differ.ensures in
+    MatchResult-weaker c.of_short.result c.of_short.ensures.ok (λ pred is other also.
+    c.one_predicate.ensures c.args.names.now clear c.args.text.now other (predicate_view pred) also is) (λ error h. h)

@@ -1,3 +1,4 @@
+-- That `is_named` meets its contract.
 use Rattle.std.proofs.Common.{arith}
 use Rattle.pd_spec.proofs.OutlineViews.{has_names-parts}
 use Rattle.pd_spec.proofs.outline.Outline.is_named.Goals as goal

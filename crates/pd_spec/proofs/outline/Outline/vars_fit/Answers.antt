@@ -1,3 +1,4 @@
+-- That `vars_fit` meets its contract.
 use Rattle.pd_spec.proofs.OutlineViews.{vars_fit-processes}
 use Rattle.pd_spec.proofs.outline.Outline.vars_fit.Goals as goal
 

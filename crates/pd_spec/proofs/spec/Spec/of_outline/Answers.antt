@@ -1,3 +1,4 @@
+-- That `of_outline` meets its contract.
 use Rattle.std.proofs.Common.{◌≡◌, List, ℕ, map, string_bytes, ap, ◌∙◌}
 use Rattle.pd_spec.specs.Outlines.{outline_view, predicate_outline_view}
 use Rattle.pd_spec.specs.declared.named.NamedPred.{NamedPred}

@@ -1,0 +1,41 @@
+-- A text that is written up to some place is written whole, or a prefix of it is.
+use Rattle.std.proofs.Common.{◌≡◌, ℕ, ◌<◌, ◌≤◌, List, [], ◌++◌, length, take, Some, None, Option, ap, ◌∙◌, sym, subst, refl, arith, append_assoc, inl, inr, ◌⊎◌}
+use Rattle.std.specs.Io.KnownBytes.{Appends, Keeps}
+use Rattle.std.proofs.lemmas.List.{append-nil, take_all}
+use Rattle.std.proofs.lemmas.Bool.{cases_lt}
+use Rattle.pd_judgement.specs.Statuses.{WritesUpTo}
+
+-- bytes after bytes
+pub appends_on : (a b c : Option (List ℕ)) (xs ys : List ℕ) → Appends a b xs → Appends b c ys → Appends a c (xs ++ ys)
+appends_on None b c xs ys first then = tt
+appends_on (Some old) None c xs ys first then = absurd first
+appends_on (Some old) (Some mid) None xs ys first then = absurd then
+appends_on (Some old) (Some mid) (Some new) xs ys first then =
+    then ∙ (ap (λ (zs : List ℕ). zs ++ ys) first ∙ append_assoc old xs ys)
+
+-- nothing after bytes
+pub appends_kept : (a b c : Option (List ℕ)) (xs : List ℕ) → Appends a b xs → Keeps b c → Appends a c xs
+appends_kept None b c xs first then = tt
+appends_kept (Some old) None c xs first then = absurd first
+appends_kept (Some old) (Some mid) None xs first then = absurd then
+appends_kept (Some old) (Some mid) (Some new) xs first then = then ∙ first
+
+pub up_to : (text : List ℕ) (old new : Option (List ℕ)) (taken : ℕ) → Appends old new (take taken text)
+    → WritesUpTo (λ written. written ≡ text) old new
+up_to text old new taken written = go (cases_lt taken (length text))
+  where
+    go : (taken < length text) ⊎ (length text ≤ taken) → WritesUpTo (λ written. written ≡ text) old new
+    go (inl lt) = inr (text, refl, taken, lt, written)
+    go (inr le) =
+        inl (text, refl, subst (λ (bytes : List ℕ). Appends old new bytes) (take_all taken text le) written)
+
+-- nothing is written
+pub appends_nothing : (old new : Option (List ℕ)) → Keeps old new → Appends old new []
+appends_nothing None new kept = tt
+appends_nothing (Some old) None kept = absurd kept
+appends_nothing (Some old) (Some new) kept = kept ∙ sym (append-nil old)
+
+pub keeps_of_nothing : (old new : Option (List ℕ)) → Appends old new [] → Keeps old new
+keeps_of_nothing None new none = tt
+keeps_of_nothing (Some old) None none = absurd none
+keeps_of_nothing (Some old) (Some new) none = none ∙ append-nil old

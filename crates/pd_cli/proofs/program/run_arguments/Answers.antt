@@ -1,0 +1,40 @@
+-- What is done is what the arguments ask for.
+use Rattle.std.proofs.Common.{inr, map, subst, List, ℕ, Option, Bor}
+use Rattle.pd_judgement.specs.Statuses.{CheckLeaves}
+use Rattle.pd_cli.proofs.FilesRead.{files_of_names}
+use Rattle.clap.specs.Values.{kind_of}
+use Rattle.pd_cli.specs.Arguments.{AsksFor}
+use Rattle.pd_cli.specs.Views.{file_names_view, request_view}
+use Rattle.pd_cli.specs.declared.request.Request.{Request}
+use Rattle.pd_cli.proofs.ParserEnds.{error_as_asked}
+use Rattle.pd_cli.proofs.program.run_arguments.Goals as goal
+
+pub returns-in-Ok-Check : goal.returns-in-Ok-Check
+returns-in-Ok-Check g c = record {
+  ends = record {
+    ending = c.run_check.ensures.ending;
+    is_status = c.run_check.ensures.is_status;
+    output = inr (
+      file_names_view c.in-Ok-Check.names,
+      subst (λ (r : Request). AsksFor (map (λ argument. argument.bytes.items) c.args.arguments.now) (request_view r))
+          c.in-Ok-Check.field-0-is c.in-Ok-Check.ensures.asked,
+      subst (λ (streams : List (Option (List ℕ))). CheckLeaves
+          (g.F.FileSource.bytes_of c.args.files.now c.in-Ok-Check.names.spec.now)
+          (g.F.FileSource.bytes_of c.args.files.now c.in-Ok-Check.names.report.now) streams c.run_check.ensures.ending
+          (g.O.Write.contents c.args.output.now) (g.O.Write.contents c.run_check.new.output))
+          (files_of_names (g.F.FileSource.bytes_of c.args.files.now) (λ (name : Bor (List ℕ)). name.now)
+          c.in-Ok-Check.names.streams.items) c.run_check.ensures.output,
+    );
+    errors = c.run_check.ensures.errors;
+  };
+}
+
+pub returns-in-Err : goal.returns-in-Err
+returns-in-Err g c = record {
+  ends = error_as_asked _ (g.I.Read.remaining c.args.input) (g.F.FileSource.bytes_of c.args.files.now)
+      c.report_parser_error.result (g.O.Write.contents c.args.output.now)
+      (g.O.Write.contents c.report_parser_error.new.output) (g.E.Write.contents c.args.errors.now)
+      (g.E.Write.contents c.report_parser_error.new.errors) (kind_of c.in-Err.error) c.in-Err.ensures.refused
+      c.report_parser_error.ensures.memory c.report_parser_error.ensures.shown
+      c.report_parser_error.ensures.misused;
+}

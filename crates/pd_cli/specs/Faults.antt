@@ -1,0 +1,21 @@
+-- The engine's faults and results, as ends of a run.
+use Rattle.std.specs.Prelude.{◌≡◌, ℕ, Bool, true, false, List, codes, Result, Ok, Err}
+use Rattle.pd_judgement.specs.Statuses.{Failure, MemoryFailure, ReadFailure, WriteFailure, BundleFailure, Ending, Success, Negative, Failed}
+use Rattle.pd_engine.specs.declared.fault.EngineFault.{EngineFault}
+use Rattle.pd_engine.specs.declared.fault.EngineFault.TheVariants.{Memory, Write, Read, BundleLong}
+
+abbrev pub failure_view : EngineFault → Failure
+failure_view Memory = MemoryFailure
+failure_view Write = WriteFailure
+failure_view Read = ReadFailure
+failure_view BundleLong = BundleFailure
+
+-- whether the session is judged and not refused, or nothing that a check found is bad; or the fault
+abbrev pub ending_view : Result Bool EngineFault → Ending
+ending_view (Ok true) = Success
+ending_view (Ok false) = Negative
+ending_view (Err fault) = Failed (failure_view fault)
+
+-- the line that reports an argument that isn't text
+abbrev pub IsUnreadLine : List ℕ → Type 0
+IsUnreadLine text = text ≡ codes "monitor: a word is not UTF-8\n"

@@ -1,0 +1,38 @@
+//! Where a check's files are read.
+use pd_engine::EngineFault;
+use std::fs;
+use std::io::Read;
+use std::rt::Files;
+
+/// Opens files by their names. What each holds may be known, as it is in proofs over files that are made up; of the
+/// system's files nothing is known.
+pub trait FileSource {
+    ghost use Rattle.pd_cli.specs.FileSources.{HasWholeFile};
+    ghost use Rattle.pd_engine.specs.declared.fault.EngineFault.TheVariants as faults;
+    ghost use Rattle.std.specs.Prelude.{IfOk, IsOkUnless, ℕ, List, Option};
+
+    type File: Read + Drop;
+
+    // The bytes of the file of each name, if they are known.
+    ghost bytes_of: { Self → List ℕ → Option (List ℕ) };
+
+    /// Opens the file of this name to read it from its start.
+    ///
+    /// # Errors
+    /// `Read`, if it can't be opened.
+    fn open(&self, name: &str) -> Result<Self::File, EngineFault>
+        ensures file { IfOk result (λ file. HasWholeFile (bytes_of self.now name.now) (Self.File.remaining file)) }
+        ensures err { IsOkUnless result faults.Read };
+}
+
+impl<R: Files> FileSource for R {
+    ghost use Rattle.std.specs.Prelude.{None};
+
+    type File = R::File;
+
+    ghost bytes_of = { λ _ _. None };
+
+    fn open(&self, name: &str) -> Result<R::File, EngineFault> {
+        fs::open(self, name).map_err(|_| EngineFault::Read)
+    }
+}

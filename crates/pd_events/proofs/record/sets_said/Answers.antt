@@ -1,6 +1,0 @@
-use Rattle.std.proofs.Common.{map, string_bytes}
-use Rattle.pd_events.proofs.RecordFacts.{nothing_set}
-use Rattle.pd_events.proofs.record.sets_said.Goals as goal
-
-pub returns-in-None : goal.returns-in-None
-returns-in-None c = rw c.new.ensures.items (nothing_set (map string_bytes c.args.vars.now) c.args.settings c.in-None.is)

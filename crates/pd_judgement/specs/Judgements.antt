@@ -1,0 +1,107 @@
+-- The report that a document and its streams make: the first refusal, or an answer for each predicate.
+use Rattle.std.specs.Prelude.{◌≡◌, ℕ, List, [], ◌∷◌, length, map, Some, Result, Ok, Err}
+use Rattle.std.specs.List.{AllZip}
+use Rattle.pd_model.specs.Events.{Computation, Place}
+use Rattle.pd_model.specs.Messages.{Fault, IsReported, HasLawfulMessages, IsMessageList}
+use Rattle.pd_model.specs.Order.{IsWellFormed, IsReportedCycle}
+use Rattle.pd_model.specs.Cuts.{total}
+use Rattle.pd_model.specs.Predicates.{Recorded, test_of}
+use Rattle.pd_model.specs.Answers.{PossiblyAnswer, PossiblyYes, PossiblyNo, PossiblyUnknown, IsPossiblyAnswer, DefinitelyAnswer, DefinitelyYes, DefinitelyNo, DefinitelyUnknown, IsDefinitelyAnswer}
+use Rattle.pd_format.specs.Names.{ProcessNames, name_of_process}
+use Rattle.pd_format.specs.Readings.{Ending, Ended, Trace, result_of, reading}
+use Rattle.pd_format.specs.Documents.{Document, NamedPredicate, DocumentFault, IsDocument, IsRefusedDocument}
+use Rattle.pd_format.specs.Sessions.{SessionFault, StreamResult, session}
+use Rattle.pd_format.specs.Reports.{Possibly, Definitely, Answer, Report, Judged, Refused}
+use Rattle.pd_format.specs.Reports as reports
+use Rattle.pd_format.specs.RefusalWords.{document_refusal, session_refusal, named_place, match_refusal}
+use Rattle.pd_format.specs.Bundles.{parts_of}
+
+-- ---- the report of traces
+
+abbrev pub events_of_traces : List Trace → Computation
+events_of_traces traces = map (λ (trace : Trace). trace.events) traces
+
+-- what was recorded: the traces' events, and the document's initial values
+abbrev pub recorded_of : Document → List Trace → Recorded
+recorded_of document traces = record { initial = document.initial; events = events_of_traces traces }
+
+abbrev pub printed_possibly : PossiblyAnswer → Possibly
+printed_possibly (PossiblyYes cut) = Possibly.Yes cut
+printed_possibly PossiblyNo = Possibly.No
+printed_possibly (PossiblyUnknown level) = Possibly.Unknown level
+
+-- the avoiding observation as the names of its processes
+abbrev pub printed_definitely : List ProcessNames → DefinitelyAnswer → Definitely
+printed_definitely names (DefinitelyYes level) = Definitely.Yes level
+printed_definitely names (DefinitelyNo path) = Definitely.No (map (name_of_process names) path)
+printed_definitely names (DefinitelyUnknown level) = Definitely.Unknown level
+
+-- The answer for one predicate: whether some consistent cut satisfies it, and whether every observation passes through
+-- such a cut, under this width.
+pub record IsAnswered (names : List ProcessNames) (recorded : Recorded) (width : ℕ) (asked : NamedPredicate)
+    (answer : Answer) : Type 0 where
+  pub name : answer.name ≡ asked.name
+  pub possibly : PossiblyAnswer
+  pub possibly_reported : answer.possibly ≡ printed_possibly possibly
+  pub possibly_right : IsPossiblyAnswer recorded.events (test_of recorded asked.predicate) width possibly
+  pub definitely : DefinitelyAnswer
+  pub definitely_reported : answer.definitely ≡ printed_definitely names definitely
+  pub definitely_right : IsDefinitelyAnswer recorded.events (test_of recorded asked.predicate) width definitely
+
+-- The report of traces: the first fault of the messages, else the causal cycle, else the answers.
+pub data IsTracesReport (document : Document) (traces : List Trace) : Report → Type 0 where
+  of_messages : (fault : Fault) → IsReported (events_of_traces traces) fault
+      → IsTracesReport document traces (Refused (match_refusal document.names fault))
+  of_cycle : (cycle : List Place) → HasLawfulMessages (events_of_traces traces)
+      → IsReportedCycle (events_of_traces traces) cycle
+      → IsTracesReport document traces (Refused (reports.Cycle (map (named_place document.names) cycle)))
+  of_answers : (messages : List (Place × Place)) (answers : List Answer) → IsWellFormed (events_of_traces traces)
+      → IsMessageList (events_of_traces traces) messages
+      → AllZip (IsAnswered document.names (recorded_of document traces) document.width) document.predicates answers
+      → IsTracesReport document traces (Judged (length document.names) (total (events_of_traces traces))
+      (length messages) answers)
+
+-- the report of what a session comes to
+abbrev pub IsReportOfSession : Document → Result (List Trace) SessionFault → Report → Type 0
+IsReportOfSession document (Err fault) report = report ≡ Refused (session_refusal document.names fault)
+IsReportOfSession document (Ok traces) report = IsTracesReport document traces report
+
+-- the report of this many streams with these outcomes
+abbrev pub IsReportOfResults : Document → ℕ → List StreamResult → Report → Type 0
+IsReportOfResults document streams outcomes report =
+    IsReportOfSession document (session document.names streams outcomes) report
+
+-- ---- the report of streams and of bundles
+
+-- what a stream reported: its bytes, and how they ended
+pub record RawStream : Type 0 where
+  pub ending : Ending
+  pub bytes : List ℕ
+
+-- What a stream comes to: a trace or a fault. A stream of which more may come, and that has neither yet, comes to
+-- nothing.
+abbrev pub IsResultOf : List ProcessNames → RawStream → StreamResult → Type 0
+IsResultOf names stream result = result_of (reading names stream.ending stream.bytes) ≡ Some result
+
+-- what each stream comes to, in the streams' order
+abbrev pub AreResultsOf : List ProcessNames → List RawStream → List StreamResult → Type 0
+AreResultsOf names streams results = AllZip (IsResultOf names) streams results
+
+-- the report of a document's bytes and of what the streams reported
+pub data IsJudgement (bytes : List ℕ) (streams : List RawStream) (report : Report) : Type 0 where
+  of_refused : (fault : DocumentFault) → IsRefusedDocument bytes fault → report ≡ Refused (document_refusal fault)
+      → IsJudgement bytes streams report
+  of_read : (document : Document) (results : List StreamResult) → IsDocument bytes document
+      → AreResultsOf document.names streams results → IsReportOfResults document (length streams) results report
+      → IsJudgement bytes streams report
+
+abbrev pub ended_streams : List (List ℕ) → List RawStream
+ended_streams parts = map (λ bytes. record { ending = Ended; bytes = bytes }) parts
+
+-- the report of a bundle: its first part is the document, and the others are the streams
+abbrev pub IsReportOfParts : List (List ℕ) → Report → Type 0
+IsReportOfParts [] report = ⊥
+IsReportOfParts (document ∷ streams) report = IsJudgement document (ended_streams streams) report
+
+abbrev pub IsReportOfBundle : List ℕ → Report → Type 0
+IsReportOfBundle bytes report = IsReportOfParts (parts_of bytes) report

@@ -1,0 +1,177 @@
+-- How a run of the program ends: its exit status, and what that says of what it leaves on its output and on its errors.
+use Rattle.std.specs.Prelude.{◌≡◌, ◌<◌, ◌≤◌, ◌⊎◌, ⊤, ℕ, Bool, true, false, List, codes, length, map, Option, Some, None, IfSome}
+use Rattle.std.specs.Io.KnownBytes.{Keeps}
+use Rattle.pd_format.specs.Limits.{bundle_byte_limit, report_byte_limit}
+use Rattle.pd_judgement.specs.Writes.{Writes, Whole, Partial, IsReportTextOf, IsFindingTextOf}
+
+-- ---- what a run is asked for
+
+pub data Request : Type 0 where
+  -- to judge the bundle on the input
+  JudgeInput : Request
+  -- to check a report by a session document and streams of events, each in a file of this name
+  CheckFiles : (document report : List ℕ) (streams : List (List ℕ)) → Request
+  -- to show the help
+  ShowHelp : Request
+  -- the arguments ask for nothing that can be done
+  Unclear : Request
+
+-- ---- how a run ends
+
+-- why a run does not do what it is asked for, though the arguments are clear
+pub data Failure : Type 0 where
+  -- memory runs out
+  MemoryFailure : Failure
+  -- the input or a file can't be read, or a report is too long
+  ReadFailure : Failure
+  -- the output can't be written, or not be flushed
+  WriteFailure : Failure
+  -- the bundle is too long
+  BundleFailure : Failure
+
+pub data Ending : Type 0 where
+  -- the session is judged, nothing that the check found is bad, or the help is written
+  Success : Ending
+  -- the session is refused, or something that the check found is bad
+  Negative : Ending
+  -- the arguments are refused
+  Misuse : Ending
+  Failed : Failure → Ending
+
+abbrev pub status_of_failure : Failure → ℕ
+status_of_failure MemoryFailure = 4
+status_of_failure ReadFailure = 3
+status_of_failure WriteFailure = 3
+status_of_failure BundleFailure = 3
+
+-- the exit status
+abbrev pub status_of : Ending → ℕ
+status_of Success = 0
+status_of Negative = 1
+status_of Misuse = 2
+status_of (Failed failure) = status_of_failure failure
+
+-- ---- what stands on the errors
+
+-- the line that reports a failure
+abbrev pub line_of_failure : Failure → List ℕ
+line_of_failure MemoryFailure = codes "monitor: memory\n"
+line_of_failure ReadFailure = codes "monitor: read\n"
+line_of_failure WriteFailure = codes "monitor: write\n"
+line_of_failure BundleFailure = codes "monitor: bundle too long\n"
+
+-- the text that is owed is written, or a prefix of it
+abbrev pub WritesUpTo : (IsOwed : List ℕ → Type 0) → (old new : Option (List ℕ)) → Type 0
+WritesUpTo IsOwed old new = Writes IsOwed Whole old new ⊎ Writes IsOwed Partial old new
+
+abbrev pub IsLineOf : Failure → List ℕ → Type 0
+IsLineOf failure text = text ≡ line_of_failure failure
+
+-- Nothing is reported of what succeeds or is found bad; of a failure its line, or a prefix of it if the errors take no
+-- more. What is reported of refused arguments is the parser's.
+abbrev pub Reports : Ending → (old new : Option (List ℕ)) → Type 0
+Reports Success old new = Keeps old new
+Reports Negative old new = Keeps old new
+Reports Misuse old new = ⊤
+Reports (Failed failure) old new = WritesUpTo (IsLineOf failure) old new
+
+-- ---- what stands on the output
+
+-- what the input holds isn't too long, if it is known
+abbrev pub FitsBundle : (input : Option (List ℕ)) → Type 0
+FitsBundle input = IfSome input (λ bundle. length bundle ≤ bundle_byte_limit)
+
+-- the text of the report of the bundle on the input, which is judged or a refusal as said
+abbrev pub IsInputsReport : (input : Option (List ℕ)) → Option Bool → (text : List ℕ) → Type 0
+IsInputsReport input judged text = IfSome input (λ bundle. IsReportTextOf bundle judged text)
+
+-- A session is judged or refused: the text of its report. The output fails: that text or a prefix of it. Any other end:
+-- nothing.
+abbrev pub JudgementLeaves : (input : Option (List ℕ)) → Ending → (old new : Option (List ℕ)) → Type 0
+JudgementLeaves input Success old new =
+    FitsBundle input × Writes (IsInputsReport input (Some true)) Whole old new
+JudgementLeaves input Negative old new =
+    FitsBundle input × Writes (IsInputsReport input (Some false)) Whole old new
+JudgementLeaves input Misuse old new = ⊥
+JudgementLeaves input (Failed MemoryFailure) old new = Keeps old new
+JudgementLeaves input (Failed ReadFailure) old new = Keeps old new
+JudgementLeaves input (Failed WriteFailure) old new =
+    FitsBundle input × WritesUpTo (IsInputsReport input None) old new
+JudgementLeaves input (Failed BundleFailure) old new =
+    IfSome input (λ bundle. bundle_byte_limit < length bundle) × Keeps old new
+
+-- P holds of the bytes of a document and of those of a report, which are all that their files hold, if that is known,
+-- and the report isn't too long.
+pub record OfFiles (document report : Option (List ℕ)) (P : List ℕ → List ℕ → Type 0) : Type 0 where
+  pub document_bytes : List ℕ
+  pub report_bytes : List ℕ
+  pub whole_document : IfSome document (λ bytes. document_bytes ≡ bytes)
+  pub whole_report : IfSome report (λ bytes. report_bytes ≡ bytes)
+  pub fits : length report_bytes ≤ report_byte_limit
+  pub holds : P document_bytes report_bytes
+
+-- A check finds nothing bad, or something: the text of what it finds. The output fails: that text or a prefix of it.
+-- Any other end: nothing.
+abbrev pub CheckLeaves : (document report : Option (List ℕ)) (streams : List (Option (List ℕ))) → Ending
+    → (old new : Option (List ℕ)) → Type 0
+CheckLeaves document report streams Success old new =
+    OfFiles document report (λ d r. Writes (IsFindingTextOf d r streams (Some true)) Whole old new)
+CheckLeaves document report streams Negative old new =
+    OfFiles document report (λ d r. Writes (IsFindingTextOf d r streams (Some false)) Whole old new)
+CheckLeaves document report streams Misuse old new = ⊥
+CheckLeaves document report streams (Failed MemoryFailure) old new = Keeps old new
+CheckLeaves document report streams (Failed ReadFailure) old new = Keeps old new
+CheckLeaves document report streams (Failed WriteFailure) old new =
+    OfFiles document report (λ d r. WritesUpTo (IsFindingTextOf d r streams None) old new)
+CheckLeaves document report streams (Failed BundleFailure) old new = ⊥
+
+-- The help is the parser's text: it is shown, or the output fails.
+abbrev pub HelpLeaves : Ending → (old new : Option (List ℕ)) → Type 0
+HelpLeaves Success old new = ⊤
+HelpLeaves Negative old new = ⊥
+HelpLeaves Misuse old new = ⊥
+HelpLeaves (Failed MemoryFailure) old new = Keeps old new
+HelpLeaves (Failed ReadFailure) old new = ⊥
+HelpLeaves (Failed WriteFailure) old new = ⊤
+HelpLeaves (Failed BundleFailure) old new = ⊥
+
+-- Arguments that ask for nothing are refused, and nothing is written.
+abbrev pub MisuseLeaves : Ending → (old new : Option (List ℕ)) → Type 0
+MisuseLeaves Success old new = ⊥
+MisuseLeaves Negative old new = ⊥
+MisuseLeaves Misuse old new = Keeps old new
+MisuseLeaves (Failed MemoryFailure) old new = Keeps old new
+MisuseLeaves (Failed ReadFailure) old new = ⊥
+MisuseLeaves (Failed WriteFailure) old new = ⊥
+MisuseLeaves (Failed BundleFailure) old new = ⊥
+
+-- by what is asked for, where the input and the file of each name hold these bytes, if that is known
+abbrev pub Leaves : (input : Option (List ℕ)) (files : List ℕ → Option (List ℕ)) → Request → Ending
+    → (old new : Option (List ℕ)) → Type 0
+Leaves input files JudgeInput ending old new = JudgementLeaves input ending old new
+Leaves input files (CheckFiles document report streams) ending old new =
+    CheckLeaves (files document) (files report) (map files streams) ending old new
+Leaves input files ShowHelp ending old new = HelpLeaves ending old new
+Leaves input files Unclear ending old new = MisuseLeaves ending old new
+
+-- ---- a run
+
+-- Memory runs out before it is known what is asked for, and nothing is written; or the arguments ask for something, and
+-- what is left on the output is by that and by how the run ends.
+abbrev pub DoesAsAsked : (IsAsked : Request → Type 0) (input : Option (List ℕ)) (files : List ℕ → Option (List ℕ))
+    → Ending → (old new : Option (List ℕ)) → Type 0
+DoesAsAsked IsAsked input files ending old new = ((ending ≡ Failed MemoryFailure) × Keeps old new)
+    ⊎ (request : Request) × IsAsked request × Leaves input files request ending old new
+
+-- A run with this exit status came to some end, by which this is left on the output.
+pub record Ends (IsLeft : Ending → Type 0) (status : ℕ) (errors_old errors_new : Option (List ℕ)) : Type 0 where
+  pub ending : Ending
+  pub is_status : status ≡ status_of ending
+  pub output : IsLeft ending
+  pub errors : Reports ending errors_old errors_new
+
+-- A run did what its arguments ask for: requests of which this holds.
+abbrev pub EndsAsAsked : (IsAsked : Request → Type 0) (input : Option (List ℕ)) (files : List ℕ → Option (List ℕ))
+    (status : ℕ) (old new errors_old errors_new : Option (List ℕ)) → Type 0
+EndsAsAsked IsAsked input files status old new errors_old errors_new =
+    Ends (λ ending. DoesAsAsked IsAsked input files ending old new) status errors_old errors_new
