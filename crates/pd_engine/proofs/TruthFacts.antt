@@ -1,13 +1,12 @@
 -- A report that is right tells the truth, and the report of a well-formed session has answers.
-use Rattle.std.proofs.Common.{◌≡◌, ℕ, List, Ok, subst, sym, ◌∙◌}
+use Rattle.std.proofs.Common.{◌≡◌, ℕ, List, Ok, sym, ◌∙◌}
 use Rattle.std.specs.Prelude.{Option, Some, None, Result, Err, IfOk, IfSome}
 use Rattle.pd_model.specs.Order.{IsWellFormed}
 use Rattle.pd_format.specs.Documents.{Document}
-use Rattle.pd_judgement.specs.Judgements.{IsReportOfResults, IsReportOfSession, events_of_traces}
+use Rattle.pd_judgement.specs.Judgements.{events_of_traces}
 use Rattle.pd_format.specs.Readings.{Trace}
-use Rattle.pd_format.specs.Reports.{Report}
-use Rattle.pd_format.specs.Sessions.{StreamResult, SessionFault, session}
-use Rattle.pd_judgement.specs.Headline.{Headline, HeadlineOfBundle, HoldsSession, IsNarrow, TellsTruth}
+use Rattle.pd_format.specs.Sessions.{session}
+use Rattle.pd_judgement.specs.Headline.{HeadlineOfBundle, HoldsSession}
 use Rattle.pd_judgement.specs.Writes.{IsReportTextOf, Writes, WritesTruth}
 use Rattle.pd_judgement.proofs.WellFormedReports.{bundle_judged}
 use Rattle.pd_engine.specs.Ends.{call_end, judged_as}
@@ -15,15 +14,6 @@ use Rattle.pd_engine.specs.declared.fault.EngineFault.{EngineFault}
 use Rattle.pd_engine.specs.declared.outcome.Outcome.{Outcome}
 use Rattle.pd_engine.specs.declared.outcome.Outcome.TheVariants.{Judged}
 use Rattle.pd_engine.proofs.Ends.{outcome_judged}
-
--- the report of a session with traces
-pub truth_of_results : Headline → (document : Document) (streams : ℕ) (results : List StreamResult) (report : Report)
-    → IsReportOfResults document streams results report → (traces : List Trace)
-    → session document.names streams results ≡ Ok traces → IsWellFormed (events_of_traces traces)
-    → IsNarrow (events_of_traces traces) document.width → TellsTruth document traces report
-truth_of_results law document streams results report right traces joined well narrow =
-    law document traces report well narrow
-    (subst (λ (r : Result (List Trace) SessionFault). IsReportOfSession document r report) joined right)
 
 -- what is written whole is the truth
 pub truth_of_written : HeadlineOfBundle → (result : Result Outcome EngineFault) (input old new : Option (List ℕ))

@@ -5,6 +5,7 @@ pub mod LineFacts
 pub mod ReadingFacts
 pub mod HistoryFacts
 pub mod Prefixes
+pub mod Completions
 pub mod OneTree
 pub mod PredicateExamples
 pub mod OneLexing

@@ -8,7 +8,8 @@ use Rattle.pd_format.specs.PredicateTexts.{tokens_of, depth_after, opens, is_too
 use Rattle.pd_format.specs.Limits.{depth_limit, predicate_byte_limit}
 use Rattle.pd_format.specs.Grammar.{NamedBy, SpellsSum, no_or, no_and, both, compare, word_and}
 use Rattle.pd_format.specs.PrefixWalk.{begins}
-use Rattle.pd_format.proofs.Prefixes.{begins_of_can, can_of_begins}
+use Rattle.pd_format.proofs.Prefixes.{begins_of_can}
+use Rattle.pd_format.proofs.Completions.{can_of_begins}
 use Rattle.pd_format.proofs.Examples.{names as processes}
 use Rattle.std.proofs.lemmas.List.{reverse-append, append-nil}
 use Rattle.std.proofs.lemmas.Bool.{and_parts, le-leb}

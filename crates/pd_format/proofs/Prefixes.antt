@@ -1,9 +1,9 @@
--- A walk over tokens that finds whether they begin a predicate, and that it does.
-use Rattle.std.proofs.Common.{◌≡◌, ℕ, suc, zero, Bool, true, false, cond, List, [], ◌∷◌, ◌++◌, refl, sym, ◌∙◌, ap, append_assoc, ◌⊎◌, inl, inr}
-use Rattle.std.specs.Prelude.{Option, Some, None, is_some, option_and_then, codes, ◌↔◌}
+-- A walk over tokens ends exactly on the tokens of a predicate.
+use Rattle.std.proofs.Common.{◌≡◌, ℕ, suc, zero, Bool, true, false, cond, List, [], ◌∷◌, ◌++◌, refl, sym, ◌∙◌, ap, append_assoc}
+use Rattle.std.specs.Prelude.{Option, Some, None, is_some, option_and_then, codes}
 use Rattle.std.specs.Str.{bytes_eq}
 use Rattle.std.proofs.lemmas.Slice.Eq.{bytes_eq-Decides}
-use Rattle.pd_model.specs.Predicates.{Term, Number, Variable, Times, Sign, Plus, Minus, Comparison, Equals, Predicate, Always, Never, Compare, Not, And, Or}
+use Rattle.pd_model.specs.Predicates.{Term, Number, Variable, Times, Sign, Plus, Minus, Comparison, Predicate, Always, Never, Compare, Not, And, Or}
 use Rattle.pd_format.specs.Names.{is_keyword}
 use Rattle.pd_format.specs.Tokens.{Token, Word, Digits, OpenParen, CloseParen, Relates, Signs, Star, Dot, End}
 use Rattle.pd_format.specs.Grammar.{AnyName, SpellsReference, SpellsTerm, SpellsSigned, SpellsSum, Rule, OrRule, AndRule, word_or, word_and, word_not, Spells, either, no_or, both, no_and, negated, in_parens, always, never, compare, SpellsWhole, CanGoOn}
@@ -65,7 +65,7 @@ walk-append s (x ∷ xs) ys = go (step s x) (λ later. walk-append later xs ys)
 -- ---- what is spelled is walked
 
 -- after a term
-data IsAfterTerm (side : Side) : Mode → Type 0 where
+pub data IsAfterTerm (side : Side) : Mode → Type 0 where
   a_term : IsAfterTerm side (AfterTerm side)
   a_number : IsAfterTerm side (AfterNumber side)
 
@@ -163,7 +163,7 @@ walk_sum mode side d tokens ((Minus, term) ∷ others) b spelled =
     }
 
 -- after an operand
-data IsAfter : Mode → Type 0 where
+pub data IsAfter : Mode → Type 0 where
   an_operand : IsAfter AfterOperand
   a_sum : {mode : Mode} → IsAfterTerm OnRight mode → IsAfter mode
 
@@ -173,17 +173,17 @@ join_after mode d w k an_operand = rw k refl
 join_after mode d w k (a_sum a_term) = rw k refl
 join_after mode d w k (a_sum a_number) = rw k refl
 
-close_after : (mode : Mode) (d : ℕ) → IsAfter mode → next mode (suc d) CloseParen ≡ goes AfterOperand d
+pub close_after : (mode : Mode) (d : ℕ) → IsAfter mode → next mode (suc d) CloseParen ≡ goes AfterOperand d
 close_after mode d an_operand = refl
 close_after mode d (a_sum a_term) = refl
 close_after mode d (a_sum a_number) = refl
 
-end_after : (mode : Mode) → IsAfter mode → next mode 0 End ≡ Some AtEnd
+pub end_after : (mode : Mode) → IsAfter mode → next mode 0 End ≡ Some AtEnd
 end_after mode an_operand = refl
 end_after mode (a_sum a_term) = refl
 end_after mode (a_sum a_number) = refl
 
-relation_after : (mode : Mode) (d : ℕ) (c : Comparison) → IsAfterTerm OnLeft mode
+pub relation_after : (mode : Mode) (d : ℕ) (c : Comparison) → IsAfterTerm OnLeft mode
     → next mode d (Relates c) ≡ goes AtSum d
 relation_after mode d c a_term = refl
 relation_after mode d c a_number = refl
@@ -763,75 +763,3 @@ pub spelled_of_walk : (tokens : List Token) → walk start tokens ≡ Some AtEnd
 spelled_of_walk tokens e =
     let o = walk_means tokens start e in
     (o.spelled.0, (o.inner, o.parts ∙ ap (λ ts. o.inner ++ ts) (end_of 0 o.rest refl o.closes), o.spelled.1))
-
--- ---- each state leads to the end
-
-closing : ℕ → List Token
-closing zero = End ∷ []
-closing (suc d) = CloseParen ∷ closing d
-
-compared : Side → ℕ → List Token
-compared OnLeft d = Relates Equals ∷ Digits 0 ∷ closing d
-compared OnRight d = closing d
-
-a_name : List ℕ
-a_name = codes "a"
-
-completion : State → List Token
-completion (Inside AtOperand d) = Word (codes "true") ∷ closing d
-completion (Inside AtSum d) = Digits 0 ∷ closing d
-completion (Inside (AtTerm side) d) = Digits 0 ∷ compared side d
-completion (Inside (AfterNumber side) d) = compared side d
-completion (Inside (AfterStar side) d) = Word a_name ∷ Dot ∷ Word a_name ∷ compared side d
-completion (Inside (AfterName side) d) = Dot ∷ Word a_name ∷ compared side d
-completion (Inside (AfterDot side) d) = Word a_name ∷ compared side d
-completion (Inside (AfterTerm side) d) = compared side d
-completion (Inside AfterOperand d) = closing d
-completion AtEnd = []
-
-closing_ends : (d : ℕ) (mode : Mode) → IsAfter mode → walk (Inside mode d) (closing d) ≡ Some AtEnd
-unfolding closing
-closing_ends zero mode b = rw (end_after mode b) refl
-closing_ends (suc d) mode b = rw (close_after mode d b) (closing_ends d AfterOperand an_operand)
-
-compared_ends : (side : Side) (d : ℕ) (mode : Mode) → IsAfterTerm side mode → walk (Inside mode d) (compared side d)
-    ≡ Some AtEnd
-unfolding compared
-compared_ends OnRight d mode b = closing_ends d mode (a_sum b)
-compared_ends OnLeft d mode b =
-    rw (relation_after mode d Equals b) (closing_ends d (AfterNumber OnRight) (a_sum a_number))
-
-completion_ends : (s : State) → walk s (completion s) ≡ Some AtEnd
-unfolding completion a_name
-completion_ends (Inside AtOperand d) = closing_ends d AfterOperand an_operand
-completion_ends (Inside AtSum d) = closing_ends d (AfterNumber OnRight) (a_sum a_number)
-completion_ends (Inside (AtTerm side) d) = compared_ends side d (AfterNumber side) a_number
-completion_ends (Inside (AfterNumber side) d) = compared_ends side d (AfterNumber side) a_number
-completion_ends (Inside (AfterStar side) d) = compared_ends side d (AfterTerm side) a_term
-completion_ends (Inside (AfterName side) d) = compared_ends side d (AfterTerm side) a_term
-completion_ends (Inside (AfterDot side) d) = compared_ends side d (AfterTerm side) a_term
-completion_ends (Inside (AfterTerm side) d) = compared_ends side d (AfterTerm side) a_term
-completion_ends (Inside AfterOperand d) = closing_ends d AfterOperand an_operand
-completion_ends AtEnd = refl
-
-pub can_of_begins : (tokens : List Token) → begins tokens ≡ true → CanGoOn tokens
-can_of_begins tokens h = go (walk start tokens) refl h
-  where
-    go : (o : Option State) → walk start tokens ≡ o → is_some o ≡ true → CanGoOn tokens
-    go None e h = absurd (cc)
-    go (Some s) e h =
-        let whole =
-        spelled_of_walk (tokens ++ completion s) (walk-append start tokens (completion s)
-        ∙ ap (λ o. option_and_then (λ later. walk later (completion s)) o) e ∙ completion_ends s) in
-        (completion s, whole.0, whole.1)
-
--- The walk finds exactly which tokens begin a predicate.
-pub begins_is_exact : (tokens : List Token) → (begins tokens ≡ true) ↔ CanGoOn tokens
-begins_is_exact tokens = (can_of_begins tokens, begins_of_can tokens)
-
-pub prefixes_are_decided_lem : (tokens : List Token) → CanGoOn tokens ⊎ (¬ (CanGoOn tokens))
-prefixes_are_decided_lem tokens = go (begins tokens) refl
-  where
-    go : (b : Bool) → begins tokens ≡ b → CanGoOn tokens ⊎ (¬ (CanGoOn tokens))
-    go true e = inl (can_of_begins tokens e)
-    go false e = inr (λ can. let yes = begins_of_can tokens can in cc)

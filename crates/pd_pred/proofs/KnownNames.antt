@@ -6,7 +6,8 @@ use Rattle.pd_format.specs.Tokens.{Token, Placed, Word, Dot}
 use Rattle.pd_format.specs.PredicateTexts.{IsUnknownName, UnknownName, tokens_of}
 use Rattle.pd_format.specs.Grammar.{CanGoOn}
 use Rattle.pd_format.specs.PrefixWalk.{State, AtEnd, walk, start}
-use Rattle.pd_format.proofs.Prefixes.{walk-append, can_of_begins}
+use Rattle.pd_format.proofs.Prefixes.{walk-append}
+use Rattle.pd_format.proofs.Completions.{can_of_begins}
 use Rattle.pd_pred.specs.Building.{IsKnown}
 use Rattle.pd_pred.specs.Placement.{IsWellPlaced}
 

@@ -1,5 +1,6 @@
 -- A walk finds which tokens begin a predicate's, and goes on from where it was.
-use Rattle.pd_format.proofs.Prefixes.{begins_is_exact, walk-append}
+use Rattle.pd_format.proofs.Prefixes.{walk-append}
+use Rattle.pd_format.proofs.Completions.{begins_is_exact}
 use Rattle.pd_format.proofs.prefixes_are_walked.Goals as goal
 
 pub returns-clause-exact : goal.returns-clause-exact
