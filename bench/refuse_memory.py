@@ -1,11 +1,12 @@
 #!/usr/bin/env python3
 """refuse_memory.py PROGRAM INPUT..: refuses each of the program's allocations in turn.
 
-An input is a bundle, or a folder with `session.json`, `report` and files `NAME.stream`, of which the report is checked.
-For each input and each N, counted upward until a run meets no refusal, the program runs with its Nth allocation
-refused. It must end with status 4, nothing on standard output and `monitor: memory` on standard error, or as a run that
-is refused nothing.
-The first allocations are the C library's own. The status is 1 if a run does anything else. It needs gcc."""
+An input is a bundle, or a folder with `session.json`, `report` and files `NAME.stream`, which is judged, and of which the
+report is checked. For each input and each N, counted upward until a run meets no refusal, the program runs with its Nth
+allocation refused. It must end with status 4, nothing on standard output and `monitor: memory` on standard error, or as
+a run that is refused nothing.
+The first allocations are the C library's own, and so are those with which it starts threads: a thread that can't be
+started is no failure. The status is 1 if a run does anything else. It needs gcc."""
 import os
 import subprocess
 import sys
@@ -28,7 +29,7 @@ static int is_refused(void) {
         const char *number = getenv("REFUSED");
         refused = number ? atol(number) : 0;
     }
-    return ++asked == refused;
+    return __atomic_add_fetch(&asked, 1, __ATOMIC_SEQ_CST) == refused;
 }
 
 void *malloc(size_t size) {
@@ -73,18 +74,20 @@ def run(arguments, bundle, folder, number):
         return (run.returncode, run.stdout, run.stderr), int(counted.read())
 
 
-def command_for(program, path):
-    """The program and its arguments for an input, and what its standard input has."""
+def commands_for(program, path):
+    """The program and its arguments for each run of an input, and what its standard input has."""
     if os.path.isdir(path):
-        streams = sorted(name for name in os.listdir(path) if name.endswith(".stream"))
-        return [program, "check", *(os.path.join(path, name) for name in ["session.json", "report", *streams])], b""
+        names = sorted(name for name in os.listdir(path) if name.endswith(".stream"))
+        document, report = os.path.join(path, "session.json"), os.path.join(path, "report")
+        streams = [os.path.join(path, name) for name in names]
+        return [([program, "judge", document, *streams], b""), ([program, "check", document, report, *streams], b"")]
     with open(path, "rb") as opened:
-        return [program], opened.read()
+        return [([program], opened.read())]
 
 
-def refuse_each(program, path, folder):
+def refuse_each(arguments, bundle, path, folder):
     """Whether each run reports that memory ran out, or gives what a run with memory gives."""
-    arguments, bundle = command_for(program, path)
+    name = " ".join([*arguments[1:2], path])
     want, _ = run(arguments, bundle, folder, 0)
     memory, same, number, asked = 0, 0, 0, 1
     while number <= asked:
@@ -95,9 +98,9 @@ def refuse_each(program, path, folder):
         elif given == want:
             same += 1
         else:
-            print(f"{path}: allocation {number}: {given}")
+            print(f"{name}: allocation {number}: {given}")
             return False
-    print(f"{path}: {memory} refusals reported, {same} runs as with memory")
+    print(f"{name}: {memory} refusals reported, {same} runs as with memory")
     return True
 
 
@@ -108,7 +111,8 @@ def main():
         with open(source, "w") as out:
             out.write(SHIM)
         subprocess.run(["gcc", "-O1", "-shared", "-fPIC", "-o", os.path.join(folder, "shim.so"), source], check=True)
-        if not all([refuse_each(program, path, folder) for path in sys.argv[2:]]):
+        runs = [(path, command) for path in sys.argv[2:] for command in commands_for(program, path)]
+        if not all([refuse_each(*command, path, folder) for path, command in runs]):
             raise SystemExit(1)
 
 

@@ -1,7 +1,8 @@
 #!/usr/bin/env bash
 # compare.sh [PROGRAM]: runs the program on each example, and compares what it writes and its status with what is
-# stored. The last line says how many were compared; the status is 1 if any differs. PROGRAM is
-# crates/monitor/out/monitor if it isn't given.
+# stored. Each example is judged from its files, and again as a bundle; each finding is what a check writes. The last
+# line says how many were compared; the status is 1 if any differs. PROGRAM is crates/monitor/out/monitor if it isn't
+# given.
 set -u
 here=$(realpath "$(dirname "$0")")
 program=$(realpath -m "${1:-$here/../crates/monitor/out/monitor}")
@@ -24,19 +25,33 @@ compare() {
   diff "$written" "$2"
 }
 
-for bundle in *.bundle */*.bundle; do
-  report=${bundle%.bundle}.report
+for session in */session.json; do
+  folder=${session%/session.json}
   wanted=0
-  grep -q '^refused ' "$report" && wanted=1
-  "$program" < "$bundle" > "$written"
-  compare "$bundle" "$report" "$wanted" "$?"
+  grep -q '^refused ' "$folder/report" && wanted=1
+  "$program" judge "$session" "$folder"/*.stream > "$written"
+  compare "judge $folder" "$folder/report" "$wanted" "$?"
+  {
+    cat "$session"
+    for stream in "$folder"/*.stream; do
+      printf '\n---\n'
+      cat "$stream"
+    done
+  } | "$program" > "$written"
+  compare "$folder as a bundle" "$folder/report" "$wanted" "$?"
 done
 
-for finding in checked/*.finding; do
+for bundle in */bundle; do
+  "$program" < "$bundle" > "$written"
+  compare "$bundle" "${bundle%/bundle}/report" 0 "$?"
+done
+
+for finding in */*.finding; do
+  folder=${finding%/*}
   report=${finding%.finding}
   wanted=0
   grep -q -e ' bad$' -e '^report line ' "$finding" && wanted=1
-  "$program" check checked/session.json "$report" checked/left.stream checked/right.stream > "$written"
+  "$program" check "$folder/session.json" "$report" "$folder"/*.stream > "$written"
   compare "check $report" "$finding" "$wanted" "$?"
 done
 

@@ -1,15 +1,16 @@
 -- A run with no further argument judges the bundle on the input, and its status 0 or 1 says that the truth is written.
-use Rattle.std.proofs.Common.{◌≡◌, ◌≤◌, ℕ, zero, suc, List, [], ◌∷◌, drop, map, length, refl, sym, subst, arith, Some, None, Option, inr}
-use Rattle.std.specs.Prelude.{Bool, true, false, IfSome}
+use Rattle.std.proofs.Common.{◌≡◌, ◌≤◌, ℕ, List, [], ◌∷◌, drop, map, length, refl, sym, subst, arith, Option, inr}
+use Rattle.std.specs.Prelude.{true, false}
 use Rattle.clap.specs.Walk.{Text}
-use Rattle.pd_judgement.specs.Headline.{HeadlineOfBundle}
-use Rattle.pd_judgement.specs.Statuses.{Ending, Success, Negative, Misuse, Failed, MemoryFailure, ReadFailure, WriteFailure, BundleFailure, Ends, EndsAsAsked, IsInputsReport, JudgeInput, JudgementLeaves, status_of}
-use Rattle.pd_judgement.specs.Writes.{Writes, Whole, WritesTruth}
+use Rattle.pd_judgement.specs.Statuses.{Ending, Success, Negative, Misuse, Failed, MemoryFailure, ReadFailure, WriteFailure, BundleFailure, Ends, EndsAsAsked, JudgeInput, JudgementLeaves, status_of}
+use Rattle.pd_judgement.specs.Writes.{WritesTruthOfBundle}
+use Rattle.pd_judgement.proofs.TextsOwed.{truth_of_bundle_text}
 use Rattle.pd_cli.specs.Arguments.{AsksFor, of_input}
-use Rattle.pd_cli.proofs.Parsed.{nothing_is_no_check, nothing_is_taken}
+use Rattle.pd_cli.proofs.Parsed.{nothing_is_no_command, nothing_is_taken}
 
 none_asks : AsksFor [] JudgeInput
-none_asks = of_input nothing_is_taken (λ found. let is = found.1 in let none = nothing_is_no_check in cc)
+none_asks = of_input nothing_is_taken (λ found. let is = found.1 in let none = nothing_is_no_command in cc)
+    (λ found. let is = found.1 in let none = nothing_is_no_command in cc)
 
 pub none_left : {A B : Type 0} (f : A → B) (xs : List A) → length xs ≤ 1 → drop 1 (map f xs) ≡ []
 none_left f [] le = refl
@@ -27,32 +28,34 @@ as_asked_by_none arguments input files status old new errors_old errors_new none
   errors = h.errors;
 }
 
-truth_of_report : HeadlineOfBundle → (input : Option (List ℕ)) (judged : Option Bool) (old new : Option (List ℕ))
-    → Writes (IsInputsReport input judged) Whole old new → IfSome input (λ bytes. WritesTruth bytes old new)
-truth_of_report law None judged old new written = tt
-truth_of_report law (Some bytes) judged old new written = λ document traces holds formed narrow. (
-  written.0,
-  record {
-    report = written.1.report;
-    truth = law bytes document traces written.1.report holds formed narrow written.1.right;
-    is_text = written.1.is_text;
-  },
-  written.2,
-)
+-- the truth stays the truth, if what is said of a judged session is said in other words
+truth_said : (input : Option (List ℕ)) (Said Other : Type 0) (old new : Option (List ℕ)) → (Said → Other)
+    → WritesTruthOfBundle input Said old new → WritesTruthOfBundle input Other old new
+truth_said input Said Other old new go h = record {
+  bundle = h.bundle;
+  is_given = h.is_given;
+  document = h.document;
+  streams = h.streams;
+  parts = h.parts;
+  truth = λ document traces holds formed.
+      let true' = h.truth document traces holds formed in (go true'.0, true'.1);
+}
 
-truth_of_end : HeadlineOfBundle → (input : Option (List ℕ)) (ending : Ending) (old new : Option (List ℕ))
-    → status_of ending ≤ 1 → JudgementLeaves input ending old new → IfSome input (λ bytes. WritesTruth bytes old new)
-truth_of_end law input Success old new le left = truth_of_report law input (Some true) old new left.1
-truth_of_end law input Negative old new le left = truth_of_report law input (Some false) old new left.1
-truth_of_end law input Misuse old new le left = absurd left
-truth_of_end law input (Failed MemoryFailure) old new le left = absurd (omega (arith, le))
-truth_of_end law input (Failed ReadFailure) old new le left = absurd (omega (arith, le))
-truth_of_end law input (Failed WriteFailure) old new le left = absurd (omega (arith, le))
-truth_of_end law input (Failed BundleFailure) old new le left = absurd (omega (arith, le))
+truth_of_end : (input : Option (List ℕ)) (ending : Ending) (old new : Option (List ℕ)) → status_of ending ≤ 1
+    → JudgementLeaves input ending old new → WritesTruthOfBundle input (status_of ending ≡ 0) old new
+truth_of_end input Success old new le left =
+    truth_said input _ _ old new (λ _. refl) (truth_of_bundle_text input true old new left)
+truth_of_end input Negative old new le left =
+    truth_said input _ _ old new (λ e. cc) (truth_of_bundle_text input false old new left)
+truth_of_end input Misuse old new le left = absurd left
+truth_of_end input (Failed MemoryFailure) old new le left = absurd (omega (arith, le))
+truth_of_end input (Failed ReadFailure) old new le left = absurd (omega (arith, le))
+truth_of_end input (Failed WriteFailure) old new le left = absurd (omega (arith, le))
+truth_of_end input (Failed BundleFailure) old new le left = absurd (omega (arith, le))
 
-pub truth_of_status : HeadlineOfBundle → (input : Option (List ℕ)) (status : ℕ)
-    (old new errors_old errors_new : Option (List ℕ))
+pub truth_of_status : (input : Option (List ℕ)) (status : ℕ) (old new errors_old errors_new : Option (List ℕ))
     → Ends (λ ending. JudgementLeaves input ending old new) status errors_old errors_new → status ≤ 1
-    → IfSome input (λ bytes. WritesTruth bytes old new)
-truth_of_status law input status old new errors_old errors_new h le =
-    truth_of_end law input h.ending old new (subst (λ (n : ℕ). n ≤ 1) h.is_status le) h.output
+    → WritesTruthOfBundle input (status ≡ 0) old new
+truth_of_status input status old new errors_old errors_new h le =
+    subst (λ (n : ℕ). WritesTruthOfBundle input (n ≡ 0) old new) (sym h.is_status)
+    (truth_of_end input h.ending old new (subst (λ (n : ℕ). n ≤ 1) h.is_status le) h.output)

@@ -11,13 +11,11 @@ use Rattle.pd_model.specs.Events.{Place}
 use Rattle.pd_format.specs.OtherTexts.{Finding}
 use Rattle.pd_format.specs.Reports.{Report}
 use Rattle.pd_judgement.specs.Findings.{IsFinding, IsSessionOf, of_unread, of_refused_session, of_refusal, of_session}
-use Rattle.pd_judgement.specs.Writes.{IsFindingTextOf}
+use Rattle.pd_judgement.specs.Headline.{HoldsSession, IsTrueReport}
+use Rattle.pd_judgement.specs.Writes.{IsFindingTextOf, IsTextOfStreams, WritesTruth}
+use Rattle.pd_cli.specs.FileSources.{SameOutline}
 
 -- ---- bytes with one outline
-
--- the documents and the refusals of the one are those of the other
-abbrev pub SameOutline : List ℕ → List ℕ → Type 0
-SameOutline a b = outline_of_bytes a ≡ outline_of_bytes b
 
 same_document : (a b : List ℕ) (document : Document) → SameOutline a b → IsDocument a document → IsDocument b document
 same_document a b document e h = record {
@@ -74,6 +72,25 @@ same_session a b streams document traces messages e held = record {
   are_messages = held.are_messages;
 }
 
+same_holding : (a b : List ℕ) (streams : List RawStream) (document : Document) (traces : List Trace) → SameOutline a b
+    → HoldsSession a streams document traces → HoldsSession b streams document traces
+same_holding a b streams document traces e held = record {
+  read = same_document a b document e held.read;
+  results = held.results;
+  are_results = held.are_results;
+  joined = held.joined;
+}
+
+same_truth : (a b : List ℕ) (streams : List RawStream) (report : Report) → SameOutline a b
+    → IsTrueReport a streams report → IsTrueReport b streams report
+same_truth a b streams report e truth = record {
+  agrees = truth.agrees;
+  judged = λ document traces holds.
+      truth.judged document traces (same_holding b a streams document traces (sym e) holds);
+  headline = λ document traces holds.
+      truth.headline document traces (same_holding b a streams document traces (sym e) holds);
+}
+
 same_finding : (a b report : List ℕ) (streams : List RawStream) (finding : Finding) → SameOutline a b
     → IsFinding a report streams finding → IsFinding b report streams finding
 same_finding a b report streams finding e (of_unread line unread) = of_unread line unread
@@ -86,7 +103,7 @@ same_finding a b report streams finding e (of_session processes events matched a
     of_session processes events matched answers document traces messages good found read
     (same_session a b streams document traces messages e held) counted answered
 
--- what is owed of the one is what is owed of the other
+-- what is found by the one is what is found by the other
 pub same_text : (a b report : List ℕ) (inputs : List (Option (List ℕ))) (good : Option Bool) (text : List ℕ)
     → SameOutline a b → IsFindingTextOf a report inputs good text → IsFindingTextOf b report inputs good text
 same_text a b report inputs good text e h = record {
@@ -97,6 +114,27 @@ same_text a b report inputs good text e h = record {
   clean = h.clean;
   is_text = h.is_text;
 }
+
+-- the report of the one is that of the other
+pub same_report_text : (a b : List ℕ) (inputs : List (Option (List ℕ))) (judged : Option Bool) (text : List ℕ)
+    → SameOutline a b → IsTextOfStreams a inputs judged text → IsTextOfStreams b inputs judged text
+same_report_text a b inputs judged text e h = record {
+  streams = h.streams;
+  are_given = h.are_given;
+  is_report_text = record {
+    report = h.is_report_text.report;
+    right = same_judgement a b h.streams h.is_report_text.report e h.is_report_text.right;
+    truth = same_truth a b h.streams h.is_report_text.report e h.is_report_text.truth;
+    said = h.is_report_text.said;
+    is_text = h.is_report_text.is_text;
+  };
+}
+
+-- the truth of the one is that of the other
+pub same_written_truth : (a b : List ℕ) (streams : List RawStream) (IsJudged : Type 0) (old new : Option (List ℕ))
+    → SameOutline a b → WritesTruth a streams IsJudged old new → WritesTruth b streams IsJudged old new
+same_written_truth a b streams IsJudged old new e truth = λ document traces holds.
+    truth document traces (same_holding b a streams document traces (sym e) holds)
 
 -- ---- the first bytes, one more than the limit
 

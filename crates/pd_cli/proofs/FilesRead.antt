@@ -1,22 +1,17 @@
 -- What is left written by the bytes that were read holds of all that the files hold.
-use Rattle.std.proofs.Common.{◌≡◌, ℕ, suc, ◌+◌, ◌≤◌, ◌<◌, List, [], ◌∷◌, ◌++◌, length, take, map, refl, sym, ap, subst, ◌∙◌, arith, None, Some, Option, true, false, inl, inr, ◌⊎◌}
+use Rattle.std.proofs.Common.{◌≡◌, ℕ, suc, ◌+◌, ◌≤◌, ◌<◌, List, [], ◌∷◌, ◌++◌, length, take, map, refl, sym, ap, ap₂, subst, ◌∙◌, arith, None, Some, Option, true, false, inl, inr}
 use Rattle.std.specs.Prelude.{Bool, IfSome}
 use Rattle.std.specs.List.{AllZip}
-use Rattle.std.specs.Io.KnownBytes.{Keeps}
 use Rattle.pd_judgement.specs.Judgements.{RawStream}
-use Rattle.pd_format.specs.Limits.{document_byte_limit, report_byte_limit}
-use Rattle.pd_judgement.specs.Writes.{Whole, Partial, Writes, IsGivenBy, IsFindingTextOf}
+use Rattle.pd_format.specs.Limits.{document_byte_limit}
+use Rattle.pd_judgement.specs.Writes.{Whole, Partial, IsGivenBy, IsWholeInput, IsFindingTextOf, IsTextOfStreams, WritesTruth}
 use Rattle.pd_judgement.proofs.Writing.{writes_weaker}
-use Rattle.pd_judgement.specs.Statuses.{Ending, Success, Negative, Misuse, Failed, MemoryFailure, ReadFailure, WriteFailure, BundleFailure, CheckLeaves, OfFiles, WritesUpTo}
-use Rattle.pd_cli.specs.FileSources.{HasWholeFile}
-use Rattle.pd_cli.specs.FindingEnds.{FindingLeaves}
-use Rattle.pd_cli.proofs.WrittenSoFar.{appends_kept}
-use Rattle.pd_cli.proofs.DocumentPrefixes.{SameOutline, outline_of_prefix, same_text}
-use Rattle.std.proofs.lemmas.List.{map-append, take_all}
-use Rattle.std.proofs.lemmas.Bool.{cases_lt}
+use Rattle.pd_judgement.specs.Statuses.{Ending, Success, Negative, Misuse, Failed, MemoryFailure, ReadFailure, WriteFailure, BundleFailure, CheckLeaves, FilesJudgementLeaves, OfDocument, OfFiles, WritesUpTo}
+use Rattle.pd_cli.specs.FileSources.{HasWholeFile, SameOutline, StandsFor}
+use Rattle.pd_cli.proofs.DocumentPrefixes.{outline_of_prefix, same_report_text, same_text, same_written_truth}
+use Rattle.std.proofs.lemmas.List.{map-append}
 use Rattle.std.proofs.Math.Seq.{take-suc}
 use Rattle.std.specs.List.{slice_index_or}
-use Rattle.std.proofs.Common.{length-take}
 use Rattle.pd_model.proofs.ListPrefixes.{whole_input}
 
 -- ---- readers
@@ -27,85 +22,13 @@ pub if_all_left : (known : Option (List ℕ)) (bytes kept : List ℕ) (n : ℕ) 
 if_all_left None bytes kept n same prefix le = tt
 if_all_left (Some input) bytes kept n same prefix le = same ∙ whole_input input bytes n prefix le
 
--- ---- bytes that were read
-
--- the first are those of a document, up to one more than its limit, and the others are a report that isn't too long
-pub record AreRead (spec report : Option (List ℕ)) (read claimed : List ℕ) : Type 0 where
-  pub prefix : IfSome spec (λ input. read ≡ take (document_byte_limit + 1) input)
-  pub whole : IfSome report (λ input. claimed ≡ input)
-  pub fits : length claimed ≤ report_byte_limit
-
--- what was read, as slices show it
-pub are_read : (spec report : Option (List ℕ)) (read claimed a b : List ℕ) → a ≡ read → b ≡ claimed
-    → IfSome spec (λ input. read ≡ take (document_byte_limit + 1) input) → IfSome report (λ input. claimed ≡ input)
-    → length claimed ≤ report_byte_limit → AreRead spec report a b
-are_read spec report read claimed a b e f prefix whole fits =
-    subst (λ (l : List ℕ). AreRead spec report l b) (sym e)
-    (subst (λ (l : List ℕ). AreRead spec report read l) (sym f)
-    (record { prefix = prefix; whole = whole; fits = fits }))
-
--- what holds of a document's prefix, and of all bytes with its outline, holds of the document
-of_readers : (spec report : Option (List ℕ)) (P : List ℕ → List ℕ → Type 0) (read claimed : List ℕ)
-    → AreRead spec report read claimed → ((a b : List ℕ) → SameOutline a b → P a claimed → P b claimed) → P read claimed
-    → OfFiles spec report P
-of_readers None report P read claimed are same p = record {
-  document_bytes = read;
-  report_bytes = claimed;
-  whole_document = tt;
-  whole_report = are.whole;
-  fits = are.fits;
-  holds = p;
-}
-of_readers (Some input) report P read claimed are same p = record {
-  document_bytes = input;
-  report_bytes = claimed;
-  whole_document = refl;
-  whole_report = are.whole;
-  fits = are.fits;
-  holds = same (take (document_byte_limit + 1) input) input (outline_of_prefix document_byte_limit input (omega arith))
-      (subst (λ (a : List ℕ). P a claimed) are.prefix p);
-}
-
--- ---- what is written of them
-
-up_to_weaker : (P Q : List ℕ → Type 0) (old new : Option (List ℕ)) → ((text : List ℕ) → P text → Q text)
-    → WritesUpTo P old new → WritesUpTo Q old new
-up_to_weaker P Q old new go (inl whole) = inl (writes_weaker P Q Whole old new go whole)
-up_to_weaker P Q old new go (inr part) = inr (writes_weaker P Q Partial old new go part)
-
--- a text whose finding is said to be good or bad is one of which nothing is said, and a flush changes nothing
-pub finding_up_to : (document report : List ℕ) (streams : List (Option (List ℕ))) (good : Bool)
-    (old middle new : Option (List ℕ)) → Writes (IsFindingTextOf document report streams (Some good)) Whole old middle
-    → Keeps middle new → WritesUpTo (IsFindingTextOf document report streams None) old new
-finding_up_to document report streams good old middle new written keeps = inl (
-  written.0,
-  record {
-    streams = written.1.streams;
-    are_given = written.1.are_given;
-    finding = written.1.finding;
-    right = written.1.right;
-    clean = tt;
-    is_text = written.1.is_text;
-  },
-  appends_kept old middle new written.0 written.2 keeps,
-)
-
-pub check_of_readers : (spec report : Option (List ℕ)) (read claimed : List ℕ) (streams : List (Option (List ℕ)))
-    (ending : Ending) (old new : Option (List ℕ)) → AreRead spec report read claimed
-    → FindingLeaves read claimed streams ending old new → CheckLeaves spec report streams ending old new
-check_of_readers spec report read claimed streams Success old new are left =
-    of_readers spec report (λ a b. Writes (IsFindingTextOf a b streams (Some true)) Whole old new) read claimed are
-    (λ a b e h. writes_weaker _ _ Whole old new (λ text t. same_text a b claimed streams (Some true) text e t) h) left
-check_of_readers spec report read claimed streams Negative old new are left =
-    of_readers spec report (λ a b. Writes (IsFindingTextOf a b streams (Some false)) Whole old new) read claimed are
-    (λ a b e h. writes_weaker _ _ Whole old new (λ text t. same_text a b claimed streams (Some false) text e t) h) left
-check_of_readers spec report read claimed streams Misuse old new are left = left
-check_of_readers spec report read claimed streams (Failed MemoryFailure) old new are left = left
-check_of_readers spec report read claimed streams (Failed ReadFailure) old new are left = left
-check_of_readers spec report read claimed streams (Failed WriteFailure) old new are left =
-    of_readers spec report (λ a b. WritesUpTo (IsFindingTextOf a b streams None) old new) read claimed are
-    (λ a b e h. up_to_weaker _ _ old new (λ text t. same_text a b claimed streams None text e t) h) left
-check_of_readers spec report read claimed streams (Failed BundleFailure) old new are left = left
+-- the first bytes of a document, up to one more than its limit, stand for all
+pub prefix_stands : (input : Option (List ℕ)) (read : List ℕ)
+    → IfSome input (λ bytes. read ≡ take (document_byte_limit + 1) bytes) → StandsFor read input
+prefix_stands None read prefix = tt
+prefix_stands (Some bytes) read prefix =
+    subst (λ (l : List ℕ). SameOutline l bytes) (sym prefix)
+    (outline_of_prefix document_byte_limit bytes (omega arith))
 
 -- ---- files, of whose bytes readers have all left
 
@@ -148,55 +71,139 @@ given_by_files (f ∷ files) (l ∷ lefts) [] are given = absurd given
 given_by_files (f ∷ files) (l ∷ lefts) (s ∷ streams) are given =
     (given_by_file f l s are.0 given.0, given_by_files files lefts streams are.1 given.1)
 
-text_of_files : (document report : List ℕ) (files lefts : List (Option (List ℕ))) (good : Option Bool) (text : List ℕ)
-    → AllZip HasWholeFile files lefts → IsFindingTextOf document report lefts good text
-    → IsFindingTextOf document report files good text
-text_of_files document report files lefts good text are h = record {
-  streams = h.streams;
-  are_given = given_by_files files lefts h.streams are h.are_given;
-  finding = h.finding;
-  right = h.right;
-  clean = h.clean;
-  is_text = h.is_text;
+-- what holds of all that a reader had left holds of its file
+pub of_file : (P : List ℕ → Type 0) (file left : Option (List ℕ)) → HasWholeFile file left → IfSome left P
+    → IfSome file P
+of_file P None left is h = tt
+of_file P (Some bytes) left is h = subst (λ (l : Option (List ℕ)). IfSome l P) is h
+
+-- ---- the texts that are owed
+
+report_text_of_files : (read document : List ℕ) (files lefts : List (Option (List ℕ))) (judged : Option Bool)
+    (text : List ℕ) → SameOutline read document → AllZip HasWholeFile files lefts
+    → IsTextOfStreams read lefts judged text → IsTextOfStreams document files judged text
+report_text_of_files read document files lefts judged text same are h =
+    same_report_text read document files judged text same (record {
+      streams = h.streams;
+      are_given = given_by_files files lefts h.streams are h.are_given;
+      is_report_text = h.is_report_text;
+    })
+
+finding_text_of_files : (read document report : List ℕ) (files lefts : List (Option (List ℕ))) (good : Option Bool)
+    (text : List ℕ) → SameOutline read document → AllZip HasWholeFile files lefts
+    → IsFindingTextOf read report lefts good text → IsFindingTextOf document report files good text
+finding_text_of_files read document report files lefts good text same are h =
+    same_text read document report files good text same (record {
+      streams = h.streams;
+      are_given = given_by_files files lefts h.streams are h.are_given;
+      finding = h.finding;
+      right = h.right;
+      clean = h.clean;
+      is_text = h.is_text;
+    })
+
+up_to_weaker : (P Q : List ℕ → Type 0) (old new : Option (List ℕ)) → ((text : List ℕ) → P text → Q text)
+    → WritesUpTo P old new → WritesUpTo Q old new
+up_to_weaker P Q old new go (inl whole) = inl (writes_weaker P Q Whole old new go whole)
+up_to_weaker P Q old new go (inr part) = inr (writes_weaker P Q Partial old new go part)
+
+-- ---- a judgement
+
+of_document : (file : Option (List ℕ)) (read : List ℕ) (P Q : List ℕ → Type 0) → StandsFor read file
+    → ((document : List ℕ) → SameOutline read document → P read → Q document) → OfDocument (Some read) P
+    → OfDocument file Q
+of_document None read P Q stands go h = record {
+  document_bytes = read;
+  whole_document = tt;
+  holds = go read refl (subst P h.whole_document h.holds);
+}
+of_document (Some bytes) read P Q stands go h = record {
+  document_bytes = bytes;
+  whole_document = refl;
+  holds = go bytes stands (subst P h.whole_document h.holds);
 }
 
-bytes_of_file : (file left : Option (List ℕ)) (bytes : List ℕ) → HasWholeFile file left
-    → IfSome left (λ input. bytes ≡ input) → IfSome file (λ input. bytes ≡ input)
-bytes_of_file None left bytes is h = tt
-bytes_of_file (Some input) left bytes is h = subst (λ (l : Option (List ℕ)). IfSome l (λ i. bytes ≡ i)) is h
+-- what is left written by the bytes that were read is what is to be left by the files
+pub judgement_of_files : (file : Option (List ℕ)) (read : List ℕ) (files lefts : List (Option (List ℕ)))
+    (ending : Ending) (old new : Option (List ℕ)) → StandsFor read file → AllZip HasWholeFile files lefts
+    → FilesJudgementLeaves (Some read) lefts ending old new → FilesJudgementLeaves file files ending old new
+judgement_of_files file read files lefts Success old new stands are left =
+    of_document file read _ _ stands (λ document same. writes_weaker _ _ Whole old new (λ text.
+    report_text_of_files read document files lefts (Some true) text same are)) left
+judgement_of_files file read files lefts Negative old new stands are left =
+    of_document file read _ _ stands (λ document same. writes_weaker _ _ Whole old new (λ text.
+    report_text_of_files read document files lefts (Some false) text same are)) left
+judgement_of_files file read files lefts Misuse old new stands are left = left
+judgement_of_files file read files lefts (Failed MemoryFailure) old new stands are left = left
+judgement_of_files file read files lefts (Failed ReadFailure) old new stands are left = left
+judgement_of_files file read files lefts (Failed WriteFailure) old new stands are left =
+    of_document file read _ _ stands (λ document same. up_to_weaker _ _ old new (λ text.
+    report_text_of_files read document files lefts None text same are)) left
+judgement_of_files file read files lefts (Failed BundleFailure) old new stands are left = left
 
-of_files : (spec report spec_left report_left : Option (List ℕ)) (P Q : List ℕ → List ℕ → Type 0)
-    → HasWholeFile spec spec_left → HasWholeFile report report_left → ((d r : List ℕ) → P d r → Q d r)
-    → OfFiles spec_left report_left P → OfFiles spec report Q
-of_files spec report spec_left report_left P Q is_spec is_report go h = record {
-  document_bytes = h.document_bytes;
+-- files whose bytes are known have readers with these bytes left
+pub lefts_of_known : (files lefts : List (Option (List ℕ))) (known : List (List ℕ)) → AllZip HasWholeFile files lefts
+    → files ≡ map Some known → lefts ≡ map Some known
+lefts_of_known files lefts known are same = go lefts known (subst (λ fs. AllZip HasWholeFile fs lefts) same are)
+  where
+    go : (lefts : List (Option (List ℕ))) (known : List (List ℕ)) → AllZip HasWholeFile (map Some known) lefts
+        → lefts ≡ map Some known
+    go [] [] are = refl
+    go [] (k ∷ known) are = absurd are
+    go (l ∷ lefts) [] are = absurd are
+    go (l ∷ lefts) (k ∷ known) are = ap₂ (λ x xs. x ∷ xs) are.0 (go lefts known are.1)
+
+-- the truth by the bytes that were read is the truth by the files
+pub truth_of_files : (file : Option (List ℕ)) (read document : List ℕ) (streams : List RawStream) (IsJudged : Type 0)
+    (old new : Option (List ℕ)) → StandsFor read file → file ≡ Some document
+    → WritesTruth read streams IsJudged old new → WritesTruth document streams IsJudged old new
+truth_of_files file read document streams IsJudged old new stands known truth =
+    same_written_truth read document streams IsJudged old new
+    (subst (λ (f : Option (List ℕ)). StandsFor read f) known stands) truth
+
+-- ---- a check
+
+of_files : (file report_file : Option (List ℕ)) (read claimed : List ℕ) (P Q : List ℕ → List ℕ → Type 0)
+    → StandsFor read file → IsWholeInput report_file claimed
+    → ((document report : List ℕ) → SameOutline read document → P read report → Q document report)
+    → OfFiles (Some read) (Some claimed) P → OfFiles file report_file Q
+of_files None report_file read claimed P Q stands whole go h = record {
+  document_bytes = read;
   report_bytes = h.report_bytes;
-  whole_document = bytes_of_file spec spec_left h.document_bytes is_spec h.whole_document;
-  whole_report = bytes_of_file report report_left h.report_bytes is_report h.whole_report;
+  whole_document = tt;
+  whole_report = subst (λ (l : List ℕ). IsWholeInput report_file l) (sym h.whole_report) whole;
   fits = h.fits;
-  holds = go h.document_bytes h.report_bytes h.holds;
+  holds = go read h.report_bytes refl (subst (λ (l : List ℕ). P l h.report_bytes) h.whole_document h.holds);
+}
+of_files (Some bytes) report_file read claimed P Q stands whole go h = record {
+  document_bytes = bytes;
+  report_bytes = h.report_bytes;
+  whole_document = refl;
+  whole_report = subst (λ (l : List ℕ). IsWholeInput report_file l) (sym h.whole_report) whole;
+  fits = h.fits;
+  holds = go bytes h.report_bytes stands (subst (λ (l : List ℕ). P l h.report_bytes) h.whole_document h.holds);
 }
 
-pub check_of_files : (spec report spec_left report_left : Option (List ℕ)) (files lefts : List (Option (List ℕ)))
-    (ending : Ending) (old new : Option (List ℕ)) → HasWholeFile spec spec_left → HasWholeFile report report_left
-    → AllZip HasWholeFile files lefts → CheckLeaves spec_left report_left lefts ending old new
-    → CheckLeaves spec report files ending old new
-check_of_files spec report spec_left report_left files lefts Success old new is_spec is_report are left =
-    of_files spec report spec_left report_left _ _ is_spec is_report (λ d r. writes_weaker _ _ Whole old new (λ text.
-    text_of_files d r files lefts (Some true) text are)) left
-check_of_files spec report spec_left report_left files lefts Negative old new is_spec is_report are left =
-    of_files spec report spec_left report_left _ _ is_spec is_report (λ d r. writes_weaker _ _ Whole old new (λ text.
-    text_of_files d r files lefts (Some false) text are)) left
-check_of_files spec report spec_left report_left files lefts Misuse old new is_spec is_report are left = left
-check_of_files spec report spec_left report_left files lefts (Failed MemoryFailure) old new is_spec is_report are left =
-    left
-check_of_files spec report spec_left report_left files lefts (Failed ReadFailure) old new is_spec is_report are left =
-    left
-check_of_files spec report spec_left report_left files lefts (Failed WriteFailure) old new is_spec is_report are left =
-    of_files spec report spec_left report_left _ _ is_spec is_report (λ d r. up_to_weaker _ _ old new (λ text.
-    text_of_files d r files lefts None text are)) left
-check_of_files spec report spec_left report_left files lefts (Failed BundleFailure) old new is_spec is_report are left =
-    left
+-- what is left written by the bytes that were read is what is to be left by the files
+pub check_of_files : (file report_file : Option (List ℕ)) (read claimed : List ℕ)
+    (files lefts : List (Option (List ℕ))) (ending : Ending) (old new : Option (List ℕ)) → StandsFor read file
+    → IsWholeInput report_file claimed → AllZip HasWholeFile files lefts
+    → CheckLeaves (Some read) (Some claimed) lefts ending old new → CheckLeaves file report_file files ending old new
+check_of_files file report_file read claimed files lefts Success old new stands whole are left =
+    of_files file report_file read claimed _ _ stands whole (λ document report same.
+    writes_weaker _ _ Whole old new (λ text.
+    finding_text_of_files read document report files lefts (Some true) text same are)) left
+check_of_files file report_file read claimed files lefts Negative old new stands whole are left =
+    of_files file report_file read claimed _ _ stands whole (λ document report same.
+    writes_weaker _ _ Whole old new (λ text.
+    finding_text_of_files read document report files lefts (Some false) text same are)) left
+check_of_files file report_file read claimed files lefts Misuse old new stands whole are left = left
+check_of_files file report_file read claimed files lefts (Failed MemoryFailure) old new stands whole are left = left
+check_of_files file report_file read claimed files lefts (Failed ReadFailure) old new stands whole are left = left
+check_of_files file report_file read claimed files lefts (Failed WriteFailure) old new stands whole are left =
+    of_files file report_file read claimed _ _ stands whole (λ document report same. up_to_weaker _ _ old new (λ text.
+    finding_text_of_files read document report files lefts None text same are)) left
+check_of_files file report_file read claimed files lefts (Failed BundleFailure) old new stands whole are left = left
 
 -- the files of names, one after another
 pub files_of_names : {N : Type 0} (files : List ℕ → Option (List ℕ)) (name_of : N → List ℕ) (names : List N)

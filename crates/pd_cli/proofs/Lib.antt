@@ -2,6 +2,7 @@
 mod BundleEnds
 mod DocumentPrefixes
 mod FilesRead
+mod FlushedTexts
 mod Parsed
 mod ParserEnds
 mod WrittenSoFar

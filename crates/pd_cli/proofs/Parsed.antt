@@ -1,12 +1,11 @@
 -- What a parse finds is what the arguments ask for.
-use Rattle.std.proofs.Common.{◌≡◌, ℕ, Bool, true, List, [], codes, refl, sym, ap, ◌∙◌, subst, Some, None, Option, option_map, inl, inr, Ok, Err}
-use Rattle.clap.specs.Built.{is_broken}
+use Rattle.std.proofs.Common.{◌≡◌, true, List, [], refl, sym, ap, ◌∙◌, subst, Some, None, Option, option_map, inl, inr}
 use Rattle.clap.specs.Faults.{fault_of, is_simple_and_free}
-use Rattle.clap.specs.Kinds.{FailsBy, HasKind}
-use Rattle.clap.specs.Matches.{first_value, found_of, matched_of, raw_values, subcommand_name_of}
+use Rattle.clap.specs.Kinds.{HasKind}
+use Rattle.clap.specs.Matches.{subcommand_name_of}
 use Rattle.clap.specs.Simple.{App, HasMatchesOf, is_simple, subcommand_of, subcommand_rows, subcommand_rows_of}
 use Rattle.clap.specs.Values.{kind_of}
-use Rattle.clap.specs.Walk.{Row, Text, all_of, first_of, rows_of}
+use Rattle.clap.specs.Walk.{Row, Text}
 use Rattle.clap.specs.declared.error.Error.{Error}
 use Rattle.clap.specs.declared.parser.matches.ArgMatches.{ArgMatches}
 use Rattle.clap.specs.declared.builder.range.ValueRange.{ValueRange}
@@ -14,10 +13,10 @@ use Rattle.clap.specs.declared.parser.matches.ArgMatches.TheViews.{out-ArgMatche
 use Rattle.std.specs.Box.{box_value}
 use Rattle.std.specs.Prelude.{Box}
 use Rattle.clap.specs.declared.parser.matches.SubCommand.{SubCommand}
-use Rattle.std.specs.Prelude.{IsSomeAnd, ◌↔◌, IsSome, ◌≢◌}
+use Rattle.std.specs.Prelude.{IsSomeAnd, ◌≢◌}
 use Rattle.clap.proofs.OnLiterals.{clap_on_literals}
-use Rattle.pd_judgement.specs.Statuses.{Request}
-use Rattle.pd_cli.specs.Arguments.{AreOfCheck, AsksFor, FindsNames, IsErrorOf, IsShownKind, NamesAllFiles, monitor_app, of_check, of_fault, of_help, of_missing}
+use Rattle.pd_judgement.specs.Statuses.{Unclear}
+use Rattle.pd_cli.specs.Arguments.{AreOf, AsksFor, IsErrorOf, IsShownKind, monitor_app, of_fault, of_help}
 use Rattle.clap.specs.declared.error.kind.ErrorKind.{ErrorKind}
 use Rattle.clap.specs.declared.error.kind.ErrorKind.TheVariants.{MissingRequiredArgument, OutOfMemory}
 
@@ -34,9 +33,9 @@ pub nothing_is_taken : fault_of monitor_app [] ≡ []
 unfolding clap_on_literals
 nothing_is_taken = refl
 
-pub nothing_is_no_check : subcommand_of monitor_app [] ≡ None
+pub nothing_is_no_command : subcommand_of monitor_app [] ≡ None
 unfolding clap_on_literals
-nothing_is_no_check = refl
+nothing_is_no_command = refl
 
 -- ---- a range
 
@@ -89,30 +88,24 @@ pub not_none : {A B : Type 0} (f : A → B) (found : Option A) (b : B) → optio
 not_none f None b some none = cc
 not_none f (Some a) b some none = cc
 
-pub check_rows : (arguments : List Text) (m : ArgMatches) (rows : List Row)
-    → subcommand_rows_of m ≡ subcommand_of monitor_app arguments → subcommand_name_of m ≡ Some (codes "check")
-    → option_map (λ p. p.1) (subcommand_rows_of m) ≡ Some rows → AreOfCheck arguments rows
-check_rows arguments m rows same named found =
-    sym same ∙ both_of (subcommand_rows_of m) (codes "check") rows (sym (name_in_rows m) ∙ named) found
+-- the command of this name was found, and these rows
+pub command_rows : (command : Text) (arguments : List Text) (m : ArgMatches) (rows : List Row)
+    → subcommand_rows_of m ≡ subcommand_of monitor_app arguments → subcommand_name_of m ≡ Some command
+    → option_map (λ p. p.1) (subcommand_rows_of m) ≡ Some rows → AreOf command arguments rows
+command_rows command arguments m rows same named found =
+    sym same ∙ both_of (subcommand_rows_of m) command rows (sym (name_in_rows m) ∙ named) found
 
-pub named_by_rows : (arguments : List Text) (m : ArgMatches) (rows : List Row)
-    → subcommand_rows_of m ≡ subcommand_of monitor_app arguments → AreOfCheck arguments rows
-    → subcommand_name_of m ≡ Some (codes "check")
-named_by_rows arguments m rows same found = name_in_rows m ∙ ap (option_map (λ p. p.0)) (same ∙ found)
+pub named_by_rows : (command : Text) (arguments : List Text) (m : ArgMatches) (rows : List Row)
+    → subcommand_rows_of m ≡ subcommand_of monitor_app arguments → AreOf command arguments rows
+    → subcommand_name_of m ≡ Some command
+named_by_rows command arguments m rows same found = name_in_rows m ∙ ap (option_map (λ p. p.0)) (same ∙ found)
 
--- a check of which no name is found
-pub missing_found : (arguments : List Text) (rows : List Row) (error : Error) → AreOfCheck arguments rows
-    → ¬ NamesAllFiles rows
+-- arguments that ask for nothing that can be done
+pub unclear_found : (arguments : List Text) (error : Error) → AsksFor arguments Unclear
     → (kind_of error ≢ OutOfMemory → kind_of error ≡ MissingRequiredArgument) → IsErrorOf arguments (kind_of error)
-missing_found arguments rows error are missing is other =
-    (λ shown. absurd (not_shown (kind_of error) (is other) shown), λ _. of_missing rows are missing)
+unclear_found arguments error unclear is other =
+    (λ shown. absurd (not_shown (kind_of error) (is other) shown), λ _. unclear)
   where
     not_shown : (kind : ErrorKind) → kind ≡ MissingRequiredArgument → ¬ IsShownKind kind
     not_shown kind e (inl help) = cc
     not_shown kind e (inr version) = cc
-
--- the request of a check whose names are found
-pub check_found : (arguments : List Text) (rows : List Row) (request : Request) → fault_of monitor_app arguments ≡ []
-    → AreOfCheck arguments rows → FindsNames rows (Some request) → AsksFor arguments request
-check_found arguments rows request taken are (document, report, streams, same, names) =
-    subst (λ (r : Request). AsksFor arguments r) (sym same) (of_check rows document report streams taken are names)

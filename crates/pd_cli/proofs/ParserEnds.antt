@@ -1,10 +1,10 @@
 -- A run that the parser's error ends does what its arguments ask for.
-use Rattle.std.proofs.Common.{◌≡◌, ◌≢◌, ℕ, List, Option, refl, inl, inr, ◌⊎◌}
+use Rattle.std.proofs.Common.{◌≡◌, ◌≢◌, ℕ, List, Option, refl, inl, inr}
 use Rattle.std.specs.Io.KnownBytes.{Keeps}
 use Rattle.clap.specs.Walk.{Text}
 use Rattle.clap.specs.declared.error.kind.ErrorKind.{ErrorKind}
 use Rattle.clap.specs.declared.error.kind.ErrorKind.TheVariants as kind
-use Rattle.pd_judgement.specs.Statuses.{Ending, Failed, MemoryFailure, Ends, EndsAsAsked, HelpLeaves, MisuseLeaves, ShowHelp, Unclear}
+use Rattle.pd_judgement.specs.Statuses.{Failed, MemoryFailure, Ends, EndsAsAsked, HelpLeaves, MisuseLeaves, ShowHelp, Unclear}
 use Rattle.pd_cli.specs.Arguments.{AsksFor, IsErrorOf, IsShownKind}
 
 data KindCase (k : ErrorKind) : Type 0 where

@@ -1,7 +1,7 @@
 -- A text that is written up to some place is written whole, or a prefix of it is.
-use Rattle.std.proofs.Common.{◌≡◌, ℕ, ◌<◌, ◌≤◌, List, [], ◌++◌, length, take, Some, None, Option, ap, ◌∙◌, sym, subst, refl, arith, append_assoc, inl, inr, ◌⊎◌}
+use Rattle.std.proofs.Common.{◌≡◌, ℕ, ◌<◌, ◌≤◌, List, ◌++◌, length, take, Some, None, Option, ap, ◌∙◌, subst, refl, append_assoc, inl, inr, ◌⊎◌}
 use Rattle.std.specs.Io.KnownBytes.{Appends, Keeps}
-use Rattle.std.proofs.lemmas.List.{append-nil, take_all}
+use Rattle.std.proofs.lemmas.List.{take_all}
 use Rattle.std.proofs.lemmas.Bool.{cases_lt}
 use Rattle.pd_judgement.specs.Statuses.{WritesUpTo}
 
@@ -28,14 +28,3 @@ up_to text old new taken written = go (cases_lt taken (length text))
     go (inl lt) = inr (text, refl, taken, lt, written)
     go (inr le) =
         inl (text, refl, subst (λ (bytes : List ℕ). Appends old new bytes) (take_all taken text le) written)
-
--- nothing is written
-pub appends_nothing : (old new : Option (List ℕ)) → Keeps old new → Appends old new []
-appends_nothing None new kept = tt
-appends_nothing (Some old) None kept = absurd kept
-appends_nothing (Some old) (Some new) kept = kept ∙ sym (append-nil old)
-
-pub keeps_of_nothing : (old new : Option (List ℕ)) → Appends old new [] → Keeps old new
-keeps_of_nothing None new none = tt
-keeps_of_nothing (Some old) None none = absurd none
-keeps_of_nothing (Some old) (Some new) none = none ∙ append-nil old

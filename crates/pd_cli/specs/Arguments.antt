@@ -4,7 +4,7 @@ use Rattle.clap.specs.Lexer.{usize_max}
 use Rattle.clap.specs.Words.{App, Row, Rule, Shape, Text, IsAmong, all_of, fault_of, first_of, new_app, new_rule, subcommand_of, with_rule, with_subcommand}
 use Rattle.clap.specs.declared.error.kind.ErrorKind.{ErrorKind}
 use Rattle.clap.specs.declared.error.kind.ErrorKind.TheVariants.{DisplayHelp, DisplayVersion, OutOfMemory}
-use Rattle.pd_judgement.specs.Statuses.{Request, JudgeInput, CheckFiles, ShowHelp, Unclear}
+use Rattle.pd_judgement.specs.Statuses.{Request, JudgeInput, JudgeFiles, CheckFiles, ShowHelp, Unclear}
 
 -- ---- the command line
 
@@ -17,6 +17,10 @@ abbrev pub stream_rule : Rule
 stream_rule = record (required_rule (codes "STREAM")) {
   range = Some (record { start_inclusive = 1; end_inclusive = usize_max });
 }
+
+-- `judge SPEC STREAM...`
+abbrev pub judge_app : App
+judge_app = with_rule (with_rule (new_app (codes "judge")) (required_rule (codes "SPEC"))) stream_rule
 
 -- `check SPEC REPORT STREAM...`
 abbrev pub check_app : App
@@ -31,11 +35,11 @@ plain_shape =
 abbrev pub plain_app : App
 plain_app = record { top = plain_shape; subs = [] }
 
--- with the command `check`
+-- with the commands `judge` and `check`
 abbrev pub monitor_app : App
-monitor_app = with_subcommand plain_app check_app.top
+monitor_app = with_subcommand (with_subcommand plain_app judge_app.top) check_app.top
 
--- ---- what is asked for
+-- ---- what the parser found
 
 -- the text that such an error has is asked for, and reports nothing wrong
 abbrev pub IsShownKind : ErrorKind → Type 0
@@ -49,29 +53,43 @@ AreTaken arguments = fault_of monitor_app arguments ≡ []
 abbrev pub HasFault : List Text → ErrorKind → Type 0
 HasFault arguments kind = IsAmong kind (fault_of monitor_app arguments)
 
--- the arguments are those of the command `check`, and the parser found these rows in them
-abbrev pub AreOfCheck : List Text → List Row → Type 0
-AreOfCheck arguments rows = subcommand_of monitor_app arguments ≡ Some (codes "check", rows)
+-- the arguments are those of the command of this name, and the parser found these rows in them
+abbrev pub AreOf : (command : Text) → List Text → List Row → Type 0
+AreOf command arguments rows = subcommand_of monitor_app arguments ≡ Some (command, rows)
 
--- the names of a check's files, as the parser found them
-abbrev pub NamesFiles : List Row → (document report : Text) (streams : List Text) → Type 0
-NamesFiles rows document report streams = (first_of (codes "SPEC") rows ≡ Some document)
-    × (first_of (codes "REPORT") rows ≡ Some report) × (all_of (codes "STREAM") rows ≡ Some streams)
+-- the names of the files of a session document and of its streams
+abbrev pub NamesSession : List Row → (document : Text) (streams : List Text) → Type 0
+NamesSession rows document streams =
+    (first_of (codes "SPEC") rows ≡ Some document) × (all_of (codes "STREAM") rows ≡ Some streams)
 
-abbrev pub NamesAllFiles : List Row → Type 0
-NamesAllFiles rows =
-    (document : Text) × (report : Text) × (streams : List Text) × NamesFiles rows document report streams
+-- one of these names is missing
+abbrev pub LacksSession : List Row → Type 0
+LacksSession rows = ¬ ((document : Text) × (streams : List Text) × NamesSession rows document streams)
 
--- What the arguments ask for: the bundle on the input is judged if they are taken and are not those of `check`; and
--- arguments that are not taken ask for a text that is shown, or have some other fault.
+-- the name of a report's file
+abbrev pub NamesReport : List Row → (report : Text) → Type 0
+NamesReport rows report = first_of (codes "REPORT") rows ≡ Some report
+
+-- ---- what is asked for
+
+-- What the arguments ask for. If they are taken, it is what their command is for, and with no command the bundle on the
+-- input is judged. Arguments that are not taken ask for a text that is shown, or have some other fault; and so have
+-- those of a command that lacks a name.
 pub data AsksFor (arguments : List Text) : Request → Type 0 where
-  of_input : AreTaken arguments → ¬ ((rows : List Row) × AreOfCheck arguments rows) → AsksFor arguments JudgeInput
+  of_input : AreTaken arguments → ¬ ((rows : List Row) × AreOf (codes "judge") arguments rows)
+      → ¬ ((rows : List Row) × AreOf (codes "check") arguments rows) → AsksFor arguments JudgeInput
+  of_judge : (rows : List Row) (document : Text) (streams : List Text) → AreTaken arguments
+      → AreOf (codes "judge") arguments rows → NamesSession rows document streams
+      → AsksFor arguments (JudgeFiles document streams)
   of_check : (rows : List Row) (document report : Text) (streams : List Text) → AreTaken arguments
-      → AreOfCheck arguments rows → NamesFiles rows document report streams
+      → AreOf (codes "check") arguments rows → NamesSession rows document streams → NamesReport rows report
       → AsksFor arguments (CheckFiles document report streams)
   of_help : (kind : ErrorKind) → IsShownKind kind → HasFault arguments kind → AsksFor arguments ShowHelp
   of_fault : (kind : ErrorKind) → ¬ IsShownKind kind → HasFault arguments kind → AsksFor arguments Unclear
-  of_missing : (rows : List Row) → AreOfCheck arguments rows → ¬ NamesAllFiles rows → AsksFor arguments Unclear
+  of_missing : (command : Text) (rows : List Row) → AreOf command arguments rows → LacksSession rows
+      → AsksFor arguments Unclear
+  of_missing_report : (rows : List Row) → AreOf (codes "check") arguments rows
+      → ¬ ((report : Text) × NamesReport rows report) → AsksFor arguments Unclear
 
 -- A parse that gives no request says so: its error has a text to show, or one that reports what is wrong; or memory ran
 -- out.
@@ -79,8 +97,7 @@ abbrev pub IsErrorOf : List Text → ErrorKind → Type 0
 IsErrorOf arguments kind = kind ≢ OutOfMemory → (IsShownKind kind → AsksFor arguments ShowHelp)
     × (¬ IsShownKind kind → AsksFor arguments Unclear)
 
--- the request of a check, or that a name lacks
-abbrev pub FindsNames : List Row → Option Request → Type 0
-FindsNames rows None = ¬ NamesAllFiles rows
-FindsNames rows (Some request) = (document : Text) × (report : Text) × (streams : List Text)
-    × (request ≡ CheckFiles document report streams) × NamesFiles rows document report streams
+-- the names of a session's files, or that one is missing
+abbrev pub FindsSession : List Row → Option (Text × List Text) → Type 0
+FindsSession rows None = LacksSession rows
+FindsSession rows (Some names) = NamesSession rows names.0 names.1

@@ -1,5 +1,4 @@
 pub mod Arguments
 pub mod Faults
 pub mod FileSources
-pub mod FindingEnds
 pub mod Views

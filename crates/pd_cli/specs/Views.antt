@@ -1,13 +1,20 @@
 -- What the program is asked for, as the definitions name it.
-use Rattle.std.specs.Prelude.{List, map}
+use Rattle.std.specs.Prelude.{List, ℕ, map, Option, Some, None}
 use Rattle.pd_judgement.specs.Statuses as asked
 use Rattle.pd_cli.specs.declared.request.Request.{Request}
-use Rattle.pd_cli.specs.declared.request.Request.TheVariants.{Bundle, Check}
-use Rattle.pd_cli.specs.declared.request.FileNames.{FileNames}
+use Rattle.pd_cli.specs.declared.request.Request.TheVariants.{Bundle, Judge, Check}
+use Rattle.pd_cli.specs.declared.request.SessionNames.{SessionNames}
 
-abbrev pub file_names_view : FileNames → asked.Request
-file_names_view names = asked.CheckFiles names.spec.now names.report.now (map (λ name. name.now) names.streams.items)
+-- the names of the document's file and of the streams' files
+abbrev pub session_view : SessionNames → List ℕ × List (List ℕ)
+session_view names = (names.spec.now, map (λ name. name.now) names.streams.items)
 
 abbrev pub request_view : Request → asked.Request
 request_view Bundle = asked.JudgeInput
-request_view (Check names) = file_names_view names
+request_view (Judge names) = asked.JudgeFiles (session_view names).0 (session_view names).1
+request_view (Check report names) = asked.CheckFiles (session_view names).0 report.now (session_view names).1
+
+-- a request; with none the arguments ask for nothing that can be done
+abbrev pub asked_view : Option Request → asked.Request
+asked_view None = asked.Unclear
+asked_view (Some request) = request_view request

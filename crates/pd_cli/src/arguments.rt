@@ -1,25 +1,32 @@
 //! The command line.
 ghost use Rattle.clap.specs.Matches.{found_of};
-ghost use Rattle.clap.specs.Simple.{app_of};
+ghost use Rattle.clap.specs.Simple.{app_of, subcommand_of, subcommand_rows_of};
 ghost use Rattle.clap.specs.Values.{kind_of};
-ghost use Rattle.clap.specs.Walk.{rows_of};
+ghost use Rattle.clap.specs.Walk.{Text, rows_of, rule_of};
 ghost use Rattle.clap.specs.declared.builder.command.Command.TheViews.{out-Command};
-ghost use Rattle.pd_cli.specs.Arguments.{AsksFor, FindsNames, IsErrorOf, check_app, monitor_app};
-ghost use Rattle.pd_cli.specs.Views.{file_names_view, request_view};
-ghost use Rattle.std.specs.IoError.{error_kind};
-ghost use Rattle.std.specs.Io.KnownBytes.{Keeps};
-ghost use Rattle.std.specs.Prelude.{◌≡◌, ◌≢◌, ◌≤◌, ◌⊎◌, IfErr, IfOk, false, map, option_map};
+ghost use Rattle.pd_cli.specs.Arguments.{AreOf, AreTaken, AsksFor, FindsSession, IsErrorOf, check_app, judge_app, monitor_app, required_rule, stream_rule};
+ghost use Rattle.pd_cli.specs.Views.{asked_view, request_view, session_view};
+ghost use Rattle.std.specs.Prelude.{◌≡◌, ◌≢◌, IfErr, IfOk, List, codes, false, map, option_map};
 
-use super::request::{FileNames, Request};
+use super::request::{Request, SessionNames};
 use clap::error::ErrorKind;
 use clap::{Arg, ArgMatches, Command, Error};
 use std::alloc::{AllocError, Global};
 
 /// What the program's help says of it.
 const ABOUT: &str =
-    "Judges predicates on a distributed computation. A bundle is read from the standard input: \
-a session document, and one stream of events for each process. A report is written to the standard output. \
-The command `check` checks the evidence in such a report.";
+    "Judges predicates on a distributed computation. The command `judge` reads a session document, and one stream of \
+events for each process, from files. With no command they are read from the standard input, as one bundle. \
+A report is written to the standard output. The command `check` checks the evidence in such a report.";
+
+/// What the help says of `judge`.
+const JUDGE_ABOUT: &str = "Judges predicates on a computation that is recorded in files";
+
+/// What the help of `judge` ends with.
+const JUDGE_AFTER: &str =
+    "A report is written to the standard output. The status is 0 if the session is judged, 1 if it is refused, \
+also because a stream can't be read, 2 if the arguments are refused, 3 if a file can't be opened, the document \
+can't be read or the output can't be written, and 4 if memory runs out.";
 
 /// What the help says of `check`.
 const CHECK_ABOUT: &str =
@@ -27,27 +34,47 @@ const CHECK_ABOUT: &str =
 
 /// What the help of `check` ends with.
 const CHECK_AFTER: &str =
-    "What is found is written to the standard output. The status is 0 where nothing in it is bad, and else 1.";
+    "What is found is written to the standard output. The status is 0 if nothing in it is bad, and else 1.";
+
+/// An argument that must be given, the name of one file.
+fn file_argument<'a>(alloc: Global, id: &'a str, help: &'a str) -> Arg<'a>
+    ensures rule { rule_of result ≡ required_rule id.now }
+    ensures local { result.global ≡ false }
+{
+    Arg::new(alloc, id).required(true).help(help)
+}
+
+/// The argument that names the streams.
+fn streams_argument<'a>(alloc: Global) -> Arg<'a>
+    ensures rule { rule_of result ≡ stream_rule }
+    ensures local { result.global ≡ false }
+{
+    file_argument(alloc, "STREAM", "The streams of events, one file for each").num_args(1..)
+}
+
+/// The command line of a judgement.
+fn judge_command<'a>(alloc: Global) -> Result<Command<'a>, AllocError>
+    ensures app { IfOk result (λ command. app_of command ≡ judge_app) }
+    ensures local { IfOk result (λ command. (out-Command command).has_globals ≡ false) }
+{
+    Command::new(alloc, "judge")
+        .about(JUDGE_ABOUT)
+        .after_help(JUDGE_AFTER)
+        .arg(file_argument(alloc, "SPEC", "The session document"))?
+        .arg(streams_argument(alloc))
+}
 
 /// The command line of a check.
 fn check_command<'a>(alloc: Global) -> Result<Command<'a>, AllocError>
     ensures app { IfOk result (λ command. app_of command ≡ check_app) }
     ensures local { IfOk result (λ command. (out-Command command).has_globals ≡ false) }
 {
-    let spec = Arg::new(alloc, "SPEC")
-        .required(true)
-        .help("The session document");
-    let report = Arg::new(alloc, "REPORT").required(true).help("The report");
-    let streams = Arg::new(alloc, "STREAM")
-        .required(true)
-        .num_args(1..)
-        .help("The streams of events, one file for each");
     Command::new(alloc, "check")
         .about(CHECK_ABOUT)
         .after_help(CHECK_AFTER)
-        .arg(spec)?
-        .arg(report)?
-        .arg(streams)
+        .arg(file_argument(alloc, "SPEC", "The session document"))?
+        .arg(file_argument(alloc, "REPORT", "The report"))?
+        .arg(streams_argument(alloc))
 }
 
 /// The program's command line.
@@ -59,30 +86,78 @@ fn program_command<'a>(alloc: Global) -> Result<Command<'a>, AllocError>
         .no_binary_name(true)
         .bin_name("monitor")?
         .disable_help_subcommand(true)
+        .subcommand(judge_command(alloc)?)?
         .subcommand(check_command(alloc)?)
 }
 
-/// The names of the files of a check, if all are there.
-fn file_names<'a>(
+/// The names of a session's files, if all are there.
+fn session_names<'a>(
     alloc: Global,
     matches: &ArgMatches<'a>,
-) -> Result<Option<FileNames<'a>>, AllocError>
-    ensures { IfOk result (λ names. FindsNames (rows_of (found_of matches.now)) (option_map file_names_view names)) }
+) -> Result<Option<SessionNames<'a>>, AllocError>
+    ensures { IfOk result (λ names. FindsSession (rows_of (found_of matches.now)) (option_map session_view names)) }
 {
-    let (Some(spec), Some(report)) = (matches.get_str("SPEC"), matches.get_str("REPORT")) else {
+    let (Some(spec), Some(streams)) = (matches.get_str("SPEC"), matches.get_strs("STREAM")) else {
         return Ok(None);
     };
-    let Some(streams) = matches.get_strs("STREAM") else {
-        return Ok(None);
-    };
-    Ok(Some(FileNames {
+    Ok(Some(SessionNames {
         spec,
-        report,
         streams: streams.to_vec(alloc)?,
     }))
 }
 
-/// The error of a check if a name of a file lacks.
+/// What the arguments of `judge` ask for, if all names are there.
+fn judge_request<'a>(
+    alloc: Global,
+    matches: &ArgMatches<'a>,
+) -> Result<Option<Request<'a>>, AllocError>
+    ensures { IfOk result (λ request. (arguments : List Text) → AreTaken arguments
+        → AreOf (codes "judge") arguments (rows_of (found_of matches.now))
+        → AsksFor arguments (asked_view request)) }
+{
+    let Some(names) = session_names(alloc, matches)? else {
+        return Ok(None);
+    };
+    Ok(Some(Request::Judge(names)))
+}
+
+/// What the arguments of `check` ask for, if all names are there.
+fn check_request<'a>(
+    alloc: Global,
+    matches: &ArgMatches<'a>,
+) -> Result<Option<Request<'a>>, AllocError>
+    ensures { IfOk result (λ request. (arguments : List Text) → AreTaken arguments
+        → AreOf (codes "check") arguments (rows_of (found_of matches.now))
+        → AsksFor arguments (asked_view request)) }
+{
+    let Some(report) = matches.get_str("REPORT") else {
+        return Ok(None);
+    };
+    let Some(names) = session_names(alloc, matches)? else {
+        return Ok(None);
+    };
+    Ok(Some(Request::Check(report, names)))
+}
+
+/// What is asked for, by what the parser found, if no name of a file is missing.
+fn request_of<'a>(
+    alloc: Global,
+    matches: &ArgMatches<'a>,
+) -> Result<Option<Request<'a>>, AllocError>
+    ensures { IfOk result (λ request. (arguments : List Text) → AreTaken arguments
+        → subcommand_rows_of matches.now ≡ subcommand_of monitor_app arguments
+        → AsksFor arguments (asked_view request)) }
+{
+    if let Some(found) = matches.subcommand_matches("judge") {
+        return judge_request(alloc, found);
+    }
+    if let Some(found) = matches.subcommand_matches("check") {
+        return check_request(alloc, found);
+    }
+    Ok(Some(Request::Bundle))
+}
+
+/// The error of a command if a name of a file lacks.
 fn missing_name(command: &mut Command<'_>) -> Error
     ensures { kind_of result ≢ ErrorKind.OutOfMemory → kind_of result ≡ ErrorKind.MissingRequiredArgument }
 {
@@ -111,11 +186,8 @@ pub(crate) fn parse<'a>(alloc: Global, arguments: &'a [String]) -> Result<Reques
         Ok(matches) => matches,
         Err(error) => return Err(error),
     };
-    let Some(of_check) = matches.subcommand_matches("check") else {
-        return Ok(Request::Bundle);
-    };
-    let Some(names) = file_names(alloc, of_check)? else {
+    let Some(request) = request_of(alloc, &matches)? else {
         return Err(missing_name(&mut command));
     };
-    Ok(Request::Check(names))
+    Ok(request)
 }

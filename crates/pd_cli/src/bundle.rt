@@ -1,38 +1,28 @@
 //! Judges the bundle on the input.
 ghost use Rattle.pd_cli.specs.Faults.{ending_view};
-ghost use Rattle.pd_engine.specs.Ends.{outcome_view};
 ghost use Rattle.pd_judgement.specs.Statuses.{JudgementLeaves};
-ghost use Rattle.std.specs.Prelude.{◌≡◌};
+ghost use Rattle.std.specs.Prelude.{◌≡◌, false};
 
-use pd_engine::{EngineFault, NoGate, Outcome, judge_bundle};
+use super::outcomes::{WORKERS, is_judged};
+use pd_engine::{ByteSource, EngineFault, NoGate, judge_bundle};
 use std::alloc::Global;
-use std::io::{Read, Write};
+use std::io::Write;
 use std::random::RandomSource;
-
-/// How many workers judge a bundle.
-const WORKERS: u64 = 1;
-
-/// Whether the session is judged, and not refused.
-fn is_judged(outcome: Outcome) -> bool
-    ensures { result ≡ outcome_view outcome }
-{
-    match outcome {
-        Outcome::Judged => true,
-        Outcome::Refused => false,
-    }
-}
+use std::sync::Wait;
+use std::thread::Threads;
 
 /// Reads a bundle, judges it, writes its report, and flushes the output. It reports whether the session is judged, and
 /// not refused.
 ///
 /// # Errors
 /// As `judge_bundle`, and `Write` too if the output can't be flushed.
-pub(crate) fn judge_input<S: RandomSource, I: Read + Drop, O: Write>(
+pub(crate) fn judge_input<S: RandomSource + Threads + Wait + Sync, I: ByteSource + Drop, O: Write>(
     rt: &S,
     alloc: Global,
     input: I,
     output: &mut O,
 ) -> Result<bool, EngineFault>
+    requires { I.has_ended input ≡ false }
     ensures { JudgementLeaves (I.remaining input) (ending_view result) (O.contents output.old) (O.contents output.new) }
 {
     let outcome = judge_bundle(rt, alloc, input, WORKERS, &NoGate, output)?;

@@ -1,7 +1,6 @@
-//! Where a check's files are read.
-use pd_engine::EngineFault;
+//! Where files are read.
+use pd_engine::{ByteSource, EngineFault};
 use std::fs;
-use std::io::Read;
 use std::rt::Files;
 
 /// Opens files by their names. What each holds may be known, as it is in proofs over files that are made up; of the
@@ -9,9 +8,9 @@ use std::rt::Files;
 pub trait FileSource {
     ghost use Rattle.pd_cli.specs.FileSources.{HasWholeFile};
     ghost use Rattle.pd_engine.specs.declared.fault.EngineFault.TheVariants as faults;
-    ghost use Rattle.std.specs.Prelude.{IfOk, IsOkUnless, ℕ, List, Option};
+    ghost use Rattle.std.specs.Prelude.{◌≡◌, IfOk, IsOkUnless, ℕ, List, Option, false};
 
-    type File: Read + Drop;
+    type File: ByteSource + Send + Drop;
 
     // The bytes of the file of each name, if they are known.
     ghost bytes_of: { Self → List ℕ → Option (List ℕ) };
@@ -22,10 +21,14 @@ pub trait FileSource {
     /// `Read`, if it can't be opened.
     fn open(&self, name: &str) -> Result<Self::File, EngineFault>
         ensures file { IfOk result (λ file. HasWholeFile (bytes_of self.now name.now) (Self.File.remaining file)) }
+        ensures open { IfOk result (λ file. Self.File.has_ended file ≡ false) }
         ensures err { IsOkUnless result faults.Read };
 }
 
-impl<R: Files> FileSource for R {
+impl<R: Files> FileSource for R
+where
+    R::File: Send,
+{
     ghost use Rattle.std.specs.Prelude.{None};
 
     type File = R::File;

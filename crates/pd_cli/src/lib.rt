@@ -2,17 +2,21 @@
 //!
 //! With no argument beyond the program's name a bundle is read from the input, judged, and its report written to the
 //! output. If the status is 0 or 1, what was written is the text of the report that the input's bytes make: judged at
-//! 0, refused at 1. Further arguments go to the command line's parser. `check` with the names of files checks a
-//! report's evidence: at status 0 nothing that it found is bad, and at 1 something is. Whatever fails is reported in
-//! one line on the errors. What each status says stands in `pd_judgement/specs/Statuses.antt`.
+//! 0, refused at 1. Further arguments go to the command line's parser. `judge` with the names of files does the same
+//! with a session document and streams that stand in files. `check` with the names of files checks a report's evidence:
+//! at status 0 nothing that it found is bad, and at 1 something is. Whatever fails is reported in one line on the
+//! errors. What each status says stands in `pd_judgement/specs/Statuses.antt`.
 //!
 //! - `program`: one run of the program, from its arguments to its exit status
 //! - `arguments`: the command line
 //! - `request`: what the program is asked for
 //! - `parser_error`: reports what the command line's parser has to say
 //! - `bundle`: judges the bundle on the input
-//! - `check_files`: checks a report against files
-//! - `file_source`: where a check's files are read
+//! - `judge_files`: judges the session in files
+//! - `check_files`: checks a report against the session in files
+//! - `session_files`: opens and reads the files of a session
+//! - `file_source`: where files are read
+//! - `outcomes`: how the program judges, and which outcome is a success
 //! - `status`: exit statuses, and the lines that report faults
 //! - `line`: writes a line to the errors
 #![tactic(auto)]
@@ -21,10 +25,13 @@ mod arguments;
 mod bundle;
 mod check_files;
 mod file_source;
+mod judge_files;
 mod line;
+mod outcomes;
 mod parser_error;
 mod program;
 mod request;
+mod session_files;
 mod status;
 #[cfg(test)]
 mod tests;

@@ -1,46 +1,69 @@
 //! One run of the program.
 ghost use Rattle.pd_cli.specs.Arguments.{AsksFor};
-ghost use Rattle.pd_judgement.specs.Statuses.{Ends, EndsAsAsked, CheckLeaves, JudgementLeaves};
-ghost use Rattle.pd_judgement.specs.Writes.{WritesTruth};
-ghost use Rattle.std.specs.Prelude.{◌≡◌, ◌≤◌, IfSome, drop, map, vec_len};
+ghost use Rattle.pd_judgement.specs.Statuses.{CheckLeaves, Ends, EndsAsAsked, FilesJudgementLeaves, JudgementLeaves};
+ghost use Rattle.pd_judgement.specs.Writes.{WritesTruthOfBundle};
+ghost use Rattle.std.specs.Prelude.{◌≡◌, ◌≤◌, drop, false, map, vec_len};
 
 use super::arguments::parse;
 use super::bundle::judge_input;
 use super::check_files::check_files;
 use super::file_source::FileSource;
+use super::judge_files::judge_files;
 use super::parser_error::report_parser_error;
-use super::request::{FileNames, Request};
+use super::request::{Request, SessionNames};
 use super::status::report_end;
+use pd_engine::ByteSource;
 use std::alloc::Global;
-use std::io::{Read, Write};
+use std::io::Write;
 use std::random::RandomSource;
+use std::sync::Wait;
+use std::thread::Threads;
 
-/// Checks a report against files, and gives the exit status.
-fn run_check<S: RandomSource, F: FileSource, O: Write, E: Write>(
+/// Checks the report in the file of this name against files, and gives the exit status.
+fn run_check<S: RandomSource + Threads + Wait + Sync, F: FileSource, O: Write, E: Write>(
     rt: &S,
     files: &F,
     alloc: Global,
-    names: &FileNames<'_>,
+    report: &str,
+    names: &SessionNames<'_>,
     output: &mut O,
     errors: &mut E,
 ) -> u8
     ensures { Ends (λ ending. CheckLeaves (F.bytes_of files.now names.now.spec.now)
-        (F.bytes_of files.now names.now.report.now)
+        (F.bytes_of files.now report.now)
         (map (λ name. F.bytes_of files.now name.now) names.now.streams.items) ending
         (O.contents output.old) (O.contents output.new)) result (E.contents errors.old) (E.contents errors.new) }
 {
-    let end = check_files(rt, files, alloc, names, output);
+    let end = check_files(rt, files, alloc, report, names, output);
+    report_end(&end, errors)
+}
+
+/// Judges the session in files, and gives the exit status.
+fn run_files<S: RandomSource + Threads + Wait + Sync, F: FileSource, O: Write, E: Write>(
+    rt: &S,
+    files: &F,
+    alloc: Global,
+    names: &SessionNames<'_>,
+    output: &mut O,
+    errors: &mut E,
+) -> u8
+    ensures { Ends (λ ending. FilesJudgementLeaves (F.bytes_of files.now names.now.spec.now)
+        (map (λ name. F.bytes_of files.now name.now) names.now.streams.items) ending
+        (O.contents output.old) (O.contents output.new)) result (E.contents errors.old) (E.contents errors.new) }
+{
+    let end = judge_files(rt, files, alloc, names, output);
     report_end(&end, errors)
 }
 
 /// Judges the bundle on the input, and gives the exit status.
-fn run_bundle<S: RandomSource, I: Read + Drop, O: Write, E: Write>(
+fn run_bundle<S: RandomSource + Threads + Wait + Sync, I: ByteSource + Drop, O: Write, E: Write>(
     rt: &S,
     alloc: Global,
     input: I,
     output: &mut O,
     errors: &mut E,
 ) -> u8
+    requires { I.has_ended input ≡ false }
     ensures { Ends (λ ending. JudgementLeaves (I.remaining input) ending (O.contents output.old)
         (O.contents output.new)) result (E.contents errors.old) (E.contents errors.new) }
 {
@@ -49,7 +72,13 @@ fn run_bundle<S: RandomSource, I: Read + Drop, O: Write, E: Write>(
 }
 
 /// Does what the arguments after the program's name ask for, and gives the exit status.
-fn run_arguments<S: RandomSource, F: FileSource, I: Read + Drop, O: Write, E: Write>(
+fn run_arguments<
+    S: RandomSource + Threads + Wait + Sync,
+    F: FileSource,
+    I: ByteSource + Drop,
+    O: Write,
+    E: Write,
+>(
     rt: &S,
     files: &F,
     alloc: Global,
@@ -58,13 +87,17 @@ fn run_arguments<S: RandomSource, F: FileSource, I: Read + Drop, O: Write, E: Wr
     output: &mut O,
     errors: &mut E,
 ) -> u8
+    requires { I.has_ended input ≡ false }
     ensures ends { EndsAsAsked (AsksFor (map (λ argument. argument.bytes.items) arguments.now))
         (I.remaining input) (F.bytes_of files.now) result (O.contents output.old) (O.contents output.new)
         (E.contents errors.old) (E.contents errors.new) }
 {
     match parse(alloc, arguments) {
         Ok(Request::Bundle) => run_bundle(rt, alloc, input, output, errors),
-        Ok(Request::Check(names)) => run_check(rt, files, alloc, &names, output, errors),
+        Ok(Request::Judge(names)) => run_files(rt, files, alloc, &names, output, errors),
+        Ok(Request::Check(report, names)) => {
+            run_check(rt, files, alloc, report, &names, output, errors)
+        }
         Err(error) => report_parser_error(&error, output, errors),
     }
 }
@@ -72,10 +105,18 @@ fn run_arguments<S: RandomSource, F: FileSource, I: Read + Drop, O: Write, E: Wr
 /// Runs the program on its arguments, of which the first is its name, and gives its exit status.
 ///
 /// With no further argument a bundle is read from `input`, and its report is written to `output`. Further arguments are
-/// parsed: `check`, with the names of the files of a session document, a report and one stream or more, checks that
-/// report and writes what is found to `output`; the help that they ask for is written to `output`, and what is wrong
-/// with them to `errors`. `errors` also has one line for each fault; what of it can't be written is left off.
-pub fn run<S: RandomSource, F: FileSource, I: Read + Drop, O: Write, E: Write>(
+/// parsed: `judge`, with the names of the files of a session document and one stream or more, judges these and writes
+/// their report to `output`; `check`, with the names of the files of a session document, a report and one stream or
+/// more, checks that report and writes what is found to `output`; the help that they ask for is written to `output`,
+/// and what is wrong with them to `errors`. `errors` also has one line for each fault; what of it can't be written is
+/// left off.
+pub fn run<
+    S: RandomSource + Threads + Wait + Sync,
+    F: FileSource,
+    I: ByteSource + Drop,
+    O: Write,
+    E: Write,
+>(
     rt: &S,
     files: &F,
     alloc: Global,
@@ -84,6 +125,7 @@ pub fn run<S: RandomSource, F: FileSource, I: Read + Drop, O: Write, E: Write>(
     output: &mut O,
     errors: &mut E,
 ) -> u8
+    requires open { I.has_ended input ≡ false }
     // The exit status says what is left on the output and on the errors, by what the arguments after the first ask for.
     ensures ends { EndsAsAsked (AsksFor (drop 1 (map (λ argument. argument.bytes.items) arguments.items)))
         (I.remaining input) (F.bytes_of files.now) result (O.contents output.old) (O.contents output.new)
@@ -91,12 +133,11 @@ pub fn run<S: RandomSource, F: FileSource, I: Read + Drop, O: Write, E: Write>(
     // With no further argument that is the report of the bundle on the input.
     ensures bundle { vec_len arguments ≤ 1 → Ends (λ ending. JudgementLeaves (I.remaining input) ending
         (O.contents output.old) (O.contents output.new)) result (E.contents errors.old) (E.contents errors.new) }
-    // If the input holds a well-formed session with no level over the width, that report says the truth of each
-    // predicate.
-    ensures headline { vec_len arguments ≤ 1 → result ≤ 1 → IfSome (I.remaining input) (λ bytes.
-        WritesTruth bytes (O.contents output.old) (O.contents output.new)) }
+    // If the input holds a well-formed session, status 0 or 1 is 0; and with no level over the width, that report says
+    // the truth of each predicate.
+    ensures headline { vec_len arguments ≤ 1 → result ≤ 1 → WritesTruthOfBundle (I.remaining input) (result ≡ 0)
+        (O.contents output.old) (O.contents output.new) }
 {
-    pd_judgement::headline_of_bundle();
     if arguments.len() <= 1 {
         return run_bundle(rt, alloc, input, output, errors);
     }

@@ -1,12 +1,10 @@
 //! What the program is asked for.
 
-/// The names of the files of a check.
+/// The names of the files of a session.
 #[derive(Drop)]
-pub(crate) struct FileNames<'a> {
+pub(crate) struct SessionNames<'a> {
     /// Of the session document.
     pub(crate) spec: &'a str,
-    /// Of the report.
-    pub(crate) report: &'a str,
     /// Of the streams of events, in their order.
     pub(crate) streams: Vec<&'a str>,
 }
@@ -16,6 +14,8 @@ pub(crate) struct FileNames<'a> {
 pub(crate) enum Request<'a> {
     /// To judge the bundle on the input.
     Bundle,
-    /// To check a report against a session document and streams.
-    Check(FileNames<'a>),
+    /// To judge a session document and streams.
+    Judge(SessionNames<'a>),
+    /// To check the report in the file of this name against a session document and streams.
+    Check(&'a str, SessionNames<'a>),
 }

@@ -1,5 +1,7 @@
 //! The program's statuses, and what it writes.
 mod checks;
+mod folders;
+mod judgements;
 mod writers;
 
 use super::status::{FAILED, MISUSED, NO_MEMORY, REFUSED, SUCCESS};
@@ -7,7 +9,10 @@ use super::{report_unread_arguments, run};
 use std::alloc::AllocError;
 use std::io;
 use std::io::Write;
+use std::random::RandomSource;
+use std::sync::Wait;
 use std::test::Fail;
+use std::thread::Threads;
 use writers::{Failing, Slow};
 
 /// A small session.
@@ -28,7 +33,17 @@ Usage: monitor check <SPEC> <REPORT> <STREAM>...\n\n\
 Arguments:\n  <SPEC>       The session document\n  <REPORT>     The report\n  \
 <STREAM>...  The streams of events, one file for each\n\n\
 Options:\n  -h, --help  Print help\n\n\
-What is found is written to the standard output. The status is 0 where nothing in it is bad, and else 1.\n";
+What is found is written to the standard output. The status is 0 if nothing in it is bad, and else 1.\n";
+
+/// What the help of `judge` says.
+const JUDGE_HELP: &str = "Judges predicates on a computation that is recorded in files\n\n\
+Usage: monitor judge <SPEC> <STREAM>...\n\n\
+Arguments:\n  <SPEC>       The session document\n  \
+<STREAM>...  The streams of events, one file for each\n\n\
+Options:\n  -h, --help  Print help\n\n\
+A report is written to the standard output. The status is 0 if the session is judged, 1 if it is refused, \
+also because a stream can't be read, 2 if the arguments are refused, 3 if a file can't be opened, the document \
+can't be read or the output can't be written, and 4 if memory runs out.\n";
 
 /// These arguments, as the program is given them.
 fn owned(rt: &HostRuntime, arguments: &[&str]) -> Result<Vec<String>, AllocError> {
@@ -41,7 +56,8 @@ fn owned(rt: &HostRuntime, arguments: &[&str]) -> Result<Vec<String>, AllocError
 }
 
 /// The status of a run on these arguments and this input.
-fn run_to<O: Write, E: Write>(
+fn run_to<T: RandomSource + Threads + Wait + Sync, O: Write, E: Write>(
+    threads: &T,
     rt: &HostRuntime,
     arguments: &[&str],
     input: &[u8],
@@ -49,7 +65,7 @@ fn run_to<O: Write, E: Write>(
     errors: &mut E,
 ) -> Result<u8, AllocError> {
     let given = owned(rt, arguments)?;
-    Ok(run(rt, rt, rt.alloc(), given, input, output, errors))
+    Ok(run(threads, rt, rt.alloc(), given, input, output, errors))
 }
 
 #[test]
@@ -67,6 +83,7 @@ fn sessions_end_by_their_reports(rt: HostRuntime) -> Result<(), Fail> {
         let mut errors = Vec::new(rt.alloc());
         let status = run_to(
             &rt,
+            &rt,
             &["monitor"],
             input.as_bytes(),
             &mut output,
@@ -81,18 +98,23 @@ fn sessions_end_by_their_reports(rt: HostRuntime) -> Result<(), Fail> {
 
 #[test]
 fn help_is_written_to_the_output(rt: HostRuntime) -> Result<(), Fail> {
-    let cases: [(&str, &[&str], &str); 2] = [
+    let cases: [(&str, &[&str], &str); 3] = [
         (
             "of the program",
             &["monitor", "--help"],
             "Judges predicates",
+        ),
+        (
+            "of a judgement",
+            &["monitor", "judge", "--help"],
+            JUDGE_HELP,
         ),
         ("of a check", &["monitor", "check", "--help"], CHECK_HELP),
     ];
     for (name, arguments, text) in cases {
         let mut output = Vec::new(rt.alloc());
         let mut errors = Vec::new(rt.alloc());
-        let status = run_to(&rt, arguments, b"", &mut output, &mut errors)?;
+        let status = run_to(&rt, &rt, arguments, b"", &mut output, &mut errors)?;
         assert_eq!(rt; (name, status), (name, SUCCESS));
         assert!(rt; output.starts_with(text.as_bytes()), "{name}");
         assert!(rt; errors.is_empty(), "{name}");
@@ -102,9 +124,15 @@ fn help_is_written_to_the_output(rt: HostRuntime) -> Result<(), Fail> {
 
 #[test]
 fn arguments_are_refused(rt: HostRuntime) -> Result<(), Fail> {
-    let cases: [(&str, &[&str]); 6] = [
-        ("another command", &["monitor", "judge"]),
-        ("another command with a name", &["monitor", "judge", "x"]),
+    let cases: [(&str, &[&str]); 9] = [
+        ("another command", &["monitor", "judges"]),
+        ("another command with a name", &["monitor", "judges", "x"]),
+        ("a judgement of nothing", &["monitor", "judge"]),
+        ("a judgement with no stream", &["monitor", "judge", "x"]),
+        (
+            "a judgement with an option",
+            &["monitor", "judge", "--x", "y", "z"],
+        ),
         ("a check of nothing", &["monitor", "check"]),
         ("a check with a document alone", &["monitor", "check", "x"]),
         ("a check with no stream", &["monitor", "check", "x", "y"]),
@@ -116,7 +144,7 @@ fn arguments_are_refused(rt: HostRuntime) -> Result<(), Fail> {
     for (name, arguments) in cases {
         let mut output = Vec::new(rt.alloc());
         let mut errors = Vec::new(rt.alloc());
-        let status = run_to(&rt, arguments, b"", &mut output, &mut errors)?;
+        let status = run_to(&rt, &rt, arguments, b"", &mut output, &mut errors)?;
         assert_eq!(rt; (name, status), (name, MISUSED));
         assert!(rt; output.is_empty(), "{name}");
         assert!(rt; errors.starts_with(b"error: "), "{name}");
@@ -135,7 +163,14 @@ fn output_that_fails(rt: HostRuntime) -> Result<(), Fail> {
     for (name, arguments, takes) in cases {
         let mut errors = Vec::new(rt.alloc());
         let input = BUNDLE.as_bytes();
-        let status = run_to(&rt, arguments, input, &mut Failing { takes }, &mut errors)?;
+        let status = run_to(
+            &rt,
+            &rt,
+            arguments,
+            input,
+            &mut Failing { takes },
+            &mut errors,
+        )?;
         assert_eq!(rt; (name, status), (name, FAILED));
         assert_eq!(rt;
             (name, errors.as_slice()),
@@ -160,7 +195,14 @@ fn writers_that_take_a_byte_a_call(rt: HostRuntime) -> Result<(), Fail> {
     for (name, arguments, text, line) in cases {
         let mut output = Slow::new(rt.alloc());
         let mut errors = Slow::new(rt.alloc());
-        let _ = run_to(&rt, arguments, BUNDLE.as_bytes(), &mut output, &mut errors)?;
+        let _ = run_to(
+            &rt,
+            &rt,
+            arguments,
+            BUNDLE.as_bytes(),
+            &mut output,
+            &mut errors,
+        )?;
         assert!(rt; output.taken.as_slice() == text.as_bytes(), "{name}");
         assert!(rt; errors.taken.as_slice() == line.as_bytes(), "{name}");
     }

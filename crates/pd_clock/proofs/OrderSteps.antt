@@ -1,5 +1,5 @@
 -- One event more in an order, and what is left where no event can go.
-use Rattle.std.proofs.Common.{◌≡◌, ℕ, ◌+◌, ◌-◌, ◌<◌, ◌≤◌, Bool, true, false, IsTrue, cond, List, [], length, get_or, replicate, sum, refl, sym, ap, ◌∙◌, subst, inl, inr, ◌⊎◌, ◌↔◌, arith}
+use Rattle.std.proofs.Common.{◌≡◌, ℕ, ◌+◌, ◌-◌, ◌<◌, ◌≤◌, Bool, true, false, IsTrue, cond, List, length, get_or, replicate, sum, refl, sym, ap, ◌∙◌, subst, inl, inr, ◌⊎◌, ◌↔◌, arith}
 use Rattle.std.specs.Prelude.{nat_lt, nat_le, ◌&&◌, Option, Some, None, Contains, IfSome}
 use Rattle.std.proofs.lemmas.Bool.{cases_lt, cases_eq, lt-ltb, le-ltb, le-leb, ltb-true, leb-true, and_from, and_parts}
 use Rattle.std.proofs.lemmas.List.{get_or-replicate, length-replicate, get_or_past}
@@ -47,12 +47,6 @@ pub sent_some : (c : Computation) (done : List ℕ) (p : ℕ) (found : Option Pl
 sent_some c done p None goes send = tt
 sent_some c done p (Some s) goes send =
     ((send_event c s (next_of done p) ((send s).1 refl)).0, goes.sent s ((send s).1 refl))
-
--- a process that isn't there waits
-pub waits_past : (c : Computation) (done : List ℕ) (p : ℕ) → length c ≤ p → Waits c done p
-waits_past c done p past =
-    let none : event_count c p ≡ 0 = ap length (get_or_past c p [] past) in
-    inl (omega arith)
 
 -- an event of the order didn't happen before itself
 pub no_cycle_in_order : (c : Computation) (done : List ℕ) (e : Place) → IsOrdered c done → IsDone done e

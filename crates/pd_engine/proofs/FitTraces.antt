@@ -1,6 +1,6 @@
 -- The traces of a session fit its document, and what they record.
-use Rattle.std.proofs.Common.{◌≡◌, ℕ, List, [], ◌∷◌, length, map, refl, ap, ◌∙◌, subst, Some, None, Option}
-use Rattle.std.specs.Prelude.{IfSome, MatchOption}
+use Rattle.std.proofs.Common.{◌≡◌, ℕ, List, [], ◌∷◌, length, map, refl, sym, ap, ◌∙◌, subst, Some, None, Option, Ok}
+use Rattle.std.specs.Prelude.{IfSome, MatchOption, Result}
 use Rattle.std.specs.List.{AllZip}
 use Rattle.std.proofs.lemmas.List.{length-map}
 use Rattle.pd_model.specs.Events.{Computation, Place}
@@ -9,20 +9,20 @@ use Rattle.pd_model.specs.Messages.{Fault, HasLawfulMessages, IsMessageList, IsR
 use Rattle.pd_model.specs.Order.{HasNoCycle, IsReportedCycle}
 use Rattle.pd_model.specs.Predicates.{Recorded}
 use Rattle.pd_format.specs.Documents.{Document}
-use Rattle.pd_judgement.specs.Judgements.{IsAnswered, IsTracesReport, of_answers, of_cycle, of_messages, events_of_traces}
+use Rattle.pd_judgement.specs.Judgements.{IsAnswered, IsReportOfResults, IsReportOfSession, IsTracesReport, of_answers, of_cycle, of_messages, events_of_traces}
 use Rattle.pd_format.specs.RefusalWords.{match_refusal, named_place}
 use Rattle.pd_judgement.specs.Judgements as judgements
 use Rattle.pd_format.specs.Names.{ProcessNames}
+use Rattle.pd_format.specs.Sessions.{SessionFault, StreamResult, session}
 use Rattle.pd_format.specs.Readings as readings
 use Rattle.pd_format.specs.Reports as reports
-use Rattle.pd_format.specs.Reports.{Refusal, Refused, Report}
+use Rattle.pd_format.specs.Reports.{Refusal, Refused}
 use Rattle.pd_events.specs.Views.{computation_view, events_view}
 use Rattle.pd_events.specs.declared.event.Trace.{Trace}
 use Rattle.pd_events.specs.SessionTraces.{AreTraces}
 use Rattle.pd_gather.specs.Views.{traces_view}
 use Rattle.pd_clock.specs.Computations.{recorded_view}
-use Rattle.pd_engine.specs.Formings.{AreWellFormed}
-use Rattle.pd_engine.specs.Judged.{IsJudged}
+use Rattle.pd_engine.specs.Computations.{AreWellFormed}
 
 -- ---- what was recorded
 
@@ -82,12 +82,27 @@ well_formed document traces messages one_each lawful acyclic list =
 
 -- the report with these answers
 pub answers_report : (document : Document) (traces : List readings.Trace) (recorded : Recorded) (count : ℕ)
-    (report : Report) → AreWellFormed document traces recorded count → IsJudged document recorded count report
-    → IsTracesReport document traces report
-answers_report document traces recorded count report well judged =
+    (answers : List reports.Answer) → AreWellFormed document traces recorded count
+    → AllZip (IsAnswered document.names recorded document.width) document.predicates answers
+    → IsTracesReport document traces
+    (reports.Judged (length document.names) (total recorded.events) count answers)
+answers_report document traces recorded count answers well answered =
     let zip : AllZip (IsAnswered document.names (judgements.recorded_of document traces) document.width)
-    document.predicates judged.answers =
-    subst (λ (r : Recorded). AllZip (IsAnswered document.names r document.width) document.predicates judged.answers)
-    well.same judged.answered in
-    rw (judged.reported, ap (λ (r : Recorded). total r.events) well.same, well.counted)
-    (of_answers well.messages judged.answers well.formed well.are_messages zip)
+    document.predicates answers =
+    subst (λ (r : Recorded). AllZip (IsAnswered document.names r document.width) document.predicates answers)
+    well.same answered in
+    rw (ap (λ (r : Recorded). total r.events) well.same, well.counted)
+    (of_answers well.messages answers well.formed well.are_messages zip)
+
+-- the same of streams that make these traces
+pub answered_report : (document : Document) (streams : ℕ) (results : List StreamResult) (traces : List readings.Trace)
+    (recorded : Recorded) (count processes events : ℕ) (answers : List reports.Answer)
+    → session document.names streams results ≡ Ok traces → AreWellFormed document traces recorded count
+    → AllZip (IsAnswered document.names recorded document.width) document.predicates answers
+    → processes ≡ length document.names → events ≡ total recorded.events
+    → IsReportOfResults document streams results (reports.Judged processes events count answers)
+answered_report document streams results traces recorded count processes events answers joined well answered same_names
+    same_total =
+    subst (λ (r : Result (List readings.Trace) SessionFault). IsReportOfSession document r
+    (reports.Judged processes events count answers)) (sym joined)
+    (rw (same_names, same_total) (answers_report document traces recorded count answers well answered))

@@ -1,19 +1,13 @@
 -- The modules of lemmas of this crate.
-pub mod Inputs
 pub mod Parts
 pub mod FitTraces
 pub mod SessionNumbers
-pub mod Feeding
+pub mod SessionReports
+pub mod ReportTexts
+pub mod SessionFindings
 pub mod WholeInputs
-pub mod LimitedBundles
-pub mod Openings
+pub mod DocumentRefusals
 pub mod RefusedPlaces
 pub mod PrintedPaths
-pub mod TruthFacts
 pub mod Ends
-pub mod FindingTexts
-pub mod PathNames
 pub mod Zips
-pub mod CheckedAnswers
-pub mod ClaimFacts
-pub mod GivenStreams

@@ -1,6 +1,7 @@
 -- Parts of lines, line by line.
 use Rattle.std.proofs.Common.{◌≡◌, ℕ, zero, suc, ◌+◌, ◌-◌, ◌<◌, ◌≤◌, Bool, true, false, List, [], ◌∷◌, ◌++◌, length, get_or, take, drop, refl, sym, ap, ◌∙◌, append-nil, append_assoc, arith}
-use Rattle.std.specs.Prelude.{◌==◌}
+use Rattle.std.specs.Prelude.{◌==◌, map}
+use Rattle.std.specs.Borrow.{Bor}
 use Rattle.std.proofs.lemmas.List.{take_all, drop_all, drop-drop}
 use Rattle.std.proofs.Math.Seq.{take-add}
 use Rattle.pd_format.specs.Bundles.{whole_lines, is_separator, onto_part, parts_of, parts_of_lines}
@@ -105,3 +106,12 @@ cut_grows bytes start at n order first e =
 -- after the last byte there is nothing
 pub cut_whole : (part : List ℕ) (rest : List ℕ) → rest ≡ [] → onto_part part (parts_of rest) ≡ part ∷ []
 cut_whole part rest e = rw (e, append-nil part) refl
+
+-- ---- the first part and the others
+
+pub first_part : (parts : List (Bor (List ℕ))) (first : Bor (List ℕ)) → 0 < length parts
+    → first ≡ get_or parts 0 first
+    → map (λ (part : Bor (List ℕ)). part.now) parts ≡ first.now ∷ map (λ (part : Bor (List ℕ)). part.now) (drop 1 parts)
+first_part [] first lt e = absurd (omega arith)
+first_part (part ∷ others) first lt e =
+    ap (λ (p : Bor (List ℕ)). p.now ∷ map (λ (other : Bor (List ℕ)). other.now) others) (sym e)

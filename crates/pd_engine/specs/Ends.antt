@@ -1,7 +1,8 @@
 -- How far a call of the engine came with the text that it owes, and what its answer says of that text.
 use Rattle.std.specs.Prelude.{◌≡◌, ℕ, List, IfSome, Bool, true, false, Option, Some, None, Result, Ok, Err}
 use Rattle.pd_format.specs.Reports.{Report, report_text}
-use Rattle.pd_judgement.specs.Writes.{CallEnd, Whole, Partial, Silent, is_judged}
+use Rattle.pd_judgement.specs.Writes.{CallEnd, Whole, Partial, Silent}
+use Rattle.pd_judgement.specs.Headline.{is_judged}
 use Rattle.pd_engine.specs.declared.fault.EngineFault.{EngineFault}
 use Rattle.pd_engine.specs.declared.fault.EngineFault.TheVariants.{Memory, Write, Read, BundleLong}
 use Rattle.pd_engine.specs.declared.outcome.Outcome.{Outcome}

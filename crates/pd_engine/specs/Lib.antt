@@ -1,11 +1,9 @@
+-- The modules of definitions of this crate.
 pub mod Refusals
-pub mod Openings
+pub mod Unanswered
+pub mod Computations
+pub mod SessionReports
+pub mod Checks
 pub mod Ends
-pub mod Judged
 pub mod Paths
 pub mod Faults
-pub mod Checks
-pub mod Formings
-pub mod FindingViews
-pub mod Verdicts
-pub mod Claims

@@ -1,4 +1,5 @@
 //! Why the engine gives no report.
+use pd_gather::ReadFault;
 use pd_report::WriteFault;
 use std::alloc::{AllocError, AllocFailed};
 use thiserror::Error;
@@ -52,6 +53,20 @@ impl From<WriteFault> for EngineFault {
         match fault {
             WriteFault::Memory => EngineFault::Memory,
             WriteFault::Write => EngineFault::Write,
+        }
+    }
+}
+
+impl From<ReadFault> for EngineFault {
+    ghost use Rattle.std.specs.Prelude.{◌≡◌};
+    ghost use Rattle.pd_engine.specs.Faults.{engine_read_fault};
+
+    ghost from_gives = { λ fault e. e ≡ engine_read_fault fault };
+
+    fn from(fault: ReadFault) -> EngineFault {
+        match fault {
+            ReadFault::Memory => EngineFault::Memory,
+            ReadFault::Read => EngineFault::Read,
         }
     }
 }

@@ -1,87 +1,29 @@
-//! Reads a reader up to a limit.
-ghost use Rattle.std.specs.Prelude.{◌≡◌, ◌+◌, ◌≤◌, ◌<◌, ◌++◌, ◌⊎◌, List, ℕ, length, take, IfOk, IfErr, IfSome, IsOkUnless, OnErr, vec_len};
+//! Reads a source up to a limit.
 ghost use Rattle.pd_format.specs.Limits.{report_byte_limit};
-ghost use Rattle.std.specs.Io.KnownBytes.{Consumes, IsAtEnd};
+ghost use Rattle.std.specs.Prelude.{◌≡◌, ◌≢◌, ◌+◌, ◌≤◌, ◌⊎◌, Err, IfErr, IfOk, IfSome, false, take, true, vec_len};
 
-use super::fault::EngineFault;
-use std::alloc::{AllocError, Global};
-use std::io::Read;
+use super::EngineFault;
+use pd_gather::{ByteSource, read_bytes};
+use std::alloc::Global;
 
-/// How many bytes are asked for at a time.
-const PIECE: usize = 65_536;
-
-/// One read into the piece. What it gives goes after the bytes read so far. The result is how many bytes it gives: none
-/// only at the reader's end, or if the piece has no room.
-fn read_piece<R: Read>(
-    reader: &mut R,
-    piece: &mut [u8],
-    bytes: &mut Vec<u8>,
-) -> Result<usize, EngineFault>
-    ensures within { IfOk result (λ count. count ≤ length piece.new) }
-    ensures len { IfOk result (λ count. vec_len bytes.new ≡ vec_len bytes.old + count) }
-    ensures more { IfOk result (λ count. (given : List ℕ) × (bytes.new.items ≡ bytes.old.items ++ given)
-        × Consumes (R.remaining reader.old) (R.remaining reader.new) given) }
-    ensures end { IfOk result (λ count. count ≡ 0 → 0 < length piece.new → IsAtEnd (R.remaining reader.new)) }
-    ensures err { IfErr result (λ fault. (fault ≡ EngineFault.Memory) ⊎ (fault ≡ EngineFault.Read)) }
-{
-    let count = reader.read(piece).map_err(|_| EngineFault::Read)?;
-    bytes.extend_from_slice(&piece[..count])?;
-    Ok(count)
-}
-
-/// Room for the bytes of one read, of which no more than this many are asked for.
-fn new_piece(alloc: Global, most: usize) -> Result<Vec<u8>, AllocError>
-    ensures { IfOk result (λ piece. 0 < most → 0 < vec_len piece) }
-{
-    let size = PIECE.min(most);
-    vec![in alloc; 0u8; size]
-}
-
-/// All bytes that the reader gives, or its first `limit + 1` bytes if there are more: so the length says whether they
+/// All bytes that the source gives, or its first `limit + 1` bytes if there are more: so the length says whether they
 /// are more than the limit. The limit is at most 268,435,456. No more bytes than these are asked for, in at most
-/// `limit + 1` reads.
+/// `limit + 1` reads, and nothing is read after the source's end.
 ///
 /// # Errors
 /// `Read` if a read fails, of whatever kind, and `Memory`. The bytes read until then are dropped.
-pub fn read_upto<R: Read + Drop>(
+pub fn read_upto<R: ByteSource + Drop>(
     alloc: Global,
-    mut reader: R,
+    reader: R,
     limit: usize,
 ) -> Result<Vec<u8>, EngineFault>
-    requires { limit ≤ report_byte_limit }
+    requires open { R.has_ended reader ≡ false }
+    requires few { limit ≤ report_byte_limit }
     ensures within { IfOk result (λ bytes. vec_len bytes ≤ limit + 1) }
     ensures prefix { IfOk result (λ bytes. IfSome (R.remaining reader) (λ input.
         bytes.items ≡ take (limit + 1) input)) }
+    ensures sure { R.never_fails ≡ true → result ≢ Err EngineFault.Read }
     ensures err { IfErr result (λ fault. (fault ≡ EngineFault.Memory) ⊎ (fault ≡ EngineFault.Read)) }
 {
-    let most = limit + 1;
-    let mut piece = new_piece(alloc, most)?;
-    let mut bytes = Vec::new(alloc);
-    'reads: while bytes.len() < most {
-        let asked = piece.len().min(most - bytes.len());
-        let count = read_piece(&mut reader, &mut piece[..asked], &mut bytes)?;
-        if count == 0 {
-            return Ok(bytes);
-        }
-    }
-    Ok(bytes)
-}
-
-/// The bytes again, if they are no more than the limit.
-///
-/// # Errors
-/// This fault, if they are more.
-pub fn within_limit(
-    bytes: Vec<u8>,
-    limit: usize,
-    fault: EngineFault,
-) -> Result<Vec<u8>, EngineFault>
-    ensures ok { IfOk result (λ kept. (kept ≡ bytes) × (vec_len bytes ≤ limit)) }
-    ensures long { OnErr result (limit < vec_len bytes) }
-    ensures err { IsOkUnless result fault }
-{
-    if bytes.len() > limit {
-        return Err(fault);
-    }
-    Ok(bytes)
+    Ok(read_bytes(alloc, reader, limit)?)
 }

@@ -1,47 +1,51 @@
-//! The engine's edge: what it reads, what it refuses, and what it writes.
+//! The engine: a session's document and streams in, its report out; and the check of a report.
 //!
-//! Bytes come from a reader up to a limit and are cut into a bundle's parts; a report is a value, and its text is
-//! exactly the one that the definitions give; a text reaches a writer whole, or the call fails. Only a refused
-//! allocation is reported as out of memory.
+//! It goes a straight way: the document is read, its streams are read each on its own thread and make a session, the
+//! session's traces make a computation, each predicate is answered, and the answers are the report. What is written is
+//! exactly the text that the definitions give, whole, or the call fails. If no level is over the width, it tells the
+//! truth of each predicate. Only a refused allocation is reported as out of memory.
 //!
-//! - `formed`: what a session comes to, before any predicate is judged
-//! - `judge`: the report of a session's streams
-//! - `refusal`: refusals in the words of a report
-//! - `bundle`: the parts of a bundle
-//! - `bundle_judge`: the report of a bundle
+//! - `document`: reads the document of a session
+//! - `sessions`: the traces of a session
+//! - `computations`: the computation of a session
+//! - `answers`: the answers of a session
+//! - `reports`: the report of a session
+//! - `judges`: judges a session, and writes its report
+//! - `bundle_judges`: judges a bundle, and writes its report
 //! - `checks`: checks a report's evidence
-//! - `claims`: how a report stands to what a session comes to
-//! - `verdicts`: the verdicts on the evidence of a report's answers
-//! - `finding`: what a check of a report finds
-//! - `finding_text`: its text
+//! - `bundle`: the parts of a bundle
+//! - `input`: reads a source up to a limit
+//! - `refusal`: refusals in the words of a report
+//! - `unanswered`: why a session comes to no answers
 //! - `outcome`: how a session was judged
-//! - `unread`: streams that are too many to be read
-//! - `input`: reads a reader up to a limit
 //! - `fault`: why the engine gives no report
 #![tactic(auto)]
 
+mod answers;
 mod bundle;
-mod bundle_judge;
+mod bundle_judges;
 mod checks;
-mod claims;
+mod computations;
+mod document;
 mod fault;
-mod finding;
-mod finding_text;
-mod formed;
 mod input;
-mod judge;
+mod judges;
 mod outcome;
 mod refusal;
+mod reports;
+mod sessions;
 #[cfg(test)]
 mod tests;
-mod unread;
-mod verdicts;
+mod unanswered;
 
-pub use bundle_judge::judge_bundle;
+pub use bundle_judges::judge_bundle;
 pub use checks::check;
 pub use fault::EngineFault;
-pub use input::{read_upto, within_limit};
-pub use judge::report_of;
+pub use input::read_upto;
+pub use judges::judge;
 pub use outcome::Outcome;
+pub use pd_check::{Checked, Finding, Verdict};
+pub use pd_gather::{ByteSource, within_limit};
 pub use pd_level::{Gate, NoGate};
 pub use pd_report::{Answer, Definitely, Possibly, Refusal, Report, text};
+pub use reports::report_of;

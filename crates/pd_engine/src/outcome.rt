@@ -1,6 +1,6 @@
 //! How a session was judged.
 ghost use Rattle.pd_engine.specs.Ends.{outcome_view};
-ghost use Rattle.pd_judgement.specs.Writes.{is_judged};
+ghost use Rattle.pd_judgement.specs.Headline.{is_judged};
 ghost use Rattle.pd_report.specs.Views.{report_view};
 ghost use Rattle.std.specs.Prelude.{◌≡◌};
 

@@ -7,9 +7,8 @@ ghost use Rattle.pd_gather.specs.Views.{session_fault_view};
 ghost use Rattle.pd_events.specs.Views.{stream_kind_view};
 ghost use Rattle.pd_spec.specs.declared.fault.SpecFault.TheVariants as faults;
 ghost use Rattle.pd_match.specs.Views.{match_fault_view, place_view};
-ghost use Rattle.std.specs.Prelude.{◌≡◌, ◌<◌, All, IfOk, IsOkUnless, MatchOption, Some, length, map};
+ghost use Rattle.std.specs.Prelude.{◌≡◌, ◌<◌, All, IfOk, MatchOption, Some, length, map};
 
-use super::EngineFault;
 use pd_events::StreamKind;
 use pd_gather::SessionFault;
 use pd_match::{MatchFault, Place};
@@ -43,10 +42,9 @@ fn of_word(alloc: Global, word: &str) -> Result<Refusal, AllocError>
 /// The refusal of predicate `k`, which is counted from 1.
 ///
 /// # Errors
-/// `Memory`, if the error is out of memory, or the word can't be copied because memory ran out.
-fn of_predicate(alloc: Global, k: u64, error: PredError) -> Result<Refusal, EngineFault>
-    ensures tells { IfOk result (λ refusal. IsDocumentRefusal (faults.Predicate k error) (refusal_view refusal)) }
-    ensures err { IsOkUnless result EngineFault.Memory }
+/// If the error is out of memory, or the word can't be copied because memory ran out.
+fn of_predicate(alloc: Global, k: u64, error: PredError) -> Result<Refusal, AllocError>
+    ensures { IfOk result (λ refusal. IsDocumentRefusal (faults.Predicate k error) (refusal_view refusal)) }
 {
     match predicate_word(error.kind) {
         Some(word) => Ok(Refusal::Predicate {
@@ -54,17 +52,16 @@ fn of_predicate(alloc: Global, k: u64, error: PredError) -> Result<Refusal, Engi
             word: String::from_str(alloc, word)?,
             at: error.at,
         }),
-        None => Err(EngineFault::Memory),
+        None => Err(AllocError),
     }
 }
 
 /// The refusal of a document with this fault.
 ///
 /// # Errors
-/// `Memory`, if the fault is out of memory, or the word can't be copied because memory ran out.
-pub(crate) fn of_document(alloc: Global, fault: SpecFault) -> Result<Refusal, EngineFault>
-    ensures tells { IfOk result (λ refusal. IsDocumentRefusal fault (refusal_view refusal)) }
-    ensures err { IsOkUnless result EngineFault.Memory }
+/// If the fault is out of memory, or the word can't be copied because memory ran out.
+pub(crate) fn of_document(alloc: Global, fault: SpecFault) -> Result<Refusal, AllocError>
+    ensures { IfOk result (λ refusal. IsDocumentRefusal fault (refusal_view refusal)) }
 {
     let refusal = match fault {
         SpecFault::Long => of_word(alloc, "long")?,
@@ -77,7 +74,7 @@ pub(crate) fn of_document(alloc: Global, fault: SpecFault) -> Result<Refusal, En
         SpecFault::Predicates => of_word(alloc, "predicates")?,
         SpecFault::Width => of_word(alloc, "width")?,
         SpecFault::Predicate(k, error) => of_predicate(alloc, k, error)?,
-        SpecFault::Memory => return Err(EngineFault::Memory),
+        SpecFault::Memory => return Err(AllocError),
     };
     Ok(refusal)
 }
@@ -105,16 +102,15 @@ fn stream_word(kind: StreamKind) -> &'static str
 /// The refusal of streams with this fault. A report counts streams from 1.
 ///
 /// # Errors
-/// `Memory`, if the fault is out of memory, or the name can't be copied because memory ran out.
+/// If the fault is out of memory, or the name can't be copied because memory ran out.
 pub(crate) fn of_streams(
     alloc: Global,
     names: &Names,
     fault: SessionFault,
-) -> Result<Refusal, EngineFault>
+) -> Result<Refusal, AllocError>
     requires { NamesStream names.now fault }
-    ensures tells { IfOk result (λ refusal. MatchOption (session_fault_view fault) ⊥ (λ seen. refusal_view refusal
+    ensures { IfOk result (λ refusal. MatchOption (session_fault_view fault) ⊥ (λ seen. refusal_view refusal
         ≡ session_refusal names.now seen)) }
-    ensures err { IsOkUnless result EngineFault.Memory }
 {
     match fault {
         SessionFault::Streams => Ok(Refusal::Streams),
@@ -132,7 +128,7 @@ pub(crate) fn of_streams(
             let name = String::from_str(alloc, names.name(process))?;
             Ok(Refusal::Absent(name))
         }
-        SessionFault::Memory => Err(EngineFault::Memory),
+        SessionFault::Memory => Err(AllocError),
     }
 }
 
@@ -162,23 +158,22 @@ fn of_event(alloc: Global, names: &Names, word: &str, place: Place) -> Result<Re
 /// The refusal of messages with this fault.
 ///
 /// # Errors
-/// `Memory`, if the fault is out of memory, or the name can't be copied because memory ran out.
+/// If the fault is out of memory, or the name can't be copied because memory ran out.
 pub(crate) fn of_messages(
     alloc: Global,
     names: &Names,
     fault: MatchFault,
-) -> Result<Refusal, EngineFault>
+) -> Result<Refusal, AllocError>
     requires { NamesPlace names.now fault }
-    ensures tells { IfOk result (λ refusal. MatchOption (match_fault_view fault) ⊥ (λ seen. refusal_view refusal
+    ensures { IfOk result (λ refusal. MatchOption (match_fault_view fault) ⊥ (λ seen. refusal_view refusal
         ≡ match_refusal names.now seen)) }
-    ensures err { IsOkUnless result EngineFault.Memory }
 {
     let refusal = match fault {
         MatchFault::SendTwice(place) => of_event(alloc, names, "sendtwice", place)?,
         MatchFault::Orphan(place) => of_event(alloc, names, "orphan", place)?,
         MatchFault::SelfMessage(place) => of_event(alloc, names, "selfmessage", place)?,
         MatchFault::ReceivedTwice(place) => of_event(alloc, names, "receivedtwice", place)?,
-        MatchFault::Memory => return Err(EngineFault::Memory),
+        MatchFault::Memory => return Err(AllocError),
     };
     Ok(refusal)
 }

@@ -1,10 +1,15 @@
-//! Parts, reads and checks that are known.
+//! Parts, reads, judgements and checks that are known.
 use super::bundle::parts;
-use super::{EngineFault, NoGate, check, judge_bundle, read_upto, within_limit};
+use super::{EngineFault, NoGate, Outcome, check, judge, judge_bundle, read_upto, within_limit};
+use pd_format::BUNDLE_BYTE_LIMIT;
+use pd_gather::WholeBytes;
 use std::alloc::{AllocError, Global};
 use std::io;
 use std::io::{Error, ErrorKind, Read, Write};
+use std::random::RandomSource;
+use std::sync::Wait;
 use std::test::Fail;
+use std::thread::Threads;
 
 /// The parts, each between angle brackets.
 fn bracketed(alloc: Global, bytes: &[u8]) -> Result<Vec<u8>, AllocError> {
@@ -132,14 +137,142 @@ const STREAM_A: &[u8] =
 const STREAM_B: &[u8] =
     b"{\"process\":\"b\"}\n{\"set\":{\"y\":1}}\n{\"set\":{\"y\":0}}\n{\"end\":true}\n";
 
+/// A report that is said to be of the two streams.
+const REPORT: &[u8] =
+    b"session 2 processes 4 events 0 messages\nboth possibly yes 1,1\nboth definitely no b,b,a,a\n";
+
+#[test]
+fn sessions_are_judged(rt: HostRuntime) -> Result<(), Fail> {
+    let alloc = rt.alloc();
+    let mut streams = Vec::new(alloc);
+    streams.push(WholeBytes::new(STREAM_A))?;
+    streams.push(WholeBytes::new(STREAM_B))?;
+    let mut written = Vec::new(alloc);
+    let outcome = judge(&rt, alloc, DOCUMENT, streams, 1, &NoGate, &mut written)?;
+    assert_eq!(rt; outcome, Outcome::Judged);
+    assert_eq!(rt; written.as_slice(), REPORT);
+    Ok(())
+}
+
+#[test]
+fn sessions_are_refused(rt: HostRuntime) -> Result<(), Fail> {
+    let alloc = rt.alloc();
+    let cases = [
+        (
+            "a document that is none",
+            b"".as_slice(),
+            2usize,
+            "refused spec json\n",
+        ),
+        ("no stream", DOCUMENT, 0, "refused absent a\n"),
+        ("one stream", DOCUMENT, 1, "refused absent b\n"),
+        (
+            "a process twice",
+            DOCUMENT,
+            3,
+            "refused stream 3 line 1 taken\n",
+        ),
+        ("too many streams", DOCUMENT, 17, "refused streams\n"),
+    ];
+    for (row, document, count, text) in cases {
+        let mut streams = Vec::new(alloc);
+        for stream in 0..count {
+            streams.push(if stream % 2 == 0 { STREAM_A } else { STREAM_B })?;
+        }
+        let mut written = Vec::new(alloc);
+        let outcome = judge(&rt, alloc, document, streams, 1, &NoGate, &mut written)?;
+        assert_eq!(rt; outcome, Outcome::Refused, "{row}");
+        assert_eq!(rt; written.as_slice(), text.as_bytes(), "{row}");
+    }
+    Ok(())
+}
+
+/// Gives its bytes, and then ends or fails.
+#[derive(Drop)]
+struct Breaking {
+    bytes: &'static [u8],
+    breaks: bool,
+}
+
+impl Read for Breaking {
+    fn read(&mut self, buf: &mut [u8]) -> io::Result<usize> {
+        if self.bytes.is_empty() && self.breaks {
+            return Err(Error::from(ErrorKind::Other));
+        }
+        self.bytes.read(buf)
+    }
+}
+
+#[test]
+fn failed_reads_are_faults_of_streams(rt: HostRuntime) -> Result<(), Fail> {
+    let alloc = rt.alloc();
+    let mut streams = Vec::new(alloc);
+    streams.push(Breaking {
+        bytes: STREAM_A,
+        breaks: false,
+    })?;
+    streams.push(Breaking {
+        bytes: b"{\"process\":\"b\"}\n",
+        breaks: true,
+    })?;
+    let mut written = Vec::new(alloc);
+    let outcome = judge(&rt, alloc, DOCUMENT, streams, 1, &NoGate, &mut written)?;
+    assert_eq!(rt; outcome, Outcome::Refused);
+    assert_eq!(rt;
+        written.as_slice(),
+        b"refused stream 2 line 2 read\n".as_slice()
+    );
+    Ok(())
+}
+
+/// Gives this many bytes: those that the piece has already.
+#[derive(Drop)]
+struct Unchanging {
+    left: usize,
+}
+
+impl Read for Unchanging {
+    fn read(&mut self, buf: &mut [u8]) -> io::Result<usize> {
+        let count = buf.len().min(self.left);
+        self.left -= count;
+        Ok(count)
+    }
+}
+
+#[test]
+fn longer_bundles_are_too_long(rt: HostRuntime) -> Result<(), Fail> {
+    let alloc = rt.alloc();
+    let reader = Unchanging {
+        left: BUNDLE_BYTE_LIMIT + 1,
+    };
+    let mut written = Vec::new(alloc);
+    let refused = judge_bundle(&rt, alloc, reader, 1, &NoGate, &mut written);
+    assert!(rt; matches!(&refused, Err(EngineFault::BundleLong)));
+    assert!(rt; written.is_empty());
+    Ok(())
+}
+
+#[test]
+fn bundles_of_the_limit_are_read(rt: HostRuntime) -> Result<(), Fail> {
+    let alloc = rt.alloc();
+    let reader = Unchanging {
+        left: BUNDLE_BYTE_LIMIT,
+    };
+    let mut written = Vec::new(alloc);
+    let outcome = judge_bundle(&rt, alloc, reader, 1, &NoGate, &mut written)?;
+    assert_eq!(rt; outcome, Outcome::Refused);
+    assert_eq!(rt; written.as_slice(), b"refused spec long\n".as_slice());
+    Ok(())
+}
+
 /// A check of this report against the two streams, and whether nothing in it is bad.
-fn check_report<W: Write>(
-    rt: &HostRuntime,
+fn check_report<S: RandomSource + Threads + Wait + Sync, W: Write>(
+    rt: &S,
+    alloc: Global,
     document: &[u8],
     report: &str,
     writer: &mut W,
 ) -> Result<bool, EngineFault> {
-    let alloc = rt.alloc();
     let mut streams = Vec::new(alloc);
     streams.push(STREAM_A)?;
     streams.push(STREAM_B)?;
@@ -188,7 +321,7 @@ fn evidence_is_checked(rt: HostRuntime) -> Result<(), Fail> {
     ];
     for (row, report, clean, text) in cases {
         let mut written = Vec::new(rt.alloc());
-        let good = check_report(&rt, DOCUMENT, report, &mut written)?;
+        let good = check_report(&rt, rt.alloc(), DOCUMENT, report, &mut written)?;
         assert_eq!(rt; good, clean, "{row}");
         assert_eq!(rt; written.as_slice(), text.as_bytes(), "{row}");
     }
@@ -221,7 +354,7 @@ fn refusals_are_checked(rt: HostRuntime) -> Result<(), Fail> {
     ];
     for (row, report, clean, text) in cases {
         let mut written = Vec::new(rt.alloc());
-        let good = check_report(&rt, b"", report, &mut written)?;
+        let good = check_report(&rt, rt.alloc(), b"", report, &mut written)?;
         assert_eq!(rt; good, clean, "{row}");
         assert_eq!(rt; written.as_slice(), text.as_bytes(), "{row}");
     }
@@ -267,7 +400,7 @@ fn findings_are_written_in_parts(rt: HostRuntime) -> Result<(), Fail> {
     let text = b"refused good\n".as_slice();
     for room in 0..=text.len() {
         let mut writer = writer_with_room(rt.alloc(), room);
-        let found = check_report(&rt, b"", "refused spec json\n", &mut writer);
+        let found = check_report(&rt, rt.alloc(), b"", "refused spec json\n", &mut writer);
         assert_eq!(rt; found.is_ok(), room == text.len(), "room {room}");
         assert_eq!(rt; writer.taken.as_slice(), &text[..room], "room {room}");
     }

@@ -1,5 +1,5 @@
 -- The depth after tokens, as a stack of what is open.
-use Rattle.std.proofs.Common.{◌≡◌, ℕ, suc, zero, Bool, true, false, cond, List, [], ◌∷◌, ◌++◌, length, refl, sym, ◌∙◌, ap, length-append, arith}
+use Rattle.std.proofs.Common.{◌≡◌, ℕ, suc, zero, Bool, true, false, cond, List, [], ◌∷◌, ◌++◌, length, refl, sym, length-append, arith}
 use Rattle.std.specs.Prelude.{codes, ◌&&◌}
 use Rattle.std.specs.Str.{bytes_eq}
 use Rattle.std.proofs.lemmas.Slice.Eq.{bytes_eq-Decides}
@@ -149,8 +149,3 @@ pub all_opened-append : (stack : List Opener) (xs ys : List Token)
     → all_opened stack (xs ++ ys) ≡ all_opened (all_opened stack xs) ys
 all_opened-append stack [] ys = refl
 all_opened-append stack (x ∷ xs) ys = all_opened-append (opened stack x) xs ys
-
--- one token more is one step of the stack
-pub depth-push : (tokens : List Token) (t : Token)
-    → depth_after (tokens ++ t ∷ []) ≡ length (opened (all_opened [] tokens) t)
-depth-push tokens t = depth_is_height (tokens ++ t ∷ []) ∙ ap length (all_opened-append [] tokens (t ∷ []))

@@ -96,10 +96,6 @@ byte_is_sound bytes x r t =
       and_false (not (x == line_feed)),
     ) refl
 
-byte_lengthens_line : (bytes : List ℕ) (x : ℕ) → (x == line_feed) ≡ false
-    → line_byte_limit ≤ length (unended_line bytes) → fault_of_byte bytes x ≡ Some (LineTooLong (line_number bytes))
-byte_lengthens_line bytes x e r = rw (le-leb line_byte_limit (length (unended_line bytes)) r, e) refl
-
 byte_lengthens_stream : (bytes : List ℕ) (x : ℕ) → length (unended_line bytes) < line_byte_limit
     → stream_byte_limit ≤ length bytes → fault_of_byte bytes x ≡ Some (StreamTooLong (line_number bytes))
 byte_lengthens_stream bytes x r t =

@@ -23,9 +23,6 @@ use Rattle.pd_format.proofs.ReadingSteps.{from_start}
 abbrev Ascends : ℕ × ℤ → ℕ × ℤ → Type 0
 Ascends old new = old.0 < new.0
 
-set_at : ℕ → List ℕ → Members → Option (ℕ × ℤ)
-set_at v var settings = option_map (λ value. (v, value)) (option_and_then whole_number (get_member var settings))
-
 sets_above : (v : ℕ) (vars : List (List ℕ)) (settings : Members) (x : ℕ × ℤ) → x.0 < v
     → Linked Ascends (x ∷ sets_from v vars settings)
 sets_above v [] settings x h = tt

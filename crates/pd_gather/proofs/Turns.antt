@@ -1,31 +1,34 @@
 -- What a reader gives its stream, read by read: after as many reads as a stream may have bytes, and one, it is closed.
-use Rattle.std.proofs.Common.{◌≡◌, ℕ, ◌+◌, ◌<◌, ◌≤◌, Bool, true, false, eqb, take, ◌++◌, List, [], ◌∷◌, length, refl, sym, append-nil, length-append, ◌∙◌, ap, subst, All, arith}
-use Rattle.std.specs.Prelude.{if◌then◌else◌, nat_le, IfOk, IfSome, Option, Some, None, Result, Ok, Err, map}
+use Rattle.std.proofs.Common.{◌≡◌, ℕ, ◌+◌, ◌<◌, ◌≤◌, Bool, true, false, eqb, take, ◌++◌, List, [], ◌∷◌, length, refl, sym, append-nil, length-append, ◌∙◌, ap, subst, arith}
+use Rattle.std.specs.Prelude.{if◌then◌else◌, nat_le, IfOk, IsOk, IfSome, Option, Some, None, Result, Ok, Err}
 use Rattle.std.specs.List.{AllZip}
 use Rattle.std.specs.Io.KnownBytes.{Consumes, IsAtEnd, Keeps, ReadConsumes}
 use Rattle.std.proofs.KnownBytes.{Consumes-all, Consumes-kept, Consumes-nil, Consumes-trans}
 use Rattle.std.proofs.lemmas.Bool.Decides.{nat_tests}
-use Rattle.std.proofs.lemmas.List.{length-take-le}
-use Rattle.std.proofs.lemmas.List.Elements.{All-cons, All-head, All-tail}
+use Rattle.std.proofs.lemmas.List.{length-take-le, map-append}
+use Rattle.std.proofs.lemmas.List.Elements.{All-nil, All-cons, All-append}
 use Rattle.pd_model.specs.Events.{Event}
 use Rattle.pd_format.specs.Limits.{stream_byte_limit}
 use Rattle.pd_format.specs.Lines.{FrameFault, LineTooLong, StreamTooLong, fault_of_byte, fault_after, line_number}
 use Rattle.pd_format.specs.Laws.{ClosedStays}
 use Rattle.pd_format.specs.ReadingLaws.{OpenIsSound}
 use Rattle.pd_format.specs.Names.{ProcessNames}
-use Rattle.pd_format.specs.Readings.{Open, Ended, Failed, Stop, NothingMore, EndLine, Fault, IsClosed, by_end_line, by_fault, Reading, reading, result_by_stop}
+use Rattle.pd_format.specs.Readings.{Ending, Open, Ended, Failed, Stop, NothingMore, EndLine, Fault, IsClosed, by_end_line, by_fault, Reading, reading, result_by_stop}
 use Rattle.pd_format.specs.Sessions.{Input, Piece, AtEnd, Broken, StreamResult}
-use Rattle.pd_judgement.specs.Judgements.{RawStream}
+use Rattle.pd_judgement.specs.Judgements.{RawStream, IsResultOf}
 use Rattle.pd_events.specs.Reads.{ReaderState, Reads}
 use Rattle.pd_events.specs.Views.{result_view}
 use Rattle.pd_events.specs.declared.event.Trace.{Trace}
 use Rattle.pd_events.specs.declared.fault.StreamFault.{StreamFault}
-use Rattle.pd_gather.specs.ReadStreams.{AreReadOf, IsReadFrom, IsReadOf, StopsWhenClosed, read_byte_limit}
+use Rattle.pd_gather.specs.ReadStreams.{AreReadOf, IsReadFrom, IsReadOf, IsUnbroken, StopsWhenClosed, read_byte_limit, row_of_stream}
 use Rattle.pd_judgement.proofs.StreamResults.{ended_closed}
 use Rattle.pd_judgement.specs.Writes.{IsGivenBy}
-use Rattle.pd_gather.specs.ReadSoFar.{HasRead, so_far, to_the_end, input_of_read}
+use Rattle.pd_gather.specs.ReadSoFar.{HasRead, ReadsOn, so_far, to_the_end, input_of_read}
+use Rattle.pd_gather.specs.Rows.{GoesOnTo, row_of_reading}
+use Rattle.pd_format.specs.Histories.{Row}
+use Rattle.pd_gather.proofs.RowSteps.{piece_goes_on, end_goes_on, failure_goes_on}
 use Rattle.pd_gather.specs.Taken.{Takes}
-use Rattle.pd_gather.specs.Views.{ReadingFits, results_view}
+use Rattle.pd_gather.specs.Views.{ReadingFits}
 use Rattle.pd_gather.proofs.Outcomes.{Gives, given_result, one_fits}
 
 -- ---- an open stream has no more bytes than a stream may have
@@ -84,17 +87,18 @@ record IsPiece (old new : Option (List ℕ)) (bytes : List ℕ) : Type 0 where
   one_read : length bytes ≤ read_byte_limit
 
 -- what an input does to the bytes that a reader has left
-abbrev Leaves : Option (List ℕ) → Option (List ℕ) → Input → Type 0
-Leaves old new (Piece bytes) = IsPiece old new bytes
-Leaves old new AtEnd = Consumes old new [] × IsAtEnd new
-Leaves old new Broken = Keeps old new
+abbrev Leaves : Bool → Option (List ℕ) → Option (List ℕ) → Input → Type 0
+Leaves never_fails old new (Piece bytes) = IsPiece old new bytes
+Leaves never_fails old new AtEnd = Consumes old new [] × IsAtEnd new
+Leaves never_fails old new Broken = Keeps old new × (never_fails ≡ true → ⊥)
 
-leaves : {E : Type 0} (old new : Option (List ℕ)) (read : Result ℕ E) (piece : List ℕ) → 0 < length piece
-    → length piece ≤ read_byte_limit → IfOk read (λ count. count ≤ length piece) → ReadConsumes old new read piece
-    → Leaves old new (input_of_read read piece)
-leaves {E} old new (Ok count) piece room limit bound consumes = go (eqb count 0) refl
+leaves : {E : Type 0} (never_fails : Bool) (old new : Option (List ℕ)) (read : Result ℕ E) (piece : List ℕ)
+    → 0 < length piece → length piece ≤ read_byte_limit → IfOk read (λ count. count ≤ length piece)
+    → ReadConsumes old new read piece → (never_fails ≡ true → IsOk read)
+    → Leaves never_fails old new (input_of_read read piece)
+leaves {E} never_fails old new (Ok count) piece room limit bound consumes sure = go (eqb count 0) refl
   where
-    go : (b : Bool) → eqb count 0 ≡ b → Leaves old new (input_of_read {E = E} (Ok count) piece)
+    go : (b : Bool) → eqb count 0 ≡ b → Leaves never_fails old new (input_of_read {E = E} (Ok count) piece)
     go true e =
         let none : count ≡ 0 = grind arith in
         rw e (subst (λ (n : ℕ). Consumes old new (take n piece)) none consumes.0, consumes.1 none room)
@@ -111,7 +115,8 @@ leaves {E} old new (Ok count) piece room limit bound consumes = go (eqb count 0)
             limit,
           );
         })
-leaves old new (Err error) piece room limit bound consumes = consumes
+leaves never_fails old new (Err error) piece room limit bound consumes sure =
+    (consumes, λ e. let no = sure e in cc)
 
 -- the stream's state was open before the read
 was_open : (names : List ProcessNames) (bytes : List ℕ) (state : ReaderState) → Reads state names Open bytes
@@ -129,43 +134,67 @@ nothing_more names bytes open' = record {
   still_open = open';
 }
 
-open_read : (names : List ProcessNames) (input old new : Option (List ℕ)) (reads : ℕ) (bytes : List ℕ)
-    (before after : ReaderState) (given : Input) → Leaves old new given → Takes before after given
-    → reads ≤ length bytes → Consumes input old bytes → Reads before names Open bytes
-    → before.reading.stop ≡ NothingMore → HasRead names input new (reads + 1) after
-open_read names input old new reads bytes before after (Piece piece) left takes many p r open' =
-    so_far (bytes ++ piece) (omega (arith, length-append bytes piece, many, left.some))
-    (Consumes-trans input old new bytes piece p left.consumed)
-    (record {
-      before = bytes;
-      last = piece;
-      parts = refl;
-      one_read = left.one_read;
-      still_open = was_open names bytes before r open';
-    })
-    (subst (λ (more : List ℕ). Reads after names Open (bytes ++ more)) (append-nil piece)
-    (takes.next names bytes r))
-open_read names input old new reads bytes before after AtEnd left takes many p r open' =
+-- what the row of a stream goes on to by one read, if it was open before it
+row_goes_on : (names : List ProcessNames) (bytes next : List ℕ) (ending : Ending) (before after : ReaderState)
+    → Reads before names Open bytes → Reads after names ending next
+    → GoesOnTo (row_of_reading (reading names Open bytes)) (row_of_reading (reading names ending next))
+    → GoesOnTo (row_of_reading before.reading) (row_of_reading after.reading)
+row_goes_on names bytes next ending before after r s goes = rw (r.same_reading, s.same_reading) goes
+
+open_read : (names : List ProcessNames) (never_fails : Bool) (input old new : Option (List ℕ)) (reads : ℕ)
+    (bytes : List ℕ) (before after : ReaderState) (given : Input) → Leaves never_fails old new given
+    → Takes before after given → reads ≤ length bytes → Consumes input old bytes → Reads before names Open bytes
+    → before.reading.stop ≡ NothingMore → ReadsOn names never_fails input new (reads + 1) before after
+open_read names never_fails input old new reads bytes before after (Piece piece) left takes many p r open' =
+    let still_open = was_open names bytes before r open' in
+    let next : Reads after names Open (bytes ++ piece) =
+    subst (λ (more : List ℕ). Reads after names Open (bytes ++ more)) (append-nil piece) (takes.next names bytes r) in
+    record {
+      has_read = so_far (bytes ++ piece) (omega (arith, length-append bytes piece, many, left.some))
+          (Consumes-trans input old new bytes piece p left.consumed)
+          (record {
+            before = bytes;
+            last = piece;
+            parts = refl;
+            one_read = left.one_read;
+            still_open = still_open;
+          })
+          next;
+      row = row_goes_on names bytes (bytes ++ piece) Open before after r next
+          (piece_goes_on names bytes piece still_open);
+    }
+open_read names never_fails input old new reads bytes before after AtEnd left takes many p r open' =
+    let still_open = was_open names bytes before r open' in
     let same : bytes ++ [] ≡ bytes = append-nil bytes in
     let all : Consumes input new bytes =
     subst (λ (given : List ℕ). Consumes input new given) same (Consumes-trans input old new bytes [] p left.0) in
-    to_the_end (record { ending = Ended; bytes = bytes })
-    (record {
-      stopped = λ (e : Ended ≡ Open). cc;
-      prefix = prefix_of input old bytes p;
-      whole = λ ended. Consumes-all input new bytes [] bytes all left.1 refl;
-    })
-    all (nothing_more names bytes (was_open names bytes before r open'))
-    (subst (λ (given : List ℕ). Reads after names Ended given) same (takes.next names bytes r))
-open_read names input old new reads bytes before after Broken left takes many p r open' =
-    to_the_end (record { ending = Failed; bytes = bytes })
-    (record {
-      stopped = λ (e : Failed ≡ Open). cc;
-      prefix = prefix_of input old bytes p;
-      whole = λ (ended : Failed ≡ Ended). cc;
-    })
-    (Consumes-kept input old new bytes p left) (nothing_more names bytes (was_open names bytes before r open'))
-    (subst (λ (given : List ℕ). Reads after names Failed given) (append-nil bytes) (takes.next names bytes r))
+    let next : Reads after names Ended bytes =
+    subst (λ (given : List ℕ). Reads after names Ended given) same (takes.next names bytes r) in
+    record {
+      has_read = to_the_end (record { ending = Ended; bytes = bytes })
+          (record {
+            stopped = λ (e : Ended ≡ Open). cc;
+            prefix = prefix_of input old bytes p;
+            whole = λ ended. Consumes-all input new bytes [] bytes all left.1 refl;
+          })
+          all (nothing_more names bytes still_open) (λ sure (e : Ended ≡ Failed). cc) next;
+      row = row_goes_on names bytes bytes Ended before after r next (end_goes_on names bytes still_open);
+    }
+open_read names never_fails input old new reads bytes before after Broken left takes many p r open' =
+    let still_open = was_open names bytes before r open' in
+    let next : Reads after names Failed bytes =
+    subst (λ (given : List ℕ). Reads after names Failed given) (append-nil bytes) (takes.next names bytes r) in
+    record {
+      has_read = to_the_end (record { ending = Failed; bytes = bytes })
+          (record {
+            stopped = λ (e : Failed ≡ Open). cc;
+            prefix = prefix_of input old bytes p;
+            whole = λ (ended : Failed ≡ Ended). cc;
+          })
+          (Consumes-kept input old new bytes p left.0) (nothing_more names bytes still_open)
+          (λ sure failed. absurd (left.1 sure)) next;
+      row = row_goes_on names bytes bytes Failed before after r next (failure_goes_on names bytes still_open);
+    }
 
 closed_state : (names : List ProcessNames) (input : Option (List ℕ)) (state : ReaderState) (stream : RawStream)
     → IsGivenBy input stream → Reads state names stream.ending stream.bytes → IsClosed state.reading.stop
@@ -178,35 +207,70 @@ not_both EndLine closed e = cc
 not_both (Fault line kind) closed e = cc
 not_both NothingMore closed e = elim closed [ ]
 
-pub one_read : {E : Type 0} (read : Result ℕ E) (piece : List ℕ) (old new : Option (List ℕ))
+pub one_read : {E : Type 0} (never_fails : Bool) (read : Result ℕ E) (piece : List ℕ) (old new : Option (List ℕ))
     (before after : ReaderState) → 0 < length piece → length piece ≤ read_byte_limit
-    → IfOk read (λ count. count ≤ length piece) → ReadConsumes old new read piece
+    → IfOk read (λ count. count ≤ length piece) → ReadConsumes old new read piece → (never_fails ≡ true → IsOk read)
     → Takes before after (input_of_read read piece) → before.reading.stop ≡ NothingMore
-    → (names : List ProcessNames) (input : Option (List ℕ)) (reads : ℕ) → HasRead names input old reads before
-    → HasRead names input new (reads + 1) after
-one_read read piece old new before after room limit bound consumes takes open' names input reads has =
+    → (names : List ProcessNames) (input : Option (List ℕ)) (reads : ℕ)
+    → HasRead names never_fails input old reads before
+    → ReadsOn names never_fails input new (reads + 1) before after
+one_read never_fails read piece old new before after room limit bound consumes sure takes open' names input reads has =
     go has
   where
-    go : HasRead names input old reads before → HasRead names input new (reads + 1) after
+    go : HasRead names never_fails input old reads before → ReadsOn names never_fails input new (reads + 1) before after
     go (so_far bytes many p stops r) =
-        open_read names input old new reads bytes before after (input_of_read read piece)
-        (leaves old new read piece room limit bound consumes) takes many p r open'
-    go (to_the_end stream is_given p stops r) =
+        open_read names never_fails input old new reads bytes before after (input_of_read read piece)
+        (leaves never_fails old new read piece room limit bound consumes sure) takes many p r open'
+    go (to_the_end stream is_given p stops unbroken r) =
         absurd (not_both before.reading.stop (closed_state names input before stream is_given r) open')
+
+ended_reads : (names : List ProcessNames) (bytes : List ℕ) (ending : Ending) (state : ReaderState)
+    → (ending ≡ Open → ⊥) → Reads state names ending bytes → state.reading.stop ≡ NothingMore → ⊥
+ended_reads names bytes ending state ended r open' =
+    not_both state.reading.stop
+    (subst (λ (x : Reading). IsClosed x.stop) (sym r.same_reading) (ended_closed names ending bytes ended)) open'
+
+gave_bytes : {E : Type 0} (read : Result ℕ E) (piece : List ℕ) (before after : ReaderState)
+    (names : List ProcessNames) (bytes : List ℕ) (More : Type 0) → IfOk read (λ count. (count ≡ 0 → ⊥) → More)
+    → Takes before after (input_of_read read piece) → Reads before names Open bytes
+    → after.reading.stop ≡ NothingMore → More
+gave_bytes {E} (Ok count) piece before after names bytes More more takes r open' = go (eqb count 0) refl takes
+  where
+    go : (b : Bool) → eqb count 0 ≡ b → Takes before after (input_of_read {E = E} (Ok count) piece) → More
+    go true e t =
+        let ends : Takes before after AtEnd = rw e at t in
+        absurd (ended_reads names _ Ended after (λ (o : Ended ≡ Open). cc) (ends.next names bytes r) open')
+    go false e t = more (λ (z : count ≡ 0). grind (arith, e, z))
+gave_bytes (Err error) piece before after names bytes More more takes r open' =
+    absurd (ended_reads names _ Failed after (λ (o : Failed ≡ Open). cc) (takes.next names bytes r) open')
+
+-- a source may be asked again if the stream is still open after a read
+pub asked_again : {E : Type 0} (never_fails : Bool) (read : Result ℕ E) (piece : List ℕ) (old : Option (List ℕ))
+    (before after : ReaderState) (More : Type 0) → IfOk read (λ count. (count ≡ 0 → ⊥) → More)
+    → Takes before after (input_of_read read piece) → before.reading.stop ≡ NothingMore
+    → (names : List ProcessNames) (input : Option (List ℕ)) (reads : ℕ)
+    → HasRead names never_fails input old reads before → after.reading.stop ≡ NothingMore → More
+asked_again never_fails read piece old before after More more takes was names input reads has open' = go has
+  where
+    go : HasRead names never_fails input old reads before → More
+    go (so_far bytes many p stops r) = gave_bytes read piece before after names bytes More more takes r open'
+    go (to_the_end stream is_given p stops unbroken r) =
+        absurd (not_both before.reading.stop (closed_state names input before stream is_given r) was)
 
 -- ---- all reads
 
-pub nothing_read : (names : List ProcessNames) (input : Option (List ℕ)) (state : ReaderState)
-    → Reads state names Open [] → HasRead names input input 0 state
-nothing_read names input state r =
+pub nothing_read : (names : List ProcessNames) (never_fails : Bool) (input : Option (List ℕ)) (state : ReaderState)
+    → Reads state names Open [] → HasRead names never_fails input input 0 state
+nothing_read names never_fails input state r =
     so_far [] (omega arith) (Consumes-nil input) (nothing_more names [] refl) r
 
 -- after these reads nothing is open
-pub closes : OpenIsSound → (names : List ProcessNames) (input left : Option (List ℕ)) (state : ReaderState)
-    → HasRead names input left (stream_byte_limit + 1) state → IsClosed state.reading.stop
-closes sound names input left state (to_the_end stream is_given p stops r) =
+pub closes : OpenIsSound → (names : List ProcessNames) (never_fails : Bool) (input left : Option (List ℕ))
+    (state : ReaderState) → HasRead names never_fails input left (stream_byte_limit + 1) state
+    → IsClosed state.reading.stop
+closes sound names never_fails input left state (to_the_end stream is_given p stops unbroken r) =
     closed_state names input state stream is_given r
-closes sound names input left state (so_far bytes many p stops r) = go state.reading.stop refl
+closes sound names never_fails input left state (so_far bytes many p stops r) = go state.reading.stop refl
   where
     go : (stop : Stop) → state.reading.stop ≡ stop → IsClosed state.reading.stop
     go EndLine e = rw e by_end_line
@@ -215,10 +279,10 @@ closes sound names input left state (so_far bytes many p stops r) = go state.rea
         let few = open_has_room sound names bytes (was_open names bytes state r e) in
         absurd (omega (arith, many, few))
 
--- what was read of this input, with this left, and fits the session
-pub record GivesRead (names : List ProcessNames) (input left : Option (List ℕ)) (given : Result Trace StreamFault) :
-    Type 0 where
-  pub read : IsReadFrom names input left (result_view given)
+-- what was read of this input, with this left and this row, and fits the session
+pub record GivesRead (names : List ProcessNames) (never_fails : Bool) (input left : Option (List ℕ)) (row : Row)
+    (given : Result Trace StreamFault) : Type 0 where
+  pub read : IsReadFrom names never_fails input left (result_view given) row
   pub fits : ReadingFits names given
 
 -- what has a result is closed
@@ -228,15 +292,18 @@ has_result NothingMore joined events result e = cc
 has_result EndLine joined events result e = by_end_line
 has_result (Fault line kind) joined events result e = by_fault
 
-pub gives_read : ClosedStays → (names : List ProcessNames) (input left : Option (List ℕ)) (reads : ℕ)
-    (state : ReaderState) (given : Result Trace StreamFault) → HasRead names input left reads state
-    → Gives state given → GivesRead names input left given
-gives_read stays names input left reads state given (so_far bytes many p stops r) gives =
+pub gives_read : ClosedStays → (names : List ProcessNames) (never_fails : Bool) (input left : Option (List ℕ))
+    (reads : ℕ) (state : ReaderState) (row : Row) (given : Result Trace StreamFault)
+    → HasRead names never_fails input left reads state → row ≡ row_of_reading state.reading → Gives state given
+    → GivesRead names never_fails input left row given
+gives_read stays names never_fails input left reads state row given (so_far bytes many p stops r) shown gives =
     let closed : IsClosed state.reading.stop =
     has_result state.reading.stop state.reading.joined state.reading.events (result_view given) gives.value in
+    let here : IsClosed (reading names Open bytes).stop =
+    subst (λ (x : Reading). IsClosed x.stop) r.same_reading closed in
     let same : reading names Failed bytes ≡ reading names Open bytes =
     subst (λ (more : List ℕ). reading names Failed more ≡ reading names Open bytes) (append-nil bytes)
-    (stays names Failed bytes [] (subst (λ (x : Reading). IsClosed x.stop) r.same_reading closed)) in
+    (stays names Failed bytes [] here) in
     let failed : Reads state names Failed bytes = record {
       same_names = r.same_names;
       same_reading = r.same_reading ∙ sym same;
@@ -251,53 +318,70 @@ gives_read stays names input left reads state given (so_far bytes many p stops r
           whole = λ (ended : Failed ≡ Ended). cc;
         };
         is_result = given_result names Failed bytes state given failed gives;
+        is_row = shown ∙ ap row_of_reading failed.same_reading;
         consumed = p;
         stops = stops;
+        unbroken = λ sure early. here;
       };
       fits = one_fits names Failed bytes state given failed gives;
     }
-gives_read stays names input left reads state given (to_the_end stream is_given p stops r) gives = record {
-  read = record {
-    stream = stream;
-    is_given = is_given;
-    is_result = given_result names stream.ending stream.bytes state given r gives;
-    consumed = p;
-    stops = stops;
-  };
-  fits = one_fits names stream.ending stream.bytes state given r gives;
-}
+gives_read stays names never_fails input left reads state row given
+    (to_the_end stream is_given p stops unbroken r) shown gives = record {
+      read = record {
+        stream = stream;
+        is_given = is_given;
+        is_result = given_result names stream.ending stream.bytes state given r gives;
+        is_row = shown ∙ ap row_of_reading r.same_reading;
+        consumed = p;
+        stops = stops;
+        unbroken = unbroken;
+      };
+      fits = one_fits names stream.ending stream.bytes state given r gives;
+    }
 
 -- ---- all streams
 
-pub one_read_more : {R : Type 0} (names : List ProcessNames) (remaining : R → Option (List ℕ)) (readers : List R)
-    (readings : List (Result Trace StreamFault)) (reader : R) (given : Result Trace StreamFault)
-    → AllZip (IsReadOf names) (map remaining readers) (results_view readings)
-    → IsReadOf names (remaining reader) (result_view given)
-    → AllZip (IsReadOf names) (map remaining (readers ++ reader ∷ [])) (results_view (readings ++ given ∷ []))
-one_read_more names remaining [] [] reader given all one = (one, tt)
-one_read_more names remaining [] (y ∷ ys) reader given all one = absurd all
-one_read_more names remaining (x ∷ xs) [] reader given all one = absurd all
-one_read_more names remaining (x ∷ xs) (y ∷ ys) reader given all one =
-    (all.0, one_read_more names remaining xs ys reader given all.1 one)
+-- one stream alone
+pub one_stream : (names : List ProcessNames) (never_fails : Bool) (input : Option (List ℕ)) (result : StreamResult)
+    (row : Row) → IsReadOf names never_fails input result row
+    → AreReadOf names never_fails (input ∷ []) (result ∷ []) (row ∷ [])
+one_stream names never_fails input result row (left, one) = record {
+  streams = one.stream ∷ [];
+  are_given = (one.is_given, tt);
+  are_results = (one.is_result, tt);
+  are_rows = ap (λ (r : Row). r ∷ []) one.is_row;
+  are_unbroken = All-cons (IsUnbroken names never_fails) one.stream [] one.unbroken
+      (All-nil (IsUnbroken names never_fails));
+}
 
-pub one_fits_more : (names : List ProcessNames) (readings : List (Result Trace StreamFault))
-    (given : Result Trace StreamFault) → All (ReadingFits names) readings → ReadingFits names given
-    → All (ReadingFits names) (readings ++ given ∷ [])
-one_fits_more names [] given all one = All-cons (ReadingFits names) given [] one all
-one_fits_more names (x ∷ xs) given all one =
-    All-cons (ReadingFits names) x (xs ++ given ∷ []) (All-head (ReadingFits names) x xs all)
-    (one_fits_more names xs given (All-tail (ReadingFits names) x xs all) one)
+zipped_both : {A B : Type 0} (P : A → B → Type 0) (xs more : List A) (ys others : List B) → AllZip P xs ys
+    → AllZip P more others → AllZip P (xs ++ more) (ys ++ others)
+zipped_both P [] more [] others p q = q
+zipped_both P [] more (y ∷ ys) others p q = absurd p
+zipped_both P (x ∷ xs) more [] others p q = absurd p
+zipped_both P (x ∷ xs) more (y ∷ ys) others p q = (p.0, zipped_both P xs more ys others p.1 q)
 
-pub all_read : (names : List ProcessNames) (inputs : List (Option (List ℕ))) (results : List StreamResult)
-    → AllZip (IsReadOf names) inputs results → AreReadOf names inputs results
-all_read names [] [] all = record { streams = []; are_given = tt; are_results = tt }
-all_read names [] (y ∷ ys) all = absurd all
-all_read names (x ∷ xs) [] all = absurd all
-all_read names (x ∷ xs) (y ∷ ys) all =
-    let rest = all_read names xs ys all.1 in
-    let one = all.0.1 in
-    record {
-      streams = one.stream ∷ rest.streams;
-      are_given = (one.is_given, rest.are_given);
-      are_results = (one.is_result, rest.are_results);
-    }
+-- the streams of two halves
+pub both_read : (names : List ProcessNames) (never_fails : Bool) (inputs more : List (Option (List ℕ)))
+    (results others : List StreamResult) (rows further : List Row) → AreReadOf names never_fails inputs results rows
+    → AreReadOf names never_fails more others further
+    → AreReadOf names never_fails (inputs ++ more) (results ++ others) (rows ++ further)
+both_read names never_fails inputs more results others rows further left right = record {
+  streams = left.streams ++ right.streams;
+  are_given = zipped_both IsGivenBy inputs more left.streams right.streams left.are_given right.are_given;
+  are_results = zipped_both (IsResultOf names) left.streams right.streams results others left.are_results
+      right.are_results;
+  are_rows = rw (left.are_rows, right.are_rows) (sym (map-append (row_of_stream names) left.streams right.streams));
+  are_unbroken = All-append (IsUnbroken names never_fails) left.streams right.streams left.are_unbroken
+      right.are_unbroken;
+}
+
+-- no streams
+pub none_read : (names : List ProcessNames) (never_fails : Bool) → AreReadOf names never_fails [] [] []
+none_read names never_fails = record {
+  streams = [];
+  are_given = tt;
+  are_results = tt;
+  are_rows = refl;
+  are_unbroken = All-nil (IsUnbroken names never_fails);
+}

@@ -1,5 +1,5 @@
 -- What the program's inputs, readings, traces and faults stand for.
-use Rattle.std.specs.Prelude.{◌≡◌, ℕ, Bool, false, ◌==◌, List, map, length, Option, Some, None, Result, Ok, Err, IfOk, MatchResult, MatchOption, slice_get, Vec}
+use Rattle.std.specs.Prelude.{◌≡◌, ℕ, Bool, false, ◌==◌, List, map, Option, Some, None, Result, Ok, Err, IfOk, MatchResult, MatchOption, Vec}
 use Rattle.std.specs.Global.{Global}
 use Rattle.pd_format.specs.Names.{ProcessNames}
 use Rattle.pd_format.specs.Readings as readings

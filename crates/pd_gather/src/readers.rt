@@ -1,23 +1,26 @@
-//! Streams that are read from readers.
+//! A stream that is read from a source, while its steps are posted.
 ghost use Rattle.pd_events.specs.Views.{result_view};
-ghost use Rattle.pd_format.specs.Limits.{stream_count_limit};
+ghost use Rattle.pd_format.specs.Histories.{fresh_row};
 ghost use Rattle.pd_format.specs.Names.{ProcessNames};
 ghost use Rattle.pd_format.specs.Readings.{NothingMore};
-ghost use Rattle.pd_gather.specs.ReadSoFar.{HasRead, input_of_read};
-ghost use Rattle.pd_gather.specs.ReadStreams.{AreReadOf, IsReadFrom, IsReadOf, read_byte_limit};
-ghost use Rattle.pd_gather.specs.Views.{ReadingFits, input_view, results_view};
+ghost use Rattle.pd_gather.specs.ReadSoFar.{HasRead, ReadsOn, input_of_read};
+ghost use Rattle.pd_gather.specs.ReadStreams.{IsReadFrom, IsReadOf, read_byte_limit};
+ghost use Rattle.pd_gather.specs.Views.{ReadingFits, input_view};
+ghost use Rattle.pd_register.specs.Seats.{IsSameSeat, IsSeatOf, posted_row};
 ghost use Rattle.pd_spec.specs.Views.{document_view};
-ghost use Rattle.std.specs.List.{AllZip};
-ghost use Rattle.std.specs.Prelude.{◌≡◌, ◌<◌, ◌≤◌, ◌+◌, ℕ, List, Option, All, IfOk, OnOk, length, map, vec_len};
+ghost use Rattle.std.specs.Prelude.{◌≡◌, ◌<◌, ◌≤◌, ◌+◌, ℕ, false, List, Option, IfOk, OnOk, length, vec_len};
 
+use super::Input;
+use super::byte_source::ByteSource;
+use super::posting::post_records;
 use super::streams::take_input;
-use super::{Gathered, Input};
 use pd_events::{StreamFault, Trace, TraceReader};
 use pd_format::STREAM_BYTE_LIMIT;
+use pd_register::{Register, Seat};
 use pd_spec::Spec;
 use std::alloc::{AllocError, Global};
 use std::io;
-use std::io::Read;
+use std::sync::Wait;
 
 /// How many bytes one read asks for.
 const READ_BYTE_LIMIT: usize = 65_536;
@@ -33,7 +36,7 @@ fn new_piece(alloc: Global, size: usize) -> Result<Vec<u8>, AllocError>
     vec![in alloc; 0u8; size]
 }
 
-/// What a read into the piece gives the stream: the bytes that came, the reader's end if there were none, or that the
+/// What a read into the piece gives the stream: the bytes that came, the source's end if there were none, or that the
 /// read failed.
 fn input_of(read: io::Result<usize>, piece: &[u8]) -> Input<'_>
     requires { IfOk read (λ count. count ≤ length piece.now) }
@@ -46,34 +49,45 @@ fn input_of(read: io::Result<usize>, piece: &[u8]) -> Input<'_>
     }
 }
 
-/// Asks the reader once, and gives the stream what came. The stream is open.
-fn read_once<R: Read>(
+/// Asks the source once, and gives the stream what came. The stream is open.
+fn read_once<R: ByteSource>(
     reader: &mut R,
     piece: &mut [u8],
     stream: &mut TraceReader<'_>,
 ) -> Result<(), AllocError>
+    requires more { R.has_ended reader.old ≡ false }
     requires room { 0 < length piece.old }
     requires limit { length piece.old ≤ read_byte_limit }
     requires open { stream.old.reading.stop ≡ NothingMore }
-    ensures { OnOk result ((names : List ProcessNames) (input : Option (List ℕ)) (reads : ℕ) →
-        HasRead names input (R.remaining reader.old) reads stream.old →
-        HasRead names input (R.remaining reader.new) (reads + 1) stream.new) }
+    ensures read { OnOk result ((names : List ProcessNames) (input : Option (List ℕ)) (reads : ℕ) →
+        HasRead names R.never_fails input (R.remaining reader.old) reads stream.old →
+        ReadsOn names R.never_fails input (R.remaining reader.new) (reads + 1) stream.old stream.new) }
+    ensures more { OnOk result ((names : List ProcessNames) (input : Option (List ℕ)) (reads : ℕ) →
+        HasRead names R.never_fails input (R.remaining reader.old) reads stream.old →
+        stream.new.reading.stop ≡ NothingMore → R.has_ended reader.new ≡ false) }
 {
-    let input = input_of(reader.read(piece), piece);
+    let input = input_of(reader.read_next(piece), piece);
     take_input(stream, input)
 }
 
-/// Reads a stream from a reader that is used again: what was consumed of it are the stream's bytes.
+/// Reads a stream from a source that is used again: what was consumed of it are the stream's bytes.
 ///
 /// # Errors
-/// If memory runs out.
-fn read_from<R: Read>(
+/// If memory runs out; the seat keeps its posts.
+pub(super) fn read_from<T: Wait, R: ByteSource>(
+    rt: &T,
     alloc: Global,
     spec: &Spec,
     reader: &mut R,
+    register: &Register,
+    seat: &mut Seat,
 ) -> Result<Result<Trace, StreamFault>, AllocError>
-    ensures read { IfOk result (λ given. IsReadFrom (document_view spec.now).names (R.remaining reader.old)
-        (R.remaining reader.new) (result_view given)) }
+    requires own { IsSeatOf register.now seat.old }
+    requires fresh { posted_row seat.old ≡ fresh_row }
+    requires open { R.has_ended reader.old ≡ false }
+    ensures seat { IsSameSeat register.now seat.old seat.new }
+    ensures read { IfOk result (λ given. IsReadFrom (document_view spec.now).names R.never_fails
+        (R.remaining reader.old) (R.remaining reader.new) (result_view given) (posted_row seat.new)) }
     ensures fits { IfOk result (ReadingFits (document_view spec.now).names) }
 {
     pd_format::closed_stays();
@@ -85,48 +99,33 @@ fn read_from<R: Read>(
             break;
         }
         read_once(reader, &mut piece, &mut stream)?;
+        post_records(rt, register, seat, &stream)?;
     }
     Ok(stream.outcome())
 }
 
-/// Reads a stream to its end line or its first fault, to the reader's end, or until a read fails, and gives its trace
-/// or its fault. Any error of a read is a failed read. The reader isn't asked again once the stream is closed.
+/// Reads a stream to its end line or its first fault, to the source's end, or until a read fails, and gives its trace
+/// or its fault. Any error of a read is a failed read. The source isn't asked again once the stream is closed. After
+/// each read the steps of the records that came are posted: the join, an event each, and then the end or the fault. No
+/// lock is held while bytes are read.
 ///
 /// # Errors
-/// If memory runs out.
-pub fn read_stream<R: Read + Drop>(
+/// If memory runs out; the seat keeps its posts.
+pub fn read_stream<T: Wait, R: ByteSource + Drop>(
+    rt: &T,
     alloc: Global,
     spec: &Spec,
     mut reader: R,
+    register: &Register,
+    seat: &mut Seat,
 ) -> Result<Result<Trace, StreamFault>, AllocError>
-    ensures read { IfOk result (λ given. IsReadOf (document_view spec.now).names (R.remaining reader)
-        (result_view given)) }
+    requires own { IsSeatOf register.now seat.old }
+    requires fresh { posted_row seat.old ≡ fresh_row }
+    requires open { R.has_ended reader ≡ false }
+    ensures seat { IsSameSeat register.now seat.old seat.new }
+    ensures read { IfOk result (λ given. IsReadOf (document_view spec.now).names R.never_fails (R.remaining reader)
+        (result_view given) (posted_row seat.new)) }
     ensures fits { IfOk result (ReadingFits (document_view spec.now).names) }
 {
-    read_from(alloc, spec, &mut reader)
-}
-
-/// Reads the streams of a session, one after another.
-///
-/// # Errors
-/// If memory runs out.
-pub fn gather<R: Read + Drop>(
-    alloc: Global,
-    spec: &Spec,
-    readers: Vec<R>,
-) -> Result<Gathered, AllocError>
-    requires { vec_len readers ≤ stream_count_limit }
-    ensures streams { IfOk result (λ gathered. gathered.streams ≡ vec_len readers) }
-    ensures each { IfOk result (λ gathered. AllZip (IsReadOf (document_view spec.now).names)
-        (map R.remaining readers.items) (results_view gathered.readings.items)) }
-    ensures read { IfOk result (λ gathered. AreReadOf (document_view spec.now).names (map R.remaining readers.items)
-        (results_view gathered.readings.items)) }
-    ensures fit { IfOk result (λ gathered. All (ReadingFits (document_view spec.now).names) gathered.readings.items) }
-{
-    let streams = readers.len() as u64;
-    let mut readings = Vec::with_capacity(alloc, readers.len())?;
-    for reader in readers {
-        readings.push(read_stream(alloc, spec, reader)?)?;
-    }
-    Ok(Gathered { streams, readings })
+    read_from(rt, alloc, spec, &mut reader, register, seat)
 }

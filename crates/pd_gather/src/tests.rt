@@ -1,4 +1,8 @@
-//! Streams fed in turns, streams read from readers, and each refusal of a session.
+//! Streams fed in turns, streams read from sources, and each refusal of a session.
+mod gatherings;
+mod readings;
+mod sources;
+
 ghost use Rattle.pd_format.specs.Limits.{stream_count_limit};
 ghost use Rattle.pd_format.specs.Names.{ProcessNames};
 ghost use Rattle.pd_format.specs.Sessions.{Interleaving};
@@ -7,13 +11,11 @@ ghost use Rattle.pd_gather.specs.Views.{ReadingFits, input_view};
 ghost use Rattle.pd_spec.specs.Views.{document_view};
 ghost use Rattle.std.specs.Prelude.{◌≡◌, ◌<◌, ◌≤◌, ◌++◌, ◌∷◌, [], All, IfOk, List, OnOk, length};
 
-use super::{Core, Gathered, Input, SessionFault, gather, read_stream, session};
-use pd_events::{StreamFault, StreamKind, Trace};
-use pd_format::{LINE_BYTE_LIMIT, STREAM_COUNT_LIMIT};
+use super::{Core, Gathered, Input, SessionFault, session};
+use pd_events::{StreamFault, StreamKind};
+use pd_format::STREAM_COUNT_LIMIT;
 use pd_spec::Spec;
 use std::alloc::{AllocError, Global};
-use std::io;
-use std::io::{Error, ErrorKind, Read};
 use std::test::Fail;
 
 const DOCUMENT: &[u8] = br#"{"processes":[{"name":"a","vars":{"x":0}},{"name":"b","vars":{}}],
@@ -155,210 +157,5 @@ fn there_are_too_many_streams(rt: HostRuntime) -> Result<(), Fail> {
     };
     let refused = session(rt.alloc(), &spec, gathered).err();
     assert_eq!(rt; refused, Some(SessionFault::Streams));
-    Ok(())
-}
-
-/// Gives its bytes, a few at a time, and then its end or a failure.
-#[derive(Drop)]
-struct FewBytes<'a> {
-    /// The bytes that are left.
-    bytes: &'a [u8],
-    /// How many of them a call gives at most.
-    most: usize,
-    /// How a call fails if none is left; otherwise it gives the end.
-    failure: Option<ErrorKind>,
-    /// How many calls there have been.
-    calls: u32,
-}
-
-impl Read for FewBytes<'_> {
-    fn read(&mut self, buf: &mut [u8]) -> io::Result<usize> {
-        self.calls = self.calls.saturating_add(1);
-        let count = self.bytes.len().min(self.most).min(buf.len());
-        if count > 0 {
-            let (first, others) = self.bytes.split_at(count);
-            buf[..count].copy_from_slice(first);
-            self.bytes = others;
-            return Ok(count);
-        }
-        match self.failure {
-            Some(kind) => Err(Error::from(kind)),
-            None => Ok(0),
-        }
-    }
-}
-
-/// Gives the same byte and has no end.
-#[derive(Drop)]
-struct Endless(u8);
-
-impl Read for Endless {
-    fn read(&mut self, buf: &mut [u8]) -> io::Result<usize> {
-        buf.fill(self.0);
-        Ok(buf.len())
-    }
-}
-
-/// What is read of a stream whose reader gives one byte a call, and then fails like this, or ends.
-fn read_slowly(
-    alloc: Global,
-    bytes: &[u8],
-    failure: Option<ErrorKind>,
-) -> Result<Result<Trace, StreamFault>, Fail> {
-    let spec = spec(alloc)?;
-    let reader = FewBytes {
-        bytes,
-        most: 1,
-        failure,
-        calls: 0,
-    };
-    Ok(read_stream(alloc, &spec, reader)?)
-}
-
-#[test]
-fn a_stream_is_read_in_pieces_of_any_size(rt: HostRuntime) -> Result<(), Fail> {
-    let spec = spec(rt.alloc())?;
-    let whole = read_stream(rt.alloc(), &spec, STREAM_A)?;
-    match &whole {
-        Ok(trace) => {
-            assert_eq!(rt; trace.process, 0);
-            assert_eq!(rt; trace.join_line, 1);
-            assert_eq!(rt; trace.events.len(), 1);
-            assert_eq!(rt; trace.events[0].sets.as_slice(), [(0, 1)].as_slice());
-        }
-        Err(_) => return Err(Fail::from("refused")),
-    }
-    for most in [1, 2, 16, 17, 1_000] {
-        let reader = FewBytes {
-            bytes: STREAM_A,
-            most,
-            failure: None,
-            calls: 0,
-        };
-        let same = read_stream(rt.alloc(), &spec, reader)?;
-        assert!(rt; same == whole, "at {most}");
-    }
-    Ok(())
-}
-
-#[test]
-fn a_stream_may_end_in_its_last_line(rt: HostRuntime) -> Result<(), Fail> {
-    let bytes = b"{\"process\":\"b\"}\n{\"end\":true}";
-    let whole = read_slowly(rt.alloc(), bytes, None)?;
-    assert!(rt; whole.is_ok());
-    let unended = read_slowly(rt.alloc(), &bytes[..16], None)?;
-    assert_eq!(rt;
-        unended.err(),
-        Some(StreamFault {
-            line: 2,
-            kind: StreamKind::Unended,
-        })
-    );
-    Ok(())
-}
-
-#[test]
-fn a_read_fails_in_any_line(rt: HostRuntime) -> Result<(), Fail> {
-    let cases = [
-        ("", 1),
-        ("{\"process\":", 1),
-        ("{\"process\":\"b\"}", 1),
-        ("{\"process\":\"b\"}\n", 2),
-        ("{\"process\":\"b\"}\nno record", 2),
-        ("\n\n{\"process\":\"b\"}\n{\"end\":true}", 4),
-    ];
-    for (bytes, line) in cases {
-        for failure in [ErrorKind::Interrupted, ErrorKind::Other] {
-            let read = read_slowly(rt.alloc(), bytes.as_bytes(), Some(failure))?;
-            let fault = StreamFault {
-                line,
-                kind: StreamKind::Read,
-            };
-            assert_eq!(rt; read.err(), Some(fault), "in {bytes}");
-        }
-    }
-    Ok(())
-}
-
-#[test]
-fn a_closed_stream_is_not_read_on(rt: HostRuntime) -> Result<(), Fail> {
-    let spec = spec(rt.alloc())?;
-    let cases = [
-        ("{\"process\":\"b\"}\n{\"end\":true}\n", None),
-        ("{\"end\":true}\n", Some(StreamKind::Join)),
-        ("{\"process\":\"b\"}\nno record\n", Some(StreamKind::Json)),
-    ];
-    for (bytes, kind) in cases {
-        let mut all = Vec::from_slice(rt.alloc(), bytes.as_bytes())?;
-        all.extend_from_slice(b"what follows")?;
-        let mut reader = FewBytes {
-            bytes: &all,
-            most: 1,
-            failure: Some(ErrorKind::Other),
-            calls: 0,
-        };
-        let read = read_stream(rt.alloc(), &spec, &mut reader)?;
-        assert_eq!(rt; read.err().map(|fault| fault.kind), kind, "in {bytes}");
-        assert_eq!(rt; reader.calls as usize, bytes.len(), "in {bytes}");
-        assert_eq!(rt; reader.bytes, b"what follows".as_slice(), "in {bytes}");
-    }
-    Ok(())
-}
-
-#[test]
-fn a_stream_without_end_is_read_to_its_fault(rt: HostRuntime) -> Result<(), Fail> {
-    let spec = spec(rt.alloc())?;
-    let long_line = StreamFault {
-        line: 1,
-        kind: StreamKind::LineTooLong,
-    };
-    let read = read_stream(rt.alloc(), &spec, Endless(b'x'))?;
-    assert_eq!(rt; read.err(), Some(long_line));
-    Ok(())
-}
-
-#[test]
-fn streams_are_read_in_order(rt: HostRuntime) -> Result<(), Fail> {
-    let spec = spec(rt.alloc())?;
-    let readers = vec![in rt.alloc(); STREAM_B, STREAM_A]?;
-    let gathered = gather(rt.alloc(), &spec, readers)?;
-    assert_eq!(rt; gathered.streams, 2);
-    assert_eq!(rt; gathered.readings.len(), 2);
-    match session(rt.alloc(), &spec, gathered) {
-        Ok(traces) => {
-            assert_eq!(rt; traces.len(), 2);
-            assert_eq!(rt; traces[0].join_line, 1);
-            assert_eq!(rt; traces[0].events.len(), 1);
-            assert_eq!(rt; traces[1].join_line, 2);
-            assert_eq!(rt; traces[1].events.len(), 0);
-        }
-        Err(_) => return Err(Fail::from("refused")),
-    }
-    let readers = vec![in rt.alloc(); STREAM_A, STREAM_B, STREAM_A]?;
-    let gathered = gather(rt.alloc(), &spec, readers)?;
-    let refused = session(rt.alloc(), &spec, gathered).err();
-    assert_eq!(rt; refused, Some(SessionFault::Taken(2, 1)));
-    let nothing: Vec<&[u8]> = Vec::new(rt.alloc());
-    let gathered = gather(rt.alloc(), &spec, nothing)?;
-    assert_eq!(rt; gathered.streams, 0);
-    assert_eq!(rt; gathered.readings.len(), 0);
-    Ok(())
-}
-
-#[test]
-fn a_reader_is_asked_until_its_line_is_too_long(rt: HostRuntime) -> Result<(), Fail> {
-    let spec = spec(rt.alloc())?;
-    let long = vec![in rt.alloc(); b'x'; LINE_BYTE_LIMIT + 9]?;
-    let mut reader = FewBytes {
-        bytes: &long,
-        most: 1,
-        failure: None,
-        calls: 0,
-    };
-    let read = read_stream(rt.alloc(), &spec, &mut reader)?;
-    let kind = read.err().map(|fault| fault.kind);
-    assert_eq!(rt; kind, Some(StreamKind::LineTooLong));
-    assert_eq!(rt; reader.calls as usize, LINE_BYTE_LIMIT + 1);
-    assert_eq!(rt; reader.bytes.len(), 8);
     Ok(())
 }

@@ -1,5 +1,6 @@
--- If each level is narrow no answer is unknown, and each is the truth.
-use Rattle.std.proofs.Common.{◌≡◌, ℕ, ◌<◌, ◌≤◌, Bool, List, [], ◌∷◌, length, map, Contains, refl, sym, ap, ◌∙◌, subst, inl, inr, ◌⊎◌, ◌↔◌, arith}
+-- If each level is narrow no answer is unknown, and each is the truth. The answers agree at every width.
+use Rattle.std.proofs.Common.{◌≡◌, ℕ, ◌<◌, ◌≤◌, Bool, List, [], ◌∷◌, length, map, All, Contains, refl, sym, ◌∙◌, subst, inl, inr, ◌⊎◌, ◌↔◌, arith}
+use Rattle.std.proofs.lemmas.List.Elements.{All-nil, All-cons}
 use Rattle.std.specs.List.{AllZip}
 use Rattle.pd_model.specs.Events.{Computation, Place, Linked}
 use Rattle.pd_model.specs.Messages.{Fault, SendTwice, Orphan, SelfMessage, ReceivedTwice, IsReported, HasLawfulMessages}
@@ -19,7 +20,7 @@ use Rattle.pd_model.proofs.OneAnswer.{below_rest, ascending_rest, contains_cases
 use Rattle.pd_model.proofs.Paths.{avoiding_level, path_avoids}
 use Rattle.pd_model.proofs.WalkSteps.{not_more}
 use Rattle.pd_model.proofs.Stuck.{none_stuck}
-use Rattle.pd_judgement.specs.Headline.{IsNarrow, SaysTruly, AnswersTruly, Headline}
+use Rattle.pd_judgement.specs.Headline.{IsNarrow, AnswersAgree, SaysTruly, AnswersTruly, Headline, ReportsAgree}
 
 -- An ascending list whose elements all stand in another is no longer than that one.
 pub no_longer : (xs ys : List (List ℕ)) → Linked LexBelow xs → Linked LexBelow ys
@@ -72,6 +73,50 @@ not_more_within P Q w cuts list le within (some, list', lt) =
     (list.just cut).1 (within cut ((list'.just cut).0 has))) in
     omega arith
 
+-- ---- what is printed, at every width
+
+-- if no is printed, no consistent cut satisfies
+no_printed : (c : Computation) (test : List ℕ → Bool) (w : ℕ) (reported : Possibly) (p : PossiblyAnswer)
+    → reported ≡ printed_possibly p → IsPossiblyAnswer c test w p → reported ≡ Possibly.No
+    → ¬ observations.Possibly c test
+no_printed c test w reported (PossiblyYes cut) e right said = absurd (cc)
+no_printed c test w reported PossiblyNo e right said = right.1
+no_printed c test w reported (PossiblyUnknown k) e right said = absurd (cc)
+
+-- the cut printed is the first that satisfies
+cut_printed : (c : Computation) (test : List ℕ → Bool) (w : ℕ) (reported : Possibly) (p : PossiblyAnswer)
+    → reported ≡ printed_possibly p → IsPossiblyAnswer c test w p → (cut : List ℕ) → reported ≡ Possibly.Yes cut
+    → IsFirstSatisfying c test cut
+cut_printed c test w reported (PossiblyYes printed) e right cut said =
+    let same : printed ≡ cut = cc in subst (IsFirstSatisfying c test) same right.1
+cut_printed c test w reported PossiblyNo e right cut said = absurd (cc)
+cut_printed c test w reported (PossiblyUnknown k) e right cut said = absurd (cc)
+
+-- if yes is printed, every observation passes through a satisfying cut, and the level printed is the least with no
+-- avoiding cut
+level_printed : (names : List ProcessNames) (c : Computation) (test : List ℕ → Bool) (w : ℕ) (reported : Definitely)
+    (d : DefinitelyAnswer) → reported ≡ printed_definitely names d → IsDefinitelyAnswer c test w d → (level : ℕ)
+    → reported ≡ Definitely.Yes level → observations.Definitely c test × IsLeastFree c test level
+level_printed names c test w reported (DefinitelyYes printed) e right level said =
+    let same : printed ≡ level = cc in (right.1, subst (IsLeastFree c test) same right.2)
+level_printed names c test w reported (DefinitelyNo path) e right level said = absurd (cc)
+level_printed names c test w reported (DefinitelyUnknown k) e right level said = absurd (cc)
+
+-- the answers of Possibly and of Definitely agree
+answers_agree : (names : List ProcessNames) (c : Computation) (test : List ℕ → Bool) (w : ℕ) (answer : Answer)
+    → HasNoCycle c → (p : PossiblyAnswer) → answer.possibly ≡ printed_possibly p → IsPossiblyAnswer c test w p
+    → (d : DefinitelyAnswer) → answer.definitely ≡ printed_definitely names d → IsDefinitelyAnswer c test w d
+    → AnswersAgree answer
+answers_agree names c test w answer acyclic p e right d f right' =
+    record {
+      no_clash = λ level said none.
+          no_printed c test w answer.possibly p e right none (definite_is_possible c acyclic test
+          (level_printed names c test w answer.definitely d f right' level said).0);
+      below = λ cut level said said'.
+          cut_below_level c acyclic test level cut (cut_printed c test w answer.possibly p e right cut said)
+          (level_printed names c test w answer.definitely d f right' level said').1;
+    }
+
 -- ---- no answer is unknown
 
 module _ (c : Computation) (test : List ℕ → Bool) (w : ℕ) (narrow : IsNarrow c w) where
@@ -101,12 +146,6 @@ module _ (c : Computation) (test : List ℕ → Bool) (w : ℕ) (narrow : IsNarr
   possibly_no_exactly PossiblyNo e (known, none) = (λ said. none, λ holds. e)
   possibly_no_exactly (PossiblyUnknown k) e u = absurd (level_is_narrow c test w narrow k u.wide)
 
-  cut_printed : (p : PossiblyAnswer) → reported ≡ printed_possibly p → IsPossiblyAnswer c test w p → (cut : List ℕ)
-      → reported ≡ Possibly.Yes cut → p ≡ PossiblyYes cut
-  cut_printed (PossiblyYes printed) e right cut said = let same : printed ≡ cut = cc in ap PossiblyYes same
-  cut_printed PossiblyNo e right cut said = absurd (cc)
-  cut_printed (PossiblyUnknown k) e right cut said = absurd (cc)
-
 -- ---- what is said of Definitely
 
 module _ (names : List ProcessNames) (c : Computation) (test : List ℕ → Bool) (w : ℕ) (narrow : IsNarrow c w)
@@ -127,12 +166,6 @@ module _ (names : List ProcessNames) (c : Computation) (test : List ℕ → Bool
       (λ said. not_every, λ holds. (map (name_of_process names) path, e))
   definitely_no_exactly (DefinitelyUnknown k) e u = absurd (avoided_narrowly c test w narrow k u.wide)
 
-  level_printed : (d : DefinitelyAnswer) → reported ≡ printed_definitely names d → (level : ℕ)
-      → reported ≡ Definitely.Yes level → d ≡ DefinitelyYes level
-  level_printed (DefinitelyYes printed) e level said = let same : printed ≡ level = cc in ap DefinitelyYes same
-  level_printed (DefinitelyNo path) e level said = absurd (cc)
-  level_printed (DefinitelyUnknown k) e level said = absurd (cc)
-
   path_printed : (d : DefinitelyAnswer) → reported ≡ printed_definitely names d → IsDefinitelyAnswer c test w d
       → (words : List (List ℕ)) → reported ≡ Definitely.No words → (path : List ℕ)
       × (words ≡ map (name_of_process names) path) × IsAvoidingObservation c test path
@@ -150,29 +183,14 @@ pub says_truly : (names : List ProcessNames) (c : Computation) (test : List ℕ 
 says_truly names c test w answer acyclic narrow p e right d f right' =
     record {
       possibly_yes = possibly_yes_exactly c test w narrow answer.possibly p e right;
-      possibly_no = no_exactly;
-      definitely_yes = yes_exactly;
+      possibly_no = possibly_no_exactly c test w narrow answer.possibly p e right;
+      definitely_yes = definitely_yes_exactly names c test w narrow answer.definitely d f right';
       definitely_no = definitely_no_exactly names c test w narrow answer.definitely d f right';
-      cut_satisfies = λ cut said. let i : IsFirstSatisfying c test cut = first cut said in (i.consistent, i.satisfies);
+      cut_satisfies = λ cut said. let i : IsFirstSatisfying c test cut =
+          cut_printed c test w answer.possibly p e right cut said in (i.consistent, i.satisfies);
       path_avoids = path_printed names c test w narrow answer.definitely d f right';
-      no_clash = λ level said no'. no_exactly.0 no' (definite_is_possible c acyclic test (yes_exactly.0 (level, said)));
-      below = λ cut level said said'. cut_below_level c acyclic test level cut (first cut said) (free level said');
+      agrees = answers_agree names c test w answer acyclic p e right d f right';
     }
-  where
-    no_exactly : (answer.possibly ≡ Possibly.No) ↔ (¬ observations.Possibly c test)
-    no_exactly = possibly_no_exactly c test w narrow answer.possibly p e right
-
-    yes_exactly : ((level : ℕ) × (answer.definitely ≡ Definitely.Yes level)) ↔ observations.Definitely c test
-    yes_exactly = definitely_yes_exactly names c test w narrow answer.definitely d f right'
-
-    first : (cut : List ℕ) → answer.possibly ≡ Possibly.Yes cut → IsFirstSatisfying c test cut
-    first cut said =
-        (subst (IsPossiblyAnswer c test w) (cut_printed c test w narrow answer.possibly p e right cut said) right).1
-
-    free : (level : ℕ) → answer.definitely ≡ Definitely.Yes level → IsLeastFree c test level
-    free level said =
-        (subst (IsDefinitelyAnswer c test w) (level_printed names c test w narrow answer.definitely d f level said)
-        right').2
 
 -- ---- the report
 
@@ -218,3 +236,25 @@ headline_lem document traces report formed narrow (of_answers messages answers f
           (AnswersTruly document traces) (answers_truly document traces formed.no_cycle narrow) document.predicates
           answers answered;
     }
+
+-- ---- at every width
+
+all_agree : (document : Document) (traces : List Trace) → HasNoCycle (events_of_traces traces)
+    → (asked : List NamedPredicate) (answers : List Answer)
+    → AllZip (IsAnswered document.names (recorded_of document traces) document.width) asked answers
+    → All AnswersAgree answers
+all_agree document traces acyclic [] [] each = All-nil AnswersAgree
+all_agree document traces acyclic [] (y ∷ answers) each = absurd each
+all_agree document traces acyclic (x ∷ asked) [] each = absurd each
+all_agree document traces acyclic (x ∷ asked) (y ∷ answers) each =
+    All-cons AnswersAgree y answers
+    (answers_agree document.names (events_of_traces traces) (test_of (recorded_of document traces) x.predicate)
+    document.width y acyclic each.0.possibly each.0.possibly_reported each.0.possibly_right each.0.definitely
+    each.0.definitely_reported each.0.definitely_right)
+    (all_agree document traces acyclic asked answers each.1)
+
+pub reports_agree_lem : ReportsAgree
+reports_agree_lem document traces report (of_messages fault r) = tt
+reports_agree_lem document traces report (of_cycle cycle lawful r) = tt
+reports_agree_lem document traces report (of_answers messages answers formed are answered) =
+    all_agree document traces formed.no_cycle document.predicates answers answered

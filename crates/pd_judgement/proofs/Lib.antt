@@ -2,7 +2,6 @@
 pub mod Zipped
 pub mod StreamResults
 pub mod HeadlineFacts
-pub mod HeadlineOfBundles
 pub mod Widths
 pub mod Worked
 pub mod DocumentsAreSingle
@@ -13,4 +12,5 @@ pub mod FindingsAreSingle
 pub mod Writing
 pub mod LawfulAnswers
 pub mod LawfulReports
-pub mod WellFormedReports
+pub mod TrueReports
+pub mod TextsOwed

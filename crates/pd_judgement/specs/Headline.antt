@@ -1,6 +1,6 @@
 -- What a report says of the computation after it, in the words of cuts and observations: if each level is narrow no
 -- answer is unknown, and each is the truth.
-use Rattle.std.specs.Prelude.{◌≡◌, ℕ, ◌≤◌, Bool, true, ◌⊎◌, ◌↔◌, List, ◌∷◌, length, map, sum, Ok}
+use Rattle.std.specs.Prelude.{◌≡◌, ℕ, ◌≤◌, Bool, true, false, ⊤, ◌⊎◌, ◌↔◌, List, All, length, map, sum, Ok}
 use Rattle.std.specs.List.{AllZip}
 use Rattle.pd_model.specs.Events.{Computation, Place}
 use Rattle.pd_model.specs.Messages.{IsMessageList}
@@ -13,9 +13,8 @@ use Rattle.pd_format.specs.Names.{ProcessNames, name_of_process}
 use Rattle.pd_format.specs.Readings.{Trace}
 use Rattle.pd_format.specs.Documents.{Document, NamedPredicate, IsDocument}
 use Rattle.pd_format.specs.Sessions.{StreamResult, session}
-use Rattle.pd_format.specs.Reports.{Possibly, Definitely, Answer, Report, Judged}
-use Rattle.pd_format.specs.Bundles.{parts_of}
-use Rattle.pd_judgement.specs.Judgements.{events_of_traces, recorded_of, IsTracesReport, ended_streams, AreResultsOf, IsReportOfBundle}
+use Rattle.pd_format.specs.Reports.{Possibly, Definitely, Answer, Report, Judged, Refused}
+use Rattle.pd_judgement.specs.Judgements.{RawStream, events_of_traces, recorded_of, IsTracesReport, AreResultsOf, IsJudgement}
 
 -- no level has more cuts than the width: the list of all its cuts is no longer
 abbrev pub IsNarrow : Computation → ℕ → Type 0
@@ -30,6 +29,13 @@ abbrev pub NarrowOrTooWide : Type 0
 NarrowOrTooWide =
     (c : Computation) (width : ℕ) → (IsNarrow c width ⊎ IsTooWide c width)
     × (IsNarrow c width → IsTooWide c width → ⊥)
+
+-- Definitely yes never stands beside Possibly no; and if both are yes, the cut printed has at most as many events as
+-- the level printed.
+pub record AnswersAgree (answer : Answer) : Type 0 where
+  pub no_clash : (level : ℕ) → answer.definitely ≡ Definitely.Yes level → ¬ (answer.possibly ≡ Possibly.No)
+  pub below : (cut : List ℕ) (level : ℕ) → answer.possibly ≡ Possibly.Yes cut → answer.definitely ≡ Definitely.Yes level
+      → sum cut ≤ level
 
 -- The answer is the truth about the test of cuts: Possibly is yes exactly if some consistent cut satisfies, and no
 -- exactly if none does; Definitely is yes exactly if every observation passes through such a cut, and no exactly
@@ -46,11 +52,8 @@ pub record SaysTruly (names : List ProcessNames) (c : Computation) (test : List 
   -- the names printed are those of the processes of an observation with no satisfying cut
   pub path_avoids : (reported : List (List ℕ)) → answer.definitely ≡ Definitely.No reported → (path : List ℕ)
       × (reported ≡ map (name_of_process names) path) × IsAvoidingObservation c test path
-  -- Definitely yes never stands beside Possibly no
-  pub no_clash : (level : ℕ) → answer.definitely ≡ Definitely.Yes level → ¬ (answer.possibly ≡ Possibly.No)
-  -- the cut printed has at most as many events as the level printed
-  pub below : (cut : List ℕ) (level : ℕ) → answer.possibly ≡ Possibly.Yes cut → answer.definitely ≡ Definitely.Yes level
-      → sum cut ≤ level
+  -- both agree
+  pub agrees : AnswersAgree answer
 
 -- under the name of the predicate that is asked, the truth about it
 abbrev pub AnswersTruly : Document → List Trace → NamedPredicate → Answer → Type 0
@@ -74,19 +77,43 @@ Headline =
     → IsNarrow (events_of_traces traces) document.width → IsTracesReport document traces report
     → TellsTruth document traces report
 
--- The bytes of a bundle hold this document, and streams that make a session with these traces.
-pub record HoldsSession (bytes : List ℕ) (document : Document) (traces : List Trace) : Type 0 where
-  pub first : List ℕ
-  pub streams : List (List ℕ)
-  pub parts : parts_of bytes ≡ first ∷ streams
-  pub read : IsDocument first document
+-- The report has an answer for each predicate, and is no refusal.
+abbrev pub is_judged : Report → Bool
+is_judged (Judged processes events messages answers) = true
+is_judged (Refused refusal) = false
+
+-- the answers of a report for each predicate agree
+abbrev pub ReportAgrees : Report → Type 0
+ReportAgrees (Judged processes events messages answers) = All AnswersAgree answers
+ReportAgrees (Refused refusal) = ⊤
+
+-- The report of any traces agrees, at every width.
+abbrev pub ReportsAgree : Type 0
+ReportsAgree =
+    (document : Document) (traces : List Trace) (report : Report) → IsTracesReport document traces report
+    → ReportAgrees report
+
+-- ---- documents and streams
+
+-- The bytes of a document and streams hold this document, and a session with these traces.
+pub record HoldsSession (bytes : List ℕ) (streams : List RawStream) (document : Document) (traces : List Trace) :
+    Type 0 where
+  pub read : IsDocument bytes document
   pub results : List StreamResult
-  pub are_results : AreResultsOf document.names (ended_streams streams) results
+  pub are_results : AreResultsOf document.names streams results
   pub joined : session document.names (length streams) results ≡ Ok traces
 
--- The report of a bundle whose session is well formed, with no level over the width, says the truth.
-abbrev pub HeadlineOfBundle : Type 0
-HeadlineOfBundle =
-    (bytes : List ℕ) (document : Document) (traces : List Trace) (report : Report) → HoldsSession bytes document traces
-    → IsWellFormed (events_of_traces traces) → IsNarrow (events_of_traces traces) document.width
-    → IsReportOfBundle bytes report → TellsTruth document traces report
+-- What the report of a document's bytes and of streams says is true: its answers agree; and if there is a well-formed
+-- session in them, it is judged, and with no level over the width each answer is the truth.
+pub record IsTrueReport (bytes : List ℕ) (streams : List RawStream) (report : Report) : Type 0 where
+  pub agrees : ReportAgrees report
+  pub judged : (document : Document) (traces : List Trace) → HoldsSession bytes streams document traces
+      → IsWellFormed (events_of_traces traces) → is_judged report ≡ true
+  pub headline : (document : Document) (traces : List Trace) → HoldsSession bytes streams document traces
+      → IsWellFormed (events_of_traces traces) → IsNarrow (events_of_traces traces) document.width
+      → TellsTruth document traces report
+
+-- The report of a document's bytes and of streams is true.
+abbrev pub JudgementIsTrue : Type 0
+JudgementIsTrue = (bytes : List ℕ) (streams : List RawStream) (report : Report) → IsJudgement bytes streams report
+    → IsTrueReport bytes streams report

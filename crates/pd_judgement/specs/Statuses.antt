@@ -1,14 +1,16 @@
 -- How a run of the program ends: its exit status, and what that says of what it leaves on its output and on its errors.
-use Rattle.std.specs.Prelude.{◌≡◌, ◌<◌, ◌≤◌, ◌⊎◌, ⊤, ℕ, Bool, true, false, List, codes, length, map, Option, Some, None, IfSome}
+use Rattle.std.specs.Prelude.{◌≡◌, ◌≤◌, ◌⊎◌, ⊤, ℕ, true, false, List, codes, length, map, Option, Some, None}
 use Rattle.std.specs.Io.KnownBytes.{Keeps}
-use Rattle.pd_format.specs.Limits.{bundle_byte_limit, report_byte_limit}
-use Rattle.pd_judgement.specs.Writes.{Writes, Whole, Partial, IsReportTextOf, IsFindingTextOf}
+use Rattle.pd_format.specs.Limits.{report_byte_limit}
+use Rattle.pd_judgement.specs.Writes.{Writes, Whole, Partial, IsWholeInput, IsTextOfBundle, IsTextOfStreams, IsTooLong, IsFindingTextOf}
 
 -- ---- what a run is asked for
 
 pub data Request : Type 0 where
   -- to judge the bundle on the input
   JudgeInput : Request
+  -- to judge a session document and streams of events, each in a file of this name
+  JudgeFiles : (document : List ℕ) (streams : List (List ℕ)) → Request
   -- to check a report by a session document and streams of events, each in a file of this name
   CheckFiles : (document report : List ℕ) (streams : List (List ℕ)) → Request
   -- to show the help
@@ -77,36 +79,44 @@ Reports (Failed failure) old new = WritesUpTo (IsLineOf failure) old new
 
 -- ---- what stands on the output
 
--- what the input holds isn't too long, if it is known
-abbrev pub FitsBundle : (input : Option (List ℕ)) → Type 0
-FitsBundle input = IfSome input (λ bundle. length bundle ≤ bundle_byte_limit)
-
--- the text of the report of the bundle on the input, which is judged or a refusal as said
-abbrev pub IsInputsReport : (input : Option (List ℕ)) → Option Bool → (text : List ℕ) → Type 0
-IsInputsReport input judged text = IfSome input (λ bundle. IsReportTextOf bundle judged text)
-
 -- A session is judged or refused: the text of its report. The output fails: that text or a prefix of it. Any other end:
 -- nothing.
 abbrev pub JudgementLeaves : (input : Option (List ℕ)) → Ending → (old new : Option (List ℕ)) → Type 0
-JudgementLeaves input Success old new =
-    FitsBundle input × Writes (IsInputsReport input (Some true)) Whole old new
-JudgementLeaves input Negative old new =
-    FitsBundle input × Writes (IsInputsReport input (Some false)) Whole old new
+JudgementLeaves input Success old new = Writes (IsTextOfBundle input (Some true)) Whole old new
+JudgementLeaves input Negative old new = Writes (IsTextOfBundle input (Some false)) Whole old new
 JudgementLeaves input Misuse old new = ⊥
 JudgementLeaves input (Failed MemoryFailure) old new = Keeps old new
 JudgementLeaves input (Failed ReadFailure) old new = Keeps old new
-JudgementLeaves input (Failed WriteFailure) old new =
-    FitsBundle input × WritesUpTo (IsInputsReport input None) old new
-JudgementLeaves input (Failed BundleFailure) old new =
-    IfSome input (λ bundle. bundle_byte_limit < length bundle) × Keeps old new
+JudgementLeaves input (Failed WriteFailure) old new = WritesUpTo (IsTextOfBundle input None) old new
+JudgementLeaves input (Failed BundleFailure) old new = IsTooLong input × Keeps old new
+
+-- P holds of the bytes of a document, which are all that its file holds, if that is known.
+pub record OfDocument (document : Option (List ℕ)) (P : List ℕ → Type 0) : Type 0 where
+  pub document_bytes : List ℕ
+  pub whole_document : IsWholeInput document document_bytes
+  pub holds : P document_bytes
+
+-- The same of a document and of streams that stand in files.
+abbrev pub FilesJudgementLeaves : (document : Option (List ℕ)) (streams : List (Option (List ℕ))) → Ending
+    → (old new : Option (List ℕ)) → Type 0
+FilesJudgementLeaves document streams Success old new =
+    OfDocument document (λ d. Writes (IsTextOfStreams d streams (Some true)) Whole old new)
+FilesJudgementLeaves document streams Negative old new =
+    OfDocument document (λ d. Writes (IsTextOfStreams d streams (Some false)) Whole old new)
+FilesJudgementLeaves document streams Misuse old new = ⊥
+FilesJudgementLeaves document streams (Failed MemoryFailure) old new = Keeps old new
+FilesJudgementLeaves document streams (Failed ReadFailure) old new = Keeps old new
+FilesJudgementLeaves document streams (Failed WriteFailure) old new =
+    OfDocument document (λ d. WritesUpTo (IsTextOfStreams d streams None) old new)
+FilesJudgementLeaves document streams (Failed BundleFailure) old new = ⊥
 
 -- P holds of the bytes of a document and of those of a report, which are all that their files hold, if that is known,
 -- and the report isn't too long.
 pub record OfFiles (document report : Option (List ℕ)) (P : List ℕ → List ℕ → Type 0) : Type 0 where
   pub document_bytes : List ℕ
   pub report_bytes : List ℕ
-  pub whole_document : IfSome document (λ bytes. document_bytes ≡ bytes)
-  pub whole_report : IfSome report (λ bytes. report_bytes ≡ bytes)
+  pub whole_document : IsWholeInput document document_bytes
+  pub whole_report : IsWholeInput report report_bytes
   pub fits : length report_bytes ≤ report_byte_limit
   pub holds : P document_bytes report_bytes
 
@@ -149,6 +159,8 @@ MisuseLeaves (Failed BundleFailure) old new = ⊥
 abbrev pub Leaves : (input : Option (List ℕ)) (files : List ℕ → Option (List ℕ)) → Request → Ending
     → (old new : Option (List ℕ)) → Type 0
 Leaves input files JudgeInput ending old new = JudgementLeaves input ending old new
+Leaves input files (JudgeFiles document streams) ending old new =
+    FilesJudgementLeaves (files document) (map files streams) ending old new
 Leaves input files (CheckFiles document report streams) ending old new =
     CheckLeaves (files document) (files report) (map files streams) ending old new
 Leaves input files ShowHelp ending old new = HelpLeaves ending old new

@@ -1,15 +1,17 @@
 -- What a call leaves written of the one text that it owes: all of it, a part of it, or nothing; and which text that is.
-use Rattle.std.specs.Prelude.{◌≡◌, ◌≢◌, ◌<◌, ◌↔◌, ℕ, Bool, true, false, IsTrue, List, ◌++◌, length, take, Option, IfSome}
+use Rattle.std.specs.Prelude.{◌≡◌, ◌≢◌, ◌<◌, ◌≤◌, ◌↔◌, ℕ, Bool, IsTrue, List, ◌∷◌, ◌++◌, length, take, Option, IfSome}
 use Rattle.std.specs.List.{AllZip}
 use Rattle.std.specs.Io.KnownBytes.{Appends, Keeps}
 use Rattle.pd_model.specs.Order.{IsWellFormed}
 use Rattle.pd_format.specs.Documents.{Document}
-use Rattle.pd_judgement.specs.Judgements.{RawStream, IsReportOfBundle, events_of_traces}
+use Rattle.pd_format.specs.Bundles.{parts_of}
+use Rattle.pd_format.specs.Limits.{bundle_byte_limit}
+use Rattle.pd_judgement.specs.Judgements.{RawStream, IsJudgement, ended_streams, events_of_traces}
 use Rattle.pd_format.specs.OtherTexts.{Finding, check_text}
 use Rattle.pd_format.specs.Readings.{Trace, Open, Ended}
-use Rattle.pd_format.specs.Reports.{Report, Judged, Refused, report_text}
+use Rattle.pd_format.specs.Reports.{Report, report_text}
 use Rattle.pd_judgement.specs.Findings.{IsFinding, IsClean}
-use Rattle.pd_judgement.specs.Headline.{HoldsSession, IsNarrow, TellsTruth}
+use Rattle.pd_judgement.specs.Headline.{HoldsSession, IsNarrow, IsTrueReport, TellsTruth, is_judged}
 
 -- ---- what is left written
 
@@ -39,19 +41,42 @@ pub record IsGivenBy (input : Option (List ℕ)) (given : RawStream) : Type 0 wh
   pub prefix : IfSome input (λ bytes. (rest : List ℕ) × (bytes ≡ given.bytes ++ rest))
   pub whole : given.ending ≡ Ended → IfSome input (λ bytes. given.bytes ≡ bytes)
 
+-- the bytes that a reader gave to its end: all that it had left, if that is known
+abbrev pub IsWholeInput : Option (List ℕ) → List ℕ → Type 0
+IsWholeInput input bytes = IfSome input (λ left. bytes ≡ left)
+
 -- ---- the texts
 
--- whether the report answers the predicates, and is no refusal
-abbrev pub is_judged : Report → Bool
-is_judged (Judged processes events messages answers) = true
-is_judged (Refused refusal) = false
-
--- the text of a bundle's report, which is judged or a refusal as said, if anything is said of it
-pub record IsReportTextOf (bundle : List ℕ) (judged : Option Bool) (text : List ℕ) : Type 0 where
+-- The text of the report of a document's bytes and of streams, which is true. The report is judged or a refusal as
+-- said, if anything is said of it.
+pub record IsReportTextOf (document : List ℕ) (streams : List RawStream) (judged : Option Bool) (text : List ℕ) :
+    Type 0 where
   pub report : Report
-  pub right : IsReportOfBundle bundle report
+  pub right : IsJudgement document streams report
+  pub truth : IsTrueReport document streams report
   pub said : IfSome judged (λ judged. is_judged report ≡ judged)
   pub is_text : text ≡ report_text report
+
+-- The same of readers of streams with this left: of the streams that they gave.
+pub record IsTextOfStreams (document : List ℕ) (inputs : List (Option (List ℕ))) (judged : Option Bool)
+    (text : List ℕ) : Type 0 where
+  pub streams : List RawStream
+  pub are_given : AllZip IsGivenBy inputs streams
+  pub is_report_text : IsReportTextOf document streams judged text
+
+-- The same of a reader of a bundle with this left: of the parts of the bundle that it gave, which isn't too long.
+pub record IsTextOfBundle (input : Option (List ℕ)) (judged : Option Bool) (text : List ℕ) : Type 0 where
+  pub bundle : List ℕ
+  pub is_given : IsWholeInput input bundle
+  pub fits : length bundle ≤ bundle_byte_limit
+  pub document : List ℕ
+  pub streams : List (List ℕ)
+  pub parts : parts_of bundle ≡ document ∷ streams
+  pub is_report_text : IsReportTextOf document (ended_streams streams) judged text
+
+-- the bundle that a reader with this left has is too long
+abbrev pub IsTooLong : Option (List ℕ) → Type 0
+IsTooLong input = IfSome input (λ bundle. bundle_byte_limit < length bundle)
 
 -- The text of what a check finds by a document's bytes, a report's bytes and the streams of readers with this left. It
 -- has nothing bad in it exactly if that is said, if anything is said of it.
@@ -72,10 +97,20 @@ pub record IsTrueText (document : Document) (traces : List Trace) (text : List �
   pub truth : TellsTruth document traces report
   pub is_text : text ≡ report_text report
 
--- If a bundle holds a well-formed session with no level over the width, what is written is the text of a report that
--- says the truth about each predicate.
-abbrev pub WritesTruth : List ℕ → (old new : Option (List ℕ)) → Type 0
-WritesTruth bundle old new =
-    (document : Document) (traces : List Trace) → HoldsSession bundle document traces
-    → IsWellFormed (events_of_traces traces) → IsNarrow (events_of_traces traces) document.width
-    → Writes (IsTrueText document traces) Whole old new
+-- If a document and streams hold a well-formed session, it is judged; and with no level over the width, what is written
+-- is the text of a report that says the truth about each predicate.
+abbrev pub WritesTruth : (document : List ℕ) (streams : List RawStream) (IsJudged : Type 0)
+    → (old new : Option (List ℕ)) → Type 0
+WritesTruth bytes streams IsJudged old new =
+    (document : Document) (traces : List Trace) → HoldsSession bytes streams document traces
+    → IsWellFormed (events_of_traces traces)
+    → IsJudged × (IsNarrow (events_of_traces traces) document.width → Writes (IsTrueText document traces) Whole old new)
+
+-- the same of the parts of the bundle that a reader with this left gave
+pub record WritesTruthOfBundle (input : Option (List ℕ)) (IsJudged : Type 0) (old new : Option (List ℕ)) : Type 0 where
+  pub bundle : List ℕ
+  pub is_given : IsWholeInput input bundle
+  pub document : List ℕ
+  pub streams : List (List ℕ)
+  pub parts : parts_of bundle ≡ document ∷ streams
+  pub truth : WritesTruth document (ended_streams streams) IsJudged old new

@@ -8,7 +8,7 @@
 
 ghost use Rattle.pd_judgement.specs.Findings.{CleanIsClean, OneFinding};
 ghost use Rattle.pd_judgement.specs.Examples.{OneCutALevel, OneTrueReport};
-ghost use Rattle.pd_judgement.specs.Headline.{NarrowOrTooWide, Headline, HeadlineOfBundle};
+ghost use Rattle.pd_judgement.specs.Headline.{NarrowOrTooWide, Headline, JudgementIsTrue, ReportsAgree};
 ghost use Rattle.pd_judgement.specs.StreamResults.{EndedHaveResults, OneListOfResults};
 ghost use Rattle.pd_judgement.specs.LawfulReports.{JudgementIsLawful, ReportIsLawful};
 ghost use Rattle.pd_judgement.specs.OneReport.{
@@ -71,9 +71,14 @@ pub fn headline()
     ensures { Headline }
 {}
 
-/// The same of the report of a bundle's bytes.
-pub fn headline_of_bundle()
-    ensures { HeadlineOfBundle }
+/// In the report of any traces, at every width, the answers of Possibly and of Definitely agree.
+pub fn reports_agree()
+    ensures { ReportsAgree }
+{}
+
+/// The report of a document's bytes and of streams is true.
+pub fn judgement_is_true()
+    ensures { JudgementIsTrue }
 {}
 
 /// A finding is clean exactly if no line of its text ends with the word `bad`, and none says that the report isn't

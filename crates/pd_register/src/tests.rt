@@ -7,26 +7,40 @@ use std::sync::Wait;
 use std::test::Fail;
 use std::thread::{Threads, join_mut};
 
-// Joins, posts this many events, and looks.
+// Whether no row has fewer events than it had before.
+fn has_grown(before: &Snapshot, after: &Snapshot) -> bool {
+    before
+        .rows
+        .iter()
+        .zip(after.rows.iter())
+        .all(|(old, new)| old.events <= new.events)
+}
+
+// Joins, posts this many events, and looks after each: at the end, whether no row ever had fewer events than before.
 fn run<R: Wait>(
     rt: &R,
     register: &Register,
     me: &mut Seat,
     process: usize,
     events: u64,
-) -> Result<Snapshot, AllocError>
+) -> Result<(Snapshot, bool), AllocError>
     requires { IsSeatOf register.now me.old }
     ensures { IsSameSeat register.now me.old me.new }
 {
     if me.allows(&Step::Join(process)) {
         register.post(rt, me, Step::Join(process))?;
     }
+    let mut shown = register.status(rt, me)?;
+    let mut grows = true;
     for _ in 0..events {
         if me.allows(&Step::Event) {
             register.post(rt, me, Step::Event)?;
         }
+        let later = register.status(rt, me)?;
+        grows = grows && has_grown(&shown, &later);
+        shown = later;
     }
-    register.status(rt, me)
+    Ok((shown, grows))
 }
 
 // Stream 0 joins process 0 and has three events. At the same time stream 1 joins process 1 and has two.
@@ -35,18 +49,21 @@ fn two_run<R: Threads + Wait + Sync>(
     register: &Register,
     first: &mut Seat,
     second: &mut Seat,
-) -> (Result<Snapshot, AllocError>, Result<Snapshot, AllocError>)
+) -> (
+    Result<(Snapshot, bool), AllocError>,
+    Result<(Snapshot, bool), AllocError>,
+)
     requires { IsSeatOf register.now first.old × IsSeatOf register.now second.old }
     ensures first { IsSameSeat register.now first.old first.new }
     ensures second { IsSameSeat register.now second.old second.new }
 {
     join_mut(
         rt,
-        &mut || -> Result<Snapshot, AllocError>
+        &mut || -> Result<(Snapshot, bool), AllocError>
             requires { IsSeatOf register.now first.now }
             ensures { IsSameSeat register.entry.now first.entry.now first.exit.now }
         { run(rt, register, first, 0, 3) },
-        &mut || -> Result<Snapshot, AllocError>
+        &mut || -> Result<(Snapshot, bool), AllocError>
             requires { IsSeatOf register.now second.now }
             ensures { IsSameSeat register.entry.now second.entry.now second.exit.now }
         { run(rt, register, second, 1, 2) },
@@ -90,8 +107,10 @@ fn two_threads_post_and_see_all_once_joined(rt: HostRuntime) -> Result<(), Fail>
     assert!(rt; opening.rows.as_slice() == [Row::fresh(), Row::fresh()].as_slice());
 
     let (of_first, of_second) = two_run(&rt, &register, &mut first, &mut second);
-    assert!(rt; of_first?.rows.get(0) == Some(&joined(0, 3)));
-    assert!(rt; of_second?.rows.get(1) == Some(&joined(1, 2)));
+    let (shown, grows) = of_first?;
+    assert!(rt; grows && shown.rows.get(0) == Some(&joined(0, 3)));
+    let (shown, grows) = of_second?;
+    assert!(rt; grows && shown.rows.get(1) == Some(&joined(1, 2)));
     assert!(rt; first.events() == 3 && second.events() == 2);
 
     let both = [joined(0, 3), joined(1, 2)];

@@ -1,9 +1,13 @@
 //! Bundles with their reports.
 use super::slow::judge_slowly;
+use super::streams::judge_parts_slowly;
 use pd_engine::Outcome;
 use std::alloc::{AllocError, Global};
+use std::random::RandomSource;
 use std::str;
+use std::sync::Wait;
 use std::test::Fail;
+use std::thread::Threads;
 
 /// A bundle, line by line or several lines at once, and the text of its report.
 pub(crate) struct Row {
@@ -253,19 +257,25 @@ pub(crate) fn bundle_of(
     Ok(bundle)
 }
 
-/// The name of the first row whose bundle, with one of these line ends, has another report or outcome.
-pub(crate) fn first_wrong(
-    rt: &HostRuntime,
+/// The name of the first row that has another report or outcome with one of these line ends, as a bundle or from a
+/// reader for each stream.
+pub(crate) fn first_wrong<S: RandomSource + Threads + Wait + Sync>(
+    rt: &S,
+    alloc: Global,
     rows: &[Row],
     line_ends: &[&str],
     want: Outcome,
 ) -> Result<Option<&'static str>, Fail> {
     for row in rows {
         for line_end in line_ends {
-            let bundle = bundle_of(rt.alloc(), row.lines, line_end)?;
-            let (outcome, report) = judge_slowly(rt, &bundle)?;
-            if report.as_slice() != row.report.as_bytes() || outcome != want {
-                return Ok(Some(row.name));
+            let bundle = bundle_of(alloc, row.lines, line_end)?;
+            for (outcome, report) in [
+                judge_slowly(rt, alloc, &bundle)?,
+                judge_parts_slowly(rt, alloc, &bundle)?,
+            ] {
+                if report.as_slice() != row.report.as_bytes() || outcome != want {
+                    return Ok(Some(row.name));
+                }
             }
         }
     }
@@ -275,14 +285,14 @@ pub(crate) fn first_wrong(
 #[test]
 fn judged_bundles(rt: HostRuntime) -> Result<(), Fail> {
     let line_ends = ["\n", "\r\n", "\n\n", "\n \t\r\n"];
-    let wrong = first_wrong(&rt, &JUDGED, &line_ends, Outcome::Judged)?;
+    let wrong = first_wrong(&rt, rt.alloc(), &JUDGED, &line_ends, Outcome::Judged)?;
     assert_eq!(rt; wrong, None);
     Ok(())
 }
 
 #[test]
 fn refused_bundles(rt: HostRuntime) -> Result<(), Fail> {
-    let wrong = first_wrong(&rt, &REFUSED, &["\n", "\r\n"], Outcome::Refused)?;
+    let wrong = first_wrong(&rt, rt.alloc(), &REFUSED, &["\n", "\r\n"], Outcome::Refused)?;
     assert_eq!(rt; wrong, None);
     Ok(())
 }
@@ -293,7 +303,7 @@ fn bundles_without_their_last_byte(rt: HostRuntime) -> Result<(), Fail> {
     for row in &JUDGED {
         let mut bundle = bundle_of(rt.alloc(), row.lines, "\n")?;
         assert_eq!(rt; (row.name, bundle.pop()), (row.name, Some(b'\n')));
-        let (_, report) = judge_slowly(&rt, &bundle)?;
+        let (_, report) = judge_slowly(&rt, rt.alloc(), &bundle)?;
         assert_eq!(rt;
             (row.name, str::from_utf8(&report)?),
             (row.name, row.report)

@@ -5,8 +5,12 @@ use super::slow::{Full, ROOM, SlowReader, SlowWriter};
 use super::unlawful::RECV_K;
 use super::{bundles, definite, messages, unlawful};
 use pd_engine::{EngineFault, check};
+use std::alloc::Global;
 use std::io::ErrorKind;
+use std::random::RandomSource;
+use std::sync::Wait;
 use std::test::Fail;
+use std::thread::Threads;
 
 /// A bundle line by line, the text of a report that is said to be its own, and what a check of it writes.
 struct Checked {
@@ -247,13 +251,13 @@ fn reader_of(stream: &str, calls: usize) -> SlowReader<'_> {
 
 /// What a check of a report writes to a writer, and whether it reports that nothing is bad. The streams
 /// are read a byte a call.
-fn check_slowly(
-    rt: &HostRuntime,
+fn check_slowly<S: RandomSource + Threads + Wait + Sync>(
+    rt: &S,
+    alloc: Global,
     lines: &[&str],
     report: &[u8],
     writer: &mut SlowWriter,
 ) -> Result<Result<bool, EngineFault>, Fail> {
-    let alloc = rt.alloc();
     let bundle = bundle_of(alloc, lines, "\n")?;
     let mut parts = str::from_utf8(&bundle)?.split("---\n");
     let document = parts.next().unwrap_or("");
@@ -268,7 +272,13 @@ fn check_slowly(
 fn findings(rt: HostRuntime) -> Result<(), Fail> {
     for row in &CHECKED {
         let mut writer = SlowWriter::new(rt.alloc(), ROOM, Full::Fails)?;
-        let good = check_slowly(&rt, row.lines, row.report.as_bytes(), &mut writer)??;
+        let good = check_slowly(
+            &rt,
+            rt.alloc(),
+            row.lines,
+            row.report.as_bytes(),
+            &mut writer,
+        )??;
         assert_eq!(rt;
             (row.name, str::from_utf8(&writer.taken)?),
             (row.name, row.finding)
@@ -280,10 +290,14 @@ fn findings(rt: HostRuntime) -> Result<(), Fail> {
 }
 
 /// The name of the first row whose report isn't good for the row's session, with all the evidence that it prints.
-fn first_not_good(rt: &HostRuntime, rows: &[Row]) -> Result<Option<&'static str>, Fail> {
+fn first_not_good<S: RandomSource + Threads + Wait + Sync>(
+    rt: &S,
+    alloc: Global,
+    rows: &[Row],
+) -> Result<Option<&'static str>, Fail> {
     for row in rows {
-        let mut writer = SlowWriter::new(rt.alloc(), ROOM, Full::Fails)?;
-        let good = check_slowly(rt, row.lines, row.report.as_bytes(), &mut writer)??;
+        let mut writer = SlowWriter::new(alloc, ROOM, Full::Fails)?;
+        let good = check_slowly(rt, alloc, row.lines, row.report.as_bytes(), &mut writer)??;
         let text = str::from_utf8(&writer.taken)?;
         if !good || text.contains("bad") || text.starts_with("report line") {
             return Ok(Some(row.name));
@@ -294,13 +308,13 @@ fn first_not_good(rt: &HostRuntime, rows: &[Row]) -> Result<Option<&'static str>
 
 #[test]
 fn reports_are_good_for_their_sessions(rt: HostRuntime) -> Result<(), Fail> {
-    assert_eq!(rt; first_not_good(&rt, &bundles::JUDGED)?, None);
-    assert_eq!(rt; first_not_good(&rt, &bundles::REFUSED)?, None);
-    assert_eq!(rt; first_not_good(&rt, &messages::JUDGED)?, None);
-    assert_eq!(rt; first_not_good(&rt, &messages::REFUSED)?, None);
-    assert_eq!(rt; first_not_good(&rt, &definite::ANSWERED)?, None);
-    assert_eq!(rt; first_not_good(&rt, &unlawful::FAULTS)?, None);
-    assert_eq!(rt; first_not_good(&rt, &unlawful::CYCLES)?, None);
+    assert_eq!(rt; first_not_good(&rt, rt.alloc(), &bundles::JUDGED)?, None);
+    assert_eq!(rt; first_not_good(&rt, rt.alloc(), &bundles::REFUSED)?, None);
+    assert_eq!(rt; first_not_good(&rt, rt.alloc(), &messages::JUDGED)?, None);
+    assert_eq!(rt; first_not_good(&rt, rt.alloc(), &messages::REFUSED)?, None);
+    assert_eq!(rt; first_not_good(&rt, rt.alloc(), &definite::ANSWERED)?, None);
+    assert_eq!(rt; first_not_good(&rt, rt.alloc(), &unlawful::FAULTS)?, None);
+    assert_eq!(rt; first_not_good(&rt, rt.alloc(), &unlawful::CYCLES)?, None);
     Ok(())
 }
 
@@ -312,7 +326,13 @@ fn findings_that_cannot_be_written(rt: HostRuntime) -> Result<(), Fail> {
         for full in [Full::Fails, Full::Idles] {
             for room in 0..finding.len() {
                 let mut writer = SlowWriter::new(rt.alloc(), room, full)?;
-                let reported = check_slowly(&rt, row.lines, row.report.as_bytes(), &mut writer)?;
+                let reported = check_slowly(
+                    &rt,
+                    rt.alloc(),
+                    row.lines,
+                    row.report.as_bytes(),
+                    &mut writer,
+                )?;
                 assert!(rt;
                     matches!(&reported, Err(EngineFault::Write)),
                     "{}",

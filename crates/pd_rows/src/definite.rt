@@ -118,7 +118,7 @@ hasty possibly unknown 1\nhasty definitely unknown 2\ncalm possibly yes 0,0,0\nc
 
 #[test]
 fn answers(rt: HostRuntime) -> Result<(), Fail> {
-    let wrong = first_wrong(&rt, &ANSWERED, &["\n", "\r\n"], Outcome::Judged)?;
+    let wrong = first_wrong(&rt, rt.alloc(), &ANSWERED, &["\n", "\r\n"], Outcome::Judged)?;
     assert_eq!(rt; wrong, None);
     Ok(())
 }

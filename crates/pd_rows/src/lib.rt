@@ -1,7 +1,8 @@
-//! Tests that cross crates: bundles with their reports, and readers and writers that are slow or fail.
+//! Tests that cross crates: sessions with their reports, and readers and writers that are slow or fail.
 //!
 //! - `slow`: a reader and a writer that go a byte a call, and may fail
 //! - `bundles`: bundles with their reports
+//! - `streams`: sessions that are judged from a reader for each stream
 //! - `definite`: bundles whose avoiding cuts are worth a look
 //! - `messages`: bundles whose processes send each other messages
 //! - `unlawful`: bundles whose messages are refused, and bundles with a causal cycle
@@ -41,6 +42,8 @@ mod relation;
 mod sessions;
 #[cfg(test)]
 mod slow;
+#[cfg(test)]
+mod streams;
 #[cfg(test)]
 mod turns;
 #[cfg(test)]

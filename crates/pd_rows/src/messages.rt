@@ -300,14 +300,20 @@ pub(crate) static REFUSED: [Row; 13] = [
 
 #[test]
 fn judged_messages(rt: HostRuntime) -> Result<(), Fail> {
-    let wrong = first_wrong(&rt, &JUDGED, &["\n", "\r\n", "\n \t\r\n"], Outcome::Judged)?;
+    let wrong = first_wrong(
+        &rt,
+        rt.alloc(),
+        &JUDGED,
+        &["\n", "\r\n", "\n \t\r\n"],
+        Outcome::Judged,
+    )?;
     assert_eq!(rt; wrong, None);
     Ok(())
 }
 
 #[test]
 fn refused_events(rt: HostRuntime) -> Result<(), Fail> {
-    let wrong = first_wrong(&rt, &REFUSED, &["\n", "\r\n"], Outcome::Refused)?;
+    let wrong = first_wrong(&rt, rt.alloc(), &REFUSED, &["\n", "\r\n"], Outcome::Refused)?;
     assert_eq!(rt; wrong, None);
     Ok(())
 }

@@ -163,7 +163,7 @@ fn all_observations(rt: HostRuntime) -> Result<(), Fail> {
             let want = observed(alloc, &session)?;
             let bundle = bundle(alloc, &session)?;
             assert_eq!(rt; definite_lines(alloc, &plain)?, want, "{bundle}");
-            let (_, found) = judge_slowly(&rt, bundle.as_bytes())?;
+            let (_, found) = judge_slowly(&rt, rt.alloc(), bundle.as_bytes())?;
             let found = definite_lines(alloc, str::from_utf8(&found)?)?;
             assert_eq!(rt; found, want, "{bundle}");
             reported.push_str(&want)?;

@@ -185,7 +185,7 @@ fn all_counts(rt: HostRuntime) -> Result<(), Fail> {
     for _ in 0..SESSIONS {
         let session = make_session(&mut numbers);
         let bundle = bundle(rt.alloc(), &session)?;
-        let (_, found) = judge_slowly(&rt, bundle.as_bytes())?;
+        let (_, found) = judge_slowly(&rt, rt.alloc(), bundle.as_bytes())?;
         let want = report(rt.alloc(), &session)?;
         assert_eq!(rt; str::from_utf8(&found)?, want.as_str(), "{bundle}");
         if !want.contains(" 0 messages") {

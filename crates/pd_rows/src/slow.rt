@@ -3,6 +3,9 @@ use pd_engine::{EngineFault, NoGate, Outcome, judge_bundle};
 use std::alloc::{AllocError, Global};
 use std::io;
 use std::io::{Error, ErrorKind, Read, Write};
+use std::random::RandomSource;
+use std::sync::Wait;
+use std::thread::Threads;
 
 /// Room for any report of these tests.
 pub(crate) const ROOM: usize = 1_024;
@@ -86,11 +89,11 @@ impl Write for SlowWriter {
 }
 
 /// The outcome and the report of a bundle that is read and written a byte a call.
-pub(crate) fn judge_slowly(
-    rt: &HostRuntime,
+pub(crate) fn judge_slowly<S: RandomSource + Threads + Wait + Sync>(
+    rt: &S,
+    alloc: Global,
     bundle: &[u8],
 ) -> Result<(Outcome, Vec<u8>), EngineFault> {
-    let alloc = rt.alloc();
     let reader = SlowReader {
         bytes: bundle,
         calls: usize::MAX,

@@ -175,14 +175,14 @@ pub(crate) static CYCLES: [Row; 7] = [
 
 #[test]
 fn refused_messages(rt: HostRuntime) -> Result<(), Fail> {
-    let wrong = first_wrong(&rt, &FAULTS, &["\n", "\r\n"], Outcome::Refused)?;
+    let wrong = first_wrong(&rt, rt.alloc(), &FAULTS, &["\n", "\r\n"], Outcome::Refused)?;
     assert_eq!(rt; wrong, None);
     Ok(())
 }
 
 #[test]
 fn refused_cycles(rt: HostRuntime) -> Result<(), Fail> {
-    let wrong = first_wrong(&rt, &CYCLES, &["\n", "\r\n"], Outcome::Refused)?;
+    let wrong = first_wrong(&rt, rt.alloc(), &CYCLES, &["\n", "\r\n"], Outcome::Refused)?;
     assert_eq!(rt; wrong, None);
     Ok(())
 }

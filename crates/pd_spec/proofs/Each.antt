@@ -1,6 +1,6 @@
 -- What a loop over the items of an array has made so far.
-use Rattle.std.proofs.lemmas.List.{drop_all, map-append}
-use Rattle.std.proofs.Common.{◌≡◌, ℕ, suc, ◌+◌, ◌<◌, List, [], ◌∷◌, ◌++◌, length, get_or, drop, map, refl, sym, ap, append_assoc, append-nil, add-one, drop-cons, ◌≤◌}
+use Rattle.std.proofs.lemmas.List.{map-append}
+use Rattle.std.proofs.Common.{◌≡◌, ℕ, suc, ◌+◌, ◌<◌, List, [], ◌∷◌, ◌++◌, length, get_or, drop, map, refl, sym, ap, append_assoc, add-one, drop-cons}
 use Rattle.std.specs.Prelude.{Option, None, Some, option_map}
 use Rattle.serde_json.specs.Data.{Data}
 use Rattle.serde_json.specs.View.{view, items_view}
@@ -39,8 +39,3 @@ pub each_none : {A : Type 0} (f : Data → Option A) (items : List Value) (i : �
     → i < length items → value ≡ get_or items i value → None ≡ f (view value)
     → onto done (each f (items_view (drop i items))) ≡ None
 each_none f items i value done h at e = rw (from_here items i value h at, ← e) refl
-
--- no item is left
-pub each_all : {A : Type 0} (f : Data → Option A) (items : List Value) (i : ℕ) (done : List A) → length items ≤ i
-    → onto done (each f (items_view (drop i items))) ≡ Some done
-each_all f items i done h = rw (drop_all i items h, append-nil) refl

@@ -1,7 +1,7 @@
 -- The text is written up to the first write that fails.
 use Rattle.std.proofs.Common.{◌≡◌, ◌-◌, length, take, drop, length-drop, take-add, arith}
 use Rattle.std.proofs.lemmas.List.{take_rest}
-use Rattle.pd_cli.proofs.WrittenSoFar.{appends_kept, appends_on, up_to}
+use Rattle.pd_cli.proofs.WrittenSoFar.{appends_on}
 use Rattle.pd_cli.proofs.line.write_line.Goals as goal
 
 pub writes-preserved : goal.writes-preserved

@@ -3,7 +3,7 @@ use Rattle.std.proofs.Common.{◌↔◌, ◌∙◌, Bool, IsTrue, sym, subst, re
 use Rattle.std.specs.Io.KnownBytes.{Appends}
 use Rattle.pd_format.specs.OtherTexts.{check_text}
 use Rattle.pd_judgement.specs.Findings.{IsClean}
-use Rattle.pd_engine.specs.FindingViews.{finding_view}
+use Rattle.pd_check.specs.Views.{finding_view}
 use Rattle.pd_engine.proofs.checks.check.Goals as goal
 
 pub returns-clause-written : goal.returns-clause-written

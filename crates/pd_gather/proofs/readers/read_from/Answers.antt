@@ -1,8 +1,11 @@
--- A stream is closed once its reads are done, and what they gave is what was consumed of the reader.
-use Rattle.std.proofs.Common.{◌≡◌, ℕ, ◌+◌, subst, arith}
+-- A stream is closed once its reads are done, and what they gave is what was consumed of the source.
+use Rattle.std.proofs.Common.{◌≡◌, ℕ, ◌+◌, refl, sym, ◌∙◌, ap, subst, arith}
+use Rattle.pd_format.specs.Histories.{Row}
 use Rattle.pd_format.specs.Limits.{stream_byte_limit}
+use Rattle.pd_register.specs.Seats.{posted_row}
 use Rattle.pd_spec.specs.Views.{document_view}
 use Rattle.pd_gather.specs.ReadSoFar.{HasRead}
+use Rattle.pd_gather.specs.Rows.{GoesOnTo, row_of_reading}
 use Rattle.pd_gather.proofs.Turns.{GivesRead, closes, gives_read, nothing_read}
 use Rattle.pd_gather.proofs.readers.read_from.Goals as goal
 use Rattle.pd_gather.proofs.readers.read_from.Goals.{else-reads-test, then-reads-test+then-is_closed}
@@ -10,9 +13,31 @@ use Rattle.pd_gather.proofs.readers.read_from.Goals.{else-reads-test, then-reads
 pub reads-init : goal.reads-init
 reads-init g c = record {
   room = c.in_ok-piece.ensures;
-  read = nothing_read (document_view c.args.spec.now).names (g.R.Read.remaining c.args.reader.now) c.new-stream.result
-      c.new-stream.ensures;
+  more = λ _. c.requires.open;
+  seat = (c.requires.own, refl);
+  posted = c.requires.fresh ∙ sym (ap row_of_reading c.new-stream.ensures.same_reading);
+  read = nothing_read (document_view c.args.spec.now).names g.R.ByteSource.never_fails
+      (g.R.ByteSource.remaining c.args.reader.now) c.new-stream.result c.new-stream.ensures;
 }
+
+pub post_records-requires-clause-later : goal.post_records-requires-clause-later
+post_records-requires-clause-later g c =
+    let on = c.in_ok-read_once.ensures.read (document_view c.args.spec.now).names
+    (g.R.ByteSource.remaining c.args.reader.now) c.reads.counter c.reads.invariant.read in
+    subst (λ (r : Row). GoesOnTo r (row_of_reading c.read_once.new.stream.reading)) (sym c.reads.invariant.posted)
+    on.row
+
+pub reads-preserved : goal.reads-preserved
+reads-preserved g c =
+    let names = (document_view c.args.spec.now).names in
+    let input = g.R.ByteSource.remaining c.args.reader.now in
+    record {
+      room = c.reads.invariant.room;
+      more = c.in_ok-read_once.ensures.more names input c.reads.counter c.reads.invariant.read;
+      seat = (c.post_records.ensures.seat.0, c.post_records.ensures.seat.1 ∙ c.reads.invariant.seat.1);
+      posted = c.in_ok-post_records.ensures.posted;
+      read = (c.in_ok-read_once.ensures.read names input c.reads.counter c.reads.invariant.read).has_read;
+    }
 
 pub outcome-requires : goal.outcome-requires
 outcome-requires g c =
@@ -20,27 +45,32 @@ outcome-requires g c =
       | else-reads-test w ↦
           let all : c.reads.counter ≡ stream_byte_limit + 1 =
           omega (arith, w.reads-test.false, c.reads.auto.counter-end) in
-          closes c.readings_go_on.ensures.sound (document_view c.args.spec.now).names
-          (g.R.Read.remaining c.args.reader.now) (g.R.Read.remaining c.reads.reader) c.reads.stream
-          (subst (λ (reads : ℕ). HasRead (document_view c.args.spec.now).names (g.R.Read.remaining c.args.reader.now)
-          (g.R.Read.remaining c.reads.reader) reads c.reads.stream) all c.reads.invariant.read)
+          closes c.readings_go_on.ensures.sound (document_view c.args.spec.now).names g.R.ByteSource.never_fails
+          (g.R.ByteSource.remaining c.args.reader.now) (g.R.ByteSource.remaining c.reads.reader) c.reads.stream
+          (subst (λ (reads : ℕ). HasRead (document_view c.args.spec.now).names g.R.ByteSource.never_fails
+          (g.R.ByteSource.remaining c.args.reader.now) (g.R.ByteSource.remaining c.reads.reader) reads c.reads.stream)
+          all c.reads.invariant.read)
       | then-reads-test+then-is_closed w ↦ w.if-is_closed.ensures.yes
     ]
 
 pub returns-clause-read : goal.returns-clause-read
 returns-clause-read g c =
-    let given : GivesRead (document_view c.args.spec.now).names (g.R.Read.remaining c.args.reader.now)
-    (g.R.Read.remaining c.reads.reader) c.outcome.result =
-    gives_read c.closed_stays.ensures (document_view c.args.spec.now).names (g.R.Read.remaining c.args.reader.now)
-    (g.R.Read.remaining c.reads.reader) c.reads.counter c.reads.stream c.outcome.result c.reads.invariant.read
+    let given : GivesRead (document_view c.args.spec.now).names g.R.ByteSource.never_fails
+    (g.R.ByteSource.remaining c.args.reader.now) (g.R.ByteSource.remaining c.reads.reader) (posted_row c.reads.seat)
+    c.outcome.result =
+    gives_read c.closed_stays.ensures (document_view c.args.spec.now).names g.R.ByteSource.never_fails
+    (g.R.ByteSource.remaining c.args.reader.now) (g.R.ByteSource.remaining c.reads.reader) c.reads.counter
+    c.reads.stream (posted_row c.reads.seat) c.outcome.result c.reads.invariant.read c.reads.invariant.posted
     (record { value = c.outcome.ensures.value; fits = c.outcome.ensures.fits }) in
     given.read
 
 pub returns-clause-fits : goal.returns-clause-fits
 returns-clause-fits g c =
-    let given : GivesRead (document_view c.args.spec.now).names (g.R.Read.remaining c.args.reader.now)
-    (g.R.Read.remaining c.reads.reader) c.outcome.result =
-    gives_read c.closed_stays.ensures (document_view c.args.spec.now).names (g.R.Read.remaining c.args.reader.now)
-    (g.R.Read.remaining c.reads.reader) c.reads.counter c.reads.stream c.outcome.result c.reads.invariant.read
+    let given : GivesRead (document_view c.args.spec.now).names g.R.ByteSource.never_fails
+    (g.R.ByteSource.remaining c.args.reader.now) (g.R.ByteSource.remaining c.reads.reader) (posted_row c.reads.seat)
+    c.outcome.result =
+    gives_read c.closed_stays.ensures (document_view c.args.spec.now).names g.R.ByteSource.never_fails
+    (g.R.ByteSource.remaining c.args.reader.now) (g.R.ByteSource.remaining c.reads.reader) c.reads.counter
+    c.reads.stream (posted_row c.reads.seat) c.outcome.result c.reads.invariant.read c.reads.invariant.posted
     (record { value = c.outcome.ensures.value; fits = c.outcome.ensures.fits }) in
     given.fits

@@ -1,0 +1,13 @@
+-- The answers so far.
+use Rattle.std.proofs.Common.{map, take}
+use Rattle.std.specs.List.{AllZip}
+use Rattle.pd_report.specs.Views as views
+use Rattle.pd_judgement.specs.Judgements.{IsAnswered}
+use Rattle.pd_spec.specs.Named.{named_view}
+use Rattle.pd_spec.specs.Views.{document_view}
+use Rattle.pd_engine.proofs.answers.answers_of.Given as goal
+
+abbrev pub invariant-loop-predicate : goal.invariant-loop-predicate
+invariant-loop-predicate g l =
+    AllZip (IsAnswered (document_view l.spec).names l.computation (document_view l.spec).width)
+    (map named_view (take l.predicate-index l.asked)) (map views.answer_view l.answers.items)

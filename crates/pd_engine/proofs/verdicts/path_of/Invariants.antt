@@ -1,8 +1,0 @@
--- The processes so far have the names so far.
-use Rattle.std.proofs.Common.{map, take}
-use Rattle.std.specs.Prelude.{string_bytes}
-use Rattle.pd_engine.specs.Verdicts.{AreNamed}
-use Rattle.pd_engine.proofs.verdicts.path_of.Given as goal
-
-abbrev pub invariant-loop-name : goal.invariant-loop-name
-invariant-loop-name l = AreNamed l.names (map string_bytes (take l.name-index l.reported)) l.path.items

@@ -1,0 +1,113 @@
+//! The answers of a session.
+ghost use Rattle.pd_definitely.specs.Answers as avoidances;
+ghost use Rattle.pd_engine.specs.Paths.{HasProcessesBelow};
+ghost use Rattle.pd_format.specs.Names.{name_of_process};
+ghost use Rattle.pd_judgement.specs.Judgements.{IsAnswered, printed_definitely, printed_possibly};
+ghost use Rattle.pd_possibly.specs.Answers.{possibly_answer_view};
+ghost use Rattle.pd_report.specs.Views as views;
+ghost use Rattle.pd_spec.specs.Named.{named_view};
+ghost use Rattle.pd_spec.specs.Views.{document_view};
+ghost use Rattle.std.specs.List.{AllZip};
+ghost use Rattle.std.specs.Prelude.{◌≡◌, ◌<◌, All, IfOk, length, map, string_bytes};
+
+use pd_clock::Computation;
+use pd_definitely::{DefinitelyAnswer, definitely};
+use pd_level::Gate;
+use pd_possibly::{PossiblyAnswer, possibly};
+use pd_pred::Names;
+use pd_report::{Answer, Definitely, Possibly};
+use pd_spec::{NamedPred, Spec};
+use std::alloc::{AllocError, Global};
+
+/// The answer for each predicate.
+pub(crate) fn answers_of<G: Gate + Sync>(
+    alloc: Global,
+    spec: &Spec,
+    computation: &Computation<'_>,
+    workers: u64,
+    gate: &G,
+) -> Result<Vec<Answer>, AllocError>
+    requires { length computation.now.events ≡ length (document_view spec.now).names }
+    ensures { IfOk result (λ answers. AllZip
+        (IsAnswered (document_view spec.now).names computation.now (document_view spec.now).width)
+        (document_view spec.now).predicates (map views.answer_view answers.items)) }
+{
+    let asked = spec.predicates();
+    let mut answers = Vec::new(alloc);
+    for predicate in asked {
+        answers.push(answer(alloc, spec, predicate, computation, workers, gate)?)?;
+    }
+    Ok(answers)
+}
+
+/// The answer for one predicate.
+fn answer<G: Gate + Sync>(
+    alloc: Global,
+    spec: &Spec,
+    asked: &NamedPred,
+    computation: &Computation<'_>,
+    workers: u64,
+    gate: &G,
+) -> Result<Answer, AllocError>
+    requires { length computation.now.events ≡ length (document_view spec.now).names }
+    ensures { IfOk result (λ answer. IsAnswered (document_view spec.now).names computation.now
+        (document_view spec.now).width (named_view asked.now) (views.answer_view answer)) }
+{
+    let width = spec.width();
+    let found = possibly(alloc, computation, &asked.pred, width, workers, gate)?;
+    let avoided = definitely(alloc, computation, &asked.pred, width, workers, gate)?;
+    Ok(Answer {
+        name: asked.name.clone()?,
+        possibly: possibly_for_report(alloc, &found)?,
+        definitely: definitely_for_report(alloc, spec.names(), &avoided)?,
+    })
+}
+
+/// The answer as a report gives it.
+fn possibly_for_report(alloc: Global, answer: &PossiblyAnswer) -> Result<Possibly, AllocError>
+    ensures { IfOk result (λ possibly. views.possibly_view possibly
+        ≡ printed_possibly (possibly_answer_view answer.now)) }
+{
+    match answer {
+        PossiblyAnswer::Yes(cut) => Ok(Possibly::Yes(cut.counts().to_vec(alloc)?)),
+        PossiblyAnswer::No => Ok(Possibly::No),
+        PossiblyAnswer::Unknown(level) => Ok(Possibly::Unknown(*level)),
+    }
+}
+
+/// The name of a process, which is counted from 0.
+fn name_of(alloc: Global, names: &Names, p: usize) -> Result<String, AllocError>
+    requires { p < length names.now }
+    ensures { IfOk result (λ name. string_bytes name ≡ name_of_process names.now p) }
+{
+    String::from_str(alloc, names.name(p))
+}
+
+/// The names of processes, which are counted from 0.
+fn names_of(alloc: Global, names: &Names, path: &[usize]) -> Result<Vec<String>, AllocError>
+    requires { All (λ p. p < length names.now) path.now }
+    ensures { IfOk result (λ path_names. map string_bytes path_names.items ≡ map (name_of_process names.now) path.now) }
+{
+    let mut path_names = Vec::new(alloc);
+    for &p in path {
+        path_names.push(name_of(alloc, names, p)?)?;
+    }
+    Ok(path_names)
+}
+
+/// The answer as a report gives it, with an observation by the names of its processes.
+fn definitely_for_report(
+    alloc: Global,
+    names: &Names,
+    answer: &DefinitelyAnswer,
+) -> Result<Definitely, AllocError>
+    requires { HasProcessesBelow (length names.now) answer.now }
+    ensures { IfOk result (λ definitely. views.definitely_view definitely
+        ≡ printed_definitely names.now (avoidances.definitely_answer_view answer.now)) }
+{
+    match answer {
+        DefinitelyAnswer::Yes(level) => Ok(Definitely::Yes(*level)),
+        DefinitelyAnswer::No(path) => Ok(Definitely::No(names_of(alloc, names, path)?)),
+        DefinitelyAnswer::Unknown(level) => Ok(Definitely::Unknown(*level)),
+    }
+}

@@ -1,0 +1,75 @@
+//! Judges a session, and writes its report.
+ghost use Rattle.pd_engine.specs.Ends.{IsTextAs, call_end, judged_as};
+ghost use Rattle.pd_engine.specs.declared.outcome.Outcome.TheVariants as outcomes;
+ghost use Rattle.pd_judgement.specs.Judgements.{ended_streams};
+ghost use Rattle.pd_judgement.specs.Writes.{IsReportTextOf, IsTextOfStreams, Writes, WritesTruth};
+ghost use Rattle.pd_report.specs.Views.{report_view};
+ghost use Rattle.std.specs.Prelude.{◌≡◌, ◌⊎◌, ℕ, All, IfErr, IfOk, List, Some, false, map, true};
+
+use super::outcome::report_outcome;
+use super::reports::streams_report;
+use super::{EngineFault, Outcome};
+use pd_gather::ByteSource;
+use pd_level::Gate;
+use pd_report::{Report, write};
+use std::alloc::Global;
+use std::io::Write;
+use std::random::RandomSource;
+use std::sync::Wait;
+use std::thread::Threads;
+
+/// Writes a report, and gives its outcome.
+pub(crate) fn write_report<W: Write>(
+    alloc: Global,
+    report: &Report,
+    writer: &mut W,
+) -> Result<Outcome, EngineFault>
+    ensures written { Writes (IsTextAs (report_view report.now) (judged_as result)) (call_end result)
+        (W.contents writer.old) (W.contents writer.new) }
+    ensures err { IfErr result (λ fault. (fault ≡ EngineFault.Memory) ⊎ (fault ≡ EngineFault.Write)) }
+{
+    write(alloc, report, writer)?;
+    Ok(report_outcome(report))
+}
+
+/// Judges the session of the document in these bytes and of the streams, and writes its report. The streams are read
+/// each on its own thread; none is read if the document is refused, or if they are too many. A read that fails is a
+/// fault of its stream. `workers`, from 1 to 16, and the gate change nothing yet.
+///
+/// # Errors
+/// `Memory` leaves nothing written. `Write` leaves a prefix of the report written, and not all of it.
+pub fn judge<
+    S: RandomSource + Threads + Wait + Sync,
+    R: ByteSource + Send + Drop,
+    W: Write,
+    G: Gate + Sync,
+>(
+    rt: &S,
+    alloc: Global,
+    spec: &[u8],
+    readers: Vec<R>,
+    workers: u64,
+    gate: &G,
+    writer: &mut W,
+) -> Result<Outcome, EngineFault>
+    requires open { All (λ r. R.has_ended r ≡ false) readers.items }
+    // The text of the report of the document and of the streams that the readers gave is written whole, judged or
+    // refused as is reported, and it is true; a write that fails leaves a prefix of it, out of memory nothing, and no
+    // other fault comes.
+    ensures written { Writes (IsTextOfStreams spec.now (map R.remaining readers.items) (judged_as result))
+        (call_end result) (W.contents writer.old) (W.contents writer.new) }
+    // If the streams' bytes are known and no read fails, it is the report of these bytes,
+    ensures whole { R.never_fails ≡ true → (streams : List (List ℕ)) → map R.remaining readers.items ≡ map Some streams
+        → Writes (IsReportTextOf spec.now (ended_streams streams) (judged_as result)) (call_end result)
+        (W.contents writer.old) (W.contents writer.new) }
+    // and if they hold a well-formed session, it is judged; with no level over the width, what is written tells the
+    // truth of each predicate.
+    ensures headline { R.never_fails ≡ true → IfOk result (λ outcome. (streams : List (List ℕ))
+        → map R.remaining readers.items ≡ map Some streams
+        → WritesTruth spec.now (ended_streams streams) (outcome ≡ outcomes.Judged) (W.contents writer.old)
+        (W.contents writer.new)) }
+    ensures err { IfErr result (λ fault. (fault ≡ EngineFault.Memory) ⊎ (fault ≡ EngineFault.Write)) }
+{
+    let report = streams_report(rt, alloc, spec, readers, workers, gate)?;
+    write_report(alloc, &report, writer)
+}

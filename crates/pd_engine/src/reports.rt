@@ -1,0 +1,134 @@
+//! The report of a session.
+ghost use Rattle.pd_engine.specs.SessionReports.{IsReportOfInputs, IsReportOfWhole};
+ghost use Rattle.pd_engine.specs.Unanswered.{given_report};
+ghost use Rattle.pd_format.specs.Readings as readings;
+ghost use Rattle.pd_format.specs.Sessions.{session};
+ghost use Rattle.pd_gather.specs.Views.{ReadingFits, results_view};
+ghost use Rattle.pd_judgement.specs.Headline.{IsNarrow, ReportAgrees, TellsTruth};
+ghost use Rattle.pd_judgement.specs.Judgements.{IsReportOfResults, events_of_traces};
+ghost use Rattle.pd_model.specs.Order.{IsWellFormed};
+ghost use Rattle.pd_report.specs.Views.{report_view};
+ghost use Rattle.pd_spec.specs.Views.{document_view};
+ghost use Rattle.std.specs.Prelude.{◌≡◌, All, IfOk, IfSome, IsOkUnless, List, Ok, false, map, true};
+
+use super::EngineFault;
+use super::answers::answers_of;
+use super::computations::computation_of;
+use super::document::read_document;
+use super::sessions::traces_of;
+use super::unanswered::{Unanswered, settled};
+use pd_gather::{ByteSource, Gathered, read_streams};
+use pd_level::Gate;
+use pd_report::Report;
+use pd_spec::Spec;
+use std::alloc::Global;
+use std::random::RandomSource;
+use std::sync::Wait;
+use std::thread::Threads;
+
+/// The report of what the streams of a session gave, with an answer for each predicate, or why there are none.
+fn answered<S: RandomSource, G: Gate + Sync>(
+    rt: &S,
+    alloc: Global,
+    spec: &Spec,
+    gathered: Gathered,
+    workers: u64,
+    gate: &G,
+) -> Result<Report, Unanswered>
+    requires { All (ReadingFits (document_view spec.now).names) gathered.readings.items }
+    ensures { IfSome (given_report result) (IsReportOfResults (document_view spec.now) gathered.streams
+        (results_view gathered.readings.items)) }
+{
+    let traces = traces_of(alloc, spec, gathered)?;
+    let (computation, messages) = computation_of(rt, alloc, spec, &traces)?;
+    let answers = answers_of(alloc, spec, &computation, workers, gate)?;
+    Ok(Report::Judged {
+        processes: spec.names().processes() as u64,
+        events: computation.total(),
+        messages,
+        answers,
+    })
+}
+
+/// The report of what the streams of a session gave: the first refusal, or an answer for each predicate. `workers`,
+/// from 1 to 16, and the gate change nothing yet.
+///
+/// # Errors
+/// `Memory`.
+pub fn report_of<S: RandomSource, G: Gate + Sync>(
+    rt: &S,
+    alloc: Global,
+    spec: &Spec,
+    gathered: Gathered,
+    workers: u64,
+    gate: &G,
+) -> Result<Report, EngineFault>
+    requires { All (ReadingFits (document_view spec.now).names) gathered.readings.items }
+    // The report is the one that the definitions give.
+    ensures report { IfOk result (λ report. IsReportOfResults (document_view spec.now) gathered.streams
+        (results_view gathered.readings.items) (report_view report)) }
+    // If the streams make a well-formed computation with no level over the width, it tells the truth of each predicate.
+    ensures headline { IfOk result (λ report. (traces : List readings.Trace)
+        → session (document_view spec.now).names gathered.streams (results_view gathered.readings.items) ≡ Ok traces
+        → IsWellFormed (events_of_traces traces) → IsNarrow (events_of_traces traces) (document_view spec.now).width
+        → TellsTruth (document_view spec.now) traces (report_view report)) }
+    // The answers for each predicate agree, also with a level over the width.
+    ensures agrees { IfOk result (λ report. ReportAgrees (report_view report)) }
+    ensures err { IsOkUnless result EngineFault.Memory }
+{
+    pd_judgement::headline();
+    pd_judgement::reports_agree();
+    settled(answered(rt, alloc, spec, gathered, workers, gate))
+}
+
+/// The report of a session of the document in these bytes and of what the streams' readers give, or why it comes to no
+/// answers.
+fn session_report<
+    S: RandomSource + Threads + Wait + Sync,
+    R: ByteSource + Send + Drop,
+    G: Gate + Sync,
+>(
+    rt: &S,
+    alloc: Global,
+    document: &[u8],
+    readers: Vec<R>,
+    workers: u64,
+    gate: &G,
+) -> Result<Report, Unanswered>
+    requires open { All (λ r. R.has_ended r ≡ false) readers.items }
+    ensures given { IfSome (given_report result)
+        (IsReportOfInputs document.now (map R.remaining readers.items)) }
+    ensures whole { R.never_fails ≡ true → IfSome (given_report result)
+        (IsReportOfWhole document.now (map R.remaining readers.items)) }
+{
+    let spec = read_document(alloc, document)?;
+    let gathered = read_streams(rt, alloc, &spec, readers)?;
+    answered(rt, alloc, &spec, gathered, workers, gate)
+}
+
+/// The report of a session of the document in these bytes and of what the streams' readers give: the first refusal, or
+/// an answer for each predicate. A read that fails is a fault of its stream.
+///
+/// # Errors
+/// `Memory`.
+pub(crate) fn streams_report<
+    S: RandomSource + Threads + Wait + Sync,
+    R: ByteSource + Send + Drop,
+    G: Gate + Sync,
+>(
+    rt: &S,
+    alloc: Global,
+    document: &[u8],
+    readers: Vec<R>,
+    workers: u64,
+    gate: &G,
+) -> Result<Report, EngineFault>
+    requires open { All (λ r. R.has_ended r ≡ false) readers.items }
+    ensures given { IfOk result (λ report.
+        IsReportOfInputs document.now (map R.remaining readers.items) (report_view report)) }
+    ensures whole { R.never_fails ≡ true → IfOk result (λ report.
+        IsReportOfWhole document.now (map R.remaining readers.items) (report_view report)) }
+    ensures err { IsOkUnless result EngineFault.Memory }
+{
+    settled(session_report(rt, alloc, document, readers, workers, gate))
+}

@@ -1,0 +1,77 @@
+-- What two halves of streams leave and give, put together.
+use Rattle.std.proofs.Common.{◌≡◌, ℕ, Bool, List, [], ◌∷◌, ◌++◌, length, map, IfOk, refl, sym, ◌∙◌, ap, subst, length-append, arith}
+use Rattle.std.specs.Prelude.{IsOk, Option, Result, Ok, Err, Vec}
+use Rattle.std.specs.Global.{Global}
+use Rattle.std.specs.declared.alloc.AllocError.{AllocError}
+use Rattle.std.proofs.lemmas.List.{map-append}
+use Rattle.std.proofs.lemmas.List.Elements.{All-nil, All-append}
+use Rattle.pd_events.specs.declared.event.Trace.{Trace}
+use Rattle.pd_events.specs.declared.fault.StreamFault.{StreamFault}
+use Rattle.pd_format.specs.Names.{ProcessNames}
+use Rattle.pd_register.specs.Seats.{IsSeatOf, posted_row, stream_of}
+use Rattle.pd_register.specs.declared.register.Register.{Register}
+use Rattle.pd_register.specs.declared.seat.Seat.{Seat}
+use Rattle.pd_gather.specs.Gathering.{AreSameSeats, HasGathered}
+use Rattle.pd_gather.specs.Views.{ReadingFits, results_view}
+use Rattle.pd_gather.proofs.Turns.{both_read, none_read}
+
+abbrev Readings : Type 0
+Readings = Result (Vec (Result Trace StreamFault) Global) AllocError
+
+pub same_halves : (register : Register) (first last new others : List Seat) → AreSameSeats register first new
+    → AreSameSeats register last others → AreSameSeats register (first ++ last) (new ++ others)
+same_halves register first last new others p q = record {
+  len = length-append new others ∙ (omega (arith, p.len, q.len, length-append first last));
+  same = rw (map-append stream_of new others, map-append stream_of first last, p.same, q.same) refl;
+  own = All-append (λ s. IsSeatOf register s) new others p.own q.own;
+}
+
+gathered_halves : (names : List ProcessNames) (never_fails : Bool) (inputs more : List (Option (List ℕ)))
+    (readings others all : List (Result Trace StreamFault)) (seats further : List Seat)
+    → HasGathered names never_fails inputs readings seats → HasGathered names never_fails more others further
+    → all ≡ readings ++ others → HasGathered names never_fails (inputs ++ more) all (seats ++ further)
+gathered_halves names never_fails inputs more readings others all seats further p q e =
+    subst (λ (given : List (Result Trace StreamFault)). HasGathered names never_fails (inputs ++ more) given
+    (seats ++ further)) (sym e)
+    (record {
+      read = rw (map-append posted_row seats further, map-append _ readings others)
+          (both_read names never_fails inputs more (results_view readings) (results_view others)
+          (map posted_row seats) (map posted_row further) p.read q.read);
+      fit = All-append (ReadingFits names) readings others p.fit q.fit;
+    })
+
+abbrev pub Gathers : List ProcessNames → Bool → List (Option (List ℕ)) → Readings → List Seat → Type 0
+Gathers names never_fails inputs given seats =
+    IfOk given (λ readings. HasGathered names never_fails inputs readings.items seats)
+
+pub both_gathered : (names : List ProcessNames) (never_fails : Bool) (inputs more : List (Option (List ℕ)))
+    (first last all : Readings) (seats further : List Seat)
+    → Gathers names never_fails inputs first seats → Gathers names never_fails more last further
+    → IfOk all (λ readings. IfOk first (λ f. IfOk last (λ l. readings.items ≡ f.items ++ l.items)))
+    → (IsOk all → IsOk first × IsOk last) → Gathers names never_fails (inputs ++ more) all (seats ++ further)
+both_gathered names never_fails inputs more first last (Err error) seats further p q joined both = tt
+both_gathered names never_fails inputs more (Err error) last (Ok all) seats further p q joined both =
+    let no = (both refl).0 in cc
+both_gathered names never_fails inputs more (Ok f) (Err error) (Ok all) seats further p q joined both =
+    let no = (both refl).1 in cc
+both_gathered names never_fails inputs more (Ok f) (Ok l) (Ok all) seats further p q joined both =
+    gathered_halves names never_fails inputs more f.items l.items all.items seats further p q joined
+
+-- no stream
+pub none_gathered : {R : Type 0} (names : List ProcessNames) (never_fails : Bool) (remaining : R → Option (List ℕ))
+    (readers : List R) (readings : List (Result Trace StreamFault)) (seats : List Seat) → length readers ≡ 0
+    → length seats ≡ 0 → readings ≡ [] → HasGathered names never_fails (map remaining readers) readings seats
+none_gathered names never_fails remaining [] readings [] p q e =
+    subst (λ (given : List (Result Trace StreamFault)). HasGathered names never_fails [] given []) (sym e)
+    (record { read = none_read names never_fails; fit = All-nil (ReadingFits names) })
+none_gathered names never_fails remaining [] readings (y ∷ ys) p q e = absurd (omega (arith, q))
+none_gathered names never_fails remaining (x ∷ xs) readings seats p q e = absurd (omega (arith, p))
+
+-- the halves are those of all readers
+pub of_all_readers : {R : Type 0} (names : List ProcessNames) (never_fails : Bool) (remaining : R → Option (List ℕ))
+    (first last readers : List R) (given : Readings) (seats : List Seat) → first ++ last ≡ readers
+    → Gathers names never_fails (map remaining first ++ map remaining last) given seats
+    → Gathers names never_fails (map remaining readers) given seats
+of_all_readers names never_fails remaining first last readers given seats e p =
+    subst (λ (inputs : List (Option (List ℕ))). Gathers names never_fails inputs given seats)
+    (sym (map-append remaining first last) ∙ ap (map remaining) e) p

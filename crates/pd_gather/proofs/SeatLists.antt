@@ -1,0 +1,27 @@
+-- Seats that threads leave are still all seats of the register.
+use Rattle.std.proofs.Common.{◌≡◌, ℕ, zero, suc, List, [], ◌∷◌, ◌++◌, length, take, refl, ◌∙◌, ap, arith}
+use Rattle.pd_model.specs.Cuts.{indices_from}
+use Rattle.pd_register.specs.Seats.{AreSeats}
+use Rattle.pd_register.specs.declared.register.Register.{Register}
+use Rattle.pd_register.specs.declared.seat.Seat.{Seat}
+use Rattle.pd_gather.specs.Gathering.{AreSameSeats}
+
+same_indices : (first : ℕ) (old new : List Seat) → length new ≡ length old
+    → indices_from first old ≡ indices_from first new
+same_indices first [] [] e = refl
+same_indices first [] (y ∷ ys) e = absurd (omega (arith, e))
+same_indices first (x ∷ xs) [] e = absurd (omega (arith, e))
+same_indices first (x ∷ xs) (y ∷ ys) e =
+    ap (λ (l : List ℕ). first ∷ l) (same_indices _ xs ys (omega (arith, e)))
+
+pub still_seats : (register : Register) (old new : List Seat) → AreSeats register old
+    → AreSameSeats register old new → AreSeats register new
+still_seats register old new all same =
+    (same.len ∙ all.0, same.same ∙ (all.1 ∙ same_indices 0 old new same.len), same.own)
+
+pub all_of_front : (n : ℕ) (new others : List Seat) → length new ≡ n → take n (new ++ others) ≡ new
+all_of_front zero [] others e = refl
+all_of_front zero (x ∷ xs) others e = absurd (omega (arith, e))
+all_of_front (suc n) [] others e = absurd (omega (arith, e))
+all_of_front (suc n) (x ∷ xs) others e =
+    ap (λ (l : List Seat). x ∷ l) (all_of_front n xs others (omega (arith, e)))

@@ -1,0 +1,22 @@
+-- One stream alone.
+use Rattle.std.proofs.Common.{◌∷◌, [], sym, subst, List}
+use Rattle.std.specs.Prelude.{Result}
+use Rattle.pd_events.specs.Views.{result_view}
+use Rattle.pd_events.specs.declared.event.Trace.{Trace}
+use Rattle.pd_events.specs.declared.fault.StreamFault.{StreamFault}
+use Rattle.pd_register.specs.Seats.{posted_row}
+use Rattle.pd_spec.specs.Views.{document_view}
+use Rattle.pd_gather.specs.ReadStreams.{AreReadOf}
+use Rattle.pd_gather.specs.Views.{results_view}
+use Rattle.pd_gather.proofs.Turns.{one_stream}
+use Rattle.pd_gather.proofs.gathering.read_one.Goals as goal
+
+pub returns-clause-read : goal.returns-clause-read
+returns-clause-read g c =
+    let names = (document_view c.args.spec.now).names in
+    let input = g.R.ByteSource.remaining c.args.reader.now in
+    let row = posted_row c.read_from.new.seat in
+    subst (λ (given : List (Result Trace StreamFault)). AreReadOf names g.R.ByteSource.never_fails (input ∷ [])
+    (results_view given) (row ∷ [])) (sym (rw c.in_ok-readings.ensures.items at c.in_ok-push.ensures.items))
+    (one_stream names g.R.ByteSource.never_fails input (result_view c.in_ok-given.given) row
+    (g.R.ByteSource.remaining c.read_from.new.reader, c.in_ok-given.ensures.read))

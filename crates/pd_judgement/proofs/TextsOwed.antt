@@ -1,0 +1,78 @@
+-- The text of a report is one that is owed, and what is written whole of such a text is the truth.
+use Rattle.std.proofs.Common.{◌≡◌, ℕ, Bool, true, false, List, [], ◌∷◌, ◌++◌, refl, sym, ◌∙◌, Some}
+use Rattle.std.specs.Prelude.{Option, IfSome, if◌then◌else◌}
+use Rattle.pd_format.specs.Bundles.{whole_lines, is_separator, onto_part, parts_of_lines, parts_of}
+use Rattle.pd_format.specs.Reports.{Report, report_text}
+use Rattle.pd_judgement.specs.Judgements.{RawStream, IsJudgement, ended_streams}
+use Rattle.pd_judgement.specs.Headline.{is_judged}
+use Rattle.pd_judgement.specs.Writes.{Writes, Whole, IsReportTextOf, IsTextOfBundle, WritesTruth, WritesTruthOfBundle}
+use Rattle.pd_judgement.proofs.TrueReports.{judgement_is_true_lem}
+
+-- ---- what is owed
+
+-- a right report's text is owed
+pub report_text_of : (document : List ℕ) (streams : List RawStream) (report : Report)
+    → IsJudgement document streams report → (judged : Option Bool) → IfSome judged (λ j. is_judged report ≡ j)
+    → IsReportTextOf document streams judged (report_text report)
+report_text_of document streams report right judged said = record {
+  report = report;
+  right = right;
+  truth = judgement_is_true_lem document streams report right;
+  said = said;
+  is_text = refl;
+}
+
+-- ---- what is true
+
+-- a report's text that is written whole is the truth
+pub truth_of_text : (document : List ℕ) (streams : List RawStream) (j : Bool) (old new : Option (List ℕ))
+    → Writes (IsReportTextOf document streams (Some j)) Whole old new
+    → WritesTruth document streams (j ≡ true) old new
+truth_of_text document streams j old new written = λ read traces holds well. (
+  sym written.1.said ∙ written.1.truth.judged read traces holds well,
+  λ narrow. (
+    written.0,
+    record {
+      report = written.1.report;
+      truth = written.1.truth.headline read traces holds well narrow;
+      is_text = written.1.is_text;
+    },
+    written.2,
+  ),
+)
+
+-- so is that of a bundle
+pub truth_of_bundle_text : (input : Option (List ℕ)) (j : Bool) (old new : Option (List ℕ))
+    → Writes (IsTextOfBundle input (Some j)) Whole old new → WritesTruthOfBundle input (j ≡ true) old new
+truth_of_bundle_text input j old new written = record {
+  bundle = written.1.bundle;
+  is_given = written.1.is_given;
+  document = written.1.document;
+  streams = written.1.streams;
+  parts = written.1.parts;
+  truth = truth_of_text written.1.document (ended_streams written.1.streams) j old new
+      (written.0, written.1.is_report_text, written.2);
+}
+
+-- ---- the parts of a bundle
+
+onto_some : (line : List ℕ) (parts : List (List ℕ))
+    → (document : List ℕ) × (streams : List (List ℕ)) × (onto_part line parts ≡ document ∷ streams)
+onto_some line [] = (line, [], refl)
+onto_some line (first ∷ others) = (line ++ first, others, refl)
+
+some_parts : (lines : List (List ℕ))
+    → (document : List ℕ) × (streams : List (List ℕ)) × (parts_of_lines lines ≡ document ∷ streams)
+some_parts [] = ([], [], refl)
+some_parts (line ∷ others) = go (is_separator line)
+  where
+    go : (b : Bool)
+        → (document : List ℕ) × (streams : List (List ℕ))
+        × ((if b then [] ∷ parts_of_lines others else onto_part line (parts_of_lines others)) ≡ document ∷ streams)
+    go true = ([], parts_of_lines others, refl)
+    go false = onto_some line (parts_of_lines others)
+
+-- a bundle has a first part, the document
+pub parts_are_some : (bytes : List ℕ)
+    → (document : List ℕ) × (streams : List (List ℕ)) × (parts_of bytes ≡ document ∷ streams)
+parts_are_some bytes = some_parts (whole_lines bytes)
