@@ -38,7 +38,7 @@ truth_said input Said Other old new go h = record {
   streams = h.streams;
   parts = h.parts;
   truth = λ document traces holds formed.
-      let true' = h.truth document traces holds formed in (go true'.0, true'.1);
+      let w = h.truth document traces holds formed in (go w.0, w.1);
 }
 
 truth_of_end : (input : Option (List ℕ)) (ending : Ending) (old new : Option (List ℕ)) → status_of ending ≤ 1

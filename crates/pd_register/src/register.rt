@@ -14,12 +14,20 @@ use crate::view::View;
 use crate::watcher::Watcher;
 use atomic_table::{Refused, Table};
 use std::alloc::{AllocError, Global};
+use std::hint::spin_loop;
 use std::sync::Wait;
+use std::sync::atomic::{AtomicU64, Ordering};
+
+/// How often the lock is asked for before the thread sleeps: a post takes some tens of nanoseconds, and to sleep and to
+/// be woken takes many times that.
+const SPINS: u64 = 100;
 
 /// The history of the steps of some streams, which seats add to and look at.
 #[derive(Drop)]
 pub struct Register {
     table: Table<History, View, u64, LockRule, Global>,
+    // How many threads sleep until the lock is free, or are about to: if there are none, nobody has to be woken.
+    sleepers: AtomicU64,
     ghost sized: { (table.shared.table_id.words ≡ 1) × (table.shared.table_id.slots ≡ 1) },
 }
 
@@ -55,7 +63,12 @@ impl Register {
             let inner = table.shared.split_seat::<Deals>(&mut dealer);
             seats.push(Seat::fresh(inner, stream))?;
         }
-        Ok((Register { table }, seats, Watcher { inner: dealer }))
+        let sleepers = AtomicU64::new(0);
+        Ok((
+            Register { table, sleepers },
+            seats,
+            Watcher { inner: dealer },
+        ))
     }
 
     /// Adds the step of the seat's stream, and gives the length of the history after it. The history that the seat has
@@ -121,7 +134,7 @@ impl Register {
             } = seat;
             self.table.shared.join_seat::<Collects>(&mut all, inner);
         }
-        let Register { table } = self;
+        let Register { table, sleepers: _ } = self;
         let mut closed = table.close_with(all);
         let History { posts: _, rows } = closed.take(0);
         closed.free();
@@ -135,6 +148,7 @@ impl Register {
         ensures own { (seat.new.table_id ≡ seat.old.table_id) × (seat.new.id ≡ seat.old.id) }
         ensures taken { Takes seat.old.me seat.new.me }
     {
+        let mut spins = 0;
         for _ in rt.forever() {
             let found = self
                 .table
@@ -143,12 +157,25 @@ impl Register {
             if found == 0 {
                 return;
             }
-            self.table.shared.park(rt, 0, 1);
+            if spins < SPINS {
+                spins += 1;
+                spin_loop();
+            } else {
+                self.sleep(rt);
+            }
         }
         unreachable!()
     }
 
-    // Gives the slot back, and wakes one who waits.
+    // Sleeps until the lock is given back. It may wake for no reason. Who gives the lock back after this thread is counted
+    // sees that someone sleeps; if it was given back before, there is no sleep.
+    fn sleep<R: Wait>(&self, rt: &R) {
+        self.sleepers.fetch_add(1, Ordering::SeqCst);
+        self.table.shared.park(rt, 0, 1);
+        self.sleepers.fetch_sub(1, Ordering::SeqCst);
+    }
+
+    // Gives the slot back, and wakes one who sleeps, if there is one.
     fn unlock(&self, seat: &mut TableSeat)
         requires own { seat.old.table_id ≡ self.now.table.shared.table_id }
         requires held { MayGive seat.old.me }
@@ -156,7 +183,9 @@ impl Register {
         ensures given { seat.new.me ≡ after_giving seat.old.me (history_in_hand seat.old.me.1) }
     {
         self.table.shared.store::<GivesBack>(seat, 0, 0);
-        self.table.shared.wake_one(0);
+        if self.sleepers.load(Ordering::SeqCst) > 0 {
+            self.table.shared.wake_one(0);
+        }
     }
 
     // The rows of all streams, as they stand under the lock.
