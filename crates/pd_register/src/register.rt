@@ -167,7 +167,7 @@ impl Register {
         unreachable!()
     }
 
-    // Sleeps until the lock is given back. It may wake for no reason. Who gives the lock back after this thread is counted
+    // Sleeps until the lock is given back, and may wake for no reason. Who gives it back after this thread is counted
     // sees that someone sleeps; if it was given back before, there is no sleep.
     fn sleep<R: Wait>(&self, rt: &R) {
         self.sleepers.fetch_add(1, Ordering::SeqCst);
