@@ -14,22 +14,31 @@ import tempfile
 
 SHIM = r"""
 #include <errno.h>
-#include <stdio.h>
+#include <fcntl.h>
 #include <stdlib.h>
+#include <sys/mman.h>
+#include <unistd.h>
 
 void *__libc_malloc(size_t);
 void *__libc_calloc(size_t, size_t);
 void *__libc_realloc(void *, size_t);
 void *__libc_memalign(size_t, size_t);
 
-static long asked, refused = -1;
+static long *asked, refused;
+
+/* The count stands in a file that is mapped, since a program with threads may end without its destructors. */
+__attribute__((constructor)) static void map(void) {
+    const char *number = getenv("REFUSED"), *path = getenv("ASKED");
+    int file = path ? open(path, O_RDWR) : -1;
+    if (file < 0) return;
+    refused = number ? atol(number) : 0;
+    void *place = mmap(0, sizeof *asked, PROT_READ | PROT_WRITE, MAP_SHARED, file, 0);
+    close(file);
+    if (place != MAP_FAILED) asked = place;
+}
 
 static int is_refused(void) {
-    if (refused < 0) {
-        const char *number = getenv("REFUSED");
-        refused = number ? atol(number) : 0;
-    }
-    return __atomic_add_fetch(&asked, 1, __ATOMIC_SEQ_CST) == refused;
+    return asked && __atomic_add_fetch(asked, 1, __ATOMIC_SEQ_CST) == refused;
 }
 
 void *malloc(size_t size) {
@@ -57,11 +66,6 @@ int posix_memalign(void **given, size_t alignment, size_t size) {
     *given = __libc_memalign(alignment, size);
     return *given ? 0 : ENOMEM;
 }
-
-__attribute__((destructor)) static void report(void) {
-    FILE *report_file = fopen(getenv("ASKED"), "w");
-    if (report_file) { fprintf(report_file, "%ld", asked); fclose(report_file); }
-}
 """
 
 
@@ -69,9 +73,11 @@ def run(arguments, bundle, folder, number):
     """What a run with these arguments gives, and how many allocations it asked for."""
     asked = os.path.join(folder, "asked")
     shim = {"LD_PRELOAD": os.path.join(folder, "shim.so"), "REFUSED": str(number), "ASKED": asked}
+    with open(asked, "wb") as counted:
+        counted.write(bytes(8))
     run = subprocess.run(arguments, input=bundle, capture_output=True, env={**os.environ, **shim})
-    with open(asked) as counted:
-        return (run.returncode, run.stdout, run.stderr), int(counted.read())
+    with open(asked, "rb") as counted:
+        return (run.returncode, run.stdout, run.stderr), int.from_bytes(counted.read(8), sys.byteorder)
 
 
 def commands_for(program, path):
