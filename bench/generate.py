@@ -1,14 +1,14 @@
 #!/usr/bin/env python3
 """generate.py NAME: writes a large bundle to standard output.
 
-lattice   4 processes of 17 events each, with no messages: 104,976 cuts; 16 small comparisons that no cut satisfies
-terms     the same cuts; 16 predicates of 4,096 bytes that no cut satisfies
+lattice   6 processes in 30 rounds: 7 local events each, then a message of each to one of them and back; levels of tens
+          of thousands of cuts, and one conjunction that no cut satisfies
+terms     the same processes in 3 rounds of 5 local events; 16 predicates of nearly 4,096 bytes that no cut satisfies
 streams   8 processes of 10,000 events each, every event setting 16 variables; one predicate that the empty cut
           satisfies
 messages  8 processes of 10,000 events each, nearly all of them sends and receipts of a run without a cycle; the same
           predicate
-avoiding  2 processes of 2,000 events each, whose messages keep them within 499 events of each other: 4,001 levels of
-          some 500 cuts, and one predicate that no cut satisfies, so that all of them avoid it
+avoiding  7 processes in 40 rounds of 4 local events; a sum that some cuts satisfy, and no observation has to
 locals    the same lines with each send and receipt replaced by a local event of the same length, for comparison with
           messages
 """
@@ -41,26 +41,54 @@ def bundle(head, streams):
             out.write(line + "\n")
 
 
-def counters(predicates):
-    names = ["a", "b", "c", "d"]
+def meeting(names, hub, number):
+    """Of each process the events with which all send to one of them, and are answered by it."""
+    others = [name for name in names if name != hub]
+    asked = {name: f"{name}-{number}" for name in others}
+    answered = {name: f"{hub}-{name}-{number}" for name in others}
+    events = {name: [{"send": asked[name]}, {"recv": answered[name]}] for name in others}
+    events[hub] = [{"recv": asked[name]} for name in others] + [{"send": answered[name]} for name in others]
+    return events
+
+
+def rounds(processes, steps, count, predicates):
+    """In each round each process takes steps of its own, and then all of them meet. The seed is fixed."""
+    rng = random.Random(2)
+    names = [f"p{k}" for k in range(processes)]
+    lists = {name: [] for name in names}
+    for number in range(count):
+        met = meeting(names, names[number % processes], number)
+        for name in names:
+            lists[name] += [{"set": {"n": 2 * rng.randrange(1000)}} for _ in range(steps)] + met[name]
     head = document([(name, ["n"]) for name in names], predicates, 65536)
-    bundle(head, [stream(name, [{"n": i} for i in range(1, 18)]) for name in names])
+    bundle(head, [[json.dumps({"process": name}), *map(json.dumps, lists[name]), json.dumps({"end": True})]
+                  for name in names])
 
 
 def lattice():
-    counters([(f"p{k}", f"a.n + {k + 1} * b.n > 100000") for k in range(16)])
+    text = " and ".join([f"p{k}.n > 1200" for k in range(5)] + ["p5.n == 1"])
+    rounds(6, 7, 30, [("never", text)])
 
 
 def long_text(k):
-    term = f"{k + 1} * a.n + b.n - 3 * c.n + d.n == 100000"
-    text = term
-    while len(text) + 4 + len(term) <= 4096:
-        text += " or " + term
-    return text.ljust(4096)
+    """A predicate that is false where all counters are even and small: a chain of sums, or of pairs of comparisons."""
+    sums = [f"{1 + (k + i) % 9} * p{i % 6}.n + p{(i + 1) % 6}.n == {30001 + 2 * i}" for i in range(200)]
+    pairs = [f"(p{i % 6}.n > {100 + i} or p{(i + k) % 6}.n > {150 + i})" for i in range(200)] + ["p0.n == 1"]
+    parts, between = (sums, " or ") if k % 2 == 0 else (pairs[::-1], " and ")
+    text = parts[0]
+    for part in parts[1:]:
+        if len(text) + len(between) + len(part) > 4096:
+            break
+        text += between + part
+    return text
 
 
 def terms():
-    counters([(f"p{k}", long_text(k)) for k in range(16)])
+    rounds(6, 5, 3, [(f"q{k}", long_text(k)) for k in range(16)])
+
+
+def avoiding():
+    rounds(7, 4, 40, [("sometimes", " + ".join(f"p{k}.n" for k in range(7)) + " == 7000")])
 
 
 def streams():
@@ -69,24 +97,6 @@ def streams():
     head = document([(name, variables) for name in names], [("start", "p0.v00 == 0")], 4096)
     bundle(head, [stream(name, ({var: (i * 7919 + k) % 1000003 for k, var in enumerate(variables)}
                                 for i in range(10000))) for name in names])
-
-
-def side(own, other, events, window):
-    """One of two processes: each odd event sends, and the even event that is `window` later receives what the other
-    sent then."""
-    for i in range(1, events + 1):
-        if i % 2 == 1 and i + window <= events:
-            yield {"send": f"{own}{i}"}
-        elif i % 2 == 0 and i > window:
-            yield {"recv": f"{other}{i - window}"}
-        else:
-            yield {"set": {"n": i}}
-
-
-def avoiding():
-    head = document([("a", ["n"]), ("b", ["n"])], [("never", "a.n + b.n < 0")], 65536)
-    bundle(head, [[json.dumps({"process": own}), *map(json.dumps, side(own, other, 2000, 499)),
-                   json.dumps({"end": True})] for own, other in (("a", "b"), ("b", "a"))])
 
 
 def talk(processes, events):

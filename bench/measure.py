@@ -17,23 +17,9 @@ import tempfile
 import time
 
 HERE = os.path.dirname(os.path.abspath(__file__))
-CUTS = 18 ** 4
-# 16 predicates, each evaluated at every cut by the walk for Possibly and by that for Definitely
-EVALUATIONS = 2 * 16 * CUTS
 EVENTS = 8 * 10000
-# `avoiding`: every cut is evaluated by both walks, and each of its levels is kept for the path
-AVOIDING_LEVELS = 4001
-
-
-def avoiding_cuts():
-    """How many pairs of counts have with each receipt its send, which is 499 events of the other process back."""
-    def needed(count):
-        return max(0, count - count % 2 - 499)
-
-    return sum(1 for a in range(2001) for b in range(max(0, needed(a)), min(2000, a + 501) + 1) if needed(b) <= a)
-
-
-SESSIONS = ["lattice", "terms", "avoiding", "streams", "messages", "locals"]
+WALKS = ["lattice", "terms", "avoiding"]
+SESSIONS = WALKS + ["streams", "messages", "locals"]
 
 
 def run(program, path):
@@ -50,13 +36,10 @@ def run(program, path):
 
 def line(name, size, seconds, memory):
     """The figures of one session."""
-    rate = size / 1e6 / seconds
-    text = f"{name}: {size / 1e6:.1f} MB in, {seconds:.3f} s, {rate:.1f} MB/s, peak {memory / 1e6:.1f} MB"
-    if name == "avoiding":
-        return text + (f", {2 * avoiding_cuts() / seconds / 1e6:.2f} million cuts evaluated a second, "
-                       f"{AVOIDING_LEVELS} levels kept with {avoiding_cuts()} cuts")
-    if name in ("lattice", "terms"):
-        return text + f", {EVALUATIONS / seconds / 1e6:.2f} million cuts evaluated a second"
+    text = f"{name}: {size / 1e6:.1f} MB in, {seconds:.3f} s, peak {memory / 1e6:.1f} MB"
+    if name in WALKS:
+        return text
+    text += f", {size / 1e6 / seconds:.1f} MB/s"
     return text + f", {EVENTS / seconds / 1e3:.0f} thousand events a second"
 
 

@@ -1,4 +1,5 @@
-//! The program `monitor`: hands its arguments, its streams and the system's files to `pd_cli`, which runs it.
+//! The program `monitor`: hands its arguments, its streams, the system's files and its network to `pd_cli`,
+//! which runs it.
 #![tactic(auto)]
 
 use std::process::ExitCode;
@@ -13,6 +14,7 @@ fn main(rt: HostRuntime) -> ExitCode {
     let mut errors = rt.stderr();
     let status = match arguments(&rt) {
         Ok(arguments) => pd_cli::run(
+            &rt,
             &rt,
             &rt,
             rt.alloc(),

@@ -2,7 +2,7 @@
 use Rattle.std.proofs.Common.{◌≡◌, ◌≤◌, ℕ, List, [], ◌∷◌, drop, map, length, refl, sym, subst, arith, Option, inr}
 use Rattle.std.specs.Prelude.{true, false}
 use Rattle.clap.specs.Walk.{Text}
-use Rattle.pd_judgement.specs.Statuses.{Ending, Success, Negative, Misuse, Failed, MemoryFailure, ReadFailure, WriteFailure, BundleFailure, Ends, EndsAsAsked, JudgeInput, JudgementLeaves, status_of}
+use Rattle.pd_judgement.specs.Statuses.{Ending, Success, Negative, Misuse, Failed, MemoryFailure, ReadFailure, WriteFailure, BundleFailure, NetworkFailure, Ends, EndsAsAsked, JudgeInput, JudgementLeaves, status_of}
 use Rattle.pd_judgement.specs.Writes.{WritesTruthOfBundle}
 use Rattle.pd_judgement.proofs.TextsOwed.{truth_of_bundle_text}
 use Rattle.pd_cli.specs.Arguments.{AsksFor, of_input}
@@ -11,17 +11,18 @@ use Rattle.pd_cli.proofs.Parsed.{nothing_is_no_command, nothing_is_taken}
 none_asks : AsksFor [] JudgeInput
 none_asks = of_input nothing_is_taken (λ found. let is = found.1 in let none = nothing_is_no_command in cc)
     (λ found. let is = found.1 in let none = nothing_is_no_command in cc)
+    (λ found. let is = found.1 in let none = nothing_is_no_command in cc)
 
 pub none_left : {A B : Type 0} (f : A → B) (xs : List A) → length xs ≤ 1 → drop 1 (map f xs) ≡ []
 none_left f [] le = refl
 none_left f (x ∷ []) le = refl
 none_left f (x ∷ y ∷ xs) le = absurd (omega arith)
 
-pub as_asked_by_none : (arguments : List Text) (input : Option (List ℕ)) (files : List ℕ → Option (List ℕ)) (status : ℕ)
-    (old new errors_old errors_new : Option (List ℕ)) → arguments ≡ []
-    → Ends (λ ending. JudgementLeaves input ending old new) status errors_old errors_new
-    → EndsAsAsked (AsksFor arguments) input files status old new errors_old errors_new
-as_asked_by_none arguments input files status old new errors_old errors_new none h = record {
+pub as_asked_by_none : (arguments : List Text) (input : Option (List ℕ)) (files : List ℕ → Option (List ℕ))
+    (connections : ℕ → Option (List ℕ) → Type 0) (status : ℕ) (old new errors_old errors_new : Option (List ℕ))
+    → arguments ≡ [] → Ends (λ ending. JudgementLeaves input ending old new) status errors_old errors_new
+    → EndsAsAsked (AsksFor arguments) input files connections status old new errors_old errors_new
+as_asked_by_none arguments input files connections status old new errors_old errors_new none h = record {
   ending = h.ending;
   is_status = h.is_status;
   output = inr (JudgeInput, subst (λ (l : List Text). AsksFor l JudgeInput) (sym none) none_asks, h.output);
@@ -52,6 +53,7 @@ truth_of_end input (Failed MemoryFailure) old new le left = absurd (omega (arith
 truth_of_end input (Failed ReadFailure) old new le left = absurd (omega (arith, le))
 truth_of_end input (Failed WriteFailure) old new le left = absurd (omega (arith, le))
 truth_of_end input (Failed BundleFailure) old new le left = absurd (omega (arith, le))
+truth_of_end input (Failed NetworkFailure) old new le left = absurd left
 
 pub truth_of_status : (input : Option (List ℕ)) (status : ℕ) (old new errors_old errors_new : Option (List ℕ))
     → Ends (λ ending. JudgementLeaves input ending old new) status errors_old errors_new → status ≤ 1

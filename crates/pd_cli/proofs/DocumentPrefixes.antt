@@ -17,7 +17,8 @@ use Rattle.pd_cli.specs.FileSources.{SameOutline}
 
 -- ---- bytes with one outline
 
-same_document : (a b : List ℕ) (document : Document) → SameOutline a b → IsDocument a document → IsDocument b document
+pub same_document : (a b : List ℕ) (document : Document) → SameOutline a b → IsDocument a document
+    → IsDocument b document
 same_document a b document e h = record {
   outline = h.outline;
   sound = sym e ∙ h.sound;
@@ -28,7 +29,7 @@ same_document a b document e h = record {
   predicates = h.predicates;
 }
 
-same_refusal : (a b : List ℕ) (fault : DocumentFault) → SameOutline a b → IsRefusedDocument a fault
+pub same_refusal : (a b : List ℕ) (fault : DocumentFault) → SameOutline a b → IsRefusedDocument a fault
     → IsRefusedDocument b fault
 same_refusal a b Long e h = sym e ∙ h
 same_refusal a b Json e h = sym e ∙ h

@@ -6,7 +6,7 @@ use Rattle.pd_judgement.specs.Judgements.{RawStream}
 use Rattle.pd_format.specs.Limits.{document_byte_limit}
 use Rattle.pd_judgement.specs.Writes.{Whole, Partial, IsGivenBy, IsWholeInput, IsFindingTextOf, IsTextOfStreams, WritesTruth}
 use Rattle.pd_judgement.proofs.Writing.{writes_weaker}
-use Rattle.pd_judgement.specs.Statuses.{Ending, Success, Negative, Misuse, Failed, MemoryFailure, ReadFailure, WriteFailure, BundleFailure, CheckLeaves, FilesJudgementLeaves, OfDocument, OfFiles, WritesUpTo}
+use Rattle.pd_judgement.specs.Statuses.{Ending, Success, Negative, Misuse, Failed, MemoryFailure, ReadFailure, WriteFailure, BundleFailure, NetworkFailure, CheckLeaves, FilesJudgementLeaves, OfDocument, OfFiles, WritesUpTo}
 use Rattle.pd_cli.specs.FileSources.{HasWholeFile, SameOutline, StandsFor}
 use Rattle.pd_cli.proofs.DocumentPrefixes.{outline_of_prefix, same_report_text, same_text, same_written_truth}
 use Rattle.std.proofs.lemmas.List.{map-append}
@@ -102,14 +102,14 @@ finding_text_of_files read document report files lefts good text same are h =
       is_text = h.is_text;
     })
 
-up_to_weaker : (P Q : List ℕ → Type 0) (old new : Option (List ℕ)) → ((text : List ℕ) → P text → Q text)
+pub up_to_weaker : (P Q : List ℕ → Type 0) (old new : Option (List ℕ)) → ((text : List ℕ) → P text → Q text)
     → WritesUpTo P old new → WritesUpTo Q old new
 up_to_weaker P Q old new go (inl whole) = inl (writes_weaker P Q Whole old new go whole)
 up_to_weaker P Q old new go (inr part) = inr (writes_weaker P Q Partial old new go part)
 
 -- ---- a judgement
 
-of_document : (file : Option (List ℕ)) (read : List ℕ) (P Q : List ℕ → Type 0) → StandsFor read file
+pub of_document : (file : Option (List ℕ)) (read : List ℕ) (P Q : List ℕ → Type 0) → StandsFor read file
     → ((document : List ℕ) → SameOutline read document → P read → Q document) → OfDocument (Some read) P
     → OfDocument file Q
 of_document None read P Q stands go h = record {
@@ -140,6 +140,7 @@ judgement_of_files file read files lefts (Failed WriteFailure) old new stands ar
     of_document file read _ _ stands (λ document same. up_to_weaker _ _ old new (λ text.
     report_text_of_files read document files lefts None text same are)) left
 judgement_of_files file read files lefts (Failed BundleFailure) old new stands are left = left
+judgement_of_files file read files lefts (Failed NetworkFailure) old new stands are left = left
 
 -- files whose bytes are known have readers with these bytes left
 pub lefts_of_known : (files lefts : List (Option (List ℕ))) (known : List (List ℕ)) → AllZip HasWholeFile files lefts
@@ -204,6 +205,7 @@ check_of_files file report_file read claimed files lefts (Failed WriteFailure) o
     of_files file report_file read claimed _ _ stands whole (λ document report same. up_to_weaker _ _ old new (λ text.
     finding_text_of_files read document report files lefts None text same are)) left
 check_of_files file report_file read claimed files lefts (Failed BundleFailure) old new stands whole are left = left
+check_of_files file report_file read claimed files lefts (Failed NetworkFailure) old new stands whole are left = left
 
 -- the files of names, one after another
 pub files_of_names : {N : Type 0} (files : List ℕ → Option (List ℕ)) (name_of : N → List ℕ) (names : List N)

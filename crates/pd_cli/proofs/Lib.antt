@@ -1,8 +1,10 @@
 -- The modules of lemmas of this crate.
+mod Accepted
 mod BundleEnds
 mod DocumentPrefixes
 mod FilesRead
 mod FlushedTexts
+mod Numbers
 mod Parsed
 mod ParserEnds
 mod WrittenSoFar

@@ -32,18 +32,21 @@ case_of kind.Format = other (λ e. cc) (λ h. elim h [ inl e ↦ cc | inr e ↦ 
 case_of kind.OutOfMemory = memory refl
 
 -- from an end by the kind of the error, one by what is asked for
-as_asked : (arguments : List Text) (input : Option (List ℕ)) (files : List ℕ → Option (List ℕ)) (status : ℕ)
-    (old new errors_old errors_new : Option (List ℕ)) (k : ErrorKind) → KindCase k → IsErrorOf arguments k
+as_asked : (arguments : List Text) (input : Option (List ℕ)) (files : List ℕ → Option (List ℕ))
+    (connections : ℕ → Option (List ℕ) → Type 0) (status : ℕ) (old new errors_old errors_new : Option (List ℕ))
+    (k : ErrorKind) → KindCase k → IsErrorOf arguments k
     → (k ≡ kind.OutOfMemory
     → Ends (λ ending. (ending ≡ Failed MemoryFailure) × Keeps old new) status errors_old errors_new)
     → (IsShownKind k → Ends (λ ending. HelpLeaves ending old new) status errors_old errors_new)
     → (k ≢ kind.OutOfMemory → ¬ IsShownKind k
     → Ends (λ ending. MisuseLeaves ending old new) status errors_old errors_new)
-    → EndsAsAsked (AsksFor arguments) input files status old new errors_old errors_new
-as_asked arguments input files status old new errors_old errors_new k (memory is) is_error out shows misused =
+    → EndsAsAsked (AsksFor arguments) input files connections status old new errors_old errors_new
+as_asked arguments input files connections status old new errors_old errors_new k (memory is)
+    is_error out shows misused =
     let h = out is in
     record { ending = h.ending; is_status = h.is_status; output = inl h.output; errors = h.errors }
-as_asked arguments input files status old new errors_old errors_new k (shown is is_not) is_error out shows misused =
+as_asked arguments input files connections status old new errors_old errors_new k (shown is is_not)
+    is_error out shows misused =
     let h = shows is in
     record {
       ending = h.ending;
@@ -51,7 +54,8 @@ as_asked arguments input files status old new errors_old errors_new k (shown is 
       output = inr (ShowHelp, (is_error is_not).0 is, h.output);
       errors = h.errors;
     }
-as_asked arguments input files status old new errors_old errors_new k (other is_not un) is_error out shows misused =
+as_asked arguments input files connections status old new errors_old errors_new k (other is_not un)
+    is_error out shows misused =
     let h = misused is_not un in
     record {
       ending = h.ending;
@@ -60,13 +64,14 @@ as_asked arguments input files status old new errors_old errors_new k (other is_
       errors = h.errors;
     }
 
-pub error_as_asked : (arguments : List Text) (input : Option (List ℕ)) (files : List ℕ → Option (List ℕ)) (status : ℕ)
-    (old new errors_old errors_new : Option (List ℕ)) (k : ErrorKind) → IsErrorOf arguments k
+pub error_as_asked : (arguments : List Text) (input : Option (List ℕ)) (files : List ℕ → Option (List ℕ))
+    (connections : ℕ → Option (List ℕ) → Type 0) (status : ℕ) (old new errors_old errors_new : Option (List ℕ))
+    (k : ErrorKind) → IsErrorOf arguments k
     → (k ≡ kind.OutOfMemory
     → Ends (λ ending. (ending ≡ Failed MemoryFailure) × Keeps old new) status errors_old errors_new)
     → (IsShownKind k → Ends (λ ending. HelpLeaves ending old new) status errors_old errors_new)
     → (k ≢ kind.OutOfMemory → ¬ IsShownKind k
     → Ends (λ ending. MisuseLeaves ending old new) status errors_old errors_new)
-    → EndsAsAsked (AsksFor arguments) input files status old new errors_old errors_new
-error_as_asked arguments input files status old new errors_old errors_new k =
-    as_asked arguments input files status old new errors_old errors_new k (case_of k)
+    → EndsAsAsked (AsksFor arguments) input files connections status old new errors_old errors_new
+error_as_asked arguments input files connections status old new errors_old errors_new k =
+    as_asked arguments input files connections status old new errors_old errors_new k (case_of k)

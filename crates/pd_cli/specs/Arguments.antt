@@ -1,10 +1,22 @@
 -- What the arguments after the program's name ask for, as the command line's parser takes them.
-use Rattle.std.specs.Prelude.{◌≡◌, ◌≢◌, ◌⊎◌, true, List, [], codes, Option, Some, None}
+use Rattle.std.specs.Prelude.{◌≡◌, ◌≢◌, ◌⊎◌, ◌<◌, ◌≤◌, ◌^◌, ℕ, true, List, [], ◌∷◌, codes, Option, Some, None}
+use Rattle.std.specs.Str.Parse.{IsNumeral, digits_value, without_leading_plus}
 use Rattle.clap.specs.Lexer.{usize_max}
 use Rattle.clap.specs.Words.{App, Row, Rule, Shape, Text, IsAmong, all_of, fault_of, first_of, new_app, new_rule, subcommand_of, with_rule, with_subcommand}
+use Rattle.clap.specs.declared.builder.value_parser.ValueParser.TheVariants.{Unsigned}
 use Rattle.clap.specs.declared.error.kind.ErrorKind.{ErrorKind}
 use Rattle.clap.specs.declared.error.kind.ErrorKind.TheVariants.{DisplayHelp, DisplayVersion, OutOfMemory}
-use Rattle.pd_judgement.specs.Statuses.{Request, JudgeInput, JudgeFiles, CheckFiles, ShowHelp, Unclear}
+use Rattle.pd_judgement.specs.Statuses.{Request, JudgeInput, JudgeFiles, CheckFiles, ServeStreams, ShowHelp, Unclear}
+
+-- ---- limits
+
+-- the greatest port next to which there is one more
+abbrev pub port_limit : ℕ
+port_limit = 65534
+
+-- how many watchers there are at most
+abbrev pub watcher_limit : ℕ
+watcher_limit = 64
 
 -- ---- the command line
 
@@ -27,6 +39,23 @@ abbrev pub check_app : App
 check_app = with_rule (with_rule (with_rule (new_app (codes "check")) (required_rule (codes "SPEC")))
     (required_rule (codes "REPORT"))) stream_rule
 
+-- an option of this name with a number in this range
+abbrev pub number_rule : (id name : Text) (least most : ℕ) → Rule
+number_rule id name least most = record (new_rule id) { long = Some name; parser = Some (Unsigned least most) }
+
+-- the port of the streams
+abbrev pub port_rule : Rule
+port_rule = record (number_rule (codes "PORT") (codes "port") 1 port_limit) { required = true }
+
+-- the number of watchers
+abbrev pub watchers_rule : Rule
+watchers_rule = record (number_rule (codes "WATCHERS") (codes "watchers") 0 watcher_limit) { defaults = codes "0" ∷ [] }
+
+-- `serve SPEC --port PORT [--watchers WATCHERS]`
+abbrev pub serve_app : App
+serve_app = with_rule (with_rule (with_rule (new_app (codes "serve")) (required_rule (codes "SPEC"))) port_rule)
+    watchers_rule
+
 -- the program alone: its name isn't among the arguments that are parsed
 abbrev pub plain_shape : Shape
 plain_shape =
@@ -35,9 +64,10 @@ plain_shape =
 abbrev pub plain_app : App
 plain_app = record { top = plain_shape; subs = [] }
 
--- with the commands `judge` and `check`
+-- with the commands `judge`, `check` and `serve`
 abbrev pub monitor_app : App
-monitor_app = with_subcommand (with_subcommand plain_app judge_app.top) check_app.top
+monitor_app =
+    with_subcommand (with_subcommand (with_subcommand plain_app judge_app.top) check_app.top) serve_app.top
 
 -- ---- what the parser found
 
@@ -70,26 +100,62 @@ LacksSession rows = ¬ ((document : Text) × (streams : List Text) × NamesSessi
 abbrev pub NamesReport : List Row → (report : Text) → Type 0
 NamesReport rows report = first_of (codes "REPORT") rows ≡ Some report
 
+-- the text is a decimal number of 64 bits
+abbrev pub IsNumberText : Text → ℕ → Type 0
+IsNumberText text n = (IsNumeral 10 (without_leading_plus text)
+    × (digits_value 10 (without_leading_plus text) < 2 ^ 64)) × (n ≡ digits_value 10 (without_leading_plus text))
+
+-- the option of this id has this number
+abbrev pub NamesNumber : List Row → (id : Text) → ℕ → Type 0
+NamesNumber rows id n = (text : Text) × (first_of id rows ≡ Some text) × IsNumberText text n
+
+-- a port that isn't the last one
+abbrev pub IsPort : ℕ → Type 0
+IsPort port = (1 ≤ port) × (port ≤ port_limit)
+
+-- the name of a session document's file, the port of the streams, and the number of watchers
+pub record NamesService (rows : List Row) (document : Text) (port watchers : ℕ) : Type 0 where
+  pub names_document : first_of (codes "SPEC") rows ≡ Some document
+  pub names_port : NamesNumber rows (codes "PORT") port
+  pub is_port : IsPort port
+  pub names_watchers : NamesNumber rows (codes "WATCHERS") watchers
+  pub few_watchers : watchers ≤ watcher_limit
+
+-- one of these is missing, or a number isn't in its range
+abbrev pub LacksService : List Row → Type 0
+LacksService rows =
+    ¬ ((document : Text) × (port : ℕ) × (watchers : ℕ) × NamesService rows document port watchers)
+
 -- ---- what is asked for
+
+-- the commands that take the names of streams' files
+abbrev pub TakesStreams : (command : Text) → Type 0
+TakesStreams command = (command ≡ codes "judge") ⊎ (command ≡ codes "check")
 
 -- What the arguments ask for. If they are taken, it is what their command is for, and with no command the bundle on the
 -- input is judged. Arguments that are not taken ask for a text that is shown, or have some other fault; and so have
--- those of a command that lacks a name.
+-- those of a command that lacks a name or a number.
 pub data AsksFor (arguments : List Text) : Request → Type 0 where
   of_input : AreTaken arguments → ¬ ((rows : List Row) × AreOf (codes "judge") arguments rows)
-      → ¬ ((rows : List Row) × AreOf (codes "check") arguments rows) → AsksFor arguments JudgeInput
+      → ¬ ((rows : List Row) × AreOf (codes "check") arguments rows)
+      → ¬ ((rows : List Row) × AreOf (codes "serve") arguments rows) → AsksFor arguments JudgeInput
   of_judge : (rows : List Row) (document : Text) (streams : List Text) → AreTaken arguments
       → AreOf (codes "judge") arguments rows → NamesSession rows document streams
       → AsksFor arguments (JudgeFiles document streams)
   of_check : (rows : List Row) (document report : Text) (streams : List Text) → AreTaken arguments
       → AreOf (codes "check") arguments rows → NamesSession rows document streams → NamesReport rows report
       → AsksFor arguments (CheckFiles document report streams)
+  of_serve : (rows : List Row) (document : Text) (port watchers : ℕ) → AreTaken arguments
+      → AreOf (codes "serve") arguments rows → NamesService rows document port watchers
+      → AsksFor arguments (ServeStreams document port watchers)
   of_help : (kind : ErrorKind) → IsShownKind kind → HasFault arguments kind → AsksFor arguments ShowHelp
   of_fault : (kind : ErrorKind) → ¬ IsShownKind kind → HasFault arguments kind → AsksFor arguments Unclear
-  of_missing : (command : Text) (rows : List Row) → AreOf command arguments rows → LacksSession rows
-      → AsksFor arguments Unclear
+  of_missing : (command : Text) (rows : List Row) → TakesStreams command → AreOf command arguments rows
+      → LacksSession rows → AsksFor arguments Unclear
   of_missing_report : (rows : List Row) → AreOf (codes "check") arguments rows
       → ¬ ((report : Text) × NamesReport rows report) → AsksFor arguments Unclear
+  of_missing_service : (rows : List Row) → AreOf (codes "serve") arguments rows → LacksService rows
+      → AsksFor arguments Unclear
 
 -- A parse that gives no request says so: its error has a text to show, or one that reports what is wrong; or memory ran
 -- out.

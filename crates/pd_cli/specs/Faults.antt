@@ -1,7 +1,11 @@
 -- The engine's faults and results, as ends of a run.
 use Rattle.std.specs.Prelude.{◌≡◌, ℕ, Bool, true, false, List, codes, Result, Ok, Err}
-use Rattle.pd_judgement.specs.Statuses.{Failure, MemoryFailure, ReadFailure, WriteFailure, BundleFailure, Ending, Success, Negative, Failed}
+use Rattle.pd_judgement.specs.Statuses.{Failure, MemoryFailure, ReadFailure, WriteFailure, BundleFailure, NetworkFailure, Ending, Success, Negative, Failed}
+use Rattle.pd_cli.specs.declared.service_fault.ServiceFault.{ServiceFault}
+use Rattle.pd_cli.specs.declared.service_fault.ServiceFault.TheVariants.{Engine, Network}
 use Rattle.pd_engine.specs.declared.fault.EngineFault.{EngineFault}
+use Rattle.pd_spec.specs.declared.fault.SpecFault.{SpecFault}
+use Rattle.pd_spec.specs.declared.fault.SpecFault.TheVariants as spec_faults
 use Rattle.pd_engine.specs.declared.fault.EngineFault.TheVariants.{Memory, Write, Read, BundleLong}
 
 abbrev pub failure_view : EngineFault → Failure
@@ -15,6 +19,18 @@ abbrev pub ending_view : Result Bool EngineFault → Ending
 ending_view (Ok true) = Success
 ending_view (Ok false) = Negative
 ending_view (Err fault) = Failed (failure_view fault)
+
+-- the same of a server
+abbrev pub service_ending_view : Result Bool ServiceFault → Ending
+service_ending_view (Ok true) = Success
+service_ending_view (Ok false) = Negative
+service_ending_view (Err (Engine fault)) = Failed (failure_view fault)
+service_ending_view (Err Network) = Failed NetworkFailure
+
+-- whether a document's fault says nothing of the document
+abbrev pub is_out_of_memory : SpecFault → Bool
+is_out_of_memory spec_faults.Memory = true
+is_out_of_memory _ = false
 
 -- the line that reports an argument that isn't text
 abbrev pub IsUnreadLine : List ℕ → Type 0

@@ -4,11 +4,12 @@ ghost use Rattle.clap.specs.Simple.{app_of, subcommand_of, subcommand_rows_of};
 ghost use Rattle.clap.specs.Values.{kind_of};
 ghost use Rattle.clap.specs.Walk.{Text, rows_of, rule_of};
 ghost use Rattle.clap.specs.declared.builder.command.Command.TheViews.{out-Command};
-ghost use Rattle.pd_cli.specs.Arguments.{AreOf, AreTaken, AsksFor, FindsSession, IsErrorOf, check_app, judge_app, monitor_app, required_rule, stream_rule};
+ghost use Rattle.pd_cli.specs.Arguments.{AreOf, AreTaken, AsksFor, FindsSession, IsErrorOf, IsNumberText, IsPort, NamesNumber, check_app, judge_app, monitor_app, number_rule, port_rule, required_rule, serve_app, stream_rule, watchers_rule};
 ghost use Rattle.pd_cli.specs.Views.{asked_view, request_view, session_view};
-ghost use Rattle.std.specs.Prelude.{◌≡◌, ◌≢◌, IfErr, IfOk, List, codes, false, map, option_map};
+ghost use Rattle.std.specs.Prelude.{◌≡◌, ◌≢◌, ℕ, IfErr, IfOk, IfSome, List, None, codes, false, map, option_map};
 
-use super::request::{Request, SessionNames};
+use super::request::{Request, Service, SessionNames};
+use clap::builder::ValueParser;
 use clap::error::ErrorKind;
 use clap::{Arg, ArgMatches, Command, Error};
 use std::alloc::{AllocError, Global};
@@ -17,7 +18,8 @@ use std::alloc::{AllocError, Global};
 const ABOUT: &str =
     "Judges predicates on a distributed computation. The command `judge` reads a session document, and one stream of \
 events for each process, from files. With no command they are read from the standard input, as one bundle. \
-A report is written to the standard output. The command `check` checks the evidence in such a report.";
+A report is written to the standard output. The command `check` checks the evidence in such a report. \
+The command `serve` judges streams that processes send over TCP while they run.";
 
 /// What the help says of `judge`.
 const JUDGE_ABOUT: &str = "Judges predicates on a computation that is recorded in files";
@@ -35,6 +37,23 @@ const CHECK_ABOUT: &str =
 /// What the help of `check` ends with.
 const CHECK_AFTER: &str =
     "What is found is written to the standard output. The status is 0 if nothing in it is bad, and else 1.";
+
+/// What the help says of `serve`.
+const SERVE_ABOUT: &str =
+    "Judges predicates on a computation whose processes send their events over TCP";
+
+/// What the help of `serve` ends with.
+const SERVE_AFTER: &str =
+    "As many connections to the port, on this machine alone, as the document has processes are the streams. A report \
+is written to the standard output once all of them have ended and all watchers were answered. The status is 0 if \
+the session is judged, 1 if it is refused, 2 if the arguments are refused, 3 if the document can't be read, a port \
+can't be bound, a stream can't be accepted or the output can't be written, and 4 if memory runs out.";
+
+/// The greatest port of streams: the next one is that of the watchers.
+const PORT_LIMIT: u64 = 65_534;
+
+/// The greatest number of watchers.
+const WATCHER_LIMIT: u64 = 64;
 
 /// An argument that must be given, the name of one file.
 fn file_argument<'a>(alloc: Global, id: &'a str, help: &'a str) -> Arg<'a>
@@ -77,6 +96,51 @@ fn check_command<'a>(alloc: Global) -> Result<Command<'a>, AllocError>
         .arg(streams_argument(alloc))
 }
 
+/// An option with a number in this range.
+fn number_option<'a>(alloc: Global, id: &'a str, name: &'a str, least: u64, most: u64) -> Arg<'a>
+    ensures rule { rule_of result ≡ number_rule id.now name.now least most }
+    ensures local { result.global ≡ false }
+{
+    Arg::new(alloc, id)
+        .long(name)
+        .value_parser(ValueParser::Unsigned(least, most))
+}
+
+/// The option that names the streams' port.
+fn port_option<'a>(alloc: Global) -> Arg<'a>
+    ensures rule { rule_of result ≡ port_rule }
+    ensures local { result.global ≡ false }
+{
+    number_option(alloc, "PORT", "port", 1, PORT_LIMIT)
+        .required(true)
+        .help("The port, from 1 to 65534, on which the streams are accepted")
+}
+
+/// The option that says how many watchers there are.
+fn watchers_option<'a>(alloc: Global) -> Arg<'a>
+    ensures rule { rule_of result ≡ watchers_rule }
+    ensures local { result.global ≡ false }
+{
+    number_option(alloc, "WATCHERS", "watchers", 0, WATCHER_LIMIT)
+        .default_value("0")
+        .help(
+            "How many connections to the next port, at most 64, are shown how far the streams are read",
+        )
+}
+
+/// The command line of a server.
+fn serve_command<'a>(alloc: Global) -> Result<Command<'a>, AllocError>
+    ensures app { IfOk result (λ command. app_of command ≡ serve_app) }
+    ensures local { IfOk result (λ command. (out-Command command).has_globals ≡ false) }
+{
+    Command::new(alloc, "serve")
+        .about(SERVE_ABOUT)
+        .after_help(SERVE_AFTER)
+        .arg(file_argument(alloc, "SPEC", "The session document"))?
+        .arg(port_option(alloc))?
+        .arg(watchers_option(alloc))
+}
+
 /// The program's command line.
 fn program_command<'a>(alloc: Global) -> Result<Command<'a>, AllocError>
     ensures { IfOk result (λ command. app_of command ≡ monitor_app) }
@@ -87,7 +151,8 @@ fn program_command<'a>(alloc: Global) -> Result<Command<'a>, AllocError>
         .bin_name("monitor")?
         .disable_help_subcommand(true)
         .subcommand(judge_command(alloc)?)?
-        .subcommand(check_command(alloc)?)
+        .subcommand(check_command(alloc)?)?
+        .subcommand(serve_command(alloc)?)
 }
 
 /// The names of a session's files, if all are there.
@@ -139,7 +204,69 @@ fn check_request<'a>(
     Ok(Some(Request::Check(report, names)))
 }
 
-/// What is asked for, by what the parser found, if no name of a file is missing.
+/// The number that this text is, if it is one of 64 bits.
+fn number_in(text: &str) -> Option<u64>
+    ensures some { IfSome result (IsNumberText text.now) }
+    ensures none { result ≡ None → (n : ℕ) → ¬ IsNumberText text.now n }
+{
+    match u64::from_str_radix(text, 10) {
+        Ok(number) => Some(number),
+        Err(_) => None,
+    }
+}
+
+/// The number of an option, if it has one.
+fn number_of(matches: &ArgMatches<'_>, id: &str) -> Option<u64>
+    ensures some { IfSome result (NamesNumber (rows_of (found_of matches.now)) id.now) }
+    ensures none { result ≡ None → (n : ℕ) → ¬ NamesNumber (rows_of (found_of matches.now)) id.now n }
+{
+    let Some(text) = matches.get_str(id) else {
+        return None;
+    };
+    number_in(text)
+}
+
+/// The port of this number, unless it is 0 or the last one.
+fn port_of(number: u64) -> Option<u16>
+    ensures same { IfSome result (λ port. port ≡ number) }
+    ensures in_range { IfSome result IsPort }
+    ensures none { result ≡ None → ¬ IsPort number }
+{
+    if number < 1 || number > PORT_LIMIT {
+        return None;
+    }
+    Some(number as u16)
+}
+
+/// What the arguments of `serve` ask for, if all are there.
+fn serve_request<'a>(matches: &ArgMatches<'a>) -> Option<Request<'a>>
+    ensures { (arguments : List Text) → AreTaken arguments
+        → AreOf (codes "serve") arguments (rows_of (found_of matches.now))
+        → AsksFor arguments (asked_view result) }
+{
+    let Some(spec) = matches.get_str("SPEC") else {
+        return None;
+    };
+    let Some(number) = number_of(matches, "PORT") else {
+        return None;
+    };
+    let Some(port) = port_of(number) else {
+        return None;
+    };
+    let Some(watchers) = number_of(matches, "WATCHERS") else {
+        return None;
+    };
+    if watchers > WATCHER_LIMIT {
+        return None;
+    }
+    Some(Request::Serve(Service {
+        spec,
+        port,
+        watchers,
+    }))
+}
+
+/// What is asked for, by what the parser found, if no name of a file and no number is missing.
 fn request_of<'a>(
     alloc: Global,
     matches: &ArgMatches<'a>,
@@ -154,16 +281,19 @@ fn request_of<'a>(
     if let Some(found) = matches.subcommand_matches("check") {
         return check_request(alloc, found);
     }
+    if let Some(found) = matches.subcommand_matches("serve") {
+        return Ok(serve_request(found));
+    }
     Ok(Some(Request::Bundle))
 }
 
-/// The error of a command if a name of a file lacks.
-fn missing_name(command: &mut Command<'_>) -> Error
+/// The error of a command if a name of a file or a number lacks.
+fn missing_argument(command: &mut Command<'_>) -> Error
     ensures { kind_of result ≢ ErrorKind.OutOfMemory → kind_of result ≡ ErrorKind.MissingRequiredArgument }
 {
     match command.error(
         ErrorKind::MissingRequiredArgument,
-        "a name of a file is missing",
+        "a name of a file or a number is missing",
     ) {
         Ok(error) => error,
         Err(refused) => Error::from(refused),
@@ -187,7 +317,7 @@ pub(crate) fn parse<'a>(alloc: Global, arguments: &'a [String]) -> Result<Reques
         Err(error) => return Err(error),
     };
     let Some(request) = request_of(alloc, &matches)? else {
-        return Err(missing_name(&mut command));
+        return Err(missing_argument(&mut command));
     };
     Ok(request)
 }

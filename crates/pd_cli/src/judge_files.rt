@@ -21,13 +21,11 @@ use std::thread::Threads;
 ///
 /// # Errors
 /// `Memory` leaves nothing written. `Write` leaves a part of the report written, or all of it if only the flush failed.
-fn judge_read<S: RandomSource + Threads + Wait + Sync, R: ByteSource + Send + Drop, O: Write>(
-    rt: &S,
-    alloc: Global,
-    spec: &[u8],
-    streams: Vec<R>,
-    output: &mut O,
-) -> Result<bool, EngineFault>
+pub(crate) fn judge_read<
+    S: RandomSource + Threads + Wait + Sync,
+    R: ByteSource + Send + Drop,
+    O: Write,
+>(rt: &S, alloc: Global, spec: &[u8], streams: Vec<R>, output: &mut O) -> Result<bool, EngineFault>
     requires { All (λ stream. R.has_ended stream ≡ false) streams.items }
     ensures written { FilesJudgementLeaves (Some spec.now) (map R.remaining streams.items) (ending_view result)
         (O.contents output.old) (O.contents output.new) }

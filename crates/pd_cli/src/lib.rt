@@ -4,8 +4,9 @@
 //! output. If the status is 0 or 1, what was written is the text of the report that the input's bytes make: judged at
 //! 0, refused at 1. Further arguments go to the command line's parser. `judge` with the names of files does the same
 //! with a session document and streams that stand in files. `check` with the names of files checks a report's evidence:
-//! at status 0 nothing that it found is bad, and at 1 something is. Whatever fails is reported in one line on the
-//! errors. What each status says stands in `pd_judgement/specs/Statuses.antt`.
+//! at status 0 nothing that it found is bad, and at 1 something is. `serve` with a port judges streams that come by
+//! connections to that port. Whatever fails is reported in one line on the errors. What each status says stands in
+//! `pd_judgement/specs/Statuses.antt`.
 //!
 //! - `program`: one run of the program, from its arguments to its exit status
 //! - `arguments`: the command line
@@ -14,6 +15,10 @@
 //! - `bundle`: judges the bundle on the input
 //! - `judge_files`: judges the session in files
 //! - `check_files`: checks a report against the session in files
+//! - `server`: judges a session whose streams come by connections
+//! - `watchers`: shows watchers how far the streams are read
+//! - `network`: where connections come from
+//! - `service_fault`: why a server gives no report
 //! - `session_files`: opens and reads the files of a session
 //! - `file_source`: where files are read
 //! - `outcomes`: how the program judges, and which outcome is a success
@@ -27,15 +32,20 @@ mod check_files;
 mod file_source;
 mod judge_files;
 mod line;
+mod network;
 mod outcomes;
 mod parser_error;
 mod program;
 mod request;
+mod server;
+mod service_fault;
 mod session_files;
 mod status;
 #[cfg(test)]
 mod tests;
+mod watchers;
 
 pub use file_source::FileSource;
+pub use network::Network;
 pub use parser_error::report_unread_arguments;
 pub use program::run;

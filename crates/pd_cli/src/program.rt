@@ -1,6 +1,6 @@
 //! One run of the program.
 ghost use Rattle.pd_cli.specs.Arguments.{AsksFor};
-ghost use Rattle.pd_judgement.specs.Statuses.{CheckLeaves, Ends, EndsAsAsked, FilesJudgementLeaves, JudgementLeaves};
+ghost use Rattle.pd_judgement.specs.Statuses.{CheckLeaves, Ends, EndsAsAsked, FilesJudgementLeaves, JudgementLeaves, ServiceLeaves};
 ghost use Rattle.pd_judgement.specs.Writes.{WritesTruthOfBundle};
 ghost use Rattle.std.specs.Prelude.{◌≡◌, ◌≤◌, drop, false, map, vec_len};
 
@@ -9,9 +9,11 @@ use super::bundle::judge_input;
 use super::check_files::check_files;
 use super::file_source::FileSource;
 use super::judge_files::judge_files;
+use super::network::Network;
 use super::parser_error::report_parser_error;
-use super::request::{Request, SessionNames};
-use super::status::report_end;
+use super::request::{Request, Service, SessionNames};
+use super::server::serve;
+use super::status::{report_end, report_service_end};
 use pd_engine::ByteSource;
 use std::alloc::Global;
 use std::io::Write;
@@ -36,6 +38,30 @@ fn run_check<S: RandomSource + Threads + Wait + Sync, F: FileSource, O: Write, E
 {
     let end = check_files(rt, files, alloc, report, names, output);
     report_end(&end, errors)
+}
+
+/// Judges a session whose streams come by connections, and gives the exit status.
+fn run_service<
+    S: RandomSource + Threads + Wait + Sync,
+    F: FileSource,
+    N: Network + Sync,
+    O: Write,
+    E: Write,
+>(
+    rt: &S,
+    files: &F,
+    network: &N,
+    alloc: Global,
+    service: &Service<'_>,
+    output: &mut O,
+    errors: &mut E,
+) -> u8
+    ensures { Ends (λ ending. ServiceLeaves (F.bytes_of files.now service.now.spec.now)
+        (N.may_give network.now service.now.port) ending (O.contents output.old) (O.contents output.new))
+        result (E.contents errors.old) (E.contents errors.new) }
+{
+    let end = serve(rt, files, network, alloc, service, output);
+    report_service_end(&end, errors)
 }
 
 /// Judges the session in files, and gives the exit status.
@@ -75,12 +101,14 @@ fn run_bundle<S: RandomSource + Threads + Wait + Sync, I: ByteSource + Drop, O: 
 fn run_arguments<
     S: RandomSource + Threads + Wait + Sync,
     F: FileSource,
+    N: Network + Sync,
     I: ByteSource + Drop,
     O: Write,
     E: Write,
 >(
     rt: &S,
     files: &F,
+    network: &N,
     alloc: Global,
     arguments: &[String],
     input: I,
@@ -89,7 +117,8 @@ fn run_arguments<
 ) -> u8
     requires { I.has_ended input ≡ false }
     ensures ends { EndsAsAsked (AsksFor (map (λ argument. argument.bytes.items) arguments.now))
-        (I.remaining input) (F.bytes_of files.now) result (O.contents output.old) (O.contents output.new)
+        (I.remaining input) (F.bytes_of files.now) (N.may_give network.now) result
+        (O.contents output.old) (O.contents output.new)
         (E.contents errors.old) (E.contents errors.new) }
 {
     match parse(alloc, arguments) {
@@ -97,6 +126,9 @@ fn run_arguments<
         Ok(Request::Judge(names)) => run_files(rt, files, alloc, &names, output, errors),
         Ok(Request::Check(report, names)) => {
             run_check(rt, files, alloc, report, &names, output, errors)
+        }
+        Ok(Request::Serve(service)) => {
+            run_service(rt, files, network, alloc, &service, output, errors)
         }
         Err(error) => report_parser_error(&error, output, errors),
     }
@@ -107,18 +139,21 @@ fn run_arguments<
 /// With no further argument a bundle is read from `input`, and its report is written to `output`. Further arguments are
 /// parsed: `judge`, with the names of the files of a session document and one stream or more, judges these and writes
 /// their report to `output`; `check`, with the names of the files of a session document, a report and one stream or
-/// more, checks that report and writes what is found to `output`; the help that they ask for is written to `output`,
+/// more, checks that report and writes what is found to `output`; `serve`, with the name of a session document's file
+/// and a port, judges streams that come by connections; the help that they ask for is written to `output`,
 /// and what is wrong with them to `errors`. `errors` also has one line for each fault; what of it can't be written is
 /// left off.
 pub fn run<
     S: RandomSource + Threads + Wait + Sync,
     F: FileSource,
+    N: Network + Sync,
     I: ByteSource + Drop,
     O: Write,
     E: Write,
 >(
     rt: &S,
     files: &F,
+    network: &N,
     alloc: Global,
     arguments: Vec<String>,
     input: I,
@@ -128,7 +163,8 @@ pub fn run<
     requires open { I.has_ended input ≡ false }
     // The exit status says what is left on the output and on the errors, by what the arguments after the first ask for.
     ensures ends { EndsAsAsked (AsksFor (drop 1 (map (λ argument. argument.bytes.items) arguments.items)))
-        (I.remaining input) (F.bytes_of files.now) result (O.contents output.old) (O.contents output.new)
+        (I.remaining input) (F.bytes_of files.now) (N.may_give network.now) result
+        (O.contents output.old) (O.contents output.new)
         (E.contents errors.old) (E.contents errors.new) }
     // With no further argument that is the report of the bundle on the input.
     ensures bundle { vec_len arguments ≤ 1 → Ends (λ ending. JudgementLeaves (I.remaining input) ending
@@ -141,5 +177,14 @@ pub fn run<
     if arguments.len() <= 1 {
         return run_bundle(rt, alloc, input, output, errors);
     }
-    run_arguments(rt, files, alloc, &arguments[1..], input, output, errors)
+    run_arguments(
+        rt,
+        files,
+        network,
+        alloc,
+        &arguments[1..],
+        input,
+        output,
+        errors,
+    )
 }

@@ -9,6 +9,17 @@ pub(crate) struct SessionNames<'a> {
     pub(crate) streams: Vec<&'a str>,
 }
 
+/// What a server is asked for.
+#[derive(Drop)]
+pub(crate) struct Service<'a> {
+    /// The name of the session document's file.
+    pub(crate) spec: &'a str,
+    /// The port on which the streams are accepted, from 1 to 65,534.
+    pub(crate) port: u16,
+    /// How many watchers are accepted on the next port, at most 64.
+    pub(crate) watchers: u64,
+}
+
 /// What the program is asked for.
 #[derive(Drop)]
 pub(crate) enum Request<'a> {
@@ -18,4 +29,6 @@ pub(crate) enum Request<'a> {
     Judge(SessionNames<'a>),
     /// To check the report in the file of this name against a session document and streams.
     Check(&'a str, SessionNames<'a>),
+    /// To judge a session document and streams that come by connections.
+    Serve(Service<'a>),
 }

@@ -1,9 +1,10 @@
 //! Exit statuses, and what is reported on the errors.
-ghost use Rattle.pd_cli.specs.Faults.{ending_view, failure_view};
-ghost use Rattle.pd_judgement.specs.Statuses.{IsLineOf, Reports, WritesUpTo, line_of_failure, status_of, status_of_failure};
+ghost use Rattle.pd_cli.specs.Faults.{ending_view, failure_view, service_ending_view};
+ghost use Rattle.pd_judgement.specs.Statuses.{IsLineOf, NetworkFailure, Reports, WritesUpTo, line_of_failure, status_of, status_of_failure};
 ghost use Rattle.std.specs.Prelude.{◌≡◌};
 
 use super::line::write_line;
+use super::service_fault::ServiceFault;
 use pd_engine::EngineFault;
 use std::io::Write;
 
@@ -16,7 +17,8 @@ pub(crate) const REFUSED: u8 = 1;
 /// The arguments are refused.
 pub(crate) const MISUSED: u8 = 2;
 
-/// The input or a file can't be read or is too long, or the output can't be written.
+/// The input or a file can't be read or is too long, a port can't be bound or a stream not be accepted, or the output
+/// can't be written.
 pub(crate) const FAILED: u8 = 3;
 
 /// Memory runs out.
@@ -63,5 +65,27 @@ pub(crate) fn report_end<E: Write>(end: &Result<bool, EngineFault>, errors: &mut
         Ok(true) => SUCCESS,
         Ok(false) => REFUSED,
         Err(fault) => report_fault(fault, errors),
+    }
+}
+
+/// Writes the line that reports that a port can't be bound or a stream not be accepted, and gives the exit status.
+fn report_network<E: Write>(errors: &mut E) -> u8
+    ensures status { result ≡ status_of_failure NetworkFailure }
+    ensures line { WritesUpTo (IsLineOf NetworkFailure) (E.contents errors.old) (E.contents errors.new) }
+{
+    write_line(b"monitor: network\n", errors);
+    FAILED
+}
+
+/// The exit status by how a server's run ended, whose fault is reported.
+pub(crate) fn report_service_end<E: Write>(end: &Result<bool, ServiceFault>, errors: &mut E) -> u8
+    ensures status { result ≡ status_of (service_ending_view end.now) }
+    ensures errors { Reports (service_ending_view end.now) (E.contents errors.old) (E.contents errors.new) }
+{
+    match end {
+        Ok(true) => SUCCESS,
+        Ok(false) => REFUSED,
+        Err(ServiceFault::Engine(fault)) => report_fault(fault, errors),
+        Err(ServiceFault::Network) => report_network(errors),
     }
 }

@@ -2,6 +2,8 @@
 mod checks;
 mod folders;
 mod judgements;
+mod networks;
+mod servers;
 mod writers;
 
 use super::status::{FAILED, MISUSED, NO_MEMORY, REFUSED, SUCCESS};
@@ -45,6 +47,13 @@ A report is written to the standard output. The status is 0 if the session is ju
 also because a stream can't be read, 2 if the arguments are refused, 3 if a file can't be opened, the document \
 can't be read or the output can't be written, and 4 if memory runs out.\n";
 
+/// What the help of `serve` says.
+const SERVE_HELP: &str =
+    "Judges predicates on a computation whose processes send their events over TCP\n\n\
+Usage: monitor serve [OPTIONS] --port <PORT> <SPEC>\n\n\
+Arguments:\n  <SPEC>  The session document\n\n\
+Options:\n";
+
 /// These arguments, as the program is given them.
 fn owned(rt: &HostRuntime, arguments: &[&str]) -> Result<Vec<String>, AllocError> {
     let alloc = rt.alloc();
@@ -65,7 +74,7 @@ fn run_to<T: RandomSource + Threads + Wait + Sync, O: Write, E: Write>(
     errors: &mut E,
 ) -> Result<u8, AllocError> {
     let given = owned(rt, arguments)?;
-    Ok(run(threads, rt, rt.alloc(), given, input, output, errors))
+    Ok(run(threads, rt, rt, rt.alloc(), given, input, output, errors))
 }
 
 #[test]
@@ -98,7 +107,7 @@ fn sessions_end_by_their_reports(rt: HostRuntime) -> Result<(), Fail> {
 
 #[test]
 fn help_is_written_to_the_output(rt: HostRuntime) -> Result<(), Fail> {
-    let cases: [(&str, &[&str], &str); 3] = [
+    let cases: [(&str, &[&str], &str); 4] = [
         (
             "of the program",
             &["monitor", "--help"],
@@ -110,6 +119,7 @@ fn help_is_written_to_the_output(rt: HostRuntime) -> Result<(), Fail> {
             JUDGE_HELP,
         ),
         ("of a check", &["monitor", "check", "--help"], CHECK_HELP),
+        ("of a server", &["monitor", "serve", "--help"], SERVE_HELP),
     ];
     for (name, arguments, text) in cases {
         let mut output = Vec::new(rt.alloc());
@@ -124,7 +134,7 @@ fn help_is_written_to_the_output(rt: HostRuntime) -> Result<(), Fail> {
 
 #[test]
 fn arguments_are_refused(rt: HostRuntime) -> Result<(), Fail> {
-    let cases: [(&str, &[&str]); 9] = [
+    let cases: [(&str, &[&str]); 18] = [
         ("another command", &["monitor", "judges"]),
         ("another command with a name", &["monitor", "judges", "x"]),
         ("a judgement of nothing", &["monitor", "judge"]),
@@ -139,6 +149,41 @@ fn arguments_are_refused(rt: HostRuntime) -> Result<(), Fail> {
         (
             "a check with an option",
             &["monitor", "check", "--x", "y", "z"],
+        ),
+        ("a server of nothing", &["monitor", "serve"]),
+        ("a server with no port", &["monitor", "serve", "x"]),
+        (
+            "a server with no document",
+            &["monitor", "serve", "--port", "7411"],
+        ),
+        ("port 0", &["monitor", "serve", "x", "--port", "0"]),
+        (
+            "the last port",
+            &["monitor", "serve", "x", "--port", "65535"],
+        ),
+        (
+            "a port that is no number",
+            &["monitor", "serve", "x", "--port", "http"],
+        ),
+        (
+            "a negative port",
+            &["monitor", "serve", "x", "--port", "-1"],
+        ),
+        (
+            "65 watchers",
+            &[
+                "monitor",
+                "serve",
+                "x",
+                "--port",
+                "7411",
+                "--watchers",
+                "65",
+            ],
+        ),
+        (
+            "a server with a stream's file",
+            &["monitor", "serve", "x", "y", "--port", "7411"],
         ),
     ];
     for (name, arguments) in cases {

@@ -10,4 +10,6 @@ pub mod DocumentRefusals
 pub mod RefusedPlaces
 pub mod PrintedPaths
 pub mod Ends
+pub mod SnapshotTexts
 pub mod Zips
+pub mod WalkAnswers

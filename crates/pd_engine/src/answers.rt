@@ -1,31 +1,32 @@
 //! The answers of a session.
-ghost use Rattle.pd_definitely.specs.Answers as avoidances;
-ghost use Rattle.pd_engine.specs.Paths.{HasProcessesBelow};
+ghost use Rattle.pd_engine.specs.Paths.{ArePreds, HasProcessesBelow};
 ghost use Rattle.pd_format.specs.Names.{name_of_process};
 ghost use Rattle.pd_judgement.specs.Judgements.{IsAnswered, printed_definitely, printed_possibly};
-ghost use Rattle.pd_possibly.specs.Answers.{possibly_answer_view};
+ghost use Rattle.pd_model.specs.Answers.{IsDefinitelyAnswer, IsPossiblyAnswer};
+ghost use Rattle.pd_model.specs.Predicates.{test_of};
+ghost use Rattle.pd_pred.specs.Views.{predicate_view};
 ghost use Rattle.pd_report.specs.Views as views;
 ghost use Rattle.pd_spec.specs.Named.{named_view};
 ghost use Rattle.pd_spec.specs.Views.{document_view};
+ghost use Rattle.pd_walk.specs.Answers.{definitely_answer_view, possibly_answer_view};
 ghost use Rattle.std.specs.List.{AllZip};
 ghost use Rattle.std.specs.Prelude.{◌≡◌, ◌<◌, All, IfOk, length, map, string_bytes};
 
 use pd_clock::Computation;
-use pd_definitely::{DefinitelyAnswer, definitely};
 use pd_level::Gate;
-use pd_possibly::{PossiblyAnswer, possibly};
-use pd_pred::Names;
+use pd_pred::{Names, Pred};
 use pd_report::{Answer, Definitely, Possibly};
 use pd_spec::{NamedPred, Spec};
+use pd_walk::{Answers, DefinitelyAnswer, PossiblyAnswer, answer_all};
 use std::alloc::{AllocError, Global};
 
-/// The answer for each predicate.
+/// The answer for each predicate, by one walk. `_workers` and the gate change nothing yet.
 pub(crate) fn answers_of<G: Gate + Sync>(
     alloc: Global,
     spec: &Spec,
     computation: &Computation<'_>,
-    workers: u64,
-    gate: &G,
+    _workers: u64,
+    _gate: &G,
 ) -> Result<Vec<Answer>, AllocError>
     requires { length computation.now.events ≡ length (document_view spec.now).names }
     ensures { IfOk result (λ answers. AllZip
@@ -33,33 +34,48 @@ pub(crate) fn answers_of<G: Gate + Sync>(
         (document_view spec.now).predicates (map views.answer_view answers.items)) }
 {
     let asked = spec.predicates();
+    let preds = preds_of(alloc, asked)?;
+    let found = answer_all(alloc, computation, &preds, spec.width())?;
     let mut answers = Vec::new(alloc);
-    for predicate in asked {
-        answers.push(answer(alloc, spec, predicate, computation, workers, gate)?)?;
+    for i in 0..asked.len() {
+        answers.push(answer(alloc, spec, &asked[i], computation, &found[i])?)?;
     }
     Ok(answers)
 }
 
-/// The answer for one predicate.
-fn answer<G: Gate + Sync>(
+/// The predicates without their names.
+fn preds_of(alloc: Global, asked: &[NamedPred]) -> Result<Vec<&Pred>, AllocError>
+    ensures { IfOk result (λ preds. ArePreds asked.now preds.items) }
+{
+    let mut preds = Vec::with_capacity(alloc, asked.len())?;
+    for i in 0..asked.len() {
+        preds.push(&asked[i].pred)?;
+    }
+    Ok(preds)
+}
+
+/// The answer for one predicate as a report gives it.
+fn answer(
     alloc: Global,
     spec: &Spec,
     asked: &NamedPred,
-    computation: &Computation<'_>,
-    workers: u64,
-    gate: &G,
+    _computation: &Computation<'_>,
+    found: &Answers,
 ) -> Result<Answer, AllocError>
-    requires { length computation.now.events ≡ length (document_view spec.now).names }
-    ensures { IfOk result (λ answer. IsAnswered (document_view spec.now).names computation.now
+    requires names { length _computation.now.events ≡ length (document_view spec.now).names }
+    requires possibly { IsPossiblyAnswer _computation.now.events
+        (test_of _computation.now (predicate_view asked.now.pred)) (document_view spec.now).width
+        (possibly_answer_view found.now.possibly) }
+    requires definitely { IsDefinitelyAnswer _computation.now.events
+        (test_of _computation.now (predicate_view asked.now.pred)) (document_view spec.now).width
+        (definitely_answer_view found.now.definitely) }
+    ensures { IfOk result (λ answer. IsAnswered (document_view spec.now).names _computation.now
         (document_view spec.now).width (named_view asked.now) (views.answer_view answer)) }
 {
-    let width = spec.width();
-    let found = possibly(alloc, computation, &asked.pred, width, workers, gate)?;
-    let avoided = definitely(alloc, computation, &asked.pred, width, workers, gate)?;
     Ok(Answer {
         name: asked.name.clone()?,
-        possibly: possibly_for_report(alloc, &found)?,
-        definitely: definitely_for_report(alloc, spec.names(), &avoided)?,
+        possibly: possibly_for_report(alloc, &found.possibly)?,
+        definitely: definitely_for_report(alloc, spec.names(), &found.definitely)?,
     })
 }
 
@@ -103,7 +119,7 @@ fn definitely_for_report(
 ) -> Result<Definitely, AllocError>
     requires { HasProcessesBelow (length names.now) answer.now }
     ensures { IfOk result (λ definitely. views.definitely_view definitely
-        ≡ printed_definitely names.now (avoidances.definitely_answer_view answer.now)) }
+        ≡ printed_definitely names.now (definitely_answer_view answer.now)) }
 {
     match answer {
         DefinitelyAnswer::Yes(level) => Ok(Definitely::Yes(*level)),

@@ -12,7 +12,7 @@ use super::judges::write_report;
 use super::reports::streams_report;
 use super::{EngineFault, Outcome, read_upto, within_limit};
 use pd_format::BUNDLE_BYTE_LIMIT;
-use pd_gather::{ByteSource, WholeBytes};
+use pd_gather::{ByteSource, NoObserver, WholeBytes};
 use pd_level::Gate;
 use pd_report::Report;
 use std::alloc::{AllocError, Global};
@@ -65,7 +65,15 @@ fn bundle_report<S: RandomSource + Threads + Wait + Sync, G: Gate + Sync>(
 {
     let parts = parts(alloc, bundle)?;
     let streams = whole_streams(alloc, &parts[1..])?;
-    streams_report(rt, alloc, parts[0], streams, workers, gate)
+    streams_report(
+        rt,
+        alloc,
+        parts[0],
+        streams,
+        workers,
+        gate,
+        None::<&NoObserver>,
+    )
 }
 
 /// Reads a bundle, judges it, and writes its report. Its first part is the document, and each of the others is a whole

@@ -9,7 +9,7 @@ ghost use Rattle.std.specs.Prelude.{◌≡◌, ◌⊎◌, ℕ, All, IfErr, IfOk,
 use super::outcome::report_outcome;
 use super::reports::streams_report;
 use super::{EngineFault, Outcome};
-use pd_gather::ByteSource;
+use pd_gather::{ByteSource, NoObserver, Observer};
 use pd_level::Gate;
 use pd_report::{Report, write};
 use std::alloc::Global;
@@ -70,6 +70,46 @@ pub fn judge<
         (W.contents writer.new)) }
     ensures err { IfErr result (λ fault. (fault ≡ EngineFault.Memory) ⊎ (fault ≡ EngineFault.Write)) }
 {
-    let report = streams_report(rt, alloc, spec, readers, workers, gate)?;
+    let report = streams_report(rt, alloc, spec, readers, workers, gate, None::<&NoObserver>)?;
+    write_report(alloc, &report, writer)
+}
+
+/// Judges a session as `judge` does, while the observer watches the streams that are read, on one thread more. It
+/// writes once all threads are joined, the observer's too. The observer isn't run if the document is refused, or if the
+/// streams are too many; if the system refuses it its thread, it runs once the streams are read. What is written
+/// is the report of what the readers gave, whatever it does.
+///
+/// # Errors
+/// `Memory` leaves nothing written. `Write` leaves a prefix of the report written, and not all of it.
+pub fn judge_watched<
+    S: RandomSource + Threads + Wait + Sync,
+    R: ByteSource + Send + Drop,
+    W: Write,
+    G: Gate + Sync,
+    O: Observer + Sync,
+>(
+    rt: &S,
+    alloc: Global,
+    spec: &[u8],
+    readers: Vec<R>,
+    workers: u64,
+    gate: &G,
+    observer: &O,
+    writer: &mut W,
+) -> Result<Outcome, EngineFault>
+    requires open { All (λ r. R.has_ended r ≡ false) readers.items }
+    // What is written is what `judge` writes of what the readers gave.
+    ensures written { Writes (IsTextOfStreams spec.now (map R.remaining readers.items) (judged_as result))
+        (call_end result) (W.contents writer.old) (W.contents writer.new) }
+    ensures whole { R.never_fails ≡ true → (streams : List (List ℕ)) → map R.remaining readers.items ≡ map Some streams
+        → Writes (IsReportTextOf spec.now (ended_streams streams) (judged_as result)) (call_end result)
+        (W.contents writer.old) (W.contents writer.new) }
+    ensures headline { R.never_fails ≡ true → IfOk result (λ outcome. (streams : List (List ℕ))
+        → map R.remaining readers.items ≡ map Some streams
+        → WritesTruth spec.now (ended_streams streams) (outcome ≡ outcomes.Judged) (W.contents writer.old)
+        (W.contents writer.new)) }
+    ensures err { IfErr result (λ fault. (fault ≡ EngineFault.Memory) ⊎ (fault ≡ EngineFault.Write)) }
+{
+    let report = streams_report(rt, alloc, spec, readers, workers, gate, Some(observer))?;
     write_report(alloc, &report, writer)
 }

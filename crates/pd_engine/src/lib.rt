@@ -5,6 +5,9 @@
 //! exactly the text that the definitions give, whole, or the call fails. If no level is over the width, it tells the
 //! truth of each predicate. Only a refused allocation is reported as out of memory.
 //!
+//! While the streams are read an observer may watch the register of their steps, and write snapshots of it
+//! (`judge_watched`, `write_snapshot`); the report doesn't depend on it.
+//!
 //! - `document`: reads the document of a session
 //! - `sessions`: the traces of a session
 //! - `computations`: the computation of a session
@@ -13,6 +16,7 @@
 //! - `judges`: judges a session, and writes its report
 //! - `bundle_judges`: judges a bundle, and writes its report
 //! - `checks`: checks a report's evidence
+//! - `snapshots`: writes what is shown of the streams while they are read
 //! - `bundle`: the parts of a bundle
 //! - `input`: reads a source up to a limit
 //! - `refusal`: refusals in the words of a report
@@ -34,6 +38,7 @@ mod outcome;
 mod refusal;
 mod reports;
 mod sessions;
+mod snapshots;
 #[cfg(test)]
 mod tests;
 mod unanswered;
@@ -42,10 +47,13 @@ pub use bundle_judges::judge_bundle;
 pub use checks::check;
 pub use fault::EngineFault;
 pub use input::read_upto;
-pub use judges::judge;
+pub use judges::{judge, judge_watched};
 pub use outcome::Outcome;
 pub use pd_check::{Checked, Finding, Verdict};
-pub use pd_gather::{ByteSource, within_limit};
+pub use pd_gather::{ByteSource, NoObserver, Observer, within_limit};
 pub use pd_level::{Gate, NoGate};
+pub use pd_register::{Register, Row, RowState, Snapshot, Watcher};
 pub use pd_report::{Answer, Definitely, Possibly, Refusal, Report, text};
+pub use pd_spec::{Spec, SpecFault};
 pub use reports::report_of;
+pub use snapshots::write_snapshot;

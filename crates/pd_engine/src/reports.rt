@@ -17,7 +17,7 @@ use super::computations::computation_of;
 use super::document::read_document;
 use super::sessions::traces_of;
 use super::unanswered::{Unanswered, settled};
-use pd_gather::{ByteSource, Gathered, read_streams};
+use pd_gather::{ByteSource, Gathered, Observer, read_streams_watched};
 use pd_level::Gate;
 use pd_report::Report;
 use pd_spec::Spec;
@@ -82,11 +82,12 @@ pub fn report_of<S: RandomSource, G: Gate + Sync>(
 }
 
 /// The report of a session of the document in these bytes and of what the streams' readers give, or why it comes to no
-/// answers.
+/// answers. The observer, if there is one, watches while the streams are read.
 fn session_report<
     S: RandomSource + Threads + Wait + Sync,
     R: ByteSource + Send + Drop,
     G: Gate + Sync,
+    O: Observer + Sync,
 >(
     rt: &S,
     alloc: Global,
@@ -94,6 +95,7 @@ fn session_report<
     readers: Vec<R>,
     workers: u64,
     gate: &G,
+    observer: Option<&O>,
 ) -> Result<Report, Unanswered>
     requires open { All (λ r. R.has_ended r ≡ false) readers.items }
     ensures given { IfSome (given_report result)
@@ -102,12 +104,13 @@ fn session_report<
         (IsReportOfWhole document.now (map R.remaining readers.items)) }
 {
     let spec = read_document(alloc, document)?;
-    let gathered = read_streams(rt, alloc, &spec, readers)?;
+    let gathered = read_streams_watched(rt, alloc, &spec, readers, observer)?;
     answered(rt, alloc, &spec, gathered, workers, gate)
 }
 
 /// The report of a session of the document in these bytes and of what the streams' readers give: the first refusal, or
-/// an answer for each predicate. A read that fails is a fault of its stream.
+/// an answer for each predicate. A read that fails is a fault of its stream. The observer, if there is one, watches
+/// while the streams are read.
 ///
 /// # Errors
 /// `Memory`.
@@ -115,6 +118,7 @@ pub(crate) fn streams_report<
     S: RandomSource + Threads + Wait + Sync,
     R: ByteSource + Send + Drop,
     G: Gate + Sync,
+    O: Observer + Sync,
 >(
     rt: &S,
     alloc: Global,
@@ -122,6 +126,7 @@ pub(crate) fn streams_report<
     readers: Vec<R>,
     workers: u64,
     gate: &G,
+    observer: Option<&O>,
 ) -> Result<Report, EngineFault>
     requires open { All (λ r. R.has_ended r ≡ false) readers.items }
     ensures given { IfOk result (λ report.
@@ -130,5 +135,5 @@ pub(crate) fn streams_report<
         IsReportOfWhole document.now (map R.remaining readers.items) (report_view report)) }
     ensures err { IsOkUnless result EngineFault.Memory }
 {
-    settled(session_report(rt, alloc, document, readers, workers, gate))
+    settled(session_report(rt, alloc, document, readers, workers, gate, observer))
 }

@@ -1,4 +1,7 @@
-//! Parts, reads, judgements and checks that are known.
+//! Parts, reads, judgements, checks and snapshots that are known.
+mod snapshots;
+mod watched;
+
 use super::bundle::parts;
 use super::{EngineFault, NoGate, Outcome, check, judge, judge_bundle, read_upto, within_limit};
 use pd_format::BUNDLE_BYTE_LIMIT;

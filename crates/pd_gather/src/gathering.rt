@@ -20,7 +20,7 @@ use std::sync::Wait;
 use std::thread::{Threads, join_mut};
 
 /// What each stream gave, if memory didn't run out.
-type Readings = Result<Vec<Result<Trace, StreamFault>>, AllocError>;
+pub(super) type Readings = Result<Vec<Result<Trace, StreamFault>>, AllocError>;
 
 /// What one stream gives.
 fn read_one<T: Wait, R: ByteSource>(
@@ -58,7 +58,7 @@ fn both_halves(first: Readings, last: Readings) -> Readings
 }
 
 /// What the streams give, by halves, one of them in a new thread.
-fn read_halves<T: Threads + Wait + Sync, R: ByteSource + Send>(
+pub(super) fn read_halves<T: Threads + Wait + Sync, R: ByteSource + Send>(
     rt: &T,
     alloc: &Global,
     spec: &Spec,

@@ -5,7 +5,8 @@
 //!
 //! `read_streams` reads each stream from a source of its own, on a thread of its own. While a stream is read, the steps
 //! of its records are posted in a register that the threads share, and no lock is held while bytes are read. A source
-//! is asked again only if its last read gave a byte.
+//! is asked again only if its last read gave a byte. An observer may watch the register meanwhile, on one thread more:
+//! it changes nothing of what is read (`read_streams_watched`).
 //!
 //! `session` puts the traces into the order of the processes, or finds the first refusal.
 //!
@@ -19,6 +20,8 @@
 //! - `posting`: the posts of a stream that is read
 //! - `readers`: a stream that is read from a source
 //! - `gathering`: the streams of a session, each read on its own thread
+//! - `observer`: who watches the register while streams are read
+//! - `watching`: the same streams, while an observer watches them on one thread more
 //! - `gather_fault`: why streams weren't gathered
 //! - `unread`: streams that are too many to be read
 //! - `session_streams`: the streams of a session at one place
@@ -33,6 +36,7 @@ mod gathered;
 mod gathering;
 mod input;
 mod limited;
+mod observer;
 mod posting;
 mod read_fault;
 mod readers;
@@ -42,6 +46,7 @@ mod streams;
 mod tests;
 mod traces;
 mod unread;
+mod watching;
 mod whole_bytes;
 
 pub use byte_source::ByteSource;
@@ -51,9 +56,11 @@ pub use gathered::Gathered;
 pub use gathering::gather;
 pub use input::Input;
 pub use limited::{read_bytes, within_limit};
+pub use observer::{NoObserver, Observer};
 pub use read_fault::ReadFault;
 pub use readers::read_stream;
-pub use session_streams::read_streams;
+pub use session_streams::{read_streams, read_streams_watched};
 pub use streams::{Core, order_doesnt_matter};
 pub use traces::session;
+pub use watching::gather_watched;
 pub use whole_bytes::WholeBytes;

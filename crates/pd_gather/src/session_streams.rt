@@ -11,8 +11,9 @@ ghost use Rattle.std.specs.Prelude.{◌≡◌, ℕ, false, true, List, Some, All
 use super::byte_source::ByteSource;
 use super::gather_fault::GatherFault;
 use super::gathered::Gathered;
-use super::gathering::gather;
+use super::observer::{NoObserver, Observer};
 use super::unread::unread_streams;
+use super::watching::gather_by;
 use pd_register::Register;
 use pd_spec::Spec;
 use std::alloc::Global;
@@ -40,11 +41,50 @@ pub fn read_streams<T: Threads + Wait + Sync, R: ByteSource + Send + Drop>(
         (results_view gathered.readings.items)) }
     ensures fit { IfOk result (λ gathered. All (ReadingFits (document_view spec.now).names) gathered.readings.items) }
 {
+    read_streams_watched(rt, alloc, spec, readers, None::<&NoObserver>)
+}
+
+/// Reads the streams of a session as `read_streams` does, while the observer, if there is one, watches the register on
+/// one thread more. It returns once the observer has returned. If there are too many streams, the observer isn't run.
+///
+/// # Errors
+/// If memory runs out.
+pub fn read_streams_watched<
+    T: Threads + Wait + Sync,
+    R: ByteSource + Send + Drop,
+    O: Observer + Sync,
+>(
+    rt: &T,
+    alloc: Global,
+    spec: &Spec,
+    readers: Vec<R>,
+    observer: Option<&O>,
+) -> Result<Gathered, GatherFault>
+    requires open { All (λ r. R.has_ended r ≡ false) readers.items }
+    ensures given { IfOk result (λ gathered. (streams : List RawStream)
+        × AllZip IsGivenBy (map R.remaining readers.items) streams
+        × ComesTo (document_view spec.now).names streams gathered.streams (results_view gathered.readings.items)) }
+    ensures whole { R.never_fails ≡ true → IfOk result (λ gathered. (streams : List (List ℕ)) →
+        map R.remaining readers.items ≡ map Some streams →
+        ComesTo (document_view spec.now).names (ended_streams streams) gathered.streams
+        (results_view gathered.readings.items)) }
+    ensures fit { IfOk result (λ gathered. All (ReadingFits (document_view spec.now).names) gathered.readings.items) }
+{
     if let Some(unread) = unread_streams(alloc, readers.len()) {
         return Ok(unread);
     }
-    let (register, mut seats, watcher) = Register::new(alloc, readers.len() as u64)?;
-    let gathered = gather(rt, alloc, spec, readers, &register, seats.as_mut_slice())?;
+    let (register, mut seats, mut watcher) = Register::new(alloc, readers.len() as u64)?;
+    let lent = seats.as_mut_slice();
+    let gathered = gather_by(
+        rt,
+        alloc,
+        spec,
+        readers,
+        &register,
+        lent,
+        &mut watcher,
+        observer,
+    )?;
     register.close(seats, watcher);
     Ok(gathered)
 }

@@ -1,7 +1,8 @@
-//! Streams fed in turns, streams read from sources, and each refusal of a session.
+//! Streams fed in turns, read from sources, and watched, and each refusal of a session.
 mod gatherings;
 mod readings;
 mod sources;
+mod watched;
 
 ghost use Rattle.pd_format.specs.Limits.{stream_count_limit};
 ghost use Rattle.pd_format.specs.Names.{ProcessNames};

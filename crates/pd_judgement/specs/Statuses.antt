@@ -1,6 +1,7 @@
 -- How a run of the program ends: its exit status, and what that says of what it leaves on its output and on its errors.
-use Rattle.std.specs.Prelude.{◌≡◌, ◌≤◌, ◌⊎◌, ⊤, ℕ, true, false, List, codes, length, map, Option, Some, None}
+use Rattle.std.specs.Prelude.{◌≡◌, ◌≤◌, ◌⊎◌, ⊤, ℕ, true, false, Bool, All, List, [], codes, length, map, Option, Some, None}
 use Rattle.std.specs.Io.KnownBytes.{Keeps}
+use Rattle.pd_format.specs.Documents.{Document, DocumentFault, IsDocument, IsRefusedDocument}
 use Rattle.pd_format.specs.Limits.{report_byte_limit}
 use Rattle.pd_judgement.specs.Writes.{Writes, Whole, Partial, IsWholeInput, IsTextOfBundle, IsTextOfStreams, IsTooLong, IsFindingTextOf}
 
@@ -13,6 +14,9 @@ pub data Request : Type 0 where
   JudgeFiles : (document : List ℕ) (streams : List (List ℕ)) → Request
   -- to check a report by a session document and streams of events, each in a file of this name
   CheckFiles : (document report : List ℕ) (streams : List (List ℕ)) → Request
+  -- to judge a session document, in the file of this name, and streams of events that come by connections to this port;
+  -- and to show meanwhile how far they are read to this many watchers
+  ServeStreams : (document : List ℕ) (port watchers : ℕ) → Request
   -- to show the help
   ShowHelp : Request
   -- the arguments ask for nothing that can be done
@@ -30,6 +34,8 @@ pub data Failure : Type 0 where
   WriteFailure : Failure
   -- the bundle is too long
   BundleFailure : Failure
+  -- a port can't be bound, or a connection that is a stream can't be accepted
+  NetworkFailure : Failure
 
 pub data Ending : Type 0 where
   -- the session is judged, nothing that the check found is bad, or the help is written
@@ -45,6 +51,7 @@ status_of_failure MemoryFailure = 4
 status_of_failure ReadFailure = 3
 status_of_failure WriteFailure = 3
 status_of_failure BundleFailure = 3
+status_of_failure NetworkFailure = 3
 
 -- the exit status
 abbrev pub status_of : Ending → ℕ
@@ -61,6 +68,7 @@ line_of_failure MemoryFailure = codes "monitor: memory\n"
 line_of_failure ReadFailure = codes "monitor: read\n"
 line_of_failure WriteFailure = codes "monitor: write\n"
 line_of_failure BundleFailure = codes "monitor: bundle too long\n"
+line_of_failure NetworkFailure = codes "monitor: network\n"
 
 -- the text that is owed is written, or a prefix of it
 abbrev pub WritesUpTo : (IsOwed : List ℕ → Type 0) → (old new : Option (List ℕ)) → Type 0
@@ -89,6 +97,7 @@ JudgementLeaves input (Failed MemoryFailure) old new = Keeps old new
 JudgementLeaves input (Failed ReadFailure) old new = Keeps old new
 JudgementLeaves input (Failed WriteFailure) old new = WritesUpTo (IsTextOfBundle input None) old new
 JudgementLeaves input (Failed BundleFailure) old new = IsTooLong input × Keeps old new
+JudgementLeaves input (Failed NetworkFailure) old new = ⊥
 
 -- P holds of the bytes of a document, which are all that its file holds, if that is known.
 pub record OfDocument (document : Option (List ℕ)) (P : List ℕ → Type 0) : Type 0 where
@@ -109,6 +118,34 @@ FilesJudgementLeaves document streams (Failed ReadFailure) old new = Keeps old n
 FilesJudgementLeaves document streams (Failed WriteFailure) old new =
     OfDocument document (λ d. WritesUpTo (IsTextOfStreams d streams None) old new)
 FilesJudgementLeaves document streams (Failed BundleFailure) old new = ⊥
+FilesJudgementLeaves document streams (Failed NetworkFailure) old new = ⊥
+
+-- The text of the report of a document's bytes and of the streams that accepted connections gave, where a connection
+-- may have left what G holds of. There are as many connections as the document has processes, and none if it is
+-- refused.
+pub record IsTextOfAccepted (document : List ℕ) (G : Option (List ℕ) → Type 0) (judged : Option Bool)
+    (text : List ℕ) : Type 0 where
+  pub inputs : List (Option (List ℕ))
+  pub accepted : All G inputs
+  pub one_each : (read : Document) → IsDocument document read → length inputs ≡ length read.names
+  pub none_refused : (fault : DocumentFault) → IsRefusedDocument document fault → inputs ≡ []
+  pub is_text : IsTextOfStreams document inputs judged text
+
+-- The same of a document that stands in a file, and of streams that come by connections. If no port is bound, or a
+-- stream isn't accepted: nothing.
+abbrev pub ServiceLeaves : (document : Option (List ℕ)) (G : Option (List ℕ) → Type 0) → Ending
+    → (old new : Option (List ℕ)) → Type 0
+ServiceLeaves document G Success old new =
+    OfDocument document (λ d. Writes (IsTextOfAccepted d G (Some true)) Whole old new)
+ServiceLeaves document G Negative old new =
+    OfDocument document (λ d. Writes (IsTextOfAccepted d G (Some false)) Whole old new)
+ServiceLeaves document G Misuse old new = ⊥
+ServiceLeaves document G (Failed MemoryFailure) old new = Keeps old new
+ServiceLeaves document G (Failed ReadFailure) old new = Keeps old new
+ServiceLeaves document G (Failed WriteFailure) old new =
+    OfDocument document (λ d. WritesUpTo (IsTextOfAccepted d G None) old new)
+ServiceLeaves document G (Failed BundleFailure) old new = ⊥
+ServiceLeaves document G (Failed NetworkFailure) old new = Keeps old new
 
 -- P holds of the bytes of a document and of those of a report, which are all that their files hold, if that is known,
 -- and the report isn't too long.
@@ -134,6 +171,7 @@ CheckLeaves document report streams (Failed ReadFailure) old new = Keeps old new
 CheckLeaves document report streams (Failed WriteFailure) old new =
     OfFiles document report (λ d r. WritesUpTo (IsFindingTextOf d r streams None) old new)
 CheckLeaves document report streams (Failed BundleFailure) old new = ⊥
+CheckLeaves document report streams (Failed NetworkFailure) old new = ⊥
 
 -- The help is the parser's text: it is shown, or the output fails.
 abbrev pub HelpLeaves : Ending → (old new : Option (List ℕ)) → Type 0
@@ -144,6 +182,7 @@ HelpLeaves (Failed MemoryFailure) old new = Keeps old new
 HelpLeaves (Failed ReadFailure) old new = ⊥
 HelpLeaves (Failed WriteFailure) old new = ⊤
 HelpLeaves (Failed BundleFailure) old new = ⊥
+HelpLeaves (Failed NetworkFailure) old new = ⊥
 
 -- Arguments that ask for nothing are refused, and nothing is written.
 abbrev pub MisuseLeaves : Ending → (old new : Option (List ℕ)) → Type 0
@@ -154,26 +193,30 @@ MisuseLeaves (Failed MemoryFailure) old new = Keeps old new
 MisuseLeaves (Failed ReadFailure) old new = ⊥
 MisuseLeaves (Failed WriteFailure) old new = ⊥
 MisuseLeaves (Failed BundleFailure) old new = ⊥
+MisuseLeaves (Failed NetworkFailure) old new = ⊥
 
--- by what is asked for, where the input and the file of each name hold these bytes, if that is known
-abbrev pub Leaves : (input : Option (List ℕ)) (files : List ℕ → Option (List ℕ)) → Request → Ending
-    → (old new : Option (List ℕ)) → Type 0
-Leaves input files JudgeInput ending old new = JudgementLeaves input ending old new
-Leaves input files (JudgeFiles document streams) ending old new =
+-- By what is asked for, where the input and the file of each name hold these bytes, if that is known, and a connection
+-- to each port may have left what is said of it.
+abbrev pub Leaves : (input : Option (List ℕ)) (files : List ℕ → Option (List ℕ))
+    (connections : ℕ → Option (List ℕ) → Type 0) → Request → Ending → (old new : Option (List ℕ)) → Type 0
+Leaves input files connections JudgeInput ending old new = JudgementLeaves input ending old new
+Leaves input files connections (JudgeFiles document streams) ending old new =
     FilesJudgementLeaves (files document) (map files streams) ending old new
-Leaves input files (CheckFiles document report streams) ending old new =
+Leaves input files connections (CheckFiles document report streams) ending old new =
     CheckLeaves (files document) (files report) (map files streams) ending old new
-Leaves input files ShowHelp ending old new = HelpLeaves ending old new
-Leaves input files Unclear ending old new = MisuseLeaves ending old new
+Leaves input files connections (ServeStreams document port watchers) ending old new =
+    ServiceLeaves (files document) (connections port) ending old new
+Leaves input files connections ShowHelp ending old new = HelpLeaves ending old new
+Leaves input files connections Unclear ending old new = MisuseLeaves ending old new
 
 -- ---- a run
 
 -- Memory runs out before it is known what is asked for, and nothing is written; or the arguments ask for something, and
 -- what is left on the output is by that and by how the run ends.
 abbrev pub DoesAsAsked : (IsAsked : Request → Type 0) (input : Option (List ℕ)) (files : List ℕ → Option (List ℕ))
-    → Ending → (old new : Option (List ℕ)) → Type 0
-DoesAsAsked IsAsked input files ending old new = ((ending ≡ Failed MemoryFailure) × Keeps old new)
-    ⊎ (request : Request) × IsAsked request × Leaves input files request ending old new
+    (connections : ℕ → Option (List ℕ) → Type 0) → Ending → (old new : Option (List ℕ)) → Type 0
+DoesAsAsked IsAsked input files connections ending old new = ((ending ≡ Failed MemoryFailure) × Keeps old new)
+    ⊎ (request : Request) × IsAsked request × Leaves input files connections request ending old new
 
 -- A run with this exit status came to some end, by which this is left on the output.
 pub record Ends (IsLeft : Ending → Type 0) (status : ℕ) (errors_old errors_new : Option (List ℕ)) : Type 0 where
@@ -184,6 +227,7 @@ pub record Ends (IsLeft : Ending → Type 0) (status : ℕ) (errors_old errors_n
 
 -- A run did what its arguments ask for: requests of which this holds.
 abbrev pub EndsAsAsked : (IsAsked : Request → Type 0) (input : Option (List ℕ)) (files : List ℕ → Option (List ℕ))
-    (status : ℕ) (old new errors_old errors_new : Option (List ℕ)) → Type 0
-EndsAsAsked IsAsked input files status old new errors_old errors_new =
-    Ends (λ ending. DoesAsAsked IsAsked input files ending old new) status errors_old errors_new
+    (connections : ℕ → Option (List ℕ) → Type 0) (status : ℕ) (old new errors_old errors_new : Option (List ℕ))
+    → Type 0
+EndsAsAsked IsAsked input files connections status old new errors_old errors_new =
+    Ends (λ ending. DoesAsAsked IsAsked input files connections ending old new) status errors_old errors_new

@@ -11,9 +11,10 @@ use Rattle.pd_format.specs.Limits.{event_limit}
 use Rattle.pd_model.specs.Events.{Computation, Linked, event_count}
 use Rattle.pd_model.specs.Cuts.{IsConsistent, IsNextOf, one_more}
 use Rattle.pd_model.specs.Answers.{LexBelow, IsListOf}
-use Rattle.pd_level.specs.Keys.{count_base, key_of, digits, AreDigits, Ascending, AreKeys, AreCuts, IsMoreBy}
+use Rattle.pd_keys.specs.Keys.{count_base, key_of, digits, AreDigits, Ascending, AreKeys}
+use Rattle.pd_level.specs.MoreCuts.{AreCuts, IsMoreBy}
 use Rattle.pd_level.specs.Levels.{cuts_of, IsKept}
-use Rattle.pd_level.proofs.Keys.{get_or_same, digits-key, key-digits, digits_are, length-digits, lex-digits, weight_pos}
+use Rattle.pd_keys.proofs.Keys.{get_or_same, digits-key, key-digits, digits_are, length-digits, lex-digits, weight_pos}
 use Rattle.pd_level.proofs.Merges.{contains_at}
 use Rattle.pd_level.proofs.Steps.{cut_digits, cut_below}
 

@@ -1,5 +1,4 @@
 -- The modules of lemmas of this crate.
-pub mod Keys
 pub mod Merges
 pub mod Steps
 pub mod Levels

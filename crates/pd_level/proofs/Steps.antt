@@ -4,8 +4,9 @@ use Rattle.std.proofs.lemmas.Bool.{cases_lt}
 use Rattle.pd_format.specs.Limits.{event_limit}
 use Rattle.pd_model.specs.Events.{Computation, event_count}
 use Rattle.pd_model.specs.Cuts.{IsConsistent, one_more}
-use Rattle.pd_level.specs.Keys.{count_base, key_of, digits, AreDigits, Ascending, AreCuts, IsMoreBy}
-use Rattle.pd_level.proofs.Keys.{more_is, get_or_same, key_below, weight_le}
+use Rattle.pd_keys.specs.Keys.{count_base, key_of, digits, AreDigits, Ascending}
+use Rattle.pd_level.specs.MoreCuts.{AreCuts, IsMoreBy}
+use Rattle.pd_keys.proofs.Keys.{more_is, get_or_same, key_below, weight_le}
 use Rattle.pd_level.proofs.Merges.{prefix_more, push_iff, ascending_push}
 
 -- consistent counts are digits

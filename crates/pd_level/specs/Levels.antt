@@ -2,7 +2,7 @@
 use Rattle.std.specs.Prelude.{ℕ, ◌≤◌, Bool, List, [], ◌∷◌, map, cond}
 use Rattle.std.specs.Bool.{beq}
 use Rattle.pd_format.specs.Limits.{process_limit}
-use Rattle.pd_level.specs.Keys.{AreKeys, digits}
+use Rattle.pd_keys.specs.Keys.{AreKeys, digits}
 
 -- the number of a level, from 0, and its cuts as counts
 pub record Levelled : Type 0 where

@@ -1,10 +1,10 @@
 //! Whether one more event leaves a cut.
-ghost use Rattle.pd_level.specs.Keys.{count_base, digits};
+ghost use Rattle.pd_keys.specs.Keys.{count_base, digits};
 ghost use Rattle.pd_model.specs.Cuts.{IsConsistent, one_more};
 ghost use Rattle.std.specs.Prelude.{◌^◌, ◌<◌, ◌↔◌, IsTrue, length};
 
-use super::key::digit;
 use pd_clock::{Computation, Place};
+use pd_keys::digit;
 
 /// Whether one more event of process `p` leaves a cut: if there is one, and it is no receipt or its send is in the cut.
 pub(crate) fn can_add(computation: &Computation<'_>, key: u128, p: usize) -> bool

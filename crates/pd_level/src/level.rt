@@ -8,10 +8,10 @@ ghost use Rattle.std.specs.Prelude.{◌≡◌, ◌+◌, ◌<◌, ◌≤◌, ◌=
 
 use super::LevelFault;
 use super::keep::keep_marked;
-use super::key::{pack, unpack};
 use super::state::KeyState;
 use super::step::more_by_any;
 use pd_clock::{Computation, Cut};
+use pd_keys::{pack, unpack};
 use pd_pred::Pred;
 use std::alloc::{AllocError, Global};
 use std::marker::Model;
@@ -96,6 +96,32 @@ impl Level {
         let keys = more_by_any(alloc, computation, &level.keys)?;
         let number = level.number.saturating_add(1);
         level_within(number, computation.processes(), keys, width)
+    }
+
+    /// The level of this number with the cuts of these keys, each of which has as many digits as there are processes.
+    pub fn of_keys(number: u64, processes: usize, keys: Vec<u128>) -> Level
+        requires { IsKept processes keys.items }
+        ensures { result ≡ record { number = number; cuts = cuts_of processes keys.items } }
+    {
+        Level {
+            number,
+            processes,
+            keys,
+        }
+    }
+
+    /// The same level once more.
+    ///
+    /// # Errors
+    /// An allocation was refused.
+    pub fn copy(&self, alloc: Global) -> Result<Level, AllocError>
+        ensures { IfOk result (λ copy. copy ≡ self.now) }
+    {
+        Ok(Level {
+            number: self.number,
+            processes: self.processes,
+            keys: self.keys.to_vec(alloc)?,
+        })
     }
 
     /// The number of the level, from 0: how many events each of its cuts has.

@@ -10,7 +10,6 @@
 //! - `level`: a level, the next one, and its cuts
 //! - `fault`: why there is no next level
 //! - `gate`: what a worker passes before it expands a block of cuts
-//! - `key`: a cut as one number
 //! - `can`: whether one more event leaves a cut
 //! - `step`: the cuts that have one event more
 //! - `merge`: two ascending lists as one
@@ -22,7 +21,6 @@ mod can;
 mod fault;
 mod gate;
 mod keep;
-mod key;
 mod level;
 mod merge;
 mod state;

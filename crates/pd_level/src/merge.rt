@@ -1,5 +1,5 @@
 //! Two ascending lists of numbers as one.
-ghost use Rattle.pd_level.specs.Keys.{Ascending};
+ghost use Rattle.pd_keys.specs.Keys.{Ascending};
 ghost use Rattle.std.specs.Prelude.{◌≡◌, ◌↔◌, ◌⊎◌, ℕ, Contains, IfOk};
 
 use std::alloc::{AllocError, Global};

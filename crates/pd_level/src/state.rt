@@ -1,12 +1,12 @@
 //! The state at a cut that is one number.
-ghost use Rattle.pd_level.specs.Keys.{count_base, digits};
+ghost use Rattle.pd_keys.specs.Keys.{count_base, digits};
 ghost use Rattle.pd_format.specs.Limits.{process_limit};
 ghost use Rattle.pd_model.specs.Cuts.{FitsProcesses};
 ghost use Rattle.pd_model.specs.Predicates.{state_at};
 ghost use Rattle.std.specs.Prelude.{◌≡◌, ◌^◌, ◌<◌, ◌≤◌};
 
-use super::key::digit;
 use pd_clock::Computation;
+use pd_keys::digit;
 use pd_pred::Values;
 
 /// The state at the cut whose counts are the digits of a number. Its values are looked up with no copy of the counts.

@@ -1,13 +1,14 @@
 //! The cuts that have one event more than those of a list.
 ghost use Rattle.pd_format.specs.Limits.{event_limit};
-ghost use Rattle.pd_level.specs.Keys.{AreCuts, Ascending, IsMoreBy};
+ghost use Rattle.pd_keys.specs.Keys.{Ascending};
+ghost use Rattle.pd_level.specs.MoreCuts.{AreCuts, IsMoreBy};
 ghost use Rattle.pd_model.specs.Events.{event_count};
 ghost use Rattle.std.specs.Prelude.{◌≡◌, ◌<◌, ◌≤◌, ◌↔◌, ℕ, Contains, IfOk, length};
 
 use super::can::can_add;
-use super::key::weight;
 use super::merge::merge;
 use pd_clock::Computation;
+use pd_keys::weight;
 use std::alloc::{AllocError, Global};
 
 /// The cuts that one more event of process `p` makes of these, ascending as they do.

@@ -24,3 +24,6 @@ pub mod StuckWay
 pub mod Successors
 pub mod ListedCuts
 pub mod PrintedPlaces
+pub mod MeetAndJoin
+pub mod Undoing
+pub mod AvoidingCuts

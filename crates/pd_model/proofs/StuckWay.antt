@@ -1,17 +1,13 @@
 -- The way back from the least stuck event to a causal cycle.
-use Rattle.std.proofs.Common.{◌≡◌, ◌≢◌, ℕ, ◌+◌, ◌<◌, ◌≤◌, ◌⊎◌, inl, inr, Bool, true, false, eqb, cond, List, [], ◌∷◌, ◌++◌, length, get_or, take, drop, Some, None, All, refl, sym, ap, ◌∙◌, subst, arith, drop-cons}
-use Rattle.std.specs.Prelude.{position, nat_lt}
-use Rattle.std.specs.List.{position_or_len}
-use Rattle.std.proofs.lemmas.Bool.{cases_order, cases_lt}
-use Rattle.std.proofs.lemmas.Bool.Decides.{nat_tests}
-use Rattle.std.proofs.lemmas.List.{get_or-map, length-map, length_push, take-append-drop}
+use Rattle.std.proofs.Common.{◌≡◌, ◌≢◌, ℕ, ◌+◌, ◌<◌, ◌≤◌, ◌⊎◌, inl, inr, List, [], ◌∷◌, ◌++◌, length, get_or, take, drop, Some, All, refl, sym, ap, ◌∙◌, subst, arith, drop-cons}
+use Rattle.std.proofs.lemmas.Bool.{cases_lt}
+use Rattle.std.proofs.lemmas.List.{length_push, take-append-drop}
 use Rattle.std.proofs.lemmas.List.Elements.{All-push, All-nil}
-use Rattle.std.proofs.lemmas.List.Quantifiers.{position-Some, all_pairs_push}
-use Rattle.std.proofs.lemmas.List.Sums.{fails_before_first}
+use Rattle.std.proofs.lemmas.List.Quantifiers.{all_pairs_push}
 use Rattle.pd_model.specs.Events as events
 use Rattle.pd_model.specs.Events.{Computation, place, IsEvent, Linked, first_of, event_count}
 use Rattle.pd_model.specs.Order.{IsStuck, IsFirstStuck, IsLeastStuck, GoesBackTo, HasEachProcessOnce, IsReportedCycle}
-use Rattle.pd_model.proofs.Chains.{same_place, events_of_happens}
+use Rattle.pd_model.proofs.Chains.{events_of_happens}
 use Rattle.pd_model.proofs.Consistency.{process_in_range}
 use Rattle.pd_model.proofs.Lists.{linked_push, last_of_push, first_of_push}
 use Rattle.pd_model.proofs.Pigeonhole.{two_equal}

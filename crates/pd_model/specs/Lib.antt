@@ -3,6 +3,7 @@ pub mod Events
 pub mod Messages
 pub mod Order
 pub mod Cuts
+pub mod Lattice
 pub mod Predicates
 pub mod Observations
 pub mod Answers

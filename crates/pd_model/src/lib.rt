@@ -4,7 +4,7 @@
 
 ghost use Rattle.pd_model.specs.Examples.{BothAtOnce, NoReceiptAlone, AvoidedUpToTwo, CycleOfReceipts};
 ghost use Rattle.pd_model.specs.Walks.{ShortLevel, ShortAvoiding, FoundInLevel, NoneInLevels, WideNext, FreeLevel, PathOfLevels, UndoneByList, SomeUndone};
-ghost use Rattle.pd_model.specs.Laws.{StepHappens, HappenedOnward, HappenedIsLeast, LevelHasList, AvoidingHasList, CountsOfCut, CutOfCounts, OneEventMore, ClocksDecide, OneClock, CanUndo, FirstLevel, NextLevel, LastLevel, EmptyLevel, FullLevel, AvoidingLevel, NextAvoiding, FirstAvoidingList, NextAvoidingList, FreeLevelDecides, PathIsFound, PathAvoids, EveryCutIsObserved, PossiblyBothWays, NoYesBesideNo, CutBelowLevel, OnePossiblyAnswer, OneDefinitelyAnswer, OneList, OneFault, OneCycle, StuckStep, StuckReceipt, LeftAreStuck, NoneStuck};
+ghost use Rattle.pd_model.specs.Laws.{StepHappens, HappenedOnward, HappenedIsLeast, LevelHasList, AvoidingHasList, CountsOfCut, CutOfCounts, OneEventMore, ClocksDecide, OneClock, CanUndo, FirstLevel, NextLevel, LastLevel, EmptyLevel, FullLevel, AvoidingLevel, NextAvoiding, FirstAvoidingList, NextAvoidingList, FreeLevelDecides, PathIsFound, PathAvoids, EveryCutIsObserved, PossiblyBothWays, NoYesBesideNo, CutBelowLevel, OnePossiblyAnswer, OneDefinitelyAnswer, OneList, OneFault, OneCycle, StuckStep, StuckReceipt, LeftAreStuck, NoneStuck, MeetAndJoin, StepDown, CutBetween, AllAvoid, AvoidAtFirstHit, AvoidByUndoing};
 
 /// A cut and its counts determine each other, and one event more is one count greater by 1.
 pub fn cuts_and_counts()
@@ -57,6 +57,21 @@ pub fn avoiding_levels()
     ensures step { NextAvoiding }
     ensures first { FirstAvoidingList }
     ensures next { NextAvoidingList }
+{}
+
+/// The countwise least and greatest of two consistent cuts are consistent, and from a cut events can be undone down to
+/// each consistent cut within it.
+pub fn lattice()
+    ensures meet_and_join { MeetAndJoin }
+    ensures step_down { StepDown }
+    ensures between { CutBetween }
+{}
+
+/// Which cuts avoid: all of them while none satisfies, and else those that one event can be undone in.
+pub fn avoidance()
+    ensures all { AllAvoid }
+    ensures first_hit { AvoidAtFirstHit }
+    ensures undoing { AvoidByUndoing }
 {}
 
 /// The levelled walk equals quantification over observations.

@@ -1,7 +1,8 @@
 //! The predicate language: names that a predicate may speak of, the reader of its text, and what it means at a state.
 //!
 //! A text is read exactly if it is a predicate of the grammar over the session's names; otherwise the first fault is
-//! reported with its byte. A predicate is evaluated over whole numbers without bound, and takes no memory for it.
+//! reported with its byte. A predicate is evaluated over whole numbers without bound, and takes no memory for it. Its
+//! syntax tree is there for those who compile it.
 //!
 //! - `name`: what is a name
 //! - `names`: the processes of a session and their variables
@@ -36,4 +37,5 @@ pub use error::{PredError, PredErrorKind};
 pub use name::is_name;
 pub use names::{Names, ProcessNames};
 pub use predicate::Pred;
+pub use tree::{Comparison, Sign, SignedTerm, Sum, Term, Tree};
 pub use values::Values;

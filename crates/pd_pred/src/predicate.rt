@@ -2,6 +2,7 @@
 ghost use Rattle.pd_format.specs.Limits.{predicate_byte_limit};
 ghost use Rattle.pd_format.specs.PredicateTexts.{IsPredicate};
 ghost use Rattle.pd_model.specs.Predicates.{holds_at, Predicate};
+ghost use Rattle.pd_pred.specs.Trees.{tree_view};
 ghost use Rattle.pd_pred.specs.Views.{long_error, predicate_view, IsErrorOf};
 ghost use Rattle.std.specs.Prelude.{◌≡◌, ◌<◌, ◌≤◌, length, Err, IfOk, IfErr};
 
@@ -78,5 +79,12 @@ impl Pred {
         ensures { result ≡ holds_at (V.state values.now) (predicate_view self.now) }
     {
         holds(&self.tree, values)
+    }
+
+    /// The syntax tree, for those who compile a predicate.
+    pub fn tree(&self) -> &Tree
+        ensures { tree_view result.now ≡ predicate_view self.now }
+    {
+        &self.tree
     }
 }

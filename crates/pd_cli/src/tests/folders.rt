@@ -10,16 +10,16 @@ use std::thread::Threads;
 use std::{env, fs, process};
 
 /// The session document.
-const DOCUMENT: &str =
+pub(super) const DOCUMENT: &str =
     "{\"processes\":[{\"name\":\"a\",\"vars\":{\"x\":0}},{\"name\":\"b\",\"vars\":{\"y\":0}}],\
 \"predicates\":[{\"name\":\"both\",\"text\":\"a.x == 1 and b.y == 1\"}]}";
 
 /// The stream of its first process.
-const OF_A: &str =
+pub(super) const OF_A: &str =
     "{\"process\":\"a\"}\n{\"set\":{\"x\":1}}\n{\"set\":{\"x\":0}}\n{\"end\":true}\n";
 
 /// The stream of its second process.
-const OF_B: &str =
+pub(super) const OF_B: &str =
     "{\"process\":\"b\"}\n{\"set\":{\"y\":1}}\n{\"set\":{\"y\":0}}\n{\"end\":true}\n";
 
 /// A report with another cut.
@@ -84,6 +84,7 @@ pub(super) fn run_on<T: RandomSource + Threads + Wait + Sync, O: Write>(
     let mut errors = Vec::new(alloc);
     let status = run(
         threads,
+        rt,
         rt,
         alloc,
         arguments,

@@ -1,5 +1,5 @@
 -- The names of a session's files ask to judge it.
-use Rattle.std.proofs.Common.{codes, option_map, subst, Option}
+use Rattle.std.proofs.Common.{codes, inl, option_map, refl, subst, Option}
 use Rattle.clap.specs.Matches.{found_of}
 use Rattle.clap.specs.Walk.{rows_of}
 use Rattle.pd_cli.specs.Arguments.{FindsSession, of_judge, of_missing}
@@ -9,7 +9,7 @@ use Rattle.pd_cli.proofs.arguments.judge_request.Goals as goal
 
 pub returns-in_default : goal.returns-in_default
 returns-in_default c arguments taken are =
-    of_missing (codes "judge") (rows_of (found_of c.args.matches.now)) are
+    of_missing (codes "judge") (rows_of (found_of c.args.matches.now)) (inl refl) are
     (subst (λ (names : Option SessionNames). FindsSession (rows_of (found_of c.args.matches.now))
     (option_map session_view names)) c.in_default.is c.in_ok-names.ensures)
 

@@ -17,7 +17,8 @@ returns-in-Ok-Judge g c = record {
       request_view c.in-Ok-Judge.field-0,
       c.in-Ok-Judge.ensures.asked,
       subst (λ (r : Request). Leaves (g.I.ByteSource.remaining c.args.input)
-          (g.F.FileSource.bytes_of c.args.files.now) (request_view r) c.run_files.ensures.ending
+          (g.F.FileSource.bytes_of c.args.files.now) (g.N.Network.may_give c.args.network.now) (request_view r)
+          c.run_files.ensures.ending
           (g.O.Write.contents c.args.output.now) (g.O.Write.contents c.run_files.new.output))
           (sym c.in-Ok-Judge.field-0-is)
           (subst (λ (streams : List (Option (List ℕ))). FilesJudgementLeaves
@@ -40,7 +41,8 @@ returns-in-Ok-Check g c = record {
       request_view c.in-Ok-Check.field-0,
       c.in-Ok-Check.ensures.asked,
       subst (λ (r : Request). Leaves (g.I.ByteSource.remaining c.args.input)
-          (g.F.FileSource.bytes_of c.args.files.now) (request_view r) c.run_check.ensures.ending
+          (g.F.FileSource.bytes_of c.args.files.now) (g.N.Network.may_give c.args.network.now) (request_view r)
+          c.run_check.ensures.ending
           (g.O.Write.contents c.args.output.now) (g.O.Write.contents c.run_check.new.output))
           (sym c.in-Ok-Check.field-0-is)
           (subst (λ (streams : List (Option (List ℕ))). CheckLeaves
@@ -54,10 +56,27 @@ returns-in-Ok-Check g c = record {
   };
 }
 
+pub returns-in-Ok-Serve : goal.returns-in-Ok-Serve
+returns-in-Ok-Serve g c = record {
+  ends = record {
+    ending = c.run_service.ensures.ending;
+    is_status = c.run_service.ensures.is_status;
+    output = inr (
+      request_view c.in-Ok-Serve.field-0,
+      c.in-Ok-Serve.ensures.asked,
+      subst (λ (r : Request). Leaves (g.I.ByteSource.remaining c.args.input)
+          (g.F.FileSource.bytes_of c.args.files.now) (g.N.Network.may_give c.args.network.now) (request_view r)
+          c.run_service.ensures.ending (g.O.Write.contents c.args.output.now)
+          (g.O.Write.contents c.run_service.new.output)) (sym c.in-Ok-Serve.field-0-is) c.run_service.ensures.output,
+    );
+    errors = c.run_service.ensures.errors;
+  };
+}
+
 pub returns-in-Err : goal.returns-in-Err
 returns-in-Err g c = record {
   ends = error_as_asked _ (g.I.ByteSource.remaining c.args.input) (g.F.FileSource.bytes_of c.args.files.now)
-      c.report_parser_error.result (g.O.Write.contents c.args.output.now)
+      (g.N.Network.may_give c.args.network.now) c.report_parser_error.result (g.O.Write.contents c.args.output.now)
       (g.O.Write.contents c.report_parser_error.new.output) (g.E.Write.contents c.args.errors.now)
       (g.E.Write.contents c.report_parser_error.new.errors) (kind_of c.in-Err.error) c.in-Err.ensures.refused
       c.report_parser_error.ensures.memory c.report_parser_error.ensures.shown

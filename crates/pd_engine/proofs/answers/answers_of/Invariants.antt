@@ -7,7 +7,7 @@ use Rattle.pd_spec.specs.Named.{named_view}
 use Rattle.pd_spec.specs.Views.{document_view}
 use Rattle.pd_engine.proofs.answers.answers_of.Given as goal
 
-abbrev pub invariant-loop-predicate : goal.invariant-loop-predicate
-invariant-loop-predicate g l =
+abbrev pub invariant-loop-i : goal.invariant-loop-i
+invariant-loop-i g l =
     AllZip (IsAnswered (document_view l.spec).names l.computation (document_view l.spec).width)
-    (map named_view (take l.predicate-index l.asked)) (map views.answer_view l.answers.items)
+    (map named_view (take l.i l.asked)) (map views.answer_view l.answers.items)

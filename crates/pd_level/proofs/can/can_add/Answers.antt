@@ -13,7 +13,7 @@ use Rattle.pd_match.specs.Views.{place_view}
 use Rattle.pd_match.specs.declared.place.Place.{Place}
 use Rattle.pd_clock.specs.Senders.{IsSender}
 use Rattle.pd_model.proofs.AddedEvents.{HasSend, added, one_more_exactly}
-use Rattle.pd_level.specs.Keys.{digits}
+use Rattle.pd_keys.specs.Keys.{digits}
 use Rattle.pd_level.proofs.can.can_add.Goals as goal
 
 some_decides : (c : Computation) (counts : List ℕ) (p count d : ℕ) (send : Place) → IsConsistent c counts → p < length c

@@ -1,7 +1,7 @@
 -- Each turn takes the least element that is left.
 use Rattle.std.proofs.Common.{◌≡◌, ℕ, ◌-◌, ◌≤◌, List, ◌++◌, length, take, drop, Contains, subst, inl, inr, ◌⊎◌, ◌↔◌, arith}
 use Rattle.std.proofs.lemmas.List.{take_all, take_rest}
-use Rattle.pd_level.specs.Keys.{Ascending}
+use Rattle.pd_keys.specs.Keys.{Ascending}
 use Rattle.pd_level.proofs.Merges.{IsMerged, take_left, take_right, take_both, rest_left, swapped}
 use Rattle.pd_level.proofs.merge.merge.Goals as goal
 use Rattle.pd_level.proofs.merge.merge.Goals.{then-loop-i-test+else-j-right, else-loop-i-test}

@@ -2,7 +2,8 @@
 use Rattle.std.proofs.Common.{◌≡◌, ℕ, ◌+◌, ◌-◌, ◌^◌, ◌<◌, List, length, get_or, take, Contains, sym, ap, ◌∙◌, subst, ◌↔◌, arith}
 use Rattle.std.proofs.lemmas.Bool.{false≢true}
 use Rattle.std.proofs.lemmas.List.{take_all}
-use Rattle.pd_level.specs.Keys.{count_base, IsMoreBy}
+use Rattle.pd_keys.specs.Keys.{count_base}
+use Rattle.pd_level.specs.MoreCuts.{IsMoreBy}
 use Rattle.pd_level.proofs.Steps.{room, step_no, step_yes}
 use Rattle.pd_level.proofs.step.more_by.Goals as goal
 use Rattle.pd_level.proofs.step.more_by.Goals.{then-can_add+in_ok-push, else-can_add}

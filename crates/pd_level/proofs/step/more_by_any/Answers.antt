@@ -1,6 +1,6 @@
 -- The cuts of each process come to those of the processes before it.
 use Rattle.std.proofs.Common.{◌≡◌, ℕ, ◌<◌, length, Contains, subst, ◌⊎◌, ◌↔◌, arith}
-use Rattle.pd_level.specs.Keys.{IsMoreBy}
+use Rattle.pd_level.specs.MoreCuts.{IsMoreBy}
 use Rattle.pd_level.proofs.Steps.{first_one, up_to_more}
 use Rattle.pd_level.proofs.step.more_by_any.Goals as goal
 

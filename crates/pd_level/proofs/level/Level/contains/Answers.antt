@@ -3,7 +3,7 @@ use Rattle.std.proofs.Common.{◌≡◌, false, length, Contains, sym, ap, ◌�
 use Rattle.std.specs.Prelude.{IsTrue}
 use Rattle.std.specs.Result.{is_ok}
 use Rattle.std.proofs.lemmas.Bool.{false≢true}
-use Rattle.pd_level.specs.Keys.{AreDigits, key_of}
+use Rattle.pd_keys.specs.Keys.{AreDigits, key_of}
 use Rattle.pd_level.specs.Levels.{Levelled, cuts_of}
 use Rattle.pd_level.proofs.Levels.{contains_key, contains_long, contains_small, found}
 use Rattle.pd_level.proofs.level.Level.contains.Goals as goal

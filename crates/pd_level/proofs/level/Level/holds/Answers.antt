@@ -4,7 +4,7 @@ use Rattle.std.specs.Prelude.{IfSome, slice_get}
 use Rattle.pd_model.specs.Cuts.{IsConsistent}
 use Rattle.pd_model.specs.Predicates.{test_of}
 use Rattle.pd_pred.specs.Views.{predicate_view}
-use Rattle.pd_level.specs.Keys.{digits}
+use Rattle.pd_keys.specs.Keys.{digits}
 use Rattle.pd_level.specs.Levels.{Levelled, cuts_of}
 use Rattle.pd_level.proofs.Levels.{consistent_read, cut_read, length-cuts}
 use Rattle.pd_level.proofs.level.Level.holds.Goals as goal

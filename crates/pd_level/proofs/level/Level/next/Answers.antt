@@ -6,7 +6,8 @@ use Rattle.pd_format.specs.Limits.{event_limit}
 use Rattle.pd_model.specs.Events.{Computation, event_count}
 use Rattle.pd_model.specs.Answers.{IsListOf}
 use Rattle.pd_model.specs.Cuts.{IsConsistent, IsNextOf}
-use Rattle.pd_level.specs.Keys.{Ascending, IsMoreBy}
+use Rattle.pd_keys.specs.Keys.{Ascending}
+use Rattle.pd_level.specs.MoreCuts.{IsMoreBy}
 use Rattle.pd_level.specs.Levels.{Levelled, cuts_of}
 use Rattle.pd_level.proofs.Levels.{are_cuts, next_keys, next_list, length-cuts}
 use Rattle.pd_level.proofs.level.Level.next.Goals as goal

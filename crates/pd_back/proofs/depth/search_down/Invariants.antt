@@ -1,0 +1,15 @@
+-- What the loop of `search_down` keeps.
+use Rattle.std.proofs.Common.{◌≡◌, ◌≤◌, length}
+use Rattle.pd_model.specs.Predicates.{test_of}
+use Rattle.pd_pred.specs.Views.{predicate_view}
+use Rattle.pd_back.specs.Searches.{AreDead, IsSearched}
+use Rattle.pd_back.proofs.depth.search_down.Given as goal
+
+abbrev pub invariant-loop : goal.invariant-loop
+invariant-loop l = record {
+  dead : AreDead l.computation.events (test_of l.computation (predicate_view l.pred)) l.dead.items;
+  searched : IsSearched l.computation.events (test_of l.computation (predicate_view l.pred)) l.fn.path.items
+      l.kept.number l.k l.cut l.next l.stack.items l.steps.items;
+  within : l.next ≤ length l.cut;
+  same : l.path.items ≡ l.fn.path.items;
+}

@@ -1,0 +1,45 @@
+-- What is known in the midst of a search depth first. `test` says whether a cut satisfies.
+use Rattle.std.specs.Prelude.{◌≡◌, ℕ, ◌+◌, ◌<◌, ◌≤◌, Bool, false, List, ◌++◌, length, sum, take, slice_index_or}
+use Rattle.pd_model.specs.Answers.{LeavesAvoiding}
+use Rattle.pd_model.specs.Cuts.{one_less}
+use Rattle.pd_model.specs.Events.{Computation}
+use Rattle.pd_model.specs.Observations.{IsAvoiding}
+use Rattle.pd_model.specs.Paths.{IsAvoidingCut}
+use Rattle.pd_back.specs.Ways.{IsReached, LeavesConsistent}
+
+-- none of these cuts avoids
+abbrev pub AreDead : Computation → (List ℕ → Bool) → List (List ℕ) → Type 0
+AreDead c test cuts =
+    (i : ℕ) (d : List ℕ) → i < length cuts
+    → ¬ IsAvoiding c test (sum (slice_index_or cuts i d)) (slice_index_or cuts i d)
+
+-- no process below p leaves an avoiding cut
+abbrev pub NoneLeaves : Computation → (List ℕ → Bool) → List ℕ → ℕ → Type 0
+NoneLeaves c test cut p = (q : ℕ) → q < p → ¬ LeavesAvoiding c test cut q
+
+-- To undo the last event of process p leaves a consistent cut that doesn't satisfy, and that avoids if it is of the
+-- level with this number.
+pub record IsWorthTrying (c : Computation) (test : List ℕ → Bool) (number : ℕ) (cut : List ℕ) (p : ℕ) : Type 0 where
+  pub leaves : LeavesConsistent c cut p
+  pub fails : test (one_less cut p) ≡ false
+  pub lowest : sum cut ≡ number + 1 → LeavesAvoiding c test cut p
+
+-- A cut i steps below one of k events: no process below p leaves an avoiding cut of it, and if it avoids, the way so
+-- far and these steps lead to it.
+pub record IsStacked (c : Computation) (test : List ℕ → Bool) (path steps : List ℕ) (k i : ℕ) (cut : List ℕ)
+    (p : ℕ) : Type 0 where
+  pub here : IsAvoidingCut c test cut
+  pub level : sum cut + i ≡ k
+  pub within : p ≤ length cut
+  pub tried : NoneLeaves c test cut p
+  pub onward : IsAvoiding c test (sum cut) cut → IsReached c test (path ++ take i steps) cut
+
+-- The search is at a cut above the level with this number, and each cut before it is on the stack, with the process
+-- that is tried.
+pub record IsSearched (c : Computation) (test : List ℕ → Bool) (path : List ℕ) (number k : ℕ) (cut : List ℕ)
+    (next : ℕ) (stack : List (List ℕ)) (steps : List ℕ) : Type 0 where
+  pub count : length stack ≡ length steps
+  pub above : number + length stack < k
+  pub here : IsStacked c test path steps k (length steps) cut next
+  pub each : (i : ℕ) (d : List ℕ) (e : ℕ) → i < length stack
+      → IsStacked c test path steps k i (slice_index_or stack i d) (slice_index_or steps i e)

@@ -1,0 +1,101 @@
+//! The avoiding cuts of a level.
+ghost use Rattle.pd_back.specs.Ways.{IsAvoidingLevel};
+ghost use Rattle.pd_model.specs.Cuts.{IsConsistent};
+ghost use Rattle.pd_model.specs.Predicates.{test_of};
+ghost use Rattle.pd_pred.specs.Views.{predicate_view};
+ghost use Rattle.std.specs.Prelude.{◌≡◌, ◌+◌, ◌<◌, ◌≤◌, All, IfOk, filter, length, map, not};
+
+use pd_clock::Computation;
+use pd_level::{Level, LevelFault};
+use pd_pred::Pred;
+use std::alloc::{AllocError, Global};
+
+/// The avoiding cuts of level 0.
+///
+/// # Errors
+/// An allocation was refused.
+pub fn first_avoiding(
+    alloc: Global,
+    computation: &Computation<'_>,
+    pred: &Pred,
+) -> Result<Level, AllocError>
+    ensures list { IfOk result (λ level.
+        IsAvoidingLevel computation.now.events (test_of computation.now (predicate_view pred.now)) level) }
+    ensures number { IfOk result (λ level. level.number ≡ 0) }
+{
+    // the laws that the proof uses
+    pd_model::levels();
+    pd_model::avoiding_levels();
+    let whole = Level::first(alloc, computation)?;
+    let level = without_satisfying(alloc, computation, pred, whole)?;
+    Ok(level)
+}
+
+/// The avoiding cuts of the next level, from those of a level.
+///
+/// # Errors
+/// An allocation was refused, or there might be more cuts than a `u64` counts.
+pub fn next_avoiding(
+    alloc: Global,
+    computation: &Computation<'_>,
+    pred: &Pred,
+    level: &Level,
+) -> Result<Level, AllocError>
+    requires list { IsAvoidingLevel computation.now.events
+        (test_of computation.now (predicate_view pred.now)) level.now }
+    requires low { level.now.number < 18446744073709551615 }
+    ensures list { IfOk result (λ next.
+        IsAvoidingLevel computation.now.events (test_of computation.now (predicate_view pred.now)) next) }
+    ensures number { IfOk result (λ next. next.number ≡ level.now.number + 1) }
+{
+    // the laws that the proof uses
+    pd_model::avoiding_levels();
+    computation.limits();
+    let cuts = (level.len() as u64).max(1);
+    let Some(most) = cuts.checked_mul(computation.processes() as u64) else {
+        return Err(AllocError);
+    };
+    match Level::next(alloc, computation, level, most) {
+        Ok(whole) => {
+            let next = without_satisfying(alloc, computation, pred, whole)?;
+            Ok(next)
+        }
+        Err(LevelFault::Memory) => Err(AllocError),
+        Err(LevelFault::Wide) => unreachable!(),
+    }
+}
+
+/// The level without the cuts that satisfy.
+fn without_satisfying(
+    alloc: Global,
+    computation: &Computation<'_>,
+    pred: &Pred,
+    mut level: Level,
+) -> Result<Level, AllocError>
+    requires { All (IsConsistent computation.now.events) level.cuts }
+    ensures cuts { IfOk result (λ left. left.cuts
+        ≡ filter (λ cut. not (test_of computation.now (predicate_view pred.now) cut)) level.cuts) }
+    ensures number { IfOk result (λ left. left.number ≡ level.number) }
+{
+    let marks = marks(alloc, computation, pred, &level)?;
+    level.keep(&marks, false);
+    Ok(level)
+}
+
+/// Of each cut of the level whether it satisfies.
+fn marks(
+    alloc: Global,
+    computation: &Computation<'_>,
+    pred: &Pred,
+    level: &Level,
+) -> Result<Vec<bool>, AllocError>
+    requires { All (IsConsistent computation.now.events) level.now.cuts }
+    ensures { IfOk result (λ marks. marks.items
+        ≡ map (test_of computation.now (predicate_view pred.now)) level.now.cuts) }
+{
+    let mut marks = Vec::with_capacity(alloc, level.len())?;
+    for i in 0..level.len() {
+        marks.push(level.holds(computation, pred, i))?;
+    }
+    Ok(marks)
+}

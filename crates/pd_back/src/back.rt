@@ -1,0 +1,61 @@
+//! The whole way back.
+ghost use Rattle.pd_back.specs.Ways.{AreKept};
+ghost use Rattle.pd_model.specs.Answers.{IsPrintedPath};
+ghost use Rattle.pd_model.specs.Cuts.{full_cut, total};
+ghost use Rattle.pd_model.specs.Observations.{IsAvoiding};
+ghost use Rattle.pd_model.specs.Predicates.{test_of};
+ghost use Rattle.pd_model.specs.Walks.{NoneBelow};
+ghost use Rattle.pd_pred.specs.Views.{predicate_view};
+ghost use Rattle.std.specs.Prelude.{◌≡◌, ◌+◌, ◌≤◌, IfOk, [], length, max};
+
+use super::Held;
+use super::descent::descend;
+use super::free::free_way;
+use super::undo::whole_cut;
+use pd_clock::Computation;
+use pd_level::Level;
+use pd_pred::Pred;
+use std::alloc::{AllocError, Global};
+
+/// The processes, counted from 0, in the order in which their events happen in an avoiding observation. From the full
+/// cut backward each step undoes the event of the least process that leaves an avoiding cut.
+///
+/// Levels of avoiding cuts are held from level `_split` on, none more than `_gap` above the one before it; no cut of a
+/// lower level satisfies. They are let go of on the way, and at most `_gap` more are held at once than at the
+/// beginning.
+///
+/// # Errors
+/// An allocation was refused.
+pub fn way_back(
+    alloc: Global,
+    computation: &Computation<'_>,
+    pred: &Pred,
+    _split: u64,
+    _gap: u64,
+    held: &mut Held<Level>,
+) -> Result<Vec<usize>, AllocError>
+    requires none_below { NoneBelow computation.now.events
+        (test_of computation.now (predicate_view pred.now)) _split }
+    requires kept { AreKept computation.now.events (test_of computation.now (predicate_view pred.now)) _split _gap
+        (total computation.now.events) held.old.levels.items }
+    requires full { IsAvoiding computation.now.events (test_of computation.now (predicate_view pred.now))
+        (total computation.now.events) (full_cut computation.now.events) }
+    ensures path { IfOk result (λ path. IsPrintedPath computation.now.events
+        (test_of computation.now (predicate_view pred.now)) path.items) }
+    ensures levels { IfOk result (λ _. held.new.levels.items ≡ []) }
+    ensures no_fewer { IfOk result (λ _. held.old.most ≤ held.new.most) }
+    ensures most { IfOk result (λ _. held.new.most
+        ≤ max held.old.most (length held.old.levels.items + _gap)) }
+{
+    let mut path = Vec::new(alloc);
+    let mut cut = whole_cut(alloc, computation);
+    let mut k = computation.total();
+    while held.len() > 0 {
+        cut = descend(alloc, computation, pred, k, cut, held, &mut path)?;
+        k = held.last().number();
+        held.drop_last();
+    }
+    free_way(alloc, computation, pred, k, cut, &mut path)?;
+    path.reverse();
+    Ok(path)
+}

@@ -1,0 +1,178 @@
+//! The way down to a kept level, searched depth first.
+ghost use Rattle.pd_back.specs.Searches.{AreDead, IsWorthTrying, NoneLeaves};
+ghost use Rattle.pd_back.specs.Ways.{IsAvoidingLevel, IsReached};
+ghost use Rattle.pd_format.specs.Limits.{process_limit};
+ghost use Rattle.pd_model.specs.Answers.{LeavesAvoiding};
+ghost use Rattle.pd_model.specs.Predicates.{test_of};
+ghost use Rattle.pd_pred.specs.Views.{predicate_view};
+ghost use Rattle.std.specs.Prelude.{◌≡◌, ◌+◌, ◌<◌, ◌≤◌, ℕ, Contains, IfNone, IfOk, IfSome, IsTrue, false, true, length, sum};
+ghost use Rattle.std.specs.List.{insert};
+
+use super::undo::{leaves_consistent, same_cut, without_last};
+use pd_clock::{Computation, Cut};
+use pd_level::Level;
+use pd_pred::Pred;
+use std::alloc::{AllocError, Global};
+
+/// A search gives up after this many dead ends for each level.
+const DEAD_ENDS: u64 = 64;
+
+/// The cut of the kept level to which the way leads from a cut of level `k`, found depth first: the processes are
+/// appended to the path. None if the search has given up.
+pub(crate) fn search_down(
+    alloc: Global,
+    computation: &Computation<'_>,
+    pred: &Pred,
+    k: u64,
+    top: &Cut,
+    kept: &Level,
+    path: &mut Vec<usize>,
+) -> Result<Option<Cut>, AllocError>
+    requires list { IsAvoidingLevel computation.now.events
+        (test_of computation.now (predicate_view pred.now)) kept.now }
+    requires number { sum top.now ≡ k }
+    requires above { kept.now.number < k }
+    requires reached { IsReached computation.now.events
+        (test_of computation.now (predicate_view pred.now)) path.old.items top.now }
+    ensures found { IfOk result (λ found. IfSome found (λ low. IsReached computation.now.events
+        (test_of computation.now (predicate_view pred.now)) path.new.items low × (sum low ≡ kept.now.number))) }
+    ensures not_found { IfOk result (λ found. IfNone found (path.new.items ≡ path.old.items)) }
+{
+    computation.limits();
+    let dead_ends = (k - kept.number()).saturating_mul(DEAD_ENDS);
+    let mut dead = Vec::new(alloc);
+    let mut stack = Vec::new(alloc);
+    let mut steps = Vec::new(alloc);
+    let mut cut = same_cut(alloc, top);
+    let mut next = 0;
+    for _ in 0..u64::MAX {
+        let level = k - stack.len() as u64;
+        let p = next_step(alloc, computation, pred, kept, &dead, level, &cut, next);
+        if p < computation.processes() {
+            let low = without_last(alloc, &cut, p);
+            steps.push(p)?;
+            if level - 1 == kept.number() {
+                path.extend_from_slice(&steps)?;
+                return Ok(Some(low));
+            }
+            stack.push(cut)?;
+            cut = low;
+            next = 0;
+            continue;
+        }
+        let (Some(above), Some(tried)) = (stack.pop(), steps.pop()) else {
+            return Ok(None);
+        };
+        add_dead(&mut dead, cut)?;
+        if dead.len() as u64 > dead_ends {
+            return Ok(None);
+        }
+        cut = above;
+        next = tried;
+    }
+    Ok(None)
+}
+
+/// The least process, from `next` on, that is worth trying: the number of processes if there is none.
+fn next_step(
+    alloc: Global,
+    computation: &Computation<'_>,
+    pred: &Pred,
+    kept: &Level,
+    dead: &[Cut],
+    level: u64,
+    cut: &Cut,
+    next: usize,
+) -> usize
+    requires list { IsAvoidingLevel computation.now.events
+        (test_of computation.now (predicate_view pred.now)) kept.now }
+    requires dead { AreDead computation.now.events (test_of computation.now (predicate_view pred.now)) dead.now }
+    requires few { length cut.now ≤ process_limit }
+    requires number { sum cut.now ≡ level }
+    requires tried { NoneLeaves computation.now.events
+        (test_of computation.now (predicate_view pred.now)) cut.now next }
+    requires within { next ≤ length cut.now }
+    ensures within { result ≤ length cut.now }
+    ensures tried { NoneLeaves computation.now.events
+        (test_of computation.now (predicate_view pred.now)) cut.now result }
+    ensures worth_trying { result < length cut.now → IsWorthTrying computation.now.events
+        (test_of computation.now (predicate_view pred.now)) kept.now.number cut.now result }
+{
+    for p in next..cut.counts().len() {
+        if is_worth_trying(alloc, computation, pred, kept, dead, level, cut, p) {
+            return p;
+        }
+    }
+    cut.counts().len()
+}
+
+/// Whether to undo the last event of process `p` leaves a consistent cut that doesn't satisfy, and that the kept level
+/// has if it is of this level. Where it doesn't, no avoiding cut is left.
+fn is_worth_trying(
+    alloc: Global,
+    computation: &Computation<'_>,
+    pred: &Pred,
+    kept: &Level,
+    dead: &[Cut],
+    level: u64,
+    cut: &Cut,
+    p: usize,
+) -> bool
+    requires list { IsAvoidingLevel computation.now.events
+        (test_of computation.now (predicate_view pred.now)) kept.now }
+    requires dead { AreDead computation.now.events (test_of computation.now (predicate_view pred.now)) dead.now }
+    requires few { length cut.now ≤ process_limit }
+    requires number { sum cut.now ≡ level }
+    requires within { p < length cut.now }
+    ensures yes { IsTrue result → IsWorthTrying computation.now.events
+        (test_of computation.now (predicate_view pred.now)) kept.now.number cut.now p }
+    ensures no { result ≡ false → ¬ LeavesAvoiding computation.now.events
+        (test_of computation.now (predicate_view pred.now)) cut.now p }
+{
+    if !leaves_consistent(alloc, computation, cut, p) {
+        return false;
+    }
+    let low = without_last(alloc, cut, p);
+    if level - 1 == kept.number() {
+        return kept.contains(&low);
+    }
+    if is_dead(dead, &low) {
+        return false;
+    }
+    !pred.holds(&computation.at(&low))
+}
+
+/// Whether the cut is found among these, which ascend.
+fn is_dead(dead: &[Cut], cut: &Cut) -> bool
+    ensures { IsTrue result → Contains dead.now cut.now }
+{
+    let i = place_of(dead, cut);
+    i < dead.len() && dead[i].counts() == cut.counts()
+}
+
+/// Puts the cut in its place among those that ascend.
+fn add_dead(dead: &mut Vec<Cut>, cut: Cut) -> Result<(), AllocError>
+    ensures { IfOk result (λ _. (i : ℕ) × (i ≤ length dead.old.items)
+        × (dead.new.items ≡ insert dead.old.items i cut)) }
+{
+    let i = place_of(dead, &cut);
+    dead.insert(i, cut)?;
+    Ok(())
+}
+
+/// How many of these cuts, which ascend, are before this one.
+fn place_of(dead: &[Cut], cut: &Cut) -> usize
+    ensures { result ≤ length dead.now }
+{
+    let mut low = 0;
+    let mut high = dead.len();
+    while low < high {
+        let middle = low + (high - low) / 2;
+        if dead[middle].counts() < cut.counts() {
+            low = middle + 1;
+        } else {
+            high = middle;
+        }
+    }
+    low
+}

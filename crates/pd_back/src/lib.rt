@@ -1,0 +1,28 @@
+//! An avoiding observation, found from the full cut backward through a few kept levels of avoiding cuts.
+//!
+//! Levels of avoiding cuts stand in a holder, which counts how many of them there were at once. Of a walk up the levels
+//! only some are kept. From the full cut the way leads down from one kept level to the next, and each step undoes the
+//! event of the least process that leaves an avoiding cut. Between two kept levels the way is searched depth first;
+//! where the search finds too many dead ends, the levels in between are made again. Below the lowest kept level no cut
+//! satisfies, so every cut there avoids, and no level is needed.
+//!
+//! - `held`: levels that are held at once, and the greatest number of them
+//! - `avoiding`: the avoiding cuts of a level
+//! - `undo`: cuts without the last event of a process
+//! - `depth`: the way down to a kept level, searched depth first
+//! - `descent`: the way down to a kept level
+//! - `free`: the way down where every cut avoids
+//! - `back`: the whole way
+#![tactic(auto)]
+
+mod avoiding;
+mod back;
+mod depth;
+mod descent;
+mod free;
+mod held;
+mod undo;
+
+pub use avoiding::{first_avoiding, next_avoiding};
+pub use back::way_back;
+pub use held::Held;

@@ -1,0 +1,134 @@
+-- What is left written of streams that were accepted, by what is left written of streams with these bytes.
+use Rattle.std.proofs.Common.{◌≡◌, ℕ, List, [], length, refl, sym, ap, subst, ◌∙◌, Some, None, Option, true, false, arith}
+use Rattle.std.specs.Prelude.{All, Bool, MatchOption}
+use Rattle.pd_format.specs.Documents.{Document, DocumentFault, IsDocument, IsRefusedDocument}
+use Rattle.pd_judgement.specs.OneReport.{DocumentNotRefused, OneDocument}
+use Rattle.pd_judgement.specs.Statuses.{Ending, Success, Negative, Misuse, Failed, MemoryFailure, ReadFailure, WriteFailure, BundleFailure, NetworkFailure, FilesJudgementLeaves, IsTextOfAccepted, OfDocument, ServiceLeaves}
+use Rattle.pd_judgement.specs.Writes.{Whole, IsTextOfStreams}
+use Rattle.pd_judgement.proofs.Writing.{writes_weaker}
+use Rattle.pd_pred.specs.Views.{predicate_fault_view}
+use Rattle.pd_format.specs.Documents as faults
+use Rattle.pd_format.specs.PredicateTexts.{PredicateFault}
+use Rattle.pd_spec.specs.Views.{IsFaultOf}
+use Rattle.pd_spec.specs.declared.fault.SpecFault.{SpecFault}
+use Rattle.pd_spec.specs.declared.fault.SpecFault.TheVariants as kinds
+use Rattle.pd_cli.specs.Faults.{is_out_of_memory}
+use Rattle.pd_cli.specs.FileSources.{SameOutline, StandsFor}
+use Rattle.pd_cli.proofs.DocumentPrefixes.{same_document, same_refusal, same_report_text}
+use Rattle.pd_cli.proofs.FilesRead.{of_document, up_to_weaker}
+
+-- The streams are those of accepted connections: as many as the document has processes, and none if it is refused.
+pub record AreAccepted (document : List ℕ) (G : Option (List ℕ) → Type 0)
+    (inputs : List (Option (List ℕ))) : Type 0 where
+  pub accepted : All G inputs
+  pub one_each : (read : Document) → IsDocument document read → length inputs ≡ length read.names
+  pub none_refused : (fault : DocumentFault) → IsRefusedDocument document fault → inputs ≡ []
+
+-- of a document that is read
+pub accepted_of_read : (document : List ℕ) (G : Option (List ℕ) → Type 0) (inputs : List (Option (List ℕ)))
+    (read : Document) → OneDocument → DocumentNotRefused → IsDocument document read → All G inputs
+    → length inputs ≡ length read.names → AreAccepted document G inputs
+accepted_of_read document G inputs read one not_refused is all count = record {
+  accepted = all;
+  one_each = λ other other_is.
+      count ∙ ap (λ (d : Document). length d.names) (one document read other is other_is);
+  none_refused = λ fault refused. absurd (not_refused document read fault is refused);
+}
+
+-- of a document that is refused
+pub accepted_of_refused : (document : List ℕ) (G : Option (List ℕ) → Type 0) (fault : DocumentFault)
+    → DocumentNotRefused → IsRefusedDocument document fault → AreAccepted document G []
+accepted_of_refused document G fault not_refused refused = record {
+  accepted = λ k d lt. absurd (omega (arith, lt));
+  one_each = λ read is. absurd (not_refused document read fault is refused);
+  none_refused = λ other _. refl;
+}
+
+-- a fault that isn't out of memory refuses the document
+pub refused_unless_memory : (bytes : List ℕ) (fault : SpecFault) → is_out_of_memory fault ≡ false
+    → IsFaultOf bytes fault → (refused : DocumentFault) × IsRefusedDocument bytes refused
+refused_unless_memory bytes kinds.Long e h = (faults.Long, h)
+refused_unless_memory bytes kinds.Json e h = (faults.Json, h)
+refused_unless_memory bytes kinds.Shape e h = (faults.Shape, h)
+refused_unless_memory bytes kinds.Processes e h = (faults.Processes, h)
+refused_unless_memory bytes kinds.Name e h = (faults.Name, h)
+refused_unless_memory bytes kinds.NameTwice e h = (faults.NameTwice, h)
+refused_unless_memory bytes kinds.Vars e h = (faults.Vars, h)
+refused_unless_memory bytes kinds.Predicates e h = (faults.Predicates, h)
+refused_unless_memory bytes kinds.Width e h = (faults.Width, h)
+refused_unless_memory bytes (kinds.Predicate number error) e h = go (predicate_fault_view error.kind) h
+  where
+    go : (o : Option PredicateFault)
+        → MatchOption o ⊥ (λ fault. IsRefusedDocument bytes (faults.InPredicate number fault error.at))
+        → (refused : DocumentFault) × IsRefusedDocument bytes refused
+    go None h = absurd h
+    go (Some fault) h = (faults.InPredicate number fault error.at, h)
+refused_unless_memory bytes kinds.Memory e h = cc
+
+accepted_text : (document : List ℕ) (G : Option (List ℕ) → Type 0) (inputs : List (Option (List ℕ)))
+    (judged : Option Bool) (text : List ℕ) → AreAccepted document G inputs
+    → IsTextOfStreams document inputs judged text → IsTextOfAccepted document G judged text
+accepted_text document G inputs judged text are is = record {
+  inputs = inputs;
+  accepted = are.accepted;
+  one_each = are.one_each;
+  none_refused = are.none_refused;
+  is_text = is;
+}
+
+of_known : (document : List ℕ) (P Q : List ℕ → Type 0) → (P document → Q document) → OfDocument (Some document) P
+    → OfDocument (Some document) Q
+of_known document P Q go h = record {
+  document_bytes = document;
+  whole_document = refl;
+  holds = go (subst P h.whole_document h.holds);
+}
+
+-- what is left by these streams is what is to be left by accepted ones
+pub service_of_judgement : (document : List ℕ) (G : Option (List ℕ) → Type 0) (inputs : List (Option (List ℕ)))
+    (ending : Ending) (old new : Option (List ℕ)) → AreAccepted document G inputs
+    → FilesJudgementLeaves (Some document) inputs ending old new → ServiceLeaves (Some document) G ending old new
+service_of_judgement document G inputs Success old new are left =
+    of_known document _ _ (writes_weaker _ _ Whole old new (λ text.
+    accepted_text document G inputs (Some true) text are)) left
+service_of_judgement document G inputs Negative old new are left =
+    of_known document _ _ (writes_weaker _ _ Whole old new (λ text.
+    accepted_text document G inputs (Some false) text are)) left
+service_of_judgement document G inputs Misuse old new are left = left
+service_of_judgement document G inputs (Failed MemoryFailure) old new are left = left
+service_of_judgement document G inputs (Failed ReadFailure) old new are left = left
+service_of_judgement document G inputs (Failed WriteFailure) old new are left =
+    of_known document _ _ (up_to_weaker _ _ old new (λ text. accepted_text document G inputs None text are)) left
+service_of_judgement document G inputs (Failed BundleFailure) old new are left = left
+service_of_judgement document G inputs (Failed NetworkFailure) old new are left = absurd left
+
+-- ---- a document that stands in a file
+
+accepted_of_file : (read document : List ℕ) (G : Option (List ℕ) → Type 0) (judged : Option Bool) (text : List ℕ)
+    → SameOutline read document → IsTextOfAccepted read G judged text → IsTextOfAccepted document G judged text
+accepted_of_file read document G judged text same h = record {
+  inputs = h.inputs;
+  accepted = h.accepted;
+  one_each = λ other is. h.one_each other (same_document document read other (sym same) is);
+  none_refused = λ fault refused. h.none_refused fault (same_refusal document read fault (sym same) refused);
+  is_text = same_report_text read document h.inputs judged text same h.is_text;
+}
+
+-- what is left by the bytes that were read is what is to be left by the file
+pub service_of_file : (file : Option (List ℕ)) (read : List ℕ) (G : Option (List ℕ) → Type 0) (ending : Ending)
+    (old new : Option (List ℕ)) → StandsFor read file → ServiceLeaves (Some read) G ending old new
+    → ServiceLeaves file G ending old new
+service_of_file file read G Success old new stands left =
+    of_document file read _ _ stands (λ document same. writes_weaker _ _ Whole old new (λ text.
+    accepted_of_file read document G (Some true) text same)) left
+service_of_file file read G Negative old new stands left =
+    of_document file read _ _ stands (λ document same. writes_weaker _ _ Whole old new (λ text.
+    accepted_of_file read document G (Some false) text same)) left
+service_of_file file read G Misuse old new stands left = left
+service_of_file file read G (Failed MemoryFailure) old new stands left = left
+service_of_file file read G (Failed ReadFailure) old new stands left = left
+service_of_file file read G (Failed WriteFailure) old new stands left =
+    of_document file read _ _ stands (λ document same. up_to_weaker _ _ old new (λ text.
+    accepted_of_file read document G None text same)) left
+service_of_file file read G (Failed BundleFailure) old new stands left = left
+service_of_file file read G (Failed NetworkFailure) old new stands left = left

@@ -1,0 +1,32 @@
+-- The number that an option names is the one that its text is.
+use Rattle.std.proofs.Common.{◌≡◌, ℕ, List, Option, None, Some, ap, sym, ◌∙◌, subst}
+use Rattle.std.specs.Prelude.{IfSome}
+use Rattle.std.specs.Str.Parse.{digits_value, without_leading_plus}
+use Rattle.clap.specs.Walk.{Row, Text, first_of}
+use Rattle.pd_cli.specs.Arguments.{IsNumberText, LacksService, NamesNumber, NamesService}
+
+some_same : {A : Type 0} (a b : A) → Some a ≡ Some b → a ≡ b
+some_same a b e = cc
+
+pub number_named : (rows : List Row) (id text : Text) → first_of id rows ≡ Some text → (r : Option ℕ)
+    → IfSome r (IsNumberText text) → IfSome r (NamesNumber rows id)
+number_named rows id text is None h = tt
+number_named rows id text is (Some n) h = (text, is, h)
+
+pub number_unnamed : (rows : List Row) (id text : Text) → first_of id rows ≡ Some text
+    → ((n : ℕ) → ¬ IsNumberText text n) → (n : ℕ) → ¬ NamesNumber rows id n
+number_unnamed rows id text is none n (other, found, number) =
+    none n (subst (λ (t : Text). IsNumberText t n) (some_same other text (sym found ∙ is)) number)
+
+value_of_text : (text : Text) (n : ℕ) → IsNumberText text n → n ≡ digits_value 10 (without_leading_plus text)
+value_of_text text n (digits, is) = is
+
+-- an option has one number
+pub one_number : (rows : List Row) (id : Text) (m n : ℕ) → NamesNumber rows id m → NamesNumber rows id n → m ≡ n
+one_number rows id m n (text, found, is) (other, other_found, other_is) =
+    value_of_text text m is ∙ (ap (λ (t : Text). digits_value 10 (without_leading_plus t))
+    (some_same text other (sym found ∙ other_found)) ∙ sym (value_of_text other n other_is))
+
+pub lacks : (rows : List Row)
+    → ((document : Text) (port watchers : ℕ) → ¬ NamesService rows document port watchers) → LacksService rows
+lacks rows none (document, port, watchers, names) = none document port watchers names

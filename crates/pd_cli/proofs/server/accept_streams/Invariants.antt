@@ -1,0 +1,13 @@
+-- The streams so far were accepted.
+use Rattle.std.proofs.Common.{◌≡◌, ℕ, false, length}
+use Rattle.std.specs.Prelude.{All}
+use Rattle.pd_cli.proofs.server.accept_streams.Given as goal
+
+abbrev pub invariant-loop-place : goal.invariant-loop-place
+invariant-loop-place g l = record {
+  count : length l.streams.items ≡ l._place;
+  given : (port : ℕ) → g.N.Network.is_on l.listener port
+      → All (λ stream. g.N.Network.may_give l.network port (g.N.Connection.ByteSource.remaining stream))
+      l.streams.items;
+  unended : All (λ stream. g.N.Connection.ByteSource.has_ended stream ≡ false) l.streams.items;
+}

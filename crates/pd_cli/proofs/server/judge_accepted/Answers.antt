@@ -1,0 +1,19 @@
+-- A flush changes nothing of what is written.
+use Rattle.std.proofs.Common.{map, refl, Some, None}
+use Rattle.pd_engine.specs.Ends.{outcome_view}
+use Rattle.pd_judgement.specs.Writes.{IsTextOfStreams}
+use Rattle.pd_cli.proofs.FlushedTexts.{flushed_up_to, unsaid_of_streams}
+use Rattle.pd_cli.proofs.server.judge_accepted.Goals as goal
+
+pub returns-then-is_err : goal.returns-then-is_err
+returns-then-is_err g c =
+    let inputs = map g.R.ByteSource.remaining c.args.streams.items in
+    let judged = Some (outcome_view c.in_ok-outcome.outcome) in
+    record {
+      document_bytes = c.args.document.now;
+      whole_document = refl;
+      holds = flushed_up_to (IsTextOfStreams c.args.document.now inputs judged)
+          (IsTextOfStreams c.args.document.now inputs None) (g.O.Write.contents c.args.output.now)
+          (g.O.Write.contents c.judge_watched.new.writer) (g.O.Write.contents c.flush.new.self)
+          (unsaid_of_streams c.args.document.now inputs judged) c.in_ok-outcome.ensures.written c.flush.ensures.bytes;
+    }

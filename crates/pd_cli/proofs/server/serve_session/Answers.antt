@@ -1,0 +1,30 @@
+-- The streams are as many as the document has processes, and each was accepted on the port.
+use Rattle.std.proofs.Common.{◌≡◌, ◌∙◌, List, ap, length, map, subst, sym}
+use Rattle.std.proofs.lemmas.List.{length-map}
+use Rattle.std.proofs.lemmas.List.Elements.{All-map}
+use Rattle.pd_format.specs.Names.{ProcessNames}
+use Rattle.pd_judgement.specs.Statuses.{Ending, ServiceLeaves}
+use Rattle.std.specs.Prelude.{Some}
+use Rattle.pd_cli.proofs.Accepted.{accepted_of_read, service_of_judgement}
+use Rattle.pd_cli.specs.Faults.{ending_view}
+use Rattle.pd_spec.specs.Views.{document_view}
+use Rattle.pd_cli.proofs.server.serve_session.Goals as goal
+
+pub returns : goal.returns
+returns g c =
+    let port = c.args.service.now.port in
+    let G = g.N.Network.may_give c.args.network.now port in
+    let remaining = g.N.Connection.ByteSource.remaining in
+    let streams = c.in_ok-streams.streams.items in
+    let document = c.args.document.now in
+    let count : length (map remaining streams) ≡ length (document_view c.args.spec.now).names =
+    length-map streams remaining ∙ (c.in_ok-streams.ensures.count ∙ (c.processes.ensures
+    ∙ ap (λ (names : List ProcessNames). length names) c.names.ensures)) in
+    let given = All-map G remaining streams (c.in_ok-streams.ensures.given port c.in_ok-listener.ensures.on) in
+    let are = accepted_of_read document G (map remaining streams) (document_view c.args.spec.now)
+    c.one_document.ensures.single c.one_document.ensures.not_refused c.requires given count in
+    subst (λ (e : Ending). ServiceLeaves (Some document) G e (g.O.Write.contents c.args.output.now)
+    (g.O.Write.contents c.judge_accepted.new.output)) (sym c.service_end.ensures)
+    (service_of_judgement document G (map remaining streams) (ending_view c.judge_accepted.result)
+    (g.O.Write.contents c.args.output.now) (g.O.Write.contents c.judge_accepted.new.output) are
+    c.judge_accepted.ensures)

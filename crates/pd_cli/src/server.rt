@@ -1,0 +1,252 @@
+//! Judges a session whose streams come by connections.
+ghost use Rattle.pd_cli.specs.Faults.{ending_view, is_out_of_memory, service_ending_view};
+ghost use Rattle.pd_cli.specs.declared.service_fault.ServiceFault.TheVariants as faults;
+ghost use Rattle.pd_format.specs.Documents.{IsDocument};
+ghost use Rattle.pd_judgement.specs.Statuses.{FilesJudgementLeaves, ServiceLeaves};
+ghost use Rattle.pd_spec.specs.Views.{IsFaultOf, document_view};
+ghost use Rattle.std.specs.Prelude.{◌≡◌, ◌⊎◌, ℕ, All, IfErr, IfOk, Some, [], false, length, map};
+
+use super::file_source::FileSource;
+use super::judge_files::judge_read;
+use super::network::Network;
+use super::outcomes::{WORKERS, is_judged};
+use super::request::Service;
+use super::service_fault::ServiceFault;
+use super::session_files::read_document;
+use super::watchers::Watchers;
+use pd_engine::{ByteSource, EngineFault, NoGate, Observer, Spec, SpecFault, judge_watched};
+use pd_judgement::one_document;
+use std::alloc::Global;
+use std::io::Write;
+use std::random::RandomSource;
+use std::sync::Wait;
+use std::thread::Threads;
+
+/// Binds a port.
+///
+/// # Errors
+/// `Network`, if it can't be bound.
+fn bind<N: Network>(network: &N, port: u16) -> Result<N::Listener, ServiceFault>
+    ensures on { IfOk result (λ listener. N.is_on listener port) }
+    ensures err { IfErr result (λ fault. fault ≡ faults.Network) }
+{
+    match network.bind_port(port) {
+        Ok(listener) => Ok(listener),
+        Err(_) => Err(ServiceFault::Network),
+    }
+}
+
+/// Binds the port of the watchers, which is the next one after that of the streams, if any are to be accepted.
+///
+/// # Errors
+/// `Network`, if it can't be bound.
+fn bind_watchers<N: Network>(
+    network: &N,
+    service: &Service<'_>,
+) -> Result<Option<N::Listener>, ServiceFault>
+    ensures err { IfErr result (λ fault. fault ≡ faults.Network) }
+{
+    if service.watchers == 0 {
+        return Ok(None);
+    }
+    let Some(port) = service.port.checked_add(1) else {
+        return Err(ServiceFault::Network);
+    };
+    Ok(Some(bind(network, port)?))
+}
+
+/// Accepts this many streams on a port, and gives the port up.
+///
+/// # Errors
+/// `Network`, if one can't be accepted, and `Memory`.
+fn accept_streams<N: Network>(
+    network: &N,
+    alloc: Global,
+    listener: N::Listener,
+    count: usize,
+) -> Result<Vec<N::Connection>, ServiceFault>
+    ensures count { IfOk result (λ streams. length streams.items ≡ count) }
+    ensures given { IfOk result (λ streams. (port : ℕ) → N.is_on listener port
+        → All (λ stream. N.may_give network.now port (N.Connection.remaining stream)) streams.items) }
+    ensures open { IfOk result (λ streams. All (λ stream. N.Connection.has_ended stream ≡ false) streams.items) }
+    ensures err { IfErr result (λ fault. (fault ≡ faults.Network) ⊎ (fault ≡ faults.Engine EngineFault.Memory)) }
+{
+    let mut streams = Vec::new(alloc);
+    for _place in 0..count {
+        let Ok(stream) = network.next_connection(&listener) else {
+            return Err(ServiceFault::Network);
+        };
+        streams.push(stream)?;
+    }
+    Ok(streams)
+}
+
+/// How a server ends by how its judgement ends.
+fn service_end(end: Result<bool, EngineFault>) -> Result<bool, ServiceFault>
+    ensures { service_ending_view result ≡ ending_view end }
+{
+    match end {
+        Ok(judged) => Ok(judged),
+        Err(fault) => Err(ServiceFault::Engine(fault)),
+    }
+}
+
+/// Judges a document's bytes and the streams while the observer runs, writes the report, and flushes the output. It
+/// reports whether the session is judged, and not refused.
+///
+/// # Errors
+/// `Memory` leaves nothing written. `Write` leaves a part of the report written, or all of it if only the flush failed.
+fn judge_accepted<
+    S: RandomSource + Threads + Wait + Sync,
+    R: ByteSource + Send + Drop,
+    B: Observer + Sync,
+    O: Write,
+>(
+    rt: &S,
+    alloc: Global,
+    document: &[u8],
+    streams: Vec<R>,
+    observer: &B,
+    output: &mut O,
+) -> Result<bool, EngineFault>
+    requires { All (λ stream. R.has_ended stream ≡ false) streams.items }
+    ensures { FilesJudgementLeaves (Some document.now) (map R.remaining streams.items) (ending_view result)
+        (O.contents output.old) (O.contents output.new) }
+{
+    let outcome = judge_watched(
+        rt, alloc, document, streams, WORKERS, &NoGate, observer, output,
+    )?;
+    if output.flush().is_err() {
+        return Err(EngineFault::Write);
+    }
+    Ok(is_judged(outcome))
+}
+
+/// Binds the ports, accepts a stream for each process of the document, judges the document and the streams, and writes
+/// the report. Meanwhile the watchers are accepted, and each is shown how far the streams are read.
+///
+/// # Errors
+/// As `serve`, but for `Read`.
+fn serve_session<S: RandomSource + Threads + Wait + Sync, N: Network + Sync, O: Write>(
+    rt: &S,
+    network: &N,
+    alloc: Global,
+    document: &[u8],
+    spec: &Spec,
+    service: &Service<'_>,
+    output: &mut O,
+) -> Result<bool, ServiceFault>
+    requires { IsDocument document.now (document_view spec.now) }
+    ensures { ServiceLeaves (Some document.now) (N.may_give network.now service.now.port)
+        (service_ending_view result) (O.contents output.old) (O.contents output.new) }
+{
+    one_document();
+    let listener = bind(network, service.port)?;
+    let watchers = Watchers {
+        network,
+        listener: bind_watchers(network, service)?,
+        count: service.watchers,
+        spec,
+        alloc,
+    };
+    let streams = accept_streams(network, alloc, listener, spec.names().processes())?;
+    service_end(judge_accepted(rt, alloc, document, streams, &watchers, output))
+}
+
+/// Judges a document's bytes and no streams, writes the report, and flushes the output.
+///
+/// # Errors
+/// As `judge_read`.
+fn judge_no_streams<S: RandomSource + Threads + Wait + Sync, N: Network, O: Write>(
+    rt: &S,
+    alloc: Global,
+    document: &[u8],
+    output: &mut O,
+) -> Result<bool, EngineFault>
+    ensures { FilesJudgementLeaves (Some document.now) [] (ending_view result)
+        (O.contents output.old) (O.contents output.new) }
+{
+    judge_read(
+        rt,
+        alloc,
+        document,
+        Vec::<N::Connection>::new(alloc),
+        output,
+    )
+}
+
+/// Whether a document's fault is that memory ran out. If not, the document is refused.
+fn is_out_of_memory(fault: &SpecFault) -> bool
+    ensures { result ≡ is_out_of_memory fault.now }
+{
+    match fault {
+        SpecFault::Memory => true,
+        SpecFault::Long
+        | SpecFault::Json
+        | SpecFault::Shape
+        | SpecFault::Processes
+        | SpecFault::Name
+        | SpecFault::NameTwice
+        | SpecFault::Vars
+        | SpecFault::Predicates
+        | SpecFault::Width
+        | SpecFault::Predicate(_, _) => false,
+    }
+}
+
+/// Reports why a document is refused. No port is bound.
+///
+/// # Errors
+/// As `serve`, but for `Read` and `Network`.
+fn refuse_document<S: RandomSource + Threads + Wait + Sync, N: Network, O: Write>(
+    rt: &S,
+    _network: &N,
+    alloc: Global,
+    document: &[u8],
+    fault: &SpecFault,
+    output: &mut O,
+) -> Result<bool, ServiceFault>
+    requires { IsFaultOf document.now fault.now }
+    ensures { (port : ℕ) → ServiceLeaves (Some document.now) (N.may_give _network.now port)
+        (service_ending_view result) (O.contents output.old) (O.contents output.new) }
+{
+    one_document();
+    if is_out_of_memory(fault) {
+        return Err(ServiceFault::Engine(EngineFault::Memory));
+    }
+    service_end(judge_no_streams::<S, N, O>(rt, alloc, document, output))
+}
+
+/// Opens and reads the document of a session; binds the ports, unless the document is refused; accepts a stream for
+/// each process; judges the document and the streams, writes the report, and flushes the output. It reports whether the
+/// session is judged, and not refused. Meanwhile the watchers are accepted, and each is shown how far the streams are
+/// read; it returns once all of them have come, or one can't be accepted.
+///
+/// # Errors
+/// `Read`, if the document can't be opened or read, `Network`, if a port can't be bound or a stream not be accepted,
+/// and `Memory` leave nothing written. `Write` leaves a part of the report written, or all of it if only the flush
+/// failed.
+pub(crate) fn serve<
+    S: RandomSource + Threads + Wait + Sync,
+    F: FileSource,
+    N: Network + Sync,
+    O: Write,
+>(
+    rt: &S,
+    files: &F,
+    network: &N,
+    alloc: Global,
+    service: &Service<'_>,
+    output: &mut O,
+) -> Result<bool, ServiceFault>
+    ensures { ServiceLeaves (F.bytes_of files.now service.now.spec.now)
+        (N.may_give network.now service.now.port) (service_ending_view result) (O.contents output.old)
+        (O.contents output.new) }
+{
+    let file = files.open(service.spec)?;
+    let document = read_document(alloc, file)?;
+    match Spec::read(alloc, &document) {
+        Ok(spec) => serve_session(rt, network, alloc, &document, &spec, service, output),
+        Err(fault) => refuse_document(rt, network, alloc, &document, &fault, output),
+    }
+}

@@ -1,0 +1,62 @@
+//! The question and its answer.
+ghost use Rattle.pd_format.specs.Limits.{width_limit};
+ghost use Rattle.pd_model.specs.Answers.{IsDefinitelyAnswer};
+ghost use Rattle.pd_model.specs.Cuts.{total};
+ghost use Rattle.pd_model.specs.Predicates.{test_of};
+ghost use Rattle.pd_pred.specs.Views.{predicate_view};
+ghost use Rattle.pd_walk.specs.Answers.{IsLeastRoot, IsPastFirst, definitely_answer_view};
+ghost use Rattle.std.specs.Prelude.{◌≡◌, ◌+◌, ◌*◌, ◌≤◌, ℕ, IfOk};
+
+use pd_clock::Computation;
+use pd_level::Gate;
+use pd_pred::Pred;
+use pd_walk::{DefinitelyAnswer, answer_one};
+use std::alloc::{AllocError, Global};
+
+/// The answer for a predicate over a computation, under a bound on the number of the avoiding cuts of a level.
+/// `workers` and the gate change nothing yet.
+///
+/// Source: Cooper and Marzullo, Consistent Detection of Global Predicates, 1991.
+pub fn definitely<G: Gate + Sync>(
+    alloc: Global,
+    computation: &Computation<'_>,
+    pred: &Pred,
+    width: u64,
+    workers: u64,
+    gate: &G,
+) -> Result<DefinitelyAnswer, AllocError>
+    requires wide { 1 ≤ width }
+    requires narrow { width ≤ width_limit }
+    ensures { IfOk result (λ answer. IsDefinitelyAnswer computation.now.events
+        (test_of computation.now (predicate_view pred.now)) width (definitely_answer_view answer)) }
+{
+    let (answer, _most) = definitely_counted(alloc, computation, pred, width, workers, gate)?;
+    Ok(answer)
+}
+
+/// The answer as `definitely` gives it, and how many levels were held at once, at most. `_workers` and the gate change
+/// nothing yet.
+///
+/// # Errors
+/// An allocation was refused.
+pub fn definitely_counted<G: Gate + Sync>(
+    alloc: Global,
+    computation: &Computation<'_>,
+    pred: &Pred,
+    width: u64,
+    _workers: u64,
+    _gate: &G,
+) -> Result<(DefinitelyAnswer, u64), AllocError>
+    requires wide { 1 ≤ width }
+    requires narrow { width ≤ width_limit }
+    ensures answer { IfOk result (λ found. IsDefinitelyAnswer computation.now.events
+        (test_of computation.now (predicate_view pred.now)) width (definitely_answer_view found.0)) }
+    ensures few { IfOk result (λ found. (s : ℕ) → IsLeastRoot s (total computation.now.events + 1)
+        → found.1 ≤ 2 * s + 2) }
+    ensures some { IfOk result (λ found. 1 ≤ found.1) }
+    ensures past_first { IfOk result (λ found. IsPastFirst computation.now.events (definitely_answer_view found.0)
+        → 2 ≤ found.1) }
+{
+    let answers = answer_one(alloc, computation, pred, width)?;
+    Ok((answers.definitely, answers.held))
+}

@@ -1,0 +1,2 @@
+-- The lemmas on counts as the digits of one number.
+pub mod Keys

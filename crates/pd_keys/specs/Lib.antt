@@ -1,0 +1,2 @@
+-- Counts as the digits of one number.
+pub mod Keys

@@ -1,0 +1,11 @@
+-- The lemmas behind the marks of a whole level.
+pub mod Windows
+pub mod ParentBits
+pub mod RunKeys
+pub mod AvoidingBits
+pub mod PushedWords
+pub mod MarkCounts
+pub mod FirstSatisfying
+pub mod MarkedKeys
+pub mod ListedCuts
+pub mod ReadPrefixes

@@ -1,0 +1,11 @@
+-- The numbers so far are those of the marked cuts of the first runs.
+use Rattle.std.proofs.Common.{◌≡◌, map, take}
+use Rattle.pd_keys.specs.Keys.{key_of}
+use Rattle.pd_runs.specs.WholeLevels.{marked_of_runs}
+use Rattle.pd_marks.specs.Marks.{lists_of}
+use Rattle.pd_marks.proofs.marks.Marks.to_level.Given as goal
+
+abbrev pub invariant-loop-i : goal.invariant-loop-i
+invariant-loop-i l =
+    l.keys.items ≡ map key_of (marked_of_runs l.level.number (take l.i l.level.runs)
+    (lists_of (take l.i l.level.runs) l.self.words 0))

@@ -1,0 +1,4 @@
+-- What the marks of a whole level are.
+pub mod RunPlaces
+pub mod Skips
+pub mod Marks

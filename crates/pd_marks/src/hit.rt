@@ -1,0 +1,83 @@
+//! The first cut of a whole level that satisfies.
+ghost use Rattle.pd_marks.specs.Marks.{cut_with};
+ghost use Rattle.pd_model.specs.Answers.{IsFirstSatisfying};
+ghost use Rattle.pd_model.specs.Cuts.{IsOfLevel};
+ghost use Rattle.pd_model.specs.Walks.{NoneBelow};
+ghost use Rattle.pd_runs.specs.Levels.{IsWholeLevel};
+ghost use Rattle.pd_marks.specs.RunPlaces.{run_at};
+ghost use Rattle.pd_marks.specs.Skips.{HaveNoHits};
+ghost use Rattle.pd_runs.specs.WholeLevels.{rest_at};
+ghost use Rattle.std.specs.Prelude.{◌≡◌, ◌+◌, ◌<◌, ◌≤◌, ℕ, IfNone, IfSome, List, None, false, length, true};
+
+use super::hits::{block, hits};
+use super::run;
+use super::skips::Skips;
+use pd_bits::{BITS, least, words};
+use pd_clock::Cut;
+use pd_runs::{RunTest, Whole};
+use std::alloc::Global;
+
+/// The least count of the last process but one in run `i` whose cut satisfies.
+fn hit_in<T: RunTest>(level: &Whole, test: &T, skips: Skips<'_>, i: usize) -> Option<u64>
+    requires level { IsWholeLevel (T.events test.now) level.now }
+    requires skips { HaveNoHits (T.events test.now) (T.test test.now) level.now.runs skips }
+    requires within { i < length level.now.runs }
+    ensures some { IfSome result (λ x. ((run_at level.now.runs i).lo ≤ x) × (x ≤ (run_at level.now.runs i).hi)
+        × (T.test test.now (cut_with level.now.number (run_at level.now.runs i) x) ≡ true)
+        × ((u : ℕ) → (run_at level.now.runs i).lo ≤ u → u < x
+        → T.test test.now (cut_with level.now.number (run_at level.now.runs i) u) ≡ false)) }
+    ensures none { result ≡ None → (u : ℕ) → (run_at level.now.runs i).lo ≤ u → u ≤ (run_at level.now.runs i).hi
+        → T.test test.now (cut_with level.now.number (run_at level.now.runs i) u) ≡ false }
+{
+    let lo = run::lo(level, i);
+    let hi = run::hi(level, i);
+    for b in 0..(hi - lo) / BITS + 1 {
+        let x = lo + b * BITS;
+        let found = hits(level, test, skips, i, x, block(x, hi));
+        words(found);
+        if found != 0 {
+            return Some(x + least(found));
+        }
+    }
+    None
+}
+
+/// The cut of run `i` with this count of the last process but one. It takes no memory.
+fn cut_in(alloc: Global, level: &Whole, i: usize, x: u64) -> Cut
+    requires within { i < length level.now.runs }
+    requires high { x ≤ rest_at level.now.number (run_at level.now.runs i) }
+    requires processes { length (run_at level.now.runs i).prefix + 2 ≡ level.now.processes }
+    ensures { result ≡ cut_with level.now.number (run_at level.now.runs i) x }
+{
+    level.limits();
+    let n = level.processes();
+    let mut counts = run::prefix(level, i);
+    counts[n - 2] = x;
+    counts[n - 1] = run::rest(level, i) - x;
+    Cut::new(alloc, &counts[..n]).unwrap()
+}
+
+/// The first cut of the level that satisfies, in lexicographic order. It takes no memory.
+pub fn first_hit<T: RunTest>(
+    alloc: Global,
+    level: &Whole,
+    test: &T,
+    skips: Skips<'_>,
+) -> Option<Cut>
+    requires level { IsWholeLevel (T.events test.now) level.now }
+    requires skips { HaveNoHits (T.events test.now) (T.test test.now) level.now.runs skips }
+    ensures level { IfSome result (IsOfLevel (T.events test.now) level.now.number) }
+    ensures satisfies { IfSome result (λ cut. T.test test.now cut ≡ true) }
+    ensures first { IfSome result (λ cut. NoneBelow (T.events test.now) (T.test test.now) level.now.number
+        → IsFirstSatisfying (T.events test.now) (T.test test.now) cut) }
+    ensures none { IfNone result ((cut : List ℕ) → IsOfLevel (T.events test.now) level.now.number cut
+        → T.test test.now cut ≡ false) }
+{
+    for i in 0..level.len() {
+        match hit_in(level, test, skips, i) {
+            Some(x) => return Some(cut_in(alloc, level, i, x)),
+            None => {},
+        }
+    }
+    None
+}

@@ -1,0 +1,60 @@
+//! Which cuts of a whole level satisfy.
+ghost use Rattle.pd_bits.specs.Words.{has_bit};
+ghost use Rattle.pd_runs.specs.Runs.{cut_at};
+ghost use Rattle.pd_runs.specs.Levels.{IsWholeLevel};
+ghost use Rattle.pd_marks.specs.RunPlaces.{run_at};
+ghost use Rattle.pd_marks.specs.Skips.{HaveNoHits};
+ghost use Rattle.pd_runs.specs.WholeLevels.{rest_at};
+ghost use Rattle.std.specs.Prelude.{◌≡◌, ◌+◌, ◌-◌, ◌<◌, ◌≤◌, ℕ, false, length};
+
+use super::parents::first_of;
+use super::run;
+use super::skips::Skips;
+use pd_bits::{BITS, words};
+use pd_format::PROCESS_LIMIT;
+use pd_runs::{RunTest, Whole};
+
+/// How many of the counts from `x` to `hi` are looked at together: all of them, but no more than a word has bits.
+pub(crate) fn block(x: u64, hi: u64) -> u64
+    requires { x ≤ hi }
+    ensures some { 1 ≤ result }
+    ensures few { result ≤ 64 }
+    ensures high { x + result ≤ hi + 1 }
+    ensures whole { result < 64 → x + result ≡ hi + 1 }
+{
+    if hi - x >= BITS - 1 { BITS } else { hi - x + 1 }
+}
+
+/// Which of `n` neighboring cuts of run `i` satisfy: bit `j` is that of the cut whose count of the last process but
+/// one is
+/// `x + j`.
+pub(crate) fn hits<T: RunTest>(
+    level: &Whole,
+    test: &T,
+    skips: Skips<'_>,
+    i: usize,
+    x: u64,
+    n: u64,
+) -> u64
+    requires level { IsWholeLevel (T.events test.now) level.now }
+    requires skips { HaveNoHits (T.events test.now) (T.test test.now) level.now.runs skips }
+    requires within { i < length level.now.runs }
+    requires some { 1 ≤ n }
+    requires few { n ≤ 64 }
+    requires low { (run_at level.now.runs i).lo ≤ x }
+    requires high { x + n ≤ (run_at level.now.runs i).hi + 1 }
+    ensures within { (j : ℕ) → j < n → has_bit result j ≡ T.test test.now (cut_at (run_at level.now.runs i).prefix (x
+        + j)
+        (rest_at level.now.number (run_at level.now.runs i) - (x + j))) }
+    ensures beyond { (j : ℕ) → n ≤ j → has_bit result j ≡ false }
+{
+    words(0);
+    if skips.has(i) {
+        return 0;
+    }
+    level.limits();
+    let y = run::rest(level, i) - x;
+    let mut counts = [0; PROCESS_LIMIT];
+    run::read_prefix(level, i, &mut counts);
+    test.mask(first_of(&counts, level.processes() - 2), x, y, n)
+}

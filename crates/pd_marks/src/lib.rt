@@ -1,0 +1,27 @@
+//! Which cuts of a whole level avoid: one bit for each cut, so that up to 64 neighboring cuts are decided at once.
+//!
+//! - `marks`: the marks of a level, and how many there are
+//! - `find`: the place of a run by its number
+//! - `run`: what is read of a run
+//! - `parents`: the marks of the cuts with one event less
+//! - `hits`: which cuts of a run satisfy
+//! - `mark`: the marks of the first level with a satisfying cut, and those of the next level
+//! - `list`: the numbers of the marked cuts
+//! - `skips`: which runs aren't looked at
+//! - `hit`: the first cut of a level that satisfies
+#![tactic(auto)]
+
+mod find;
+mod hit;
+mod hits;
+mod list;
+mod mark;
+mod marks;
+mod parents;
+mod run;
+mod skips;
+
+pub use hit::first_hit;
+pub use mark::{next, unsatisfying};
+pub use marks::Marks;
+pub use skips::Skips;

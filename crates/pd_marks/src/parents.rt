@@ -1,0 +1,170 @@
+//! The marks of the cuts with one event less.
+ghost use Rattle.pd_bits.specs.Words.{has_bit};
+ghost use Rattle.pd_format.specs.Limits.{process_limit};
+ghost use Rattle.pd_keys.specs.Keys.{count_base};
+ghost use Rattle.pd_marks.specs.Marks.{HasMark, HasOtherMark, HasOwnMark, IsMarkedAt, IsShaped, KeysAscend};
+ghost use Rattle.pd_marks.specs.RunPlaces.{key_of_run, run_at};
+ghost use Rattle.std.specs.Prelude.{◌≡◌, ◌+◌, ◌-◌, ◌^◌, ◌<◌, ◌≤◌, ◌⊎◌, ◌↔◌, ℕ, IfSome, IsTrue, None, false, length, slice_index, take};
+
+use super::find::place;
+use super::marks::Marks;
+use super::run;
+use pd_bits::{both, either, lowest, up, words};
+use pd_format::PROCESS_LIMIT;
+use pd_keys::weight;
+use pd_runs::Whole;
+
+/// The run with this number. The place where it is found, or would stand, is kept as the hint for the next look-up.
+fn find(level: &Whole, key: u128, places: &mut [usize], slot: usize) -> Option<usize>
+    requires ascending { KeysAscend level.now.runs }
+    requires kept { slot < length places.old }
+    ensures some { IfSome result (λ i. (i < length level.now.runs) × (key_of_run (run_at level.now.runs i) ≡ key)) }
+    ensures none { result ≡ None → (i : ℕ) → i < length level.now.runs
+        → ¬ (key_of_run (run_at level.now.runs i) ≡ key) }
+{
+    let i = place(level, key, places[slot]);
+    places[slot] = i;
+    if i < level.len() && run::key(level, i) == key {
+        return Some(i);
+    }
+    None
+}
+
+/// The marks of 64 neighboring cuts of the run with this number.
+fn window_of(
+    level: &Whole,
+    marks: &Marks,
+    key: u128,
+    x: u64,
+    places: &mut [usize],
+    slot: usize,
+) -> u64
+    requires ascending { KeysAscend level.now.runs }
+    requires shape { IsShaped level.now.runs marks.now }
+    requires kept { slot < length places.old }
+    ensures { (j : ℕ) → j < 64 → IsTrue (has_bit result j) ↔ HasMark level.now.runs marks.now key (x + j) }
+{
+    words(0);
+    match find(level, key, places, slot) {
+        Some(i) => marks.window(level, i, x),
+        None => 0,
+    }
+}
+
+/// Of 64 neighboring counts of the last process but one, those at which the run with this number has a mark, or at
+/// one less.
+fn own_window(
+    level: &Whole,
+    marks: &Marks,
+    key: u128,
+    x: u64,
+    places: &mut [usize],
+    slot: usize,
+) -> u64
+    requires ascending { KeysAscend level.now.runs }
+    requires shape { IsShaped level.now.runs marks.now }
+    requires kept { slot < length places.old }
+    ensures { (j : ℕ) → j < 64 → IsTrue (has_bit result j) ↔ HasOwnMark level.now.runs marks.now key (x + j) }
+{
+    words(0);
+    match find(level, key, places, slot) {
+        Some(i) => {
+            let same = marks.window(level, i, x);
+            let less = if x == 0 {
+                up(same, 1)
+            } else {
+                marks.window(level, i, x - 1)
+            };
+            either(less, same)
+        },
+        None => 0,
+    }
+}
+
+/// The bits, and the marks of the runs whose prefix has one event less.
+fn with_others(
+    level: &Whole,
+    marks: &Marks,
+    key: u128,
+    prefix: &[u64],
+    x: u64,
+    n: u64,
+    own: u64,
+    places: &mut [usize],
+) -> u64
+    requires ascending { KeysAscend level.now.runs }
+    requires shape { IsShaped level.now.runs marks.now }
+    requires few { n ≤ 64 }
+    requires processes { length prefix.now + 2 ≤ process_limit }
+    requires kept { length prefix.now ≤ length places.old }
+    requires room { (p : ℕ) → p < length prefix.now → 0 < slice_index prefix.now p
+        → count_base ^ (length prefix.now + 1 - p) ≤ key }
+    requires narrow { (j : ℕ) → n ≤ j → has_bit own j ≡ false }
+    ensures bits { (j : ℕ) → j < n → IsTrue (has_bit result j)
+        ↔ (IsTrue (has_bit own j)
+        ⊎ HasOtherMark level.now.runs marks.now key prefix.now (length prefix.now) (x + j)) }
+    ensures beyond { (j : ℕ) → n ≤ j → has_bit result j ≡ false }
+{
+    let wanted = lowest(n);
+    let mut found = own;
+    for p in 0..prefix.len() {
+        if found == wanted {
+            return found;
+        }
+        if prefix[p] > 0 {
+            let parent = key - weight(prefix.len() + 2, p);
+            found = either(
+                found,
+                both(window_of(level, marks, parent, x, places, p), wanted),
+            );
+        }
+    }
+    found
+}
+
+/// The first counts of all that there is room for.
+pub(crate) fn first_of(counts: &[u64; PROCESS_LIMIT], n: usize) -> &[u64]
+    requires { n ≤ process_limit }
+    ensures { result.now ≡ take n counts.now }
+{
+    &counts[..n]
+}
+
+/// The cuts of run `i` of a level with a marked cut of one event less in the level before: bit `j` is that of the
+/// cut whose
+/// count of the last process but one is `x + j`, for `j` below `n`.
+pub(crate) fn parents(
+    before: &Whole,
+    marks: &Marks,
+    level: &Whole,
+    i: usize,
+    x: u64,
+    n: u64,
+    places: &mut [usize],
+) -> u64
+    requires ascending { KeysAscend before.now.runs }
+    requires shape { IsShaped before.now.runs marks.now }
+    requires within { i < length level.now.runs }
+    requires few { n ≤ 64 }
+    requires processes { length (run_at level.now.runs i).prefix + 2 ≡ level.now.processes }
+    requires kept { length places.old ≡ process_limit }
+    ensures bits { (j : ℕ) → j < n → IsTrue (has_bit result j)
+        ↔ (HasOwnMark before.now.runs marks.now (key_of_run (run_at level.now.runs i)) (x + j)
+        ⊎ HasOtherMark before.now.runs marks.now (key_of_run (run_at level.now.runs i))
+        (run_at level.now.runs i).prefix (length (run_at level.now.runs i).prefix) (x + j)) }
+    ensures beyond { (j : ℕ) → n ≤ j → has_bit result j ≡ false }
+{
+    level.limits();
+    let key = run::key(level, i);
+    let wanted = lowest(n);
+    let own = both(
+        own_window(before, marks, key, x, places, level.processes() - 1),
+        wanted,
+    );
+    if own == wanted {
+        return own;
+    }
+    let counts = run::prefix(level, i);
+    let prefix = first_of(&counts, level.processes() - 2);
+    with_others(before, marks, key, prefix, x, n, own, places)
+}

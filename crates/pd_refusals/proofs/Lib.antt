@@ -1,0 +1,2 @@
+-- The lemmas behind the words of the runs.
+pub mod Words

@@ -1,0 +1,11 @@
+-- The words so far are those of the first runs.
+use Rattle.std.proofs.Common.{◌≡◌, ◌<◌, ℕ, length, slice_index}
+use Rattle.pd_marks.specs.RunPlaces.{run_at}
+use Rattle.pd_refusals.specs.Refusals.{IsWordOf}
+use Rattle.pd_refusals.proofs.refusals.Refusals.next.Given as goal
+
+abbrev pub invariant-loop-i : goal.invariant-loop-i
+invariant-loop-i l = record {
+  one_each : length l.words.items ≡ l.i;
+  each : (k : ℕ) → k < l.i → IsWordOf l.tests (run_at l.level.runs k).prefix (slice_index l.words.items k);
+}

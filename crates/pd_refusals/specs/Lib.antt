@@ -1,0 +1,2 @@
+-- What the refusals of a whole level are.
+pub mod Refusals

@@ -1,0 +1,77 @@
+//! The word of one run.
+ghost use Rattle.pd_marks.specs.RunPlaces.{run_at};
+ghost use Rattle.pd_refusals.specs.Refusals.{IsRefused, IsSomeLevel, IsWordOf};
+ghost use Rattle.pd_tables.specs.Views.{CompiledView};
+ghost use Rattle.std.specs.Prelude.{◌≡◌, ◌+◌, ◌-◌, ◌<◌, ◌≤◌, ℕ, length, slice_index, slice_index_or, take};
+
+use pd_format::PROCESS_LIMIT;
+use pd_runs::Whole;
+use pd_tables::Compiled;
+
+/// How many predicates have a bit: the first ones.
+pub(crate) const BITS: usize = 16;
+
+/// 1 if predicate `q` holds at no cut with this prefix, as far as its tables know, and else 0.
+fn refusal(tests: &[Compiled<'_, '_>], prefix: &[u64], q: usize) -> u16
+    requires { q < length tests.now }
+    ensures bit { result ≤ 1 }
+    ensures refused { result ≡ 1 → (test : CompiledView) → IsRefused (slice_index_or tests.now q test) prefix.now }
+{
+    if tests[q].may(prefix) { 0 } else { 1 }
+}
+
+/// How many predicates are asked: those with a bit.
+fn asked_of(tests: &[Compiled<'_, '_>]) -> usize
+    ensures few { result ≤ 16 }
+    ensures within { result ≤ length tests.now }
+    ensures all { result < 16 → result ≡ length tests.now }
+{
+    if tests.len() < BITS {
+        tests.len()
+    } else {
+        BITS
+    }
+}
+
+/// The word of a run with this prefix.
+fn word_of(tests: &[Compiled<'_, '_>], prefix: &[u64]) -> u16
+    ensures { IsWordOf tests.now prefix.now result }
+{
+    let n = asked_of(tests);
+    let mut word: u16 = 0;
+    for k in 0..n {
+        word = word * 2 + refusal(tests, prefix, n - 1 - k);
+    }
+    word
+}
+
+/// The count of process `p` of the prefix of run `i`, both from 0.
+fn count(level: &Whole, i: usize, p: usize) -> u64
+    requires run { i < length level.now.runs }
+    requires prefix { p + 2 < level.now.processes }
+    ensures { result ≡ slice_index (run_at level.now.runs i).prefix p }
+{
+    level.count(i, p)
+}
+
+/// The first counts of all that there is room for.
+fn first_of(counts: &[u64; PROCESS_LIMIT], n: usize) -> &[u64]
+    requires { n ≤ 8 }
+    ensures { result.now ≡ take n counts.now }
+{
+    &counts[..n]
+}
+
+/// The word of run `i`, for which each predicate is asked.
+pub(crate) fn asked(tests: &[Compiled<'_, '_>], level: &Whole, i: usize) -> u16
+    requires level { IsSomeLevel level.now }
+    requires within { i < length level.now.runs }
+    ensures { IsWordOf tests.now (run_at level.now.runs i).prefix result }
+{
+    level.limits();
+    let mut counts = [0; PROCESS_LIMIT];
+    for p in 0..level.processes() - 2 {
+        counts[p] = count(level, i, p);
+    }
+    word_of(tests, first_of(&counts, level.processes() - 2))
+}

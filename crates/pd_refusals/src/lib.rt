@@ -1,0 +1,11 @@
+//! Which predicates hold at no cut of a run, asked once: a run keeps its prefix from level to level, and the answer
+//! stands with it.
+//!
+//! - `refusals`: the words of a level's runs, from nothing or from those of the level before
+//! - `asked`: the word of one run
+#![tactic(auto)]
+
+mod asked;
+mod refusals;
+
+pub use refusals::Refusals;

@@ -1,0 +1,146 @@
+//! The words of a level's runs.
+ghost use Rattle.pd_marks.specs.RunPlaces.{key_of_run, run_at};
+ghost use Rattle.pd_marks.specs.Skips.{HaveNoHits};
+ghost use Rattle.pd_model.specs.Predicates.{test_of};
+ghost use Rattle.pd_refusals.specs.Refusals.{AreRefusals, IsSomeLevel, IsWordOf};
+ghost use Rattle.pd_runs.specs.Levels.{WholeLevel};
+ghost use Rattle.pd_tables.specs.Views.{CompiledView};
+ghost use Rattle.std.specs.Prelude.{◌≡◌, ◌<◌, ◌≤◌, ℕ, IfOk, List, length, slice_index, slice_index_or};
+
+use super::asked::{BITS, asked};
+use pd_marks::Skips;
+use pd_runs::Whole;
+use pd_tables::Compiled;
+use std::alloc::{AllocError, Global};
+use std::marker::Model;
+
+/// A word for each run of a whole level: bit `q` is set only if predicate `q` holds at no cut with the run's prefix.
+/// The first 16 predicates have a bit.
+#[derive(Drop)]
+pub struct Refusals {
+    words: Vec<u16>,
+}
+
+impl Model for Refusals {
+    ghost use Rattle.std.specs.Prelude.{ℕ, List};
+
+    ghost Value = { List ℕ };
+
+    ghost view = { λ r. r.words.items };
+}
+
+/// The number whose digits are the counts of the prefix of run `i`.
+fn key(level: &Whole, i: usize) -> u128
+    requires { i < length level.now.runs }
+    ensures { result ≡ key_of_run (run_at level.now.runs i) }
+{
+    level.key(i)
+}
+
+/// The place of the first run from `at` on whose number isn't below `key`, or how many runs there are.
+fn place_from(level: &Whole, sought: u128, at: usize) -> usize
+    ensures beyond { result < length level.now.runs → sought ≤ key_of_run (run_at level.now.runs result) }
+    ensures below { (j : ℕ) → at ≤ j → j < result → j < length level.now.runs
+        → key_of_run (run_at level.now.runs j) < sought }
+    ensures within { result ≤ length level.now.runs }
+{
+    for j in at..level.len() {
+        if key(level, j) >= sought {
+            return j;
+        }
+    }
+    level.len()
+}
+
+/// The word of run `i`: that of the run at this place in the level before, if that has its prefix.
+fn word_after(
+    tests: &[Compiled<'_, '_>],
+    before: &Whole,
+    refusals: &Refusals,
+    at: usize,
+    level: &Whole,
+    i: usize,
+) -> u16
+    requires before { IsSomeLevel before.now }
+    requires level { IsSomeLevel level.now }
+    requires processes { before.now.processes ≡ level.now.processes }
+    requires refusals { AreRefusals tests.now before.now refusals.now }
+    requires within { i < length level.now.runs }
+    ensures { IsWordOf tests.now (run_at level.now.runs i).prefix result }
+{
+    before.limits();
+    level.limits();
+    if at < before.len() && key(before, at) == key(level, i) {
+        return refusals.word(at);
+    }
+    asked(tests, level, i)
+}
+
+impl Refusals {
+    /// The word of run `i`.
+    fn word(&self, i: usize) -> u16
+        requires { i < length self.now }
+        ensures { result ≡ slice_index self.now i }
+    {
+        self.words[i]
+    }
+
+    /// The refusals of a level, for which each run is asked.
+    ///
+    /// # Errors
+    /// An allocation was refused.
+    pub fn first(
+        alloc: Global,
+        tests: &[Compiled<'_, '_>],
+        level: &Whole,
+    ) -> Result<Refusals, AllocError>
+        requires { IsSomeLevel level.now }
+        ensures { IfOk result (AreRefusals tests.now level.now) }
+    {
+        let mut words = Vec::with_capacity(alloc, level.len())?;
+        for i in 0..level.len() {
+            words.push(asked(tests, level, i))?;
+        }
+        Ok(Refusals { words })
+    }
+
+    /// The refusals of the next level, from those of a level. Only the runs with a new prefix are asked.
+    ///
+    /// # Errors
+    /// An allocation was refused.
+    pub fn next(
+        alloc: Global,
+        tests: &[Compiled<'_, '_>],
+        before: &Whole,
+        refusals: &Refusals,
+        level: &Whole,
+    ) -> Result<Refusals, AllocError>
+        requires before { IsSomeLevel before.now }
+        requires level { IsSomeLevel level.now }
+        requires processes { before.now.processes ≡ level.now.processes }
+        requires refusals { AreRefusals tests.now before.now refusals.now }
+        ensures { IfOk result (AreRefusals tests.now level.now) }
+    {
+        let mut words = Vec::with_capacity(alloc, level.len())?;
+        let mut at = 0;
+        for i in 0..level.len() {
+            at = place_from(before, key(level, i), at);
+            words.push(word_after(tests, before, refusals, at, level, i))?;
+        }
+        Ok(Refusals { words })
+    }
+
+    /// The runs that predicate `q` needn't be evaluated at. From predicate 16 on that is none.
+    pub fn of(&self, q: usize) -> Skips<'_>
+        ensures { (tests : List CompiledView) (test : CompiledView) (level : WholeLevel)
+            → AreRefusals tests level self.now → q < length tests
+            → HaveNoHits (slice_index_or tests q test).recorded.events
+            (test_of (slice_index_or tests q test).recorded (slice_index_or tests q test).predicate) level.runs
+            result }
+    {
+        if q < BITS {
+            return Skips::new(&self.words, q as u64);
+        }
+        Skips::none()
+    }
+}

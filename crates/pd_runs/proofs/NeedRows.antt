@@ -1,0 +1,119 @@
+-- The rows of needs, one event after another, and the sends that they name.
+use Rattle.std.proofs.Common.{◌≡◌, ℕ, ◌+◌, ◌-◌, ◌<◌, ◌≤◌, Bool, false, List, [], ◌∷◌, ◌++◌, length, length-append, get_or, refl, sym, ap, ◌∙◌, subst, below_more, arith}
+use Rattle.std.specs.Prelude.{Vec, Some, slice_get, IsTrue}
+use Rattle.std.specs.Global.{Global}
+use Rattle.std.proofs.lemmas.List.{get_or_append_left, get_or-append_right}
+use Rattle.std.proofs.lemmas.Option.{slice_get-get_or}
+use Rattle.pd_model.specs.Events.{Computation, Place, Send, Receive, place, IsEvent, event_count}
+use Rattle.pd_model.specs.Messages.{IsMessage}
+use Rattle.pd_model.proofs.Chains.{same_place, event_from_kind}
+use Rattle.pd_model.proofs.Consistency.{process_in_range}
+use Rattle.pd_runs.specs.Births.{HasOneSend, IsReceivedBelow}
+use Rattle.pd_runs.specs.Needs.{IsNeed, HasNeeds, AreNeeds}
+use Rattle.pd_runs.specs.declared.need.Need.{Need}
+
+at_end : {A : Type 0} (xs : List A) (x d : A) (i : ℕ) → length xs ≡ i → get_or (xs ++ x ∷ []) i d ≡ x
+at_end {A} xs x d i e =
+    let none : i - i ≡ 0 = omega arith in
+    get_or-append_right xs (x ∷ []) i i d e (omega arith) ∙ ap (λ (k : ℕ). get_or {A = A} (x ∷ []) k d) none
+
+pub need_push : (c : Computation) (p n : ℕ) (row : List Need) (need : Need) → HasNeeds c p n row
+    → IsNeed c p n need.process need.number → HasNeeds c p (n + 1) (row ++ need ∷ [])
+need_push c p n row need has is = record {
+  same = length-append row (need ∷ []) ∙ omega (arith, has.same);
+  right = λ k none lt. below_more (λ (i : ℕ). IsNeed c p i (get_or (row ++ need ∷ []) i none).process
+      (get_or (row ++ need ∷ []) i none).number) n
+      (λ i less. rw (get_or_append_left row (need ∷ []) none i (omega (arith, has.same))) (has.right i none less))
+      (rw (at_end row need none n has.same) is)
+      k lt;
+}
+
+pub row_push : (c : Computation) (n : ℕ) (rows : List (Vec Need Global)) (row : Vec Need Global) → AreNeeds c n rows
+    → HasNeeds c n (event_count c n + 1) row.items → AreNeeds c (n + 1) (rows ++ row ∷ [])
+row_push c n rows row are has = record {
+  same = length-append rows (row ∷ []) ∙ omega (arith, are.same);
+  each = λ p none lt. below_more (λ (i : ℕ).
+      HasNeeds c i (event_count c i + 1) (get_or (rows ++ row ∷ []) i none).items) n
+      (λ i less. rw (get_or_append_left rows (row ∷ []) none i (omega (arith, are.same))) (are.each i none less))
+      (rw (at_end rows row none n are.same) has)
+      p lt;
+}
+
+-- what is read in the row of a process
+pub need_read : (c : Computation) (rows : List (Vec Need Global)) (p k : ℕ) (row : Vec Need Global) (need : Need)
+    → AreNeeds c (length c) rows → p < length c → k ≤ event_count c p → row ≡ get_or rows p row
+    → need ≡ get_or row.items k need → IsNeed c p k need.process need.number
+need_read c rows p k row need are lt le read at =
+    let has : HasNeeds c p (event_count c p + 1) row.items =
+    subst (λ (r : Vec Need Global). HasNeeds c p (event_count c p + 1) r.items) (sym read) (are.each p row lt) in
+    subst (λ (d : Need). IsNeed c p k d.process d.number) (sym at) (has.right k need (omega arith))
+
+some_of : {A : Type 0} (xs : List A) → 0 < length xs → A
+some_of [] lt = absurd (omega arith)
+some_of (x ∷ xs) lt = x
+
+-- the need of an event of a computation
+pub some_need : (c : Computation) (rows : List (Vec Need Global)) → AreNeeds c (length c) rows → (p k : ℕ)
+    → p < length c → k ≤ event_count c p → (q m : ℕ) × IsNeed c p k q m
+some_need c rows are p k lt le =
+    let many : length rows ≡ length c = are.same in
+    let row : Vec Need Global = some_of rows (omega arith) in
+    let has : HasNeeds c p (event_count c p + 1) (get_or rows p row).items = are.each p row lt in
+    let size : length (get_or rows p row).items ≡ event_count c p + 1 = has.same in
+    let need : Need = some_of (get_or rows p row).items (omega arith) in (
+      (get_or (get_or rows p row).items k need).process,
+      (get_or (get_or rows p row).items k need).number,
+      has.right k need (omega arith),
+    )
+
+pub one_send : (c : Computation) (rows : List (Vec Need Global)) → AreNeeds c (length c) rows → HasOneSend c
+one_send c rows are send other receipt m n =
+    let e : IsEvent c receipt = event_from_kind c receipt (Receive m.0) m.2 in
+    let low : 1 ≤ receipt.number = e.0 in
+    let high : receipt.number ≤ event_count c receipt.process = e.1 in
+    let here : receipt ≡ place receipt.process (receipt.number - 1 + 1) =
+    same_place receipt (place receipt.process (receipt.number - 1 + 1)) refl (omega arith) in
+    let w : (q k : ℕ) × IsNeed c receipt.process (receipt.number - 1) q k =
+    some_need c rows are receipt.process (receipt.number - 1) (process_in_range c receipt e) (omega arith) in
+    w.2.sends send (subst (λ (r : Place). IsMessage c send r) here m)
+    ∙ sym (w.2.sends other (subst (λ (r : Place). IsMessage c other r) here n))
+
+-- So far: the marks of what the first n processes need of process q.
+pub record MarksUpTo (c : Computation) (n q : ℕ) (marks : List Bool) : Type 0 where
+  pub same : length marks ≡ event_count c q + 1
+  pub covers : (number : ℕ) → IsReceivedBelow c n (place q number) → IsTrue (get_or marks number false)
+
+-- one more row is read
+pub marks_more : (c : Computation) (n q : ℕ) (row : List Need) (old new : List Bool) → n < length c
+    → HasNeeds c n (event_count c n + 1) row → MarksUpTo c n q old → length new ≡ length old
+    → ((k : ℕ) → IsTrue (get_or old k false) → IsTrue (get_or new k false))
+    → ((i : ℕ) (need : Need) → slice_get row i ≡ Some need → need.process ≡ q → need.number < length old
+    → IsTrue (get_or new need.number false))
+    → MarksUpTo c (n + 1) q new
+marks_more c n q row old new within has so len kept needed = record { same = len ∙ so.same; covers = covers }
+  where
+    here : (number m : ℕ) → IsMessage c (place q number) (place n m) → IsTrue (get_or new number false)
+    here number m message =
+        let e : IsEvent c (place n m) = event_from_kind c (place n m) (Receive message.0) message.2 in
+        let s : IsEvent c (place q number) = event_from_kind c (place q number) (Send message.0) message.1 in
+        let low : 1 ≤ m = e.0 in
+        let high : m ≤ event_count c n = e.1 in
+        let top : number ≤ event_count c q = s.1 in
+        let size : length row ≡ event_count c n + 1 = has.same in
+        let first : Need = some_of row (omega arith) in
+        let need : Need = get_or row (m - 1) first in
+        let is : IsNeed c n (m - 1) need.process need.number = has.right (m - 1) first (omega arith) in
+        let at : m ≡ m - 1 + 1 = omega arith in
+        let same : place q number ≡ place need.process need.number =
+        is.sends (place q number) (subst (λ (k : ℕ). IsMessage c (place q number) (place n k)) at message) in
+        let process : q ≡ need.process = ap (λ (r : Place). r.process) same in
+        let number_is : number ≡ need.number = ap (λ (r : Place). r.number) same in
+        let many : length old ≡ event_count c q + 1 = so.same in
+        subst (λ (k : ℕ). IsTrue (get_or new k false)) (sym number_is)
+        (needed (m - 1) need (slice_get-get_or row (m - 1) first (omega arith)) (sym process) (omega arith))
+
+    covers : (number : ℕ) → IsReceivedBelow c (n + 1) (place q number) → IsTrue (get_or new number false)
+    covers number (p, m, lt, message) =
+        below_more (λ (i : ℕ). IsMessage c (place q number) (place i m) → IsTrue (get_or new number false)) n
+        (λ i less other. kept number (so.covers number (i, m, less, other)))
+        (here number m) p lt message

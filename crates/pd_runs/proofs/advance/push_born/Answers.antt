@@ -1,0 +1,74 @@
+-- The run of a cut is pushed, and its births.
+use Rattle.std.proofs.Common.{◌≡◌, ◌+◌, ◌-◌, ◌^◌, ◌<◌, ◌≤◌, ℕ, length, sum, refl, sym, ap, ◌∙◌, subst, arith}
+use Rattle.pd_format.specs.Limits.{event_limit}
+use Rattle.pd_keys.specs.Keys.{count_base, digits}
+use Rattle.pd_model.specs.Events.{event_count}
+use Rattle.pd_model.specs.Cuts.{IsConsistent}
+use Rattle.pd_runs.specs.Births.{IsYoung}
+use Rattle.pd_runs.specs.Points.{point_cut}
+use Rattle.pd_runs.specs.Runs.{cut_at}
+use Rattle.pd_runs.proofs.Pushing.{births_of_born}
+use Rattle.pd_runs.proofs.RunCuts.{sum_cut}
+use Rattle.pd_runs.proofs.RunSteps.{last_counts}
+use Rattle.pd_runs.proofs.advance.push_born.Goals as goal
+
+pub overflow_add-point : goal.overflow_add-point
+overflow_add-point c =
+    let e : c.prefix.result + 2 ≡ length c.args.steps.now = omega (arith, c.prefix.ensures, c.limits.ensures.two) in
+    let same : point_cut (length c.args.steps.now - 2) c.point_of-point.result
+    ≡ digits (length c.args.steps.now) c.args.cut =
+    sym (ap (λ (n : ℕ). point_cut n c.point_of-point.result) c.prefix.ensures)
+    ∙ (c.point_of-point.ensures.cut ∙ ap (λ (n : ℕ). digits n c.args.cut) e) in
+    let ok : IsConsistent c.args.steps.now (point_cut (length c.args.steps.now - 2) c.point_of-point.result) =
+    subst (IsConsistent c.args.steps.now) (sym same) c.requires.cut in
+    let w = last_counts c.args.steps.now c.limits.ensures.two c.point_of-point.result.key c.point_of-point.result.x
+    c.point_of-point.result.y ok in
+    let x : c.point_of-point.result.x ≤ event_count c.args.steps.now (length c.args.steps.now - 2) = w.0 in
+    let y : c.point_of-point.result.y ≤ event_count c.args.steps.now (length c.args.steps.now - 1) = w.1 in
+    let few : event_count c.args.steps.now (length c.args.steps.now - 2) ≤ event_limit =
+    c.limits.ensures.short (length c.args.steps.now - 2) in
+    let few_y : event_count c.args.steps.now (length c.args.steps.now - 1) ≤ event_limit =
+    c.limits.ensures.short (length c.args.steps.now - 1) in
+    omega arith
+
+pub returns : goal.returns
+returns c =
+    let e : c.prefix.result + 2 ≡ length c.args.steps.now = omega (arith, c.prefix.ensures, c.limits.ensures.two) in
+    let same : point_cut (length c.args.steps.now - 2) c.point_of-point.result
+    ≡ digits (length c.args.steps.now) c.args.cut =
+    sym (ap (λ (n : ℕ). point_cut n c.point_of-point.result) c.prefix.ensures)
+    ∙ (c.point_of-point.ensures.cut ∙ ap (λ (n : ℕ). digits n c.args.cut) e) in
+    let ok : IsConsistent c.args.steps.now (point_cut (length c.args.steps.now - 2) c.point_of-point.result) =
+    subst (IsConsistent c.args.steps.now) (sym same) c.requires.cut in
+    let y_is : c.point_of-point.result.x + c.point_of-point.result.y - c.point_of-point.result.x
+    ≡ c.point_of-point.result.y = omega arith in
+    let young : IsYoung c.args.steps.now (sum (digits (length c.args.steps.now) c.args.cut))
+    (digits (length c.args.steps.now - 2) c.point_of-point.result.key) =
+    subst (λ (key : ℕ). IsYoung c.args.steps.now (sum (digits (length c.args.steps.now) c.args.cut))
+    (digits (length c.args.steps.now - 2) key)) (sym c.point_of-point.ensures.key) c.requires.young in
+    record {
+      run = record {
+        key = c.point_of-point.result.key;
+        lo = c.point_of-point.result.x;
+        hi = c.point_of-point.result.x;
+        rest = c.point_of-point.result.x + c.point_of-point.result.y;
+      };
+      key = c.point_of-point.ensures.key;
+      single = refl;
+      is =
+          ap (λ (y : ℕ). cut_at (digits (length c.args.steps.now - 2) c.point_of-point.result.key)
+          c.point_of-point.result.x y) y_is ∙ same;
+      kept = record {
+        below = subst (λ (n : ℕ). c.point_of-point.result.key < count_base ^ n) c.prefix.ensures
+            c.point_of-point.ensures.below;
+        level =
+            sym (sum_cut (digits (length c.args.steps.now - 2) c.point_of-point.result.key)
+            c.point_of-point.result.x c.point_of-point.result.y) ∙ ap sum same;
+      };
+      pushed = c.in_ok-push.ensures.items;
+      births =
+          births_of_born c.args.steps.now c.limits.ensures.two
+          (sum (digits (length c.args.steps.now) c.args.cut)) c.point_of-point.result.key c.point_of-point.result.x
+          c.point_of-point.result.y ok (ap sum same) young c.args.born.now c.add_births.new.born
+          c.in_ok-add_births.ensures;
+    }

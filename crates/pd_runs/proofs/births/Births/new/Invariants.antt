@@ -1,0 +1,7 @@
+-- What the loop of `new` keeps.
+use Rattle.std.proofs.Common.{◌≡◌, [], length}
+use Rattle.pd_runs.specs.Collected.{births_in}
+use Rattle.pd_runs.proofs.births.Births.new.Given as goal
+
+abbrev pub invariant-loop : goal.invariant-loop
+invariant-loop l = (births_in l.lists.items ≡ []) × (length l.lists.items ≡ l.counter)

@@ -1,0 +1,16 @@
+-- A birth is added to one of the lists.
+use Rattle.std.proofs.Common.{ℕ, ◌<◌, List, length, subst, ◌∙◌, ap, slice_set, arith, Vec, ◌++◌, ◌∷◌, []}
+use Rattle.std.specs.Global.{Global}
+use Rattle.pd_runs.specs.Collected.{births_in, HasOneMore}
+use Rattle.pd_runs.proofs.Collecting.{births_push}
+use Rattle.pd_runs.proofs.births.Births.push.Goals as goal
+
+pub returns : goal.returns
+returns c =
+    let within : c.args.p < length c.self.inside.lists.items = omega (arith, c.self.invariant, c.requires) in
+    subst (λ (old : List ℕ). HasOneMore old c.args.cut
+    (births_in (slice_set c.self.inside.lists.items c.args.p c.push.new.self)))
+    c.self.view_is
+    (births_push c.self.inside.lists.items c.args.p c.push.new.self c.index_mut.result.now c.args.cut within
+    (c.in_ok-push.ensures.items
+    ∙ ap (λ (list : Vec ℕ Global). list.items ++ c.args.cut ∷ []) c.index_mut.ensures.value))

@@ -1,0 +1,56 @@
+-- The key of a run's prefix, with two digits more.
+use Rattle.std.proofs.Common.{◌≡◌, ℕ, ◌+◌, ◌-◌, ◌*◌, ◌^◌, ◌<◌, ◌≤◌, List, length, get_or, sym, ap, subst, arith}
+use Rattle.std.specs.Prelude.{Some, slice_get, Contains}
+use Rattle.std.proofs.lemmas.List.{length-map}
+use Rattle.std.proofs.lemmas.List.Elements.{Contains-get_or}
+use Rattle.pd_keys.specs.Keys.{count_base, digits, key_of}
+use Rattle.pd_keys.proofs.Keys.{weight_le, key-digits}
+use Rattle.pd_runs.specs.KeptRuns.{run_view}
+use Rattle.pd_runs.specs.Levels.{WholeLevel, runs_view}
+use Rattle.pd_runs.specs.Runs.{cut_at}
+use Rattle.pd_runs.specs.WholeLevels.{Run}
+use Rattle.pd_runs.specs.declared.kept.KeptRun.{KeptRun}
+use Rattle.pd_runs.proofs.KeyLists.{run_read}
+use Rattle.pd_runs.proofs.PointFacts.{key_of_two}
+use Rattle.pd_runs.proofs.whole.Whole.key.Goals as goal
+
+there : (runs : List KeptRun) (i : ℕ) (run : KeptRun) → i < length runs → run ≡ get_or runs i run → Contains runs run
+there runs i run lt is = subst (λ (r : KeptRun). Contains runs r) (sym is) (Contains-get_or runs i run lt)
+
+pub overflow_mul-result : goal.overflow_mul-result
+overflow_mul-result c =
+    let same : runs_view (c.self.inside.processes - 2) c.self.inside.runs.items ≡ c.args.self.now.runs =
+    ap (λ (l : WholeLevel). l.runs) c.self.view_is in
+    let size : length (runs_view (c.self.inside.processes - 2) c.self.inside.runs.items)
+    ≡ length c.self.inside.runs.items =
+    length-map c.self.inside.runs.items (run_view (c.self.inside.processes - 2)) in
+    let lt : c.args.i < length c.self.inside.runs.items = omega (arith, ap length same, c.requires) in
+    let below : c.index.result.now.key < count_base ^ (c.self.inside.processes - 2) =
+    (c.self.invariant.0.kept c.index.result.now
+    (there c.self.inside.runs.items c.args.i c.index.result.now lt c.index.ensures)).below in
+    let most : count_base ^ (c.self.inside.processes - 2) ≤ count_base ^ 6 =
+    weight_le (c.self.inside.processes - 2) 6 (omega (arith, c.self.invariant.0.few)) in
+    omega arith
+
+pub returns : goal.returns
+returns c =
+    let same : runs_view (c.self.inside.processes - 2) c.self.inside.runs.items ≡ c.args.self.now.runs =
+    ap (λ (l : WholeLevel). l.runs) c.self.view_is in
+    let size : length (runs_view (c.self.inside.processes - 2) c.self.inside.runs.items)
+    ≡ length c.self.inside.runs.items =
+    length-map c.self.inside.runs.items (run_view (c.self.inside.processes - 2)) in
+    let lt : c.args.i < length c.self.inside.runs.items = omega (arith, ap length same, c.requires) in
+    let below : c.index.result.now.key < count_base ^ (c.self.inside.processes - 2) =
+    (c.self.invariant.0.kept c.index.result.now
+    (there c.self.inside.runs.items c.args.i c.index.result.now lt c.index.ensures)).below in
+    let read : slice_get c.args.self.now.runs c.args.i
+    ≡ Some (run_view (c.self.inside.processes - 2) c.index.result.now) =
+    subst (λ (rs : List Run). slice_get rs c.args.i
+    ≡ Some (run_view (c.self.inside.processes - 2) c.index.result.now)) same
+    (run_read (c.self.inside.processes - 2) c.self.inside.runs.items c.args.i c.index.result.now lt c.index.ensures) in
+    let key : key_of (digits (c.self.inside.processes - 2) c.index.result.now.key) ≡ c.index.result.now.key =
+    key-digits (c.self.inside.processes - 2) c.index.result.now.key below in
+    let two : key_of (cut_at (digits (c.self.inside.processes - 2) c.index.result.now.key) 0 0)
+    ≡ (key_of (digits (c.self.inside.processes - 2) c.index.result.now.key) * count_base + 0) * count_base + 0 =
+    key_of_two (digits (c.self.inside.processes - 2) c.index.result.now.key) 0 0 in
+    rw read (omega arith)

@@ -1,0 +1,20 @@
+-- Births as they are collected, and as they are sorted.
+use Rattle.std.specs.Prelude.{◌≡◌, ◌⊎◌, ℕ, ◌<◌, ◌≤◌, List, [], ◌∷◌, ◌++◌, Contains, length, slice_index, Vec}
+use Rattle.std.specs.Global.{Global}
+
+-- what stands in the lists, one after another
+abbrev pub births_in : List (Vec ℕ Global) → List ℕ
+births_in [] = []
+births_in (list ∷ rest) = list.items ++ births_in rest
+
+-- the new list has what the old one has, and this number
+pub record HasOneMore (old : List ℕ) (added : ℕ) (new : List ℕ) : Type 0 where
+  pub kept : (z : ℕ) → Contains old z → Contains new z
+  pub here : Contains new added
+  pub just : (z : ℕ) → Contains new z → Contains old z ⊎ (added ≡ z)
+
+-- the list ascends and has the same numbers
+pub record IsSortedOf (all sorted : List ℕ) : Type 0 where
+  pub there : (z : ℕ) → Contains all z → Contains sorted z
+  pub back : (z : ℕ) → Contains sorted z → Contains all z
+  pub ascends : (i j : ℕ) → i ≤ j → j < length sorted → slice_index sorted i ≤ slice_index sorted j

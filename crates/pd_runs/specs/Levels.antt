@@ -1,0 +1,60 @@
+-- A whole level, and how it is kept.
+use Rattle.std.specs.Prelude.{◌≡◌, ℕ, ◌+◌, ◌-◌, ◌/◌, ◌^◌, ◌<◌, ◌≤◌, List, Contains, length, map, min, slice_index}
+use Rattle.pd_format.specs.Limits.{process_limit}
+use Rattle.pd_keys.specs.Keys.{Ascending, count_base, digits}
+use Rattle.pd_model.specs.Events.{Computation}
+use Rattle.pd_model.specs.Cuts.{IsOfLevel}
+use Rattle.pd_runs.specs.Births.{IsCandidate}
+use Rattle.pd_runs.specs.KeptRuns.{IsKept, run_view}
+use Rattle.pd_runs.specs.WholeLevels.{IsWhole, Run, count_of_runs}
+use Rattle.pd_runs.specs.declared.kept.KeptRun.{KeptRun}
+
+-- The number of a level and its runs. Beside them stand the cuts with which the prefixes of the next level are born.
+pub record WholeLevel : Type 0 where
+  pub processes : ℕ
+  pub number : ℕ
+  pub runs : List Run
+  pub born : List (List ℕ)
+
+-- The level has all cuts of its number of events, and the births of the next one: cuts of that, among them each
+-- candidate.
+pub record IsWholeLevel (c : Computation) (level : WholeLevel) : Type 0 where
+  pub processes : level.processes ≡ length c
+  pub two : 2 ≤ length c
+  pub whole : IsWhole c level.number level.runs
+  pub born : (cut : List ℕ) → Contains level.born cut → IsOfLevel c (level.number + 1) cut
+  pub all : (cut : List ℕ) → IsCandidate c level.number cut → Contains level.born cut
+
+-- the runs that are kept
+abbrev pub runs_view : ℕ → List KeptRun → List Run
+runs_view n runs = map (run_view n) runs
+
+abbrev pub whole_view : ℕ → ℕ → List KeptRun → List ℕ → WholeLevel
+whole_view processes number runs born =
+    record {
+      processes = processes;
+      number = number;
+      runs = runs_view (processes - 2) runs;
+      born = map (digits processes) born;
+    }
+
+-- the keys of the prefixes
+abbrev pub keys_of : List KeptRun → List ℕ
+keys_of runs = map (λ (run : KeptRun). run.key) runs
+
+abbrev pub prefix_key : ℕ → ℕ
+prefix_key cut = cut / 65536 / 65536
+
+-- as many cuts as the runs have, or the greatest number of 64 bits if they are more
+abbrev pub cut_count : List Run → ℕ
+cut_count runs = min (count_of_runs runs) 18446744073709551615
+
+-- how a level is kept: ascending keys, and ascending births, of two processes or more
+pub record IsKeptLevel (processes number : ℕ) (runs : List KeptRun) (born : List ℕ) : Type 0 where
+  pub few : processes ≤ process_limit
+  pub two : 2 ≤ processes
+  pub keys : Ascending (keys_of runs)
+  pub kept : (run : KeptRun) → Contains runs run → IsKept (processes - 2) number run
+  pub some : (run : KeptRun) → Contains runs run → run.lo ≤ run.hi
+  pub sorted : (i j : ℕ) → i ≤ j → j < length born → slice_index born i ≤ slice_index born j
+  pub below : (cut : ℕ) → Contains born cut → cut < count_base ^ processes

@@ -1,0 +1,33 @@
+-- Cuts by the key of their prefix, and the cuts that are added to a list of births.
+use Rattle.std.specs.Prelude.{◌≡◌, ◌⊎◌, ℕ, ◌<◌, Bool, IsTrue, List, Contains, Option, Some, None, slice_index}
+use Rattle.pd_keys.specs.Keys.{digits, key_of}
+use Rattle.pd_model.specs.Events.{Computation, place}
+use Rattle.pd_model.specs.Messages.{IsMessage}
+use Rattle.pd_model.specs.Cuts.{IsConsistent, one_more}
+use Rattle.pd_runs.specs.Births.{next_of}
+use Rattle.pd_runs.specs.Runs.{cut_at}
+use Rattle.pd_runs.specs.declared.point.Point.{Point}
+
+-- the cut, where the prefix has n counts
+abbrev pub point_cut : ℕ → Point → List ℕ
+point_cut n point = cut_at (digits n point.key) point.x point.y
+
+-- the next event of process p may be added; or receives what the last event of a process in the cut sends
+abbrev pub IsWanted : Computation → List ℕ → Option ℕ → ℕ → Type 0
+IsWanted c cut None p = IsConsistent c (one_more cut p)
+IsWanted c cut (Some q) p = IsMessage c (place q (slice_index cut q)) (next_of cut p)
+
+-- The new list has what the old one has, and beside that only cuts that one more event of one of the first n processes
+-- makes of this one: all that are wanted.
+pub record GrowsBy (c : Computation) (cut : List ℕ) (by : Option ℕ) (n : ℕ) (old new : List ℕ) : Type 0 where
+  pub kept : (z : ℕ) → Contains old z → Contains new z
+  pub just : (z : ℕ) → Contains new z
+      → Contains old z ⊎ ((p : ℕ) × (p < n) × IsConsistent c (one_more cut p) × (z ≡ key_of (one_more cut p)))
+  pub all : (p : ℕ) → p < n → IsWanted c cut by p → Contains new (key_of (one_more cut p))
+
+-- the same for what the last event of process q sends, where it is asked for
+pub record GrowsIf (c : Computation) (cut : List ℕ) (wanted : Bool) (q n : ℕ) (old new : List ℕ) : Type 0 where
+  pub kept : (z : ℕ) → Contains old z → Contains new z
+  pub just : (z : ℕ) → Contains new z
+      → Contains old z ⊎ ((p : ℕ) × (p < n) × IsConsistent c (one_more cut p) × (z ≡ key_of (one_more cut p)))
+  pub all : IsTrue wanted → (p : ℕ) → p < n → IsWanted c cut (Some q) p → Contains new (key_of (one_more cut p))

@@ -1,0 +1,6 @@
+pub mod Codes
+pub mod Zero
+pub mod Parts
+pub mod Tables
+pub mod Nodes
+pub mod Views

@@ -1,0 +1,88 @@
+//! The compiled predicate that callers see.
+ghost use Rattle.pd_model.specs.Cuts.{FitsProcesses};
+ghost use Rattle.pd_model.specs.Predicates.{test_of};
+ghost use Rattle.pd_pred.specs.Views.{predicate_view};
+ghost use Rattle.pd_runs.specs.Runs.{cut_at};
+ghost use Rattle.std.specs.Prelude.{◌≡◌, ℕ, ◌+◌, ◌-◌, ◌<◌, ◌≤◌, IfOk, false, length};
+
+use super::compile::{Rest, compile};
+use super::node::{Node, mask, may};
+use pd_clock::Computation;
+use pd_pred::Pred;
+use pd_runs::RunTest;
+use std::alloc::{AllocError, Global};
+use std::marker::Model;
+
+/// A predicate compiled for a computation.
+#[derive(Drop)]
+pub struct Compiled<'a, 'b> {
+    computation: &'a Computation<'b>,
+    pred: &'a Pred,
+    node: Node<'a>,
+}
+
+impl<'a, 'b> Model for Compiled<'a, 'b> {
+    ghost use Rattle.pd_pred.specs.Views.{predicate_view};
+    ghost use Rattle.pd_tables.specs.Codes.{coded_predicate};
+    ghost use Rattle.pd_tables.specs.Nodes.{IsCompiled};
+    ghost use Rattle.pd_tables.specs.Views.{CompiledView};
+    ghost use Rattle.std.specs.Coded.{codes};
+    ghost use Rattle.std.specs.Prelude.{false};
+
+    ghost Value = { CompiledView };
+
+    ghost coded = { Prim.hlevel (codes, coded_predicate) };
+
+    ghost view = { λ c. record { recorded = c.computation.now; predicate = predicate_view c.pred.now } };
+
+    ghost invariant = { λ c. IsCompiled c.computation.now false (predicate_view c.pred.now) c.node };
+}
+
+impl<'a, 'b> Compiled<'a, 'b> {
+    /// Compiles the predicate for the computation. `room` is how many bytes of tables may still be built, and each
+    /// table takes its bytes off it. A comparison that has no room, or whose numbers are too large, is evaluated in 128
+    /// bits.
+    ///
+    /// # Errors
+    /// An allocation was refused.
+    pub fn compile(
+        alloc: Global,
+        computation: &'a Computation<'b>,
+        pred: &'a Pred,
+        room: &mut usize,
+    ) -> Result<Compiled<'a, 'b>, AllocError>
+        requires { 2 ≤ length computation.now.events }
+        ensures { IfOk result (λ compiled.
+            compiled ≡ record { recorded = computation.now; predicate = predicate_view pred.now }) }
+    {
+        let none = Rest {
+            is_and: true,
+            node: Node::Constant(true),
+        };
+        let node = compile(alloc, computation, pred.tree(), false, none, room)?;
+        Ok(Compiled {
+            computation,
+            pred,
+            node,
+        })
+    }
+
+    /// Whether the predicate may hold at some cut with these counts of the first processes. False is certain. It takes
+    /// no memory.
+    pub fn may(&self, prefix: &[u64]) -> bool
+        ensures { result ≡ false → (x y : ℕ) → FitsProcesses self.now.recorded.events (cut_at prefix.now x y)
+            → test_of self.now.recorded self.now.predicate (cut_at prefix.now x y) ≡ false }
+    {
+        may(&self.node, prefix)
+    }
+}
+
+impl RunTest for Compiled<'_, '_> {
+    ghost events = { λ c. c.recorded.events };
+
+    ghost test = { λ c. test_of c.recorded c.predicate };
+
+    fn mask(&self, prefix: &[u64], x: u64, y: u64, n: u64) -> u64 {
+        mask(&self.node, self.computation, prefix, x, y, n)
+    }
+}

@@ -1,0 +1,52 @@
+//! A predicate as tables over the counts of a cut, evaluated for a run of neighboring cuts at a time.
+//!
+//! A predicate is compiled once for a computation. A comparison of two sums is brought to one sum that is compared with
+//! 0, and that sum is taken apart by processes: what a process adds depends on the count of its events alone, so it is
+//! a table over these counts, of 64-bit numbers.
+//!
+//! ```text
+//! 2 * a.n - b.m + 3 > c.n    is    3 + A[count of a] + B[count of b] + C[count of c] > 0
+//!                                  A[k] = 2 * a.n,  B[k] = -b.m,  C[k] = -c.n   after k events
+//! ```
+//!
+//! Cuts come in runs: all counts but the last two are the same, and from one cut to the next the count before the last
+//! goes up by 1 and the last one down by 1. `mask` answers for up to 64 cuts of a run, with a bit for each. It adds
+//! what the first processes give once and then walks up one table and down the other. An `and` stops where no cut is
+//! left, an `or` where none is missing. `may` says whether some cut with these first counts may satisfy at all: each
+//! table knows its least and its greatest number. `mask` asks the same first: a comparison that these numbers decide is
+//! answered for the whole run at once. Neither takes memory.
+//!
+//! Negations are pushed down to the comparisons. A comparison whose least and greatest sums decide it is a constant,
+//! and constants go. Parts that are joined in one way stand in a chain to the right, so that the first part is asked
+//! first, and of the last two the lighter one.
+//!
+//! No number of a table is further from 0 than 2^59, so that no sum wraps. A comparison whose numbers are larger, for
+//! which there is no room, or which speaks of a process that isn't there, is evaluated as its text spells it, in 128
+//! bits.
+//!
+//! - `compiled`: the compiled predicate that callers see
+//! - `node`: its tree, the masks of runs, and whether a prefix may satisfy
+//! - `compile`: how the tree is made
+//! - `build`: a comparison of two sums as tables
+//! - `parts`: what each process adds to the difference of two sums
+//! - `linear`: a sum of tables that is compared with 0
+//! - `table`: a number for each count of a process
+//! - `zero`: how a sum is compared with 0
+//! - `run_state`: the state at a cut of a run
+//! - `bits`: truths that are put into a word
+#![tactic(auto)]
+
+mod bits;
+mod build;
+mod compile;
+mod compiled;
+mod linear;
+mod node;
+mod parts;
+mod run_state;
+mod table;
+#[cfg(test)]
+mod tests;
+mod zero;
+
+pub use compiled::Compiled;

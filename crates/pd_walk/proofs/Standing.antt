@@ -1,0 +1,283 @@
+-- What is known of each predicate, while one after the other is looked at.
+use Rattle.std.proofs.Common.{◌≡◌, ◌≢◌, ℕ, Bor, ◌+◌, ◌*◌, ◌<◌, ◌≤◌, ◌⊎◌, inl, inr, List, [], ◌∷◌, ◌++◌, length, length-append, get_or, take, drop, max, ◌-◌, refl, sym, ap, ◌∙◌, subst, arith}
+use Rattle.std.proofs.lemmas.Bool.{cases_lt, cases_order}
+use Rattle.std.proofs.lemmas.List.{get_or-append_right, get_or-set_other, get_or-set_same, get_or_append_left, length-set}
+use Rattle.std.specs.Prelude.{slice_set}
+use Rattle.pd_model.specs.Cuts.{total}
+use Rattle.pd_model.specs.Events.{Computation}
+use Rattle.pd_model.specs.Predicates.{Recorded, test_of}
+use Rattle.pd_pred.specs.Views.{predicate_view}
+use Rattle.pd_pred.specs.declared.predicate.Pred.{Pred}
+use Rattle.pd_marks.specs.Skips.{HaveNoHits}
+use Rattle.pd_marks.specs.declared.skips.Skips.{Skips}
+use Rattle.pd_refusals.specs.Refusals.{AreRefusals}
+use Rattle.pd_runs.specs.Levels.{IsWholeLevel, WholeLevel}
+use Rattle.pd_tables.specs.Views.{CompiledView}
+use Rattle.pd_walk.specs.Answers.{AreAnswers}
+use Rattle.pd_walk.specs.Stages.{AllStand, AreBeside, AreCompiled, HasComeTo, HasEnded, OneStands, Stands, events_of, meaning_of}
+use Rattle.pd_walk.specs.declared.answers.Answers.{Answers}
+use Rattle.pd_walk.specs.declared.stage.Stage.{Stage}
+use Rattle.pd_walk.specs.declared.stage.Stage.TheVariants.{Open}
+
+-- the first ones have been looked at, and the others not yet
+pub record HaveLooked (tests : List CompiledView) (width gap : ℕ) (before level : WholeLevel) (i : ℕ)
+    (stages : List Stage) : Type 0 where
+  pub one_each : length stages ≡ length tests
+  pub looked : (j : ℕ) (test : CompiledView) (stage : Stage) → j < i → j < length tests
+      → OneStands (get_or tests j test) width gap level (get_or stages j stage)
+  pub left : (j : ℕ) (test : CompiledView) (stage : Stage) → i ≤ j → j < length tests
+      → OneStands (get_or tests j test) width gap before (get_or stages j stage)
+
+module _ (tests : List CompiledView) (width gap : ℕ) (before level : WholeLevel) where
+  pub none_looked : (stages : List Stage) → AllStand tests width gap before stages
+      → HaveLooked tests width gap before level 0 stages
+  none_looked stages all = record {
+    one_each = all.one_each;
+    looked = λ j test stage lt. absurd (omega arith);
+    left = λ j test stage le within. all.each j test stage within;
+  }
+
+  pub all_looked : (stages : List Stage) (i : ℕ) → length tests ≤ i
+      → HaveLooked tests width gap before level i stages → AllStand tests width gap level stages
+  all_looked stages i past looked =
+      record { one_each = looked.one_each; each = λ j test stage lt. looked.looked j test stage (omega arith) lt }
+
+  -- one more, which was taken out before
+  pub one_looked : (stages : List Stage) (i : ℕ) (taken new : Stage) → i < length tests
+      → HaveLooked tests width gap before level i stages
+      → ((test : CompiledView) → OneStands (get_or tests i test) width gap level new)
+      → HaveLooked tests width gap before level (i + 1) (slice_set (slice_set stages i taken) i new)
+  one_looked stages i taken new within known stands =
+      record {
+        one_each = length-set (slice_set stages i taken) i new ∙ (length-set stages i taken ∙ known.one_each);
+        looked = λ j test stage lt in_list. looked j test stage (cases_order j i) lt in_list;
+        left = λ j test stage le in_list.
+            subst (λ (s : Stage). OneStands (get_or tests j test) width gap before s)
+            (sym (other j stage (λ same. absurd (omega arith)))) (known.left j test stage (omega arith) in_list);
+      }
+    where
+      other : (j : ℕ) (stage : Stage) → j ≢ i
+          → get_or (slice_set (slice_set stages i taken) i new) j stage ≡ get_or stages j stage
+      other j stage apart =
+          get_or-set_other (slice_set stages i taken) i j new stage apart
+          ∙ get_or-set_other stages i j taken stage apart
+
+      same : (stage : Stage) → get_or (slice_set (slice_set stages i taken) i new) i stage ≡ new
+      same stage =
+          get_or-set_same (slice_set stages i taken) i new stage
+          (omega (arith, length-set stages i taken, known.one_each))
+
+      looked : (j : ℕ) (test : CompiledView) (stage : Stage) → (j ≡ i) ⊎ ((j < i) ⊎ (i < j)) → j < i + 1
+          → j < length tests → OneStands (get_or tests j test) width gap level
+          (get_or (slice_set (slice_set stages i taken) i new) j stage)
+      looked j test stage (inl at) lt in_list =
+          subst (λ (n : ℕ). OneStands (get_or tests n test) width gap level
+          (get_or (slice_set (slice_set stages i taken) i new) n stage)) (sym at)
+          (subst (λ (s : Stage). OneStands (get_or tests i test) width gap level s) (sym (same stage)) (stands test))
+      looked j test stage (inr (inl low)) lt in_list =
+          subst (λ (s : Stage). OneStands (get_or tests j test) width gap level s)
+          (sym (other j stage (λ at. absurd (omega arith)))) (known.looked j test stage low in_list)
+      looked j test stage (inr (inr high)) lt in_list = absurd (omega arith)
+
+-- ---- a list with one more
+
+module _ {A : Type 0} (xs : List A) (x : A) where
+  pub read_before : (j : ℕ) (d : A) → j < length xs → get_or (xs ++ x ∷ []) j d ≡ get_or xs j d
+  read_before j d low = get_or_append_left xs (x ∷ []) d j low
+
+  pub read_end : (j : ℕ) (d : A) → j ≡ length xs → get_or (xs ++ x ∷ []) j d ≡ x
+  read_end j d same =
+      get_or-append_right xs (x ∷ []) (length xs) j d refl (omega arith) ∙ ap (λ (n : ℕ). get_or (x ∷ []) n d) first
+    where
+      first : j - length xs ≡ 0
+      first = omega arith
+
+  -- what holds of each place of the list and of the one more
+  pub each_more : (P : ℕ → A → Type 0) → ((j : ℕ) (d : A) → j < length xs → P j (get_or xs j d)) → P (length xs) x
+      → (j : ℕ) (d : A) → j < length xs + 1 → P j (get_or (xs ++ x ∷ []) j d)
+  each_more P before last j d lt = go (cases_lt j (length xs))
+    where
+      go : (j < length xs) ⊎ (length xs ≤ j) → P j (get_or (xs ++ x ∷ []) j d)
+      go (inl low) = subst (P j) (sym (read_before j d low)) (before j d low)
+      go (inr high) =
+          let same : j ≡ length xs = omega arith in
+          subst (λ (y : A). P j y) (sym (read_end j d same)) (subst (λ (n : ℕ). P n x) (sym same) last)
+
+-- ---- the answers after the last whole level
+
+-- the answers for the first predicates are there, and those for the others are still to be made
+pub record HaveFinished (recorded : Recorded) (preds : List (Bor Pred)) (width gap most : ℕ) (levels : List WholeLevel)
+    (i : ℕ) (stages : List Stage) (answers : List Answers) : Type 0 where
+  pub count : length answers ≡ i
+  pub answered : (j : ℕ) (pred : Bor Pred) (answer : Answers) → j < i
+      → AreAnswers recorded.events (test_of recorded (predicate_view (get_or preds j pred).now)) width (2 * gap + 2)
+      (get_or answers j answer)
+  pub level : WholeLevel
+  pub only : levels ≡ level ∷ []
+  pub whole : IsWholeLevel recorded.events level
+  pub within : level.number ≤ total recorded.events
+  pub beside : AreBeside gap level.number most
+  pub one_each : length stages ≡ length preds
+  pub left : (j : ℕ) (pred : Bor Pred) (stage : Stage) → i ≤ j → j < length preds
+      → Stands recorded.events (test_of recorded (predicate_view (get_or preds j pred).now)) width gap level
+      (get_or stages j stage)
+  pub last : (j : ℕ) (stage : Stage) → i ≤ j → j < length stages → get_or stages j stage ≡ Open
+      → level.number ≡ total recorded.events
+
+module _ (recorded : Recorded) (preds : List (Bor Pred)) (width gap most : ℕ) (levels : List WholeLevel) where
+  pub none_finished : (stages : List Stage) → HasEnded recorded preds width gap most levels stages
+      → HaveFinished recorded preds width gap most levels 0 stages []
+  none_finished stages ended = record {
+    count = refl;
+    answered = λ j pred answer lt. absurd (omega arith);
+    level = ended.level;
+    only = ended.only;
+    whole = ended.whole;
+    within = ended.within;
+    beside = ended.beside;
+    one_each = ended.one_each;
+    left = λ j pred stage le lt. ended.each j pred stage lt;
+    last = λ j stage le lt is. ended.last j stage lt is;
+  }
+
+  pub one_finished : (i : ℕ) (stages : List Stage) (answers : List Answers) (taken : Stage) (new : Answers)
+      → HaveFinished recorded preds width gap most levels i stages answers
+      → ((pred : Bor Pred) → AreAnswers recorded.events
+      (test_of recorded (predicate_view (get_or preds i pred).now)) width (2 * gap + 2) new)
+      → HaveFinished recorded preds width gap most levels (i + 1) (slice_set stages i taken) (answers ++ new ∷ [])
+  one_finished i stages answers taken new known right =
+      record {
+        count = length-append answers (new ∷ []) ∙ ap (λ (n : ℕ). n + 1) known.count;
+        answered = λ j pred answer lt.
+            each_more answers new (λ n at.
+            AreAnswers recorded.events (test_of recorded (predicate_view (get_or preds n pred).now)) width
+            (2 * gap + 2) at)
+            (λ n d low. known.answered n pred d (omega (arith, known.count)))
+            (subst (λ (n : ℕ). AreAnswers recorded.events
+            (test_of recorded (predicate_view (get_or preds n pred).now)) width (2 * gap + 2) new) (sym known.count)
+            (right pred)) j answer (omega (arith, known.count));
+        level = known.level;
+        only = known.only;
+        whole = known.whole;
+        within = known.within;
+        beside = known.beside;
+        one_each = length-set stages i taken ∙ known.one_each;
+        left = λ j pred stage le lt.
+            subst (λ (s : Stage). Stands recorded.events
+            (test_of recorded (predicate_view (get_or preds j pred).now)) width gap known.level s)
+            (sym (get_or-set_other stages i j taken stage (λ same. absurd (omega arith))))
+            (known.left j pred stage (omega arith) lt);
+        last = λ j stage le lt is.
+            known.last j stage (omega arith) (omega (arith, length-set stages i taken))
+            (sym (get_or-set_other stages i j taken stage (λ same. absurd (omega arith))) ∙ is);
+      }
+
+-- ---- the last whole level
+
+-- the level that is read is the only one
+pub only_whole : (levels : List WholeLevel) (level read : WholeLevel) → levels ≡ level ∷ []
+    → ((d : WholeLevel) → read ≡ get_or levels (length levels - 1) d) → read ≡ level
+only_whole levels level read only is = is level ∙ ap (λ (ls : List WholeLevel). get_or ls (length ls - 1) level) only
+
+-- with the next one beside it, the last but one is that level, and the last one the next
+pub lower_whole : (levels pushed : List WholeLevel) (level next read : WholeLevel) → levels ≡ level ∷ []
+    → pushed ≡ levels ++ next ∷ [] → ((d : WholeLevel) → read ≡ get_or pushed (length pushed - 2) d) → read ≡ level
+lower_whole levels pushed level next read only push is =
+    is level
+    ∙ ap (λ (ls : List WholeLevel). get_or ls (length ls - 2) level)
+    (push ∙ ap (λ (ls : List WholeLevel). ls ++ next ∷ []) only)
+
+pub upper_whole : (levels pushed : List WholeLevel) (level next read : WholeLevel) → levels ≡ level ∷ []
+    → pushed ≡ levels ++ next ∷ [] → ((d : WholeLevel) → read ≡ get_or pushed (length pushed - 1) d) → read ≡ next
+upper_whole levels pushed level next read only push is =
+    is next
+    ∙ ap (λ (ls : List WholeLevel). get_or ls (length ls - 1) next)
+    (push ∙ ap (λ (ls : List WholeLevel). ls ++ next ∷ []) only)
+
+-- level 0 was held alone
+pub beside_one : (gap most : ℕ) → most ≡ 1 → AreBeside gap 0 most
+beside_one gap most same = record { some = omega arith; few = omega arith; two = λ lt. absurd (omega arith) }
+
+-- two levels were held at once
+pub beside_two : (gap k old most : ℕ) → AreBeside gap k old → most ≡ max old 2 → AreBeside gap (k + 1) most
+beside_two gap k old most count same = record {
+  some = omega arith;
+  few = omega (arith, count.few);
+  two = λ _. omega arith;
+}
+
+-- the walk has come to level 0
+pub come_first : (c : Computation) (tests : List CompiledView) (width gap k most : ℕ) (pushed : List WholeLevel)
+    (read first : WholeLevel) (words : List ℕ) (stages : List Stage) → pushed ≡ first ∷ [] → IsWholeLevel c first
+    → first.number ≡ k → AreBeside gap k most → ((d : WholeLevel) → read ≡ get_or pushed (length pushed - 1) d)
+    → AreRefusals tests read words → AllStand tests width gap read stages
+    → HasComeTo c tests width gap k most pushed words stages
+come_first c tests width gap k most pushed read first words stages only whole number beside is
+    refused stand = record {
+      level = first;
+      only = only;
+      whole = whole;
+      number = number;
+      beside = beside;
+      refused = subst (λ (level : WholeLevel). AreRefusals tests level words) (only_whole pushed first read only is)
+          refused;
+      stand = subst (λ (level : WholeLevel). AllStand tests width gap level stages)
+          (only_whole pushed first read only is) stand;
+    }
+
+-- the walk has come one level further
+pub come_next : (c : Computation) (tests : List CompiledView) (width gap k old most : ℕ)
+    (levels pushed left : List WholeLevel) (read next : WholeLevel) (words refusals : List ℕ)
+    (before stages : List Stage) → HasComeTo c tests width gap k old levels words before
+    → pushed ≡ levels ++ next ∷ []
+    → left ≡ take (length pushed - 2) pushed ++ drop (length pushed - 1) pushed → IsWholeLevel c next
+    → next.number ≡ k + 1 → AreBeside gap (k + 1) most
+    → ((d : WholeLevel) → read ≡ get_or pushed (length pushed - 1) d) → AreRefusals tests read refusals
+    → AllStand tests width gap read stages → HasComeTo c tests width gap (k + 1) most left refusals stages
+come_next c tests width gap k old most levels pushed left read next words refusals before stages come push after whole
+    number beside is refused stand =
+    record {
+      level = next;
+      only = after ∙ ap (λ (ls : List WholeLevel). take (length ls - 2) ls ++ drop (length ls - 1) ls) two;
+      whole = whole;
+      number = number;
+      beside = beside;
+      refused = subst (λ (level : WholeLevel). AreRefusals tests level refusals)
+          (upper_whole levels pushed come.level next read come.only push is) refused;
+      stand = subst (λ (level : WholeLevel). AllStand tests width gap level stages)
+          (upper_whole levels pushed come.level next read come.only push is) stand;
+    }
+  where
+    two : pushed ≡ come.level ∷ next ∷ []
+    two = push ∙ ap (λ (ls : List WholeLevel). ls ++ next ∷ []) come.only
+
+-- no predicate needs a further level
+pub come_to_end : (recorded : Recorded) (preds : List (Bor Pred)) (tests : List CompiledView) (width gap k most : ℕ)
+    (levels : List WholeLevel) (refusals : List ℕ) (stages : List Stage) → AreCompiled recorded preds tests
+    → HasComeTo recorded.events tests width gap k most levels refusals stages → k ≤ total recorded.events
+    → ((i : ℕ) (stage : Stage) → i < length stages → get_or stages i stage ≡ Open → total recorded.events ≤ k)
+    → HasEnded recorded preds width gap most levels stages
+come_to_end recorded preds tests width gap k most levels refusals stages compiled come within last = record {
+  level = come.level;
+  only = come.only;
+  whole = come.whole;
+  within = omega (arith, come.number);
+  beside = subst (λ (n : ℕ). AreBeside gap n most) (sym come.number) come.beside;
+  one_each = come.stand.one_each ∙ compiled.one_each;
+  each = λ i pred stage lt.
+      subst (λ (t : CompiledView). OneStands t width gap come.level (get_or stages i stage))
+      (compiled.each i pred (test_for pred) lt)
+      (come.stand.each i (test_for pred) stage (omega (arith, compiled.one_each)));
+  last = λ i stage lt is. let up = last i stage lt is in omega (arith, come.number);
+}
+  where
+    test_for : Bor Pred → CompiledView
+    test_for pred = record { recorded = recorded; predicate = predicate_view pred.now }
+
+-- no run of the level is skipped where the predicate may hold
+pub skips_of : (tests : List CompiledView) (level : WholeLevel) (i : ℕ) (test : CompiledView) (skips : Skips)
+    → ((at : CompiledView) → HaveNoHits (get_or tests i at).recorded.events
+    (test_of (get_or tests i at).recorded (get_or tests i at).predicate) level.runs skips)
+    → test ≡ get_or tests i test → HaveNoHits (events_of test) (meaning_of test) level.runs skips
+skips_of tests level i test skips none is =
+    subst (λ (t : CompiledView). HaveNoHits (events_of t) (meaning_of t) level.runs skips) (sym is) (none test)

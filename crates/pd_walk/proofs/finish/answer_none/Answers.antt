@@ -1,0 +1,45 @@
+-- The answers, if no cut satisfies.
+use Rattle.std.proofs.Common.{ap, length, ◌+◌, arith}
+use Rattle.pd_model.specs.Cuts.{total}
+use Rattle.pd_model.specs.Predicates.{test_of}
+use Rattle.pd_pred.specs.Views.{predicate_view}
+use Rattle.pd_walk.proofs.Going.{full_avoids}
+use Rattle.pd_walk.proofs.Opening.{open_avoided, open_narrow}
+use Rattle.pd_walk.proofs.finish.answer_none.Goals as goal
+
+pub way_back-requires-clause-full : goal.way_back-requires-clause-full
+way_back-requires-clause-full c =
+    full_avoids c.avoiding_levels.ensures.level c.levels.ensures.full c.args.computation.now.events
+    (test_of c.args.computation.now (predicate_view c.args.pred.now))
+    (open_avoided c.avoidance.ensures.all c.args.computation.now.events c.limits.ensures.acyclic
+    (test_of c.args.computation.now (predicate_view c.args.pred.now)) c.args._width
+    (total c.args.computation.now.events + 1) c.requires.opened (omega arith))
+
+pub returns : goal.returns
+returns c =
+    record {
+      possibly_right =
+          c.possibly_walk.ensures.none c.args.computation.now.events
+          (test_of c.args.computation.now (predicate_view c.args.pred.now)) c.args._width
+          (total c.args.computation.now.events + 1) c.requires.opened.narrow c.requires.opened.none (omega arith);
+      definitely_right =
+          c.definitely_walk.ensures.path c.args.computation.now.events
+          (test_of c.args.computation.now (predicate_view c.args.pred.now)) c.args._width
+          (total c.args.computation.now.events + 1)
+          (open_narrow c.avoidance.ensures.all c.args.computation.now.events c.limits.ensures.acyclic
+          (test_of c.args.computation.now (predicate_view c.args.pred.now)) c.args._width
+          (total c.args.computation.now.events + 1) c.requires.opened) (omega arith) c.in_ok-path.path.items
+          c.in_ok-path.ensures.path;
+      few = omega (
+        arith,
+        c.max.ensures,
+        c.saturating_add.ensures,
+        c.most.ensures,
+        c.in_ok-path.ensures.most,
+        ap length c.new-held.ensures.levels,
+        c.new-held.ensures.most,
+        c.requires.most.few,
+      );
+      some = omega (arith, c.max.ensures, c.requires.most.some);
+      past_first = λ past. let two = c.requires.most.two past in omega (arith, c.max.ensures);
+    }

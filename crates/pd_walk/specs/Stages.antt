@@ -1,0 +1,130 @@
+-- What is known of a predicate when all levels below some number have been looked at. `test` says whether a cut
+-- satisfies.
+use Rattle.std.specs.Borrow.{Bor}
+use Rattle.std.specs.Prelude.{◌≡◌, ℕ, All, ◌+◌, ◌*◌, ◌<◌, ◌≤◌, Bool, List, [], ◌∷◌, length, slice_index_or}
+use Rattle.pd_model.specs.Answers.{IsPossiblyAnswer}
+use Rattle.pd_model.specs.Cuts.{total}
+use Rattle.pd_model.specs.Events.{Computation}
+use Rattle.pd_model.specs.Predicates.{Recorded, test_of}
+use Rattle.pd_model.specs.Walks.{IsAvoidedBelow, IsNarrowBelow, IsNarrowlyAvoidedBelow, NoneBelow}
+use Rattle.pd_back.specs.Ways.{AreAvoidingLevels, IsAvoidingLevel, IsWithinGap, last_number}
+use Rattle.pd_level.specs.Levels.{Levelled}
+use Rattle.pd_marks.specs.Marks.{IsMarking}
+use Rattle.pd_pred.specs.Views.{predicate_view}
+use Rattle.pd_pred.specs.declared.predicate.Pred.{Pred}
+use Rattle.pd_refusals.specs.Refusals.{AreRefusals}
+use Rattle.pd_runs.specs.Levels.{IsWholeLevel, WholeLevel}
+use Rattle.pd_tables.specs.Views.{CompiledView}
+use Rattle.pd_walk.specs.Answers.{AreAnswers, possibly_answer_view}
+use Rattle.pd_walk.specs.declared.answers.Answers.{Answers}
+use Rattle.pd_walk.specs.declared.split.Split.{Split}
+use Rattle.pd_walk.specs.declared.stage.Stage.{Stage}
+use Rattle.pd_walk.specs.declared.stage.Stage.TheVariants.{Open, Marked, Answered}
+
+-- the computation that a predicate was compiled for, and the predicate as a test
+abbrev pub events_of : CompiledView → Computation
+events_of compiled = compiled.recorded.events
+
+abbrev pub meaning_of : CompiledView → List ℕ → Bool
+meaning_of compiled = test_of compiled.recorded compiled.predicate
+
+-- no cut below level k satisfies, and no level there is too wide
+pub record IsOpenBelow (c : Computation) (test : List ℕ → Bool) (width k : ℕ) : Type 0 where
+  pub none : NoneBelow c test k
+  pub narrow : IsNarrowBelow c width k
+
+-- Of the levels below k those of the avoiding cuts are kept whose number is the first one's or comes a gap after that
+-- of the one before it.
+pub record AreKeptBelow (c : Computation) (test : List ℕ → Bool) (first gap k : ℕ)
+    (levels : List Levelled) : Type 0 where
+  pub lists : AreAvoidingLevels c test levels
+  pub begins : (d : Levelled) → 0 < length levels → (slice_index_or levels 0 d).number ≡ first
+  pub steps : (i : ℕ) (d : Levelled) → i + 1 < length levels
+      → IsWithinGap gap (slice_index_or levels i d) (slice_index_or levels (i + 1) d)
+  pub near : 0 < length levels → (last_number levels < k) × (k ≤ last_number levels + gap)
+  pub count : 0 < length levels → length levels * gap + first ≡ last_number levels + gap
+  pub none : length levels ≡ 0 → k ≡ first
+
+-- Possibly is answered, and each level below k has avoiding cuts, no more than the width.
+pub record IsSplitBelow (c : Computation) (test : List ℕ → Bool) (width gap k : ℕ) (split : Split) : Type 0 where
+  pub possibly : IsPossiblyAnswer c test width (possibly_answer_view split.possibly)
+  pub none : NoneBelow c test split.first
+  pub narrow : IsNarrowlyAvoidedBelow c test width k
+  pub avoided : IsAvoidedBelow c test k
+  pub kept : AreKeptBelow c test split.first gap k split.held.levels.items
+  pub few : split.held.most ≤ gap
+
+-- beside the levels that are kept so many were held at once up to this level: two at least above level 0
+pub record AreBeside (gap number beside : ℕ) : Type 0 where
+  pub some : 1 ≤ beside
+  pub few : beside ≤ gap + 2
+  pub two : 0 < number → 2 ≤ beside
+
+-- only the avoiding cuts of level k are held
+abbrev pub IsAt : Computation → (List ℕ → Bool) → ℕ → List Levelled → Type 0
+IsAt c test k levels = (level : Levelled) × (levels ≡ level ∷ []) × IsAvoidingLevel c test level × (level.number ≡ k)
+
+-- what is known after this level
+abbrev pub Stands : Computation → (List ℕ → Bool) → ℕ → ℕ → WholeLevel → Stage → Type 0
+Stands c test width gap level Open = IsOpenBelow c test width (level.number + 1)
+Stands c test width gap level (Marked split marks) =
+    IsSplitBelow c test width gap (level.number + 1) split × IsMarking c test level marks
+Stands c test width gap level (Answered answers) = AreAnswers c test width (2 * gap + 2) answers
+
+-- what is known of one predicate after this level
+abbrev pub OneStands : CompiledView → ℕ → ℕ → WholeLevel → Stage → Type 0
+OneStands test width gap level stage = Stands (events_of test) (meaning_of test) width gap level stage
+
+-- what is known of each predicate after this level
+pub record AllStand (tests : List CompiledView) (width gap : ℕ) (level : WholeLevel)
+    (stages : List Stage) : Type 0 where
+  pub one_each : length stages ≡ length tests
+  pub each : (i : ℕ) (test : CompiledView) (stage : Stage) → i < length tests
+      → OneStands (slice_index_or tests i test) width gap level (slice_index_or stages i stage)
+
+-- The walk up the whole levels has come to level k, which alone is held, and this is known of each predicate: what is
+-- refused at its runs, and how far the answers have come.
+pub record HasComeTo (c : Computation) (tests : List CompiledView) (width gap k most : ℕ) (levels : List WholeLevel)
+    (refusals : List ℕ) (stages : List Stage) : Type 0 where
+  pub level : WholeLevel
+  pub only : levels ≡ level ∷ []
+  pub whole : IsWholeLevel c level
+  pub number : level.number ≡ k
+  pub beside : AreBeside gap k most
+  pub refused : AreRefusals tests level refusals
+  pub stand : AllStand tests width gap level stages
+
+-- each was compiled for what was recorded
+abbrev pub AreFor : Recorded → List CompiledView → Type 0
+AreFor recorded tests = All (λ test. test.recorded ≡ recorded) tests
+
+-- each is one of the predicates, compiled for what was recorded
+pub record AreCompiled (recorded : Recorded) (preds : List (Bor Pred)) (tests : List CompiledView) : Type 0 where
+  pub one_each : length tests ≡ length preds
+  pub same : AreFor recorded tests
+  pub each : (i : ℕ) (pred : Bor Pred) (test : CompiledView) → i < length preds
+      → slice_index_or tests i test
+      ≡ record { recorded = recorded; predicate = predicate_view (slice_index_or preds i pred).now }
+
+-- The walk up the whole levels is over. Its last level alone is held, and if a predicate is open, no level comes after.
+pub record HasEnded (recorded : Recorded) (preds : List (Bor Pred)) (width gap most : ℕ) (levels : List WholeLevel)
+    (stages : List Stage) : Type 0 where
+  pub level : WholeLevel
+  pub only : levels ≡ level ∷ []
+  pub whole : IsWholeLevel recorded.events level
+  pub within : level.number ≤ total recorded.events
+  pub beside : AreBeside gap level.number most
+  pub one_each : length stages ≡ length preds
+  pub each : (i : ℕ) (pred : Bor Pred) (stage : Stage) → i < length preds
+      → Stands recorded.events (test_of recorded (predicate_view (slice_index_or preds i pred).now)) width gap level
+      (slice_index_or stages i stage)
+  pub last : (i : ℕ) (stage : Stage) → i < length stages → slice_index_or stages i stage ≡ Open
+      → level.number ≡ total recorded.events
+
+-- both answers for each predicate
+pub record AllAnswered (recorded : Recorded) (preds : List (Bor Pred)) (width most : ℕ)
+    (answers : List Answers) : Type 0 where
+  pub one_each : length answers ≡ length preds
+  pub each : (i : ℕ) (pred : Bor Pred) (answer : Answers) → i < length preds
+      → AreAnswers recorded.events (test_of recorded (predicate_view (slice_index_or preds i pred).now)) width most
+      (slice_index_or answers i answer)

@@ -1,0 +1,96 @@
+//! The answers for all predicates.
+ghost use Rattle.pd_format.specs.Limits.{width_limit};
+ghost use Rattle.pd_model.specs.Cuts.{total};
+ghost use Rattle.pd_walk.specs.Answers.{IsLeastRoot};
+ghost use Rattle.pd_walk.specs.Stages.{AllAnswered};
+ghost use Rattle.std.specs.Prelude.{◌≡◌, ◌+◌, ◌*◌, ◌<◌, ◌≤◌, ℕ, IfOk, length};
+
+use super::Answers;
+use super::by_lists::answers_by_lists;
+use super::finish::finish_all;
+use super::root::least_root;
+use super::walk::walk_up;
+use pd_back::Held;
+use pd_clock::Computation;
+use pd_pred::Pred;
+use std::alloc::{AllocError, Global};
+
+/// How many cuts a whole level may have, beside four times the width, before the walk goes on with the avoiding cuts
+/// alone.
+const WIDE_ENOUGH: u64 = 100_000;
+
+/// Both answers for each predicate over a computation, in their order, by one walk up the levels. The width, from 1 to
+/// its limit, bounds how many cuts a level may have for Possibly, and how many avoiding cuts for Definitely.
+///
+/// Source: Cooper and Marzullo, Consistent Detection of Global Predicates, 1991.
+///
+/// # Errors
+/// An allocation was refused.
+pub fn answer_all(
+    alloc: Global,
+    computation: &Computation<'_>,
+    preds: &[&Pred],
+    width: u64,
+) -> Result<Vec<Answers>, AllocError>
+    requires wide { 1 ≤ width }
+    requires narrow { width ≤ width_limit }
+    ensures right { IfOk result (λ answers. (most : ℕ) × AllAnswered computation.now preds.now width most
+        answers.items) }
+    // How many levels are held at once for a predicate.
+    ensures few { IfOk result (λ answers. (s : ℕ) → IsLeastRoot s (total computation.now.events + 1)
+        → AllAnswered computation.now preds.now width (2 * s + 2) answers.items) }
+{
+    let answers = answer_within(alloc, computation, preds, width, 4 * width + WIDE_ENOUGH)?;
+    Ok(answers)
+}
+
+/// The answers as `answer_all` gives them, where `limit` says how wide a whole level may be: once Possibly is answered
+/// for each predicate, a whole level with more cuts ends the walk up the whole levels, and from there the avoiding cuts
+/// alone are walked, for each predicate by itself. So the limit changes time and memory, and no answer.
+///
+/// # Errors
+/// An allocation was refused.
+pub fn answer_within(
+    alloc: Global,
+    computation: &Computation<'_>,
+    preds: &[&Pred],
+    width: u64,
+    limit: u64,
+) -> Result<Vec<Answers>, AllocError>
+    requires wide { 1 ≤ width }
+    requires narrow { width ≤ width_limit }
+    ensures right { IfOk result (λ answers. (most : ℕ) × AllAnswered computation.now preds.now width most
+        answers.items) }
+    ensures few { IfOk result (λ answers. (s : ℕ) → IsLeastRoot s (total computation.now.events + 1)
+        → AllAnswered computation.now preds.now width (2 * s + 2) answers.items) }
+{
+    computation.limits();
+    let gap = least_root(computation.total() + 1);
+    if computation.processes() < 2 {
+        let answers = answer_each(alloc, computation, preds, width, gap)?;
+        return Ok(answers);
+    }
+    let mut wholes = Held::new(alloc);
+    let mut stages = walk_up(alloc, computation, preds, width, gap, limit, &mut wholes)?;
+    let answers = finish_all(alloc, computation, preds, width, gap, &wholes, &mut stages)?;
+    Ok(answers)
+}
+
+/// The same for each predicate by itself, by lists of cuts.
+fn answer_each(
+    alloc: Global,
+    computation: &Computation<'_>,
+    preds: &[&Pred],
+    width: u64,
+    gap: u64,
+) -> Result<Vec<Answers>, AllocError>
+    requires wide { 1 ≤ width }
+    requires root { total computation.now.events < gap * gap }
+    ensures { IfOk result (λ answers. AllAnswered computation.now preds.now width (2 * gap + 2) answers.items) }
+{
+    let mut answers = Vec::with_capacity(alloc, preds.len())?;
+    for i in 0..preds.len() {
+        answers.push(answers_by_lists(alloc, computation, preds[i], width, gap)?)?;
+    }
+    Ok(answers)
+}

@@ -1,0 +1,127 @@
+//! The answers for one predicate by lists of cuts, which serve any computation.
+ghost use Rattle.pd_model.specs.Answers.{IsPossiblyAnswer};
+ghost use Rattle.pd_model.specs.Cuts.{IsConsistent, total};
+ghost use Rattle.pd_model.specs.Predicates.{test_of};
+ghost use Rattle.pd_pred.specs.Views.{predicate_view};
+ghost use Rattle.pd_walk.specs.Answers.{AreAnswers, IsFirstIn, possibly_answer_view};
+ghost use Rattle.std.specs.Prelude.{◌≡◌, ◌+◌, ◌*◌, ◌<◌, ◌≤◌, false, All, Err, IfErr, IfOk, IfNone, IfSome, length, MatchOption, Ok};
+
+use super::listed::{settle_listed, walk_listed};
+use super::split::Split;
+use super::{Answers, PossiblyAnswer};
+use pd_back::{Held, first_avoiding};
+use pd_clock::{Computation, Cut};
+use pd_level::{Level, LevelFault};
+use pd_pred::Pred;
+use std::alloc::{AllocError, Global};
+
+/// How many levels the walk for Possibly holds at once, at most.
+const POSSIBLY_LEVELS: u64 = 2;
+
+/// Both answers for one predicate.
+pub(crate) fn answers_by_lists(
+    alloc: Global,
+    computation: &Computation<'_>,
+    pred: &Pred,
+    width: u64,
+    gap: u64,
+) -> Result<Answers, AllocError>
+    requires wide { 1 ≤ width }
+    requires root { total computation.now.events < gap * gap }
+    ensures { IfOk result (AreAnswers computation.now.events (test_of computation.now (predicate_view pred.now)) width
+        (2 * gap + 2)) }
+{
+    let possibly = possibly_by_lists(alloc, computation, pred, width)?;
+    let level = first_avoiding(alloc, computation, pred)?;
+    let split = Split {
+        possibly,
+        first: 0,
+        held: Held::new(alloc),
+    };
+    match settle_listed(
+        alloc,
+        computation,
+        pred,
+        width,
+        gap,
+        split,
+        &level,
+        POSSIBLY_LEVELS,
+    )? {
+        Ok(on) => walk_listed(
+            alloc,
+            computation,
+            pred,
+            width,
+            gap,
+            on,
+            level,
+            0,
+            POSSIBLY_LEVELS,
+        ),
+        Err(answers) => Ok(answers),
+    }
+}
+
+/// Whether some consistent cut satisfies.
+pub(crate) fn possibly_by_lists(
+    alloc: Global,
+    computation: &Computation<'_>,
+    pred: &Pred,
+    width: u64,
+) -> Result<PossiblyAnswer, AllocError>
+    requires wide { 1 ≤ width }
+    ensures { IfOk result (λ answer. IsPossiblyAnswer computation.now.events
+        (test_of computation.now (predicate_view pred.now)) width (possibly_answer_view answer)) }
+{
+    // the laws that the proof uses
+    pd_model::levels();
+    pd_model::possibly_walk();
+    computation.limits();
+    let total = computation.total();
+    let mut level = Level::first(alloc, computation)?;
+    for k in 0..total + 1 {
+        match first_satisfying(alloc, computation, pred, &level) {
+            Some(cut) => return Ok(PossiblyAnswer::Yes(cut)),
+            None => {}
+        }
+        match unless_wide(Level::next(alloc, computation, &level, width))? {
+            Some(next) => level = next,
+            None => return Ok(PossiblyAnswer::Unknown(k + 1)),
+        }
+    }
+    Ok(PossiblyAnswer::No)
+}
+
+/// The next level, or none exactly if it is too wide. It fails exactly where the level did so out of memory.
+fn unless_wide(next: Result<Level, LevelFault>) -> Result<Option<Level>, AllocError>
+    ensures found { IfOk result (λ found.
+        MatchOption found (next ≡ Err LevelFault.Wide) (λ level. next ≡ Ok level)) }
+    ensures memory { IfErr result (λ _. next ≡ Err LevelFault.Memory) }
+{
+    match next {
+        Ok(level) => Ok(Some(level)),
+        Err(LevelFault::Wide) => Ok(None),
+        Err(LevelFault::Memory) => Err(AllocError),
+    }
+}
+
+/// The first cut of the level that satisfies.
+fn first_satisfying(
+    alloc: Global,
+    computation: &Computation<'_>,
+    pred: &Pred,
+    level: &Level,
+) -> Option<Cut>
+    requires { All (IsConsistent computation.now.events) level.now.cuts }
+    ensures found { IfSome result (IsFirstIn (test_of computation.now (predicate_view pred.now)) level.now.cuts) }
+    ensures none { IfNone result (All (λ cut. test_of computation.now (predicate_view pred.now) cut ≡ false)
+        level.now.cuts) }
+{
+    for i in 0..level.len() {
+        if level.holds(computation, pred, i) {
+            return Some(level.cut(alloc, i));
+        }
+    }
+    None
+}

@@ -1,0 +1,102 @@
+//! The answers for one predicate.
+ghost use Rattle.pd_format.specs.Limits.{width_limit};
+ghost use Rattle.pd_model.specs.Answers.{IsPossiblyAnswer};
+ghost use Rattle.pd_model.specs.Cuts.{total};
+ghost use Rattle.pd_model.specs.Predicates.{test_of};
+ghost use Rattle.pd_pred.specs.Views.{predicate_view};
+ghost use Rattle.pd_walk.specs.Answers.{AreAnswers, IsLeastRoot, possibly_answer_view};
+ghost use Rattle.pd_walk.specs.Stages.{Stands};
+ghost use Rattle.pd_walk.specs.declared.stage.Stage.TheVariants.{Open};
+ghost use Rattle.std.specs.Prelude.{◌≡◌, ◌+◌, ◌*◌, ◌≤◌, ℕ, IfOk};
+
+use super::all::answer_all;
+use super::by_lists::possibly_by_lists;
+use super::root::least_root;
+use super::stage::Stage;
+use super::walk::walk_up;
+use super::{Answers, PossiblyAnswer};
+use pd_back::Held;
+use pd_clock::Computation;
+use pd_pred::Pred;
+use pd_runs::Whole;
+use std::alloc::{AllocError, Global};
+
+/// Both answers for a predicate over a computation, by one walk up the levels, under a width from 1 to its limit.
+///
+/// # Errors
+/// An allocation was refused.
+pub fn answer_one(
+    alloc: Global,
+    computation: &Computation<'_>,
+    pred: &Pred,
+    width: u64,
+) -> Result<Answers, AllocError>
+    requires wide { 1 ≤ width }
+    requires narrow { width ≤ width_limit }
+    ensures right { IfOk result (λ answers. (most : ℕ) × AreAnswers computation.now.events
+        (test_of computation.now (predicate_view pred.now)) width most answers) }
+    ensures few { IfOk result (λ answers. (s : ℕ) → IsLeastRoot s (total computation.now.events + 1)
+        → answers.held ≤ 2 * s + 2) }
+{
+    let mut answers = answer_all(alloc, computation, &[pred], width)?;
+    Ok(answers.remove(0))
+}
+
+/// Whether some consistent cut satisfies a predicate, under a width from 1 on. The walk up the levels ends where this
+/// is answered.
+///
+/// # Errors
+/// An allocation was refused.
+pub fn answer_possibly(
+    alloc: Global,
+    computation: &Computation<'_>,
+    pred: &Pred,
+    width: u64,
+) -> Result<PossiblyAnswer, AllocError>
+    requires wide { 1 ≤ width }
+    ensures { IfOk result (λ answer. IsPossiblyAnswer computation.now.events
+        (test_of computation.now (predicate_view pred.now)) width (possibly_answer_view answer)) }
+{
+    computation.limits();
+    if computation.processes() < 2 {
+        return possibly_by_lists(alloc, computation, pred, width);
+    }
+    if width == u64::MAX {
+        return possibly_by_lists(alloc, computation, pred, width);
+    }
+    let gap = least_root(computation.total() + 1);
+    let mut wholes = Held::new(alloc);
+    let mut stages = walk_up(alloc, computation, &[pred], width, gap, 0, &mut wholes)?;
+    Ok(possibly_after(
+        computation,
+        pred,
+        width,
+        gap,
+        wholes.last(),
+        stages.remove(0),
+    ))
+}
+
+/// The answer for Possibly, if this is known after a level. If no cut so far satisfies, it is the last level.
+fn possibly_after(
+    _computation: &Computation<'_>,
+    _pred: &Pred,
+    _width: u64,
+    _gap: u64,
+    _level: &Whole,
+    stage: Stage,
+) -> PossiblyAnswer
+    requires stands { Stands _computation.now.events (test_of _computation.now (predicate_view _pred.now)) _width _gap
+        _level.now stage }
+    requires last { stage ≡ Open → _level.now.number ≡ total _computation.now.events }
+    ensures { IsPossiblyAnswer _computation.now.events (test_of _computation.now (predicate_view _pred.now)) _width
+        (possibly_answer_view result) }
+{
+    // the laws that the proof uses
+    pd_model::possibly_walk();
+    match stage {
+        Stage::Open => PossiblyAnswer::No,
+        Stage::Marked { split, marks: _ } => split.possibly,
+        Stage::Answered(answers) => answers.possibly,
+    }
+}

@@ -1,0 +1,278 @@
+//! The walk up the whole levels.
+ghost use Rattle.pd_format.specs.Limits.{event_limit};
+ghost use Rattle.pd_model.specs.Cuts.{total};
+ghost use Rattle.pd_model.specs.Events.{event_count};
+ghost use Rattle.pd_model.specs.Order.{HasNoCycle};
+ghost use Rattle.pd_marks.specs.Skips.{HaveNoHits};
+ghost use Rattle.pd_refusals.specs.Refusals.{AreRefusals};
+ghost use Rattle.pd_runs.specs.Levels.{IsWholeLevel};
+ghost use Rattle.pd_walk.specs.Stages.{AllStand, AreBeside, AreCompiled, AreFor, HasComeTo, HasEnded, Stands, events_of, meaning_of};
+ghost use Rattle.pd_walk.specs.declared.stage.Stage.{Stage};
+ghost use Rattle.pd_walk.specs.declared.stage.Stage.TheVariants.{Open};
+ghost use Rattle.std.specs.Prelude.{◌≡◌, ◌+◌, ◌*◌, ◌<◌, ◌≤◌, ℕ, IfOk, IsTrue, [], false, length, slice_index_or};
+
+use super::look::{look_marked, look_open};
+use super::stage::Stage;
+use pd_back::Held;
+use pd_clock::Computation;
+use pd_marks::Skips;
+use pd_pred::Pred;
+use pd_refusals::Refusals;
+use pd_runs::{Steps, Whole};
+use pd_tables::Compiled;
+use std::alloc::{AllocError, Global};
+use std::mem;
+
+/// How many bytes the tables of all predicates may take together.
+const TABLE_BYTES: usize = 67_108_864;
+
+/// What is known of each predicate after the next level.
+fn look_all(
+    alloc: Global,
+    computation: &Computation<'_>,
+    tests: &[Compiled<'_, '_>],
+    width: u64,
+    gap: u64,
+    before: &Whole,
+    level: &Whole,
+    refusals: &Refusals,
+    beside: u64,
+    stages: &mut Vec<Stage>,
+) -> Result<(), AllocError>
+    requires tests { AreFor computation.now tests.now }
+    requires before { IsWholeLevel computation.now.events before.now }
+    requires level { IsWholeLevel computation.now.events level.now }
+    requires number { level.now.number ≡ before.now.number + 1 }
+    requires within { level.now.number ≤ total computation.now.events }
+    requires narrow { width < 18446744073709551615 }
+    requires root { total computation.now.events < gap * gap }
+    requires beside { AreBeside gap level.now.number beside }
+    requires refusals { AreRefusals tests.now level.now refusals.now }
+    requires stand { AllStand tests.now width gap before.now stages.old.items }
+    ensures { IfOk result (λ _. AllStand tests.now width gap level.now stages.new.items) }
+{
+    computation.limits();
+    for i in 0..tests.len() {
+        let stage = mem::replace(&mut stages[i], Stage::Open);
+        let skips = refusals.of(i);
+        stages[i] = look(
+            alloc, &tests[i], width, gap, before, level, skips, beside, stage,
+        )?;
+    }
+    Ok(())
+}
+
+/// What is known of a predicate after the next level.
+fn look(
+    alloc: Global,
+    test: &Compiled<'_, '_>,
+    width: u64,
+    gap: u64,
+    before: &Whole,
+    level: &Whole,
+    skips: Skips<'_>,
+    beside: u64,
+    stage: Stage,
+) -> Result<Stage, AllocError>
+    requires acyclic { HasNoCycle (events_of test.now) }
+    requires before { IsWholeLevel (events_of test.now) before.now }
+    requires level { IsWholeLevel (events_of test.now) level.now }
+    requires skips { HaveNoHits (events_of test.now) (meaning_of test.now) level.now.runs skips }
+    requires number { level.now.number ≡ before.now.number + 1 }
+    requires within { level.now.number ≤ total (events_of test.now) }
+    requires narrow { width < 18446744073709551615 }
+    requires short { (p : ℕ) → event_count (events_of test.now) p ≤ event_limit }
+    requires root { total (events_of test.now) < gap * gap }
+    requires stands { Stands (events_of test.now) (meaning_of test.now) width gap before.now stage }
+    requires beside { AreBeside gap level.now.number beside }
+    ensures { IfOk result (Stands (events_of test.now) (meaning_of test.now) width gap level.now) }
+{
+    match stage {
+        Stage::Open => look_open(alloc, test, width, gap, level, skips, beside),
+        Stage::Marked { split, marks } => {
+            look_marked(
+                alloc, test, width, gap, before, level, skips, split, &marks, beside,
+            )
+        }
+        Stage::Answered(answers) => Ok(Stage::Answered(answers)),
+    }
+}
+
+/// The predicates, compiled for the computation.
+fn compile_all<'a, 'b>(
+    alloc: Global,
+    computation: &'a Computation<'b>,
+    preds: &[&'a Pred],
+) -> Result<Vec<Compiled<'a, 'b>>, AllocError>
+    requires { 2 ≤ length computation.now.events }
+    ensures { IfOk result (λ tests. AreCompiled computation.now preds.now tests.items) }
+{
+    let mut room = TABLE_BYTES;
+    let mut tests = Vec::with_capacity(alloc, preds.len())?;
+    for i in 0..preds.len() {
+        tests.push(Compiled::compile(alloc, computation, preds[i], &mut room)?)?;
+    }
+    Ok(tests)
+}
+
+/// What is known of each predicate after level 0.
+fn look_first(
+    alloc: Global,
+    computation: &Computation<'_>,
+    tests: &[Compiled<'_, '_>],
+    width: u64,
+    gap: u64,
+    level: &Whole,
+    refusals: &Refusals,
+    beside: u64,
+) -> Result<Vec<Stage>, AllocError>
+    requires tests { AreFor computation.now tests.now }
+    requires level { IsWholeLevel computation.now.events level.now }
+    requires number { level.now.number ≡ 0 }
+    requires refusals { AreRefusals tests.now level.now refusals.now }
+    requires narrow { width < 18446744073709551615 }
+    requires root { total computation.now.events < gap * gap }
+    requires beside { AreBeside gap level.now.number beside }
+    ensures { IfOk result (λ stages. AllStand tests.now width gap level.now stages.items) }
+{
+    computation.limits();
+    let mut stages = Vec::with_capacity(alloc, tests.len())?;
+    for i in 0..tests.len() {
+        let skips = refusals.of(i);
+        stages.push(look_open(alloc, &tests[i], width, gap, level, skips, beside)?)?;
+    }
+    Ok(stages)
+}
+
+/// Whether the walk up the whole levels is over: no predicate is open, and none is worth going on with at such a
+/// wide level.
+fn is_over(stages: &[Stage], level: &Whole, limit: u64) -> bool
+    ensures { IsTrue result → (i : ℕ) (stage : Stage) → i < length stages.now
+        → ¬ (slice_index_or stages.now i stage ≡ Open) }
+{
+    let wide = level.cuts() > limit;
+    for stage in stages {
+        match stage {
+            Stage::Open => return false,
+            Stage::Marked { split: _, marks: _ } => {
+                if !wide {
+                    return false;
+                }
+            }
+            Stage::Answered(_) => {}
+        }
+    }
+    true
+}
+
+/// Whether the walk goes on from level `k`: another level comes, and some predicate needs it.
+fn goes_on(stages: &[Stage], level: &Whole, k: u64, total: u64, limit: u64) -> bool
+    ensures low { IsTrue result → k < total }
+    ensures last { result ≡ false → (i : ℕ) (stage : Stage) → i < length stages.now
+        → slice_index_or stages.now i stage ≡ Open → total ≤ k }
+{
+    if k >= total {
+        return false;
+    }
+    !is_over(stages, level, limit)
+}
+
+/// Holds the next whole level in place of level `_k`, once each predicate was looked at there.
+fn step_up(
+    alloc: Global,
+    computation: &Computation<'_>,
+    steps: &Steps<'_, '_>,
+    tests: &[Compiled<'_, '_>],
+    width: u64,
+    gap: u64,
+    _k: u64,
+    wholes: &mut Held<Whole>,
+    refusals: &mut Refusals,
+    stages: &mut Vec<Stage>,
+) -> Result<(), AllocError>
+    requires steps { steps.now ≡ computation.now.events }
+    requires tests { AreFor computation.now tests.now }
+    requires narrow { width < 18446744073709551615 }
+    requires root { total computation.now.events < gap * gap }
+    requires below { _k < total computation.now.events }
+    requires small { total computation.now.events < 18446744073709551615 }
+    requires come { HasComeTo computation.now.events tests.now width gap _k wholes.old.most wholes.old.levels.items
+        refusals.old stages.old.items }
+    ensures { IfOk result (λ _. HasComeTo computation.now.events tests.now width gap (_k + 1) wholes.new.most
+        wholes.new.levels.items refusals.new stages.new.items) }
+{
+    let next = Whole::next(alloc, steps, wholes.last())?;
+    wholes.push(next)?;
+    let before = wholes.last_but_one();
+    let level = wholes.last();
+    let after = Refusals::next(alloc, tests, before, refusals, level)?;
+    look_all(
+        alloc,
+        computation,
+        tests,
+        width,
+        gap,
+        before,
+        level,
+        &after,
+        wholes.most(),
+        stages,
+    )?;
+    *refusals = after;
+    wholes.drop_last_but_one();
+    Ok(())
+}
+
+/// The walk up the whole levels: what is known of each predicate after its last level, which stays. A level with more
+/// cuts than `limit` ends it once no predicate is open.
+pub(crate) fn walk_up(
+    alloc: Global,
+    computation: &Computation<'_>,
+    preds: &[&Pred],
+    width: u64,
+    gap: u64,
+    limit: u64,
+    wholes: &mut Held<Whole>,
+) -> Result<Vec<Stage>, AllocError>
+    requires two { 2 ≤ length computation.now.events }
+    requires narrow { width < 18446744073709551615 }
+    requires root { total computation.now.events < gap * gap }
+    requires empty { wholes.old.levels.items ≡ [] }
+    requires none { wholes.old.most ≡ 0 }
+    ensures { IfOk result (λ stages. HasEnded computation.now preds.now width gap wholes.new.most
+        wholes.new.levels.items stages.items) }
+{
+    let total = computation.total();
+    let steps = Steps::of(alloc, computation)?;
+    let tests = compile_all(alloc, computation, preds)?;
+    wholes.push(Whole::first(alloc, &steps)?)?;
+    let first = wholes.last();
+    let mut refusals = Refusals::first(alloc, &tests, first)?;
+    let mut stages = look_first(
+        alloc,
+        computation,
+        &tests,
+        width,
+        gap,
+        first,
+        &refusals,
+        wholes.most(),
+    )?;
+    let mut k = 0;
+    while goes_on(&stages, wholes.last(), k, total, limit) {
+        step_up(
+            alloc,
+            computation,
+            &steps,
+            &tests,
+            width,
+            gap,
+            k,
+            wholes,
+            &mut refusals,
+            &mut stages,
+        )?;
+        k += 1;
+    }
+    Ok(stages)
+}
