@@ -12,6 +12,8 @@ import sys
 import tempfile
 import time
 
+from peers import connect, free_port
+
 HERE = os.path.dirname(os.path.abspath(__file__))
 SESSION = os.path.join(HERE, "..", "examples", "mutual-exclusion")
 MEBIBYTE = 1 << 20
@@ -25,27 +27,6 @@ def bytes_of(name):
 
 LEFT, RIGHT = bytes_of("left.stream"), bytes_of("right.stream")
 REPORT = bytes_of("report").decode()
-
-
-def free_port():
-    """A port that is free, as is the one after it."""
-    while True:
-        with socket.create_server(("127.0.0.1", 0)) as end:
-            port = end.getsockname()[1]
-            try:
-                socket.create_server(("127.0.0.1", port + 1)).close()
-                return port
-            except OSError:
-                pass
-
-
-def connect(port):
-    for _ in range(500):
-        try:
-            return socket.create_connection(("127.0.0.1", port))
-        except ConnectionRefusedError:
-            time.sleep(0.01)
-    raise SystemExit("no server")
 
 
 # ---- peers: each is connected, and then does its part

@@ -8,11 +8,12 @@ share what else the machine does."""
 import json
 import multiprocessing
 import os
-import socket
 import subprocess
 import sys
 import tempfile
 import time
+
+from peers import connect, free_port
 
 PROCESSES, EVENTS, LINE, PIECE = 8, 10_000, 600, 65_536
 
@@ -34,20 +35,6 @@ def write_session(folder):
                 out.write(line.ljust(LINE - 1) + "\n")
             out.write(json.dumps({"end": True}) + "\n")
     return paths
-
-
-def free_port():
-    with socket.create_server(("127.0.0.1", 0)) as end:
-        return end.getsockname()[1]
-
-
-def connect(port):
-    for _ in range(500):
-        try:
-            return socket.create_connection(("127.0.0.1", port))
-        except ConnectionRefusedError:
-            time.sleep(0.01)
-    raise SystemExit("no server")
 
 
 def send(path, port, ready):

@@ -41,13 +41,6 @@ list_at c test level k cuts number same list =
     subst (λ (n : ℕ). IsListOf (IsAvoiding c test n) level.cuts) (sym number)
     (subst (λ (xs : List (List ℕ)). IsListOf (IsAvoiding c test k) xs) (sym same) list)
 
--- a level that was read is one of the levels
-pub last_read : (c : Computation) (test : List ℕ → Bool) (levels : List Levelled) (level : Levelled)
-    → AreAvoidingLevels c test levels → 0 < length levels
-    → ((d : Levelled) → level ≡ get_or levels (length levels - 1) d) → IsAvoidingLevel c test level
-last_read c test levels level lists some read =
-    subst (IsAvoidingLevel c test) (sym (read level)) (lists (length levels - 1) level (omega arith))
-
 pub last_number_read : (levels : List Levelled) (level : Levelled)
     → ((d : Levelled) → level ≡ get_or levels (length levels - 1) d) → level.number ≡ last_number levels
 last_number_read levels level read =

@@ -61,10 +61,6 @@ verdicts_more old mid new answers i checked lt is before here =
 one_line : (line : List ℕ) → text_of_lines (line ∷ []) ≡ line ++ line_feed ∷ []
 one_line line = append-nil (line ++ line_feed ∷ [])
 
-pub unread_text : (line : ℕ) → check_text (NotRead line) ≡ unread_line line
-unread_text line = one_line (codes "report line " ++ decimal line)
-    ∙ append_assoc (codes "report line ") (decimal line) (line_feed ∷ [])
-
 pub refusal_text : (good : Bool) → check_text (OfRefusal good) ≡ test_line (codes "refused ") good
 refusal_text good = one_line (codes "refused " ++ verdict_word (by_test good))
     ∙ append_assoc (codes "refused ") (verdict_word (by_test good)) (line_feed ∷ [])

@@ -31,23 +31,6 @@ event_process c e is = go (cases_lt e.process (length c))
         let count : length (events_of c e.process) ≡ 0 = ap length none in
         absurd (omega (arith, is.0, is.1, count))
 
--- the place that a fault of messages tells
-pub place_named : (names : List ProcessNames) (c : Computation) (fault : MatchFault) → length c ≡ length names
-    → IfSome (match_fault_view fault) (IsReported c) → NamesPlace names fault
-place_named names c (faults.SendTwice place) same r =
-    let lt : place.process < length c =
-    event_process c (place_view place) (event_from_kind c (place_view place) _ r.0.2) in omega (arith, same, lt)
-place_named names c (faults.Orphan place) same r =
-    let lt : place.process < length c =
-    event_process c (place_view place) (event_from_kind c (place_view place) _ r.2.1) in omega (arith, same, lt)
-place_named names c (faults.SelfMessage place) same r =
-    let lt : place.process < length c =
-    event_process c (place_view place) (event_from_kind c (place_view place) _ r.3.2) in omega (arith, same, lt)
-place_named names c (faults.ReceivedTwice place) same r =
-    let lt : place.process < length c =
-    event_process c (place_view place) (event_from_kind c (place_view place) _ r.4.2) in omega (arith, same, lt)
-place_named names c faults.Memory same r = tt
-
 -- ---- cycles
 
 stuck_is_event : (c : Computation) (e : Place) → IsStuck c e → IsEvent c e

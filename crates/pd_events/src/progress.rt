@@ -129,7 +129,7 @@ fn take_line(
     phase: Phase,
     kept: usize,
     new: &mut Vec<Event>,
-    line: &Line,
+    line: &Line<'_>,
 ) -> Result<Phase, AllocError>
     ensures { IfOk result (λ after. (old : List Event) → length old ≡ kept →
         reading_view after (old ++ new.new.items)
@@ -141,7 +141,7 @@ fn take_line(
     }
     let joined = phase.join();
     let process = joined.map(|join| join.process);
-    match read_record(alloc, spec, process, &line.bytes) {
+    match read_record(alloc, spec, process, line.bytes.as_slice()) {
         Ok(record) => take_record(joined, kept, new, line.number, record),
         Err(fault) => {
             let kind = kind_of(fault).ok_or(AllocError)?;
@@ -174,7 +174,7 @@ impl Progress {
         &mut self,
         alloc: Global,
         spec: &Spec,
-        lines: &[Line],
+        lines: &[Line<'_>],
         following: Option<StreamFault>,
     ) -> Result<(), AllocError>
         ensures ok { OnOk result (reading_view self.new.phase self.new.events.items

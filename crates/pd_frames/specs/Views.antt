@@ -1,4 +1,5 @@
 -- What the program's lines and faults stand for.
+use Rattle.std.specs.Cow.{cow_slice_items}
 use Rattle.std.specs.Prelude.{◌≡◌, ℕ, List, [], map, Option, option_map}
 use Rattle.pd_format.specs.Lines as lines
 use Rattle.pd_frames.specs.declared.line.Batch.{Batch}
@@ -7,7 +8,7 @@ use Rattle.pd_frames.specs.declared.line.FrameFault.{FrameFault}
 use Rattle.pd_frames.specs.declared.line.FrameFault.TheVariants.{LineTooLong, StreamTooLong}
 
 abbrev pub line_view : Line → lines.Line
-line_view line = lines.line line.number line.bytes.items
+line_view line = lines.line line.number (cow_slice_items line.bytes)
 
 abbrev pub lines_view : List Line → List lines.Line
 lines_view all = map line_view all

@@ -3,18 +3,20 @@ ghost use Rattle.pd_format.specs.Lines.{IsBatch, has_line_feed, is_blank as is_b
 ghost use Rattle.pd_format.specs.Limits.{line_byte_limit, stream_byte_limit};
 ghost use Rattle.pd_frames.specs.Cuts.{Faces, FacesEnd, Fits, IsOpen};
 ghost use Rattle.pd_frames.specs.Views.{frame_fault_view, frame_faults_view, lines_view};
+ghost use Rattle.std.specs.Cow.{cow_slice_items};
 ghost use Rattle.std.specs.Prelude.{◌≡◌, ◌+◌, ◌*◌, ◌^◌, ◌<◌, ◌≤◌, false, List, ℕ, [], ◌∷◌, ◌++◌, length, Some, IfSome, IfNone, IfOk, OnOk, MatchOption};
 
 use super::line::{FrameFault, Line};
 use memchr::memchr;
 use pd_format::{LINE_BYTE_LIMIT, STREAM_BYTE_LIMIT};
 use std::alloc::{AllocError, Global};
+use std::borrow::CowSlice;
 
 /// What is left of a piece once the lines that end in it are taken off.
 #[derive(Drop)]
 pub struct Cut<'kept, 'piece> {
     /// The lines that end, without the blank ones.
-    pub lines: Vec<Line>,
+    pub lines: Vec<Line<'piece>>,
     /// The first fault of the lines that end, after which nothing counts.
     pub fault: Option<FrameFault>,
     /// The bytes before the piece that belong to the line that hasn't ended.
@@ -61,13 +63,27 @@ fn concatenation(alloc: Global, first: &[u8], second: &[u8]) -> Result<Vec<u8>, 
     Ok(bytes)
 }
 
-/// Adds the line that both parts make, if it isn't blank.
-pub fn push_line(
+/// The bytes of the line that both parts make. They are the second part's if the first one is empty.
+fn line_bytes<'piece>(
     alloc: Global,
-    lines: &mut Vec<Line>,
+    kept: &[u8],
+    part: &'piece [u8],
+) -> Result<CowSlice<'piece, u8>, AllocError>
+    ensures { IfOk result (λ bytes. cow_slice_items bytes ≡ kept.now ++ part.now) }
+{
+    if kept.is_empty() {
+        return Ok(CowSlice::Borrowed(part));
+    }
+    Ok(CowSlice::Owned(concatenation(alloc, kept, part)?))
+}
+
+/// Adds the line that both parts make, if it isn't blank.
+pub fn push_line<'piece>(
+    alloc: Global,
+    lines: &mut Vec<Line<'piece>>,
     number: u64,
     kept: &[u8],
-    part: &[u8],
+    part: &'piece [u8],
 ) -> Result<(), AllocError>
     ensures { OnOk result (lines_view lines.new.items
         ≡ lines_view lines.old.items ++ numbered_from number ((kept.now ++ part.now) ∷ [])) }
@@ -75,7 +91,7 @@ pub fn push_line(
     if is_blank(kept) && is_blank(part) {
         return Ok(());
     }
-    let bytes = concatenation(alloc, kept, part)?;
+    let bytes = line_bytes(alloc, kept, part)?;
     lines.push(Line { number, bytes })?;
     Ok(())
 }

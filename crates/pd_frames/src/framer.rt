@@ -109,7 +109,7 @@ impl Framer {
     ///
     /// # Errors
     /// If memory runs out; the framer is then as it was.
-    pub fn feed(&mut self, piece: &[u8]) -> Result<Batch, AllocError>
+    pub fn feed<'piece>(&mut self, piece: &'piece [u8]) -> Result<Batch<'piece>, AllocError>
         requires { self.old.finished ≡ false }
         ensures stands { OnOk result
             ((bytes : List ℕ) → Stands self.old bytes false → Stands self.new (bytes ++ piece.now) false) }
@@ -160,7 +160,7 @@ impl Framer {
     ///
     /// # Errors
     /// If memory runs out; the framer is then as it was.
-    pub fn finish(&mut self) -> Result<Batch, AllocError>
+    pub fn finish<'piece>(&mut self) -> Result<Batch<'piece>, AllocError>
         requires { self.old.finished ≡ false }
         ensures stands { OnOk result ((bytes : List ℕ) → Stands self.old bytes false → Stands self.new bytes true) }
         ensures lines { IfOk result (λ batch. (bytes : List ℕ) → Stands self.old bytes false →

@@ -1,12 +1,14 @@
 //! Lines, batches of lines, and faults.
+use std::borrow::CowSlice;
 
-/// A line that isn't blank.
+/// A line that isn't blank. Its bytes are lent by the piece in which it stands; a line that several pieces share has
+/// its own.
 #[derive(Debug, PartialEq, Eq, Drop)]
-pub struct Line {
+pub struct Line<'piece> {
     /// Its number in the stream, counted from 1; blank lines count too.
     pub number: u64,
     /// Its bytes without the LF that ends it, at most 65,536 of them.
-    pub bytes: Vec<u8>,
+    pub bytes: CowSlice<'piece, u8>,
 }
 
 /// Why a stream's bytes give no more lines.
@@ -35,9 +37,9 @@ impl FrameFault {
 
 /// What a piece of a stream gives.
 #[derive(Debug, PartialEq, Eq, Drop)]
-pub struct Batch {
+pub struct Batch<'piece> {
     /// The lines that are new, in their order; those before a fault come with it.
-    pub lines: Vec<Line>,
+    pub lines: Vec<Line<'piece>>,
     /// The fault that the stream has, if it has one.
     pub fault: Option<FrameFault>,
 }

@@ -4,14 +4,15 @@ ghost use Rattle.std.specs.Prelude.{◌<◌};
 use super::{FrameFault, Framer, Line, has_line_feed};
 use pd_format::LINE_BYTE_LIMIT;
 use std::alloc::{AllocError, Global};
+use std::borrow::CowSlice;
 use std::test::Fail;
 
 /// The lines and the fault of a stream that comes in pieces of this size, and where the framer is at its end.
-fn framed(
+fn framed<'a>(
     alloc: Global,
-    stream: &[u8],
+    stream: &'a [u8],
     size: usize,
-) -> Result<(Vec<Line>, Option<FrameFault>, u64), AllocError>
+) -> Result<(Vec<Line<'a>>, Option<FrameFault>, u64), AllocError>
     requires { 0 < size }
 {
     let mut framer = Framer::new(alloc);
@@ -49,6 +50,7 @@ fn lines_have_a_limit(rt: HostRuntime) -> Result<(), Fail> {
     stream.push(b'\n')?;
     let (lines, fault, line) = framed(rt.alloc(), &stream, 1000)?;
     assert_eq!(rt; (lines.len(), fault, line), (1, None, 2));
+    drop(lines);
     let long = vec![in rt.alloc(); b'x'; LINE_BYTE_LIMIT + 1]?;
     stream.extend_from_slice(&long)?;
     stream.extend_from_slice(b"\nno line\n")?;
@@ -84,6 +86,19 @@ fn streams_have_a_limit(rt: HostRuntime) -> Result<(), Fail> {
     assert_eq!(rt; (batch.lines.len(), batch.fault), (0, None));
     assert!(rt; other.is_finished());
     assert_eq!(rt; other.line(), 257);
+    Ok(())
+}
+
+#[test]
+fn a_line_of_two_pieces_is_whole(rt: HostRuntime) -> Result<(), Fail> {
+    let mut framer = Framer::new(rt.alloc());
+    let first = framer.feed(b"one\ntw")?;
+    assert_eq!(rt; first.lines.len(), 1);
+    assert_eq!(rt; first.lines[0].bytes, CowSlice::Borrowed(b"one".as_slice()));
+    let second = framer.feed(b"o\nthree\n")?;
+    assert_eq!(rt; second.lines.len(), 2);
+    assert_eq!(rt; second.lines[0].bytes.as_slice(), b"two".as_slice());
+    assert_eq!(rt; second.lines[1].bytes.as_slice(), b"three".as_slice());
     Ok(())
 }
 

@@ -32,6 +32,16 @@ pub record IsGiven (c : Computation) (k : ℕ) (olds : List KeptRun) (births : L
   pub kept : IsKeptLevel (length c) k olds births
   pub level : IsWholeLevel c (whole_view (length c) k olds births)
 
+pub given_by : (c : Computation) (k : ℕ) (olds : List KeptRun) (births : List ℕ)
+    → ((q : ℕ) → event_count c q ≤ event_limit) → IsWalkable c → IsKeptLevel (length c) k olds births
+    → IsWholeLevel c (whole_view (length c) k olds births) → IsGiven c k olds births
+given_by c k olds births small walkable kept level = record {
+  small = small;
+  walkable = walkable;
+  kept = kept;
+  level = level;
+}
+
 -- So far: runs and births of the next level, of which all keys are below the floor.
 pub record IsMade (c : Computation) (k : ℕ) (olds : List KeptRun) (runs : List KeptRun) (born : List ℕ) (floor : ℕ)
     : Type 0 where

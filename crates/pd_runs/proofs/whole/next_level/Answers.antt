@@ -7,7 +7,7 @@ use Rattle.pd_model.specs.Events.{Computation}
 use Rattle.pd_runs.specs.Levels.{IsKeptLevel, IsWholeLevel, cut_count, keys_of, prefix_key, runs_view, whole_view}
 use Rattle.pd_runs.specs.declared.kept.KeptRun.{KeptRun}
 use Rattle.pd_runs.proofs.KeyLists.{key_at, get_or_default}
-use Rattle.pd_runs.proofs.Merging.{IsGiven, IsGoing, old_run, birth_cut, young_birth, going_skip, no_key, going_push, going_move, met_already, birth_first, run_first, birth_key_small, some_cut, ended_level, ended_kept}
+use Rattle.pd_runs.proofs.Merging.{IsGoing, given_by, old_run, birth_cut, young_birth, going_skip, no_key, going_push, going_move, met_already, birth_first, run_first, birth_key_small, some_cut, ended_level, ended_kept}
 use Rattle.pd_runs.proofs.whole.next_level.Goals as goal
 use Rattle.pd_runs.proofs.whole.next_level.Goals.{then-i-olds, else-i-olds+then-j-births, then-floor-birth+then-birth-old-2+in_ok-push_born, else-floor-birth, else-floor-birth-via-then-floor-birth+else-birth-old-2, else-floor-birth-via-else-floor-birth}
 
@@ -31,12 +31,8 @@ push_born-requires-clause-below c =
       | then-i-olds w ↦ inl w.if-i-olds.true
       | else-i-olds+then-j-births w ↦ inr w.if-j-births.true
     ] in
-    let given : IsGiven c.args.steps.now c.args.number c.args.olds.now c.args.births.now = record {
-      small = c.limits.ensures.short;
-      walkable = c.limits.ensures.walkable;
-      kept = c.requires.kept;
-      level = c.requires.level;
-    } in
+    let given = given_by c.args.steps.now c.args.number c.args.olds.now c.args.births.now c.limits.ensures.short
+    c.limits.ensures.walkable c.requires.kept c.requires.level in
     let lt : c.loop-i.j < length c.args.births.now =
     birth_first c.args.steps.now c.args.number c.args.olds.now c.args.births.now given c.loop-i.i c.loop-i.j
     c.run_key-old.result c.birth_key-birth.result some c.run_key-old.ensures.at c.run_key-old.ensures.end
@@ -51,12 +47,8 @@ push_born-requires-clause-cut c =
       | then-i-olds w ↦ inl w.if-i-olds.true
       | else-i-olds+then-j-births w ↦ inr w.if-j-births.true
     ] in
-    let given : IsGiven c.args.steps.now c.args.number c.args.olds.now c.args.births.now = record {
-      small = c.limits.ensures.short;
-      walkable = c.limits.ensures.walkable;
-      kept = c.requires.kept;
-      level = c.requires.level;
-    } in
+    let given = given_by c.args.steps.now c.args.number c.args.olds.now c.args.births.now c.limits.ensures.short
+    c.limits.ensures.walkable c.requires.kept c.requires.level in
     let lt : c.loop-i.j < length c.args.births.now =
     birth_first c.args.steps.now c.args.number c.args.olds.now c.args.births.now given c.loop-i.i c.loop-i.j
     c.run_key-old.result c.birth_key-birth.result some c.run_key-old.ensures.at c.run_key-old.ensures.end
@@ -71,12 +63,8 @@ push_born-requires-clause-young c =
       | then-i-olds w ↦ inl w.if-i-olds.true
       | else-i-olds+then-j-births w ↦ inr w.if-j-births.true
     ] in
-    let given : IsGiven c.args.steps.now c.args.number c.args.olds.now c.args.births.now = record {
-      small = c.limits.ensures.short;
-      walkable = c.limits.ensures.walkable;
-      kept = c.requires.kept;
-      level = c.requires.level;
-    } in
+    let given = given_by c.args.steps.now c.args.number c.args.olds.now c.args.births.now c.limits.ensures.short
+    c.limits.ensures.walkable c.requires.kept c.requires.level in
     let lt : c.loop-i.j < length c.args.births.now =
     birth_first c.args.steps.now c.args.number c.args.olds.now c.args.births.now given c.loop-i.i c.loop-i.j
     c.run_key-old.result c.birth_key-birth.result some c.run_key-old.ensures.at c.run_key-old.ensures.end
@@ -97,12 +85,8 @@ loop-i-smaller-then-birth-old c =
       | then-i-olds w ↦ inl w.if-i-olds.true
       | else-i-olds+then-j-births w ↦ inr w.if-j-births.true
     ] in
-    let given : IsGiven c.args.steps.now c.args.number c.args.olds.now c.args.births.now = record {
-      small = c.limits.ensures.short;
-      walkable = c.limits.ensures.walkable;
-      kept = c.requires.kept;
-      level = c.requires.level;
-    } in
+    let given = given_by c.args.steps.now c.args.number c.args.olds.now c.args.births.now c.limits.ensures.short
+    c.limits.ensures.walkable c.requires.kept c.requires.level in
     let lt : c.loop-i.j < length c.args.births.now =
     birth_first c.args.steps.now c.args.number c.args.olds.now c.args.births.now given c.loop-i.i c.loop-i.j
     c.run_key-old.result c.birth_key-birth.result some c.run_key-old.ensures.at c.run_key-old.ensures.end
@@ -116,12 +100,8 @@ loop-i-preserved-then-birth-old c =
       | then-i-olds w ↦ inl w.if-i-olds.true
       | else-i-olds+then-j-births w ↦ inr w.if-j-births.true
     ] in
-    let given : IsGiven c.args.steps.now c.args.number c.args.olds.now c.args.births.now = record {
-      small = c.limits.ensures.short;
-      walkable = c.limits.ensures.walkable;
-      kept = c.requires.kept;
-      level = c.requires.level;
-    } in
+    let given = given_by c.args.steps.now c.args.number c.args.olds.now c.args.births.now c.limits.ensures.short
+    c.limits.ensures.walkable c.requires.kept c.requires.level in
     let lt : c.loop-i.j < length c.args.births.now =
     birth_first c.args.steps.now c.args.number c.args.olds.now c.args.births.now given c.loop-i.i c.loop-i.j
     c.run_key-old.result c.birth_key-birth.result some c.run_key-old.ensures.at c.run_key-old.ensures.end
@@ -164,12 +144,8 @@ push_moved-requires-clause-kept c =
       | then-i-olds w ↦ inl w.if-i-olds.true
       | else-i-olds+then-j-births w ↦ inr w.if-j-births.true
     ] in
-    let given : IsGiven c.args.steps.now c.args.number c.args.olds.now c.args.births.now = record {
-      small = c.limits.ensures.short;
-      walkable = c.limits.ensures.walkable;
-      kept = c.requires.kept;
-      level = c.requires.level;
-    } in
+    let given = given_by c.args.steps.now c.args.number c.args.olds.now c.args.births.now c.limits.ensures.short
+    c.limits.ensures.walkable c.requires.kept c.requires.level in
     let lt : c.loop-i.i < length c.args.olds.now =
     run_first c.args.steps.now c.args.number c.args.olds.now c.args.births.now given c.loop-i.i c.loop-i.j
     c.run_key-old.result c.birth_key-birth.result some c.run_key-old.ensures.at c.run_key-old.ensures.end
@@ -187,12 +163,8 @@ push_moved-requires-clause-run c =
       | then-i-olds w ↦ inl w.if-i-olds.true
       | else-i-olds+then-j-births w ↦ inr w.if-j-births.true
     ] in
-    let given : IsGiven c.args.steps.now c.args.number c.args.olds.now c.args.births.now = record {
-      small = c.limits.ensures.short;
-      walkable = c.limits.ensures.walkable;
-      kept = c.requires.kept;
-      level = c.requires.level;
-    } in
+    let given = given_by c.args.steps.now c.args.number c.args.olds.now c.args.births.now c.limits.ensures.short
+    c.limits.ensures.walkable c.requires.kept c.requires.level in
     let lt : c.loop-i.i < length c.args.olds.now =
     run_first c.args.steps.now c.args.number c.args.olds.now c.args.births.now given c.loop-i.i c.loop-i.j
     c.run_key-old.result c.birth_key-birth.result some c.run_key-old.ensures.at c.run_key-old.ensures.end
@@ -207,12 +179,8 @@ loop-i-preserved c =
       | then-i-olds w ↦ inl w.if-i-olds.true
       | else-i-olds+then-j-births w ↦ inr w.if-j-births.true
     ] in
-    let given : IsGiven c.args.steps.now c.args.number c.args.olds.now c.args.births.now = record {
-      small = c.limits.ensures.short;
-      walkable = c.limits.ensures.walkable;
-      kept = c.requires.kept;
-      level = c.requires.level;
-    } in
+    let given = given_by c.args.steps.now c.args.number c.args.olds.now c.args.births.now c.limits.ensures.short
+    c.limits.ensures.walkable c.requires.kept c.requires.level in
     let lt : c.loop-i.i < length c.args.olds.now =
     run_first c.args.steps.now c.args.number c.args.olds.now c.args.births.now given c.loop-i.i c.loop-i.j
     c.run_key-old.result c.birth_key-birth.result some c.run_key-old.ensures.at c.run_key-old.ensures.end
@@ -247,12 +215,8 @@ at_end c k olds births i j runs born floor g past out =
 
 pub cuts_in-requires : goal.cuts_in-requires
 cuts_in-requires c =
-    let given : IsGiven c.args.steps.now c.args.number c.args.olds.now c.args.births.now = record {
-      small = c.limits.ensures.short;
-      walkable = c.limits.ensures.walkable;
-      kept = c.requires.kept;
-      level = c.requires.level;
-    } in
+    let given = given_by c.args.steps.now c.args.number c.args.olds.now c.args.births.now c.limits.ensures.short
+    c.limits.ensures.walkable c.requires.kept c.requires.level in
     rw (c.deref.ensures.value) (some_cut c.args.steps.now c.args.number c.args.olds.now c.args.births.now given
     c.loop-i.runs.items c.loop-i.born c.loop-i.floor (at_end c.args.steps.now c.args.number c.args.olds.now
     c.args.births.now c.loop-i.i c.loop-i.j c.loop-i.runs.items c.loop-i.born c.loop-i.floor
@@ -260,12 +224,8 @@ cuts_in-requires c =
 
 pub invariant_of-result : goal.invariant_of-result
 invariant_of-result c =
-    let given : IsGiven c.args.steps.now c.args.number c.args.olds.now c.args.births.now = record {
-      small = c.limits.ensures.short;
-      walkable = c.limits.ensures.walkable;
-      kept = c.requires.kept;
-      level = c.requires.level;
-    } in
+    let given = given_by c.args.steps.now c.args.number c.args.olds.now c.args.births.now c.limits.ensures.short
+    c.limits.ensures.walkable c.requires.kept c.requires.level in
     let end : IsGoing c.args.steps.now c.args.number c.args.olds.now c.args.births.now (length c.args.olds.now)
     (length c.args.births.now) c.loop-i.runs.items c.loop-i.born c.loop-i.floor =
     at_end c.args.steps.now c.args.number c.args.olds.now
@@ -287,12 +247,8 @@ invariant_of-result c =
 
 pub returns-clause-level : goal.returns-clause-level
 returns-clause-level c =
-    let given : IsGiven c.args.steps.now c.args.number c.args.olds.now c.args.births.now = record {
-      small = c.limits.ensures.short;
-      walkable = c.limits.ensures.walkable;
-      kept = c.requires.kept;
-      level = c.requires.level;
-    } in
+    let given = given_by c.args.steps.now c.args.number c.args.olds.now c.args.births.now c.limits.ensures.short
+    c.limits.ensures.walkable c.requires.kept c.requires.level in
     let end : IsGoing c.args.steps.now c.args.number c.args.olds.now c.args.births.now (length c.args.olds.now)
     (length c.args.births.now) c.loop-i.runs.items c.loop-i.born c.loop-i.floor =
     at_end c.args.steps.now c.args.number c.args.olds.now
