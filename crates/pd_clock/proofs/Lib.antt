@@ -6,5 +6,4 @@ pub mod PastFacts
 pub mod Cycles
 pub mod OrderSteps
 pub mod ClockRows
-pub mod SenderRows
 pub mod FitTraces

@@ -4,14 +4,14 @@ ghost use Rattle.std.specs.Prelude.{◌*◌, ◌≤◌, ◌↔◌, IsTrue, lengt
 
 /// Whether the counts have each event of another process that happened before event `number` of process `p`. The clocks
 /// are those of `p`, one after another, each with a number for each count.
-pub(crate) fn has_past(clocks: &[u64], number: u64, counts: &[u64], p: usize) -> bool
+pub(crate) fn has_past(clocks: &[u16], number: u64, counts: &[u64], p: usize) -> bool
     requires some { 1 ≤ number }
     requires there { number * length counts.now ≤ length clocks.now }
     ensures { IsTrue result ↔ HasPast clocks.now number counts.now p }
 {
     let start = (number as usize - 1) * counts.len();
     for q in 0..counts.len() {
-        if q != p && clocks[start + q] > counts[q] {
+        if q != p && clocks[start + q] as u64 > counts[q] {
             return false;
         }
     }
@@ -19,7 +19,7 @@ pub(crate) fn has_past(clocks: &[u64], number: u64, counts: &[u64], p: usize) ->
 }
 
 /// Whether the counts have each event that happened before the last counted one of some other process.
-pub(crate) fn has_pasts(clocks: &[Vec<u64>], counts: &[u64]) -> bool
+pub(crate) fn has_pasts(clocks: &[Vec<u16>], counts: &[u64]) -> bool
     requires { Reach clocks.now counts.now }
     ensures { IsTrue result ↔ HasPasts clocks.now counts.now }
 {

@@ -19,7 +19,6 @@ use super::clocks::has_pasts;
 use super::cycle::reported_cycle;
 use super::history::history;
 use super::order::{Order, put_in_order};
-use super::senders::senders_of;
 use super::state::value_in_history;
 use super::{BuildFault, Cut, State};
 use pd_events::Trace;
@@ -35,8 +34,8 @@ pub struct Computation<'a> {
     initial: &'a [Vec<i64>],
     traces: &'a [Trace],
     histories: Vec<Vec<i64>>,
-    clocks: Vec<Vec<u64>>,
-    senders: Vec<Vec<Option<Place>>>,
+    clocks: Vec<Vec<u16>>,
+    matched: Matched,
 }
 
 impl<'a> Model for Computation<'a> {
@@ -44,7 +43,7 @@ impl<'a> Model for Computation<'a> {
     ghost use Rattle.pd_clock.specs.Computations.{initial_view, recorded_view, Keeps};
     ghost use Rattle.pd_events.specs.Views.{computation_view};
     ghost use Rattle.pd_clock.specs.Orders.{HasClocks};
-    ghost use Rattle.pd_clock.specs.Senders.{KeepsSenders};
+    ghost use Rattle.pd_model.specs.Messages.{IsMessageList};
     ghost use Rattle.pd_model.specs.Cuts.{full_cut};
     ghost use Rattle.pd_model.specs.Order.{HasNoCycle};
     ghost use Rattle.std.specs.Prelude.{length};
@@ -56,7 +55,7 @@ impl<'a> Model for Computation<'a> {
     ghost invariant = { λ c. Keeps c.initial.now c.traces.now c.histories.items
         × HasClocks (computation_view c.traces.now) (full_cut (computation_view c.traces.now)) c.clocks.items
         × HasNoCycle (computation_view c.traces.now)
-        × KeepsSenders (computation_view c.traces.now) (length c.traces.now) c.senders.items };
+        × IsMessageList (computation_view c.traces.now) c.matched };
 }
 
 /// The history of each process.
@@ -112,10 +111,10 @@ impl<'a> Computation<'a> {
         alloc: Global,
         spec: &'a Spec,
         traces: &'a [Trace],
-        matched: &Matched,
+        matched: Matched,
     ) -> Result<Computation<'a>, BuildFault>
         requires traces { AreTraces (document_view spec.now).names traces.now }
-        requires messages { IsMessageList (computation_view traces.now) matched.now }
+        requires messages { IsMessageList (computation_view traces.now) matched }
         ensures recorded { IfOk result (λ computation.
             computation ≡ recorded_view (document_view spec.now).initial traces.now) }
         ensures acyclic { IfOk result (λ computation. HasNoCycle (computation_view traces.now)) }
@@ -123,8 +122,8 @@ impl<'a> Computation<'a> {
             IfSome (cycle_view fault) (IsReportedCycle (computation_view traces.now))) }
     {
         let initial = spec.initial_rows();
-        let Order { done, clocks } = put_in_order(alloc, traces, matched)?;
-        if let Some(places) = reported_cycle(alloc, traces, matched, &done)? {
+        let Order { done, clocks } = put_in_order(alloc, traces, &matched)?;
+        if let Some(places) = reported_cycle(alloc, traces, &matched, &done)? {
             return Err(BuildFault::Cycle(places));
         }
         Ok(Computation {
@@ -132,7 +131,7 @@ impl<'a> Computation<'a> {
             traces,
             histories: histories(alloc, initial, traces)?,
             clocks,
-            senders: senders_of(alloc, traces, matched)?,
+            matched,
         })
     }
 
@@ -202,7 +201,7 @@ impl<'a> Computation<'a> {
         requires within { q < length self.now.events }
         ensures { IsClock self.now.events (place_view place) q result }
     {
-        self.clocks[place.process][(place.number as usize - 1) * self.processes() + q]
+        self.clocks[place.process][(place.number as usize - 1) * self.processes() + q] as u64
     }
 
     /// The send of this event, if it is a receipt.
@@ -210,7 +209,7 @@ impl<'a> Computation<'a> {
         requires { IsEvent self.now.events (place_view receipt) }
         ensures { IsSender self.now.events (place_view receipt) result }
     {
-        self.senders[receipt.process][receipt.number as usize - 1]
+        self.matched.sender(receipt)
     }
 
     /// Whether event `e` happened before event `f`.

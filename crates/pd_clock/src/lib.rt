@@ -15,7 +15,6 @@
 //! - `order`: an order of the events by which each has its clock
 //! - `cycle`: the cycle that is reported where there is no such order
 //! - `clocks`: whether counts have the past of their last events, by clocks
-//! - `senders`: the sends of the receipts
 //! - `computation`: the whole
 //! - `state`: the values at a cut
 //! - `fault`: why there is no computation
@@ -28,7 +27,6 @@ mod cycle;
 mod fault;
 mod history;
 mod order;
-mod senders;
 mod state;
 #[cfg(test)]
 mod tests;

@@ -18,7 +18,7 @@ use std::alloc::{AllocError, Global};
 #[derive(Drop)]
 pub(crate) struct Order {
     pub(crate) done: Vec<u64>,
-    pub(crate) clocks: Vec<Vec<u64>>,
+    pub(crate) clocks: Vec<Vec<u16>>,
 }
 
 /// The order of no event.
@@ -92,7 +92,7 @@ fn next_that_can_go(traces: &[Trace], matched: &Matched, done: &[u64], last: usi
 }
 
 /// How many events of process `q` are in the clock of an event that stands in the order; 0 for no event.
-fn count_in(order: &Order, event: Option<Place>, q: usize) -> u64
+fn count_in(order: &Order, event: Option<Place>, q: usize) -> u16
     requires rows { HasRows order.now.done.items order.now.clocks.items }
     requires within { q < length order.now.done.items }
     requires there { IfSome event (λ e. Includes order.now.done.items (place_view e)) }
@@ -105,7 +105,7 @@ fn count_in(order: &Order, event: Option<Place>, q: usize) -> u64
 }
 
 /// The clock of the next event of process `p`, which can stand in the order. It takes no memory.
-fn next_row(traces: &[Trace], matched: &Matched, order: &Order, p: usize) -> [u64; PROCESS_LIMIT]
+fn next_row(traces: &[Trace], matched: &Matched, order: &Order, p: usize) -> [u16; PROCESS_LIMIT]
     requires few { length traces.now ≤ process_limit }
     requires short { (p : ℕ) → event_count (computation_view traces.now) p ≤ event_limit }
     requires messages { IsMessageList (computation_view traces.now) matched.now }
@@ -132,7 +132,7 @@ fn next_row(traces: &[Trace], matched: &Matched, order: &Order, p: usize) -> [u6
         let sent = count_in(order, send, q);
         row[q] = past.max(sent);
     }
-    row[p] = number + 1;
+    row[p] = (number + 1) as u16;
     row
 }
 

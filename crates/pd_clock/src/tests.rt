@@ -4,9 +4,9 @@ use super::{BuildFault, Cut, Place};
 use std::test::Fail;
 
 /// The clocks of a send and a receipt, in each of the two processes.
-const FIRST: &[u64] = &[1, 0, 2, 1];
+const FIRST: &[u16] = &[1, 0, 2, 1];
 
-const SECOND: &[u64] = &[0, 1, 1, 2];
+const SECOND: &[u16] = &[0, 1, 1, 2];
 
 #[test]
 fn cuts_keep_their_counts(rt: HostRuntime) -> Result<(), Fail> {

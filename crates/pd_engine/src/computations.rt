@@ -33,7 +33,7 @@ pub(crate) fn computation_of<'a, S: RandomSource>(
         (traces_view traces.now))) }
 {
     match match_messages(rt, alloc, traces) {
-        Ok(matched) => build(alloc, spec, traces, &matched),
+        Ok(matched) => build(alloc, spec, traces, matched),
         Err(fault) => Err(Unanswered::Refused(of_messages(alloc, spec.names(), fault)?)),
     }
 }
@@ -43,18 +43,19 @@ fn build<'a>(
     alloc: Global,
     spec: &'a Spec,
     traces: &'a [Trace],
-    matched: &Matched,
+    matched: Matched,
 ) -> Result<(Computation<'a>, u64), Unanswered>
     requires traces { AreTraces (document_view spec.now).names traces.now }
     requires lawful { HasLawfulMessages (computation_view traces.now) }
-    requires messages { IsMessageList (computation_view traces.now) matched.now }
+    requires messages { IsMessageList (computation_view traces.now) matched }
     ensures formed { IfOk result (λ formed. AreWellFormed (document_view spec.now) (traces_view traces.now)
         formed.0 formed.1) }
     ensures refused { IfErr result (IsUnanswered (IsTracesReport (document_view spec.now)
         (traces_view traces.now))) }
 {
+    let messages = matched.messages();
     match Computation::build(alloc, spec, traces, matched) {
-        Ok(computation) => Ok((computation, matched.messages())),
+        Ok(computation) => Ok((computation, messages)),
         Err(BuildFault::Cycle(cycle)) => {
             let refusal = of_cycle(alloc, spec.names(), &cycle)?;
             Err(Unanswered::Refused(refusal))

@@ -1,6 +1,7 @@
 -- The modules of lemmas of this crate.
 mod Places
 mod Ids
+mod Marks
 mod Reports
 mod Traces
 mod Pairs

@@ -1,5 +1,5 @@
 -- The pairs and the table of senders, step by step.
-use Rattle.std.proofs.Common.{◌≡◌, ℕ, zero, suc, ◌<◌, ◌≤◌, List, [], ◌∷◌, ◌++◌, length, Option, Some, None, option_map, Contains, refl, sym, ◌∙◌, ap, subst, inl, inr, ◌⊎◌, ◌↔◌, arith, length-append, add-one}
+use Rattle.std.proofs.Common.{◌≡◌, ℕ, zero, suc, ◌<◌, ◌≤◌, List, [], ◌∷◌, ◌++◌, ◌+◌, length, append_assoc, Option, Some, None, Contains, refl, sym, ◌∙◌, ap, subst, inl, inr, ◌⊎◌, ◌↔◌, arith, length-append, add-one}
 use Rattle.std.specs.Prelude.{slice_get, Vec}
 use Rattle.std.specs.Global.{Global}
 use Rattle.std.proofs.lemmas.Bool.{cases_lt}
@@ -11,9 +11,8 @@ use Rattle.pd_model.specs.Messages.{IsMessage, IsMessageList}
 use Rattle.pd_model.proofs.Chains.{event_from_kind}
 use Rattle.pd_model.proofs.Consistency.{process_in_range}
 use Rattle.pd_model.proofs.ListPrefixes.{get_push_before, get_push_last}
-use Rattle.pd_match.specs.declared.place.Place.{Place}
-use Rattle.pd_match.specs.Views.{place_view}
-use Rattle.pd_match.specs.Noted.{event_place, items_in, kept, row_at, sender_at, sender_view}
+use Rattle.pd_match.specs.declared.sender.Sender.{Sender}
+use Rattle.pd_match.specs.Noted.{event_place, items_in, kept, pairs_from, pairs_in, row_at, send_in, sender_at, sender_view}
 use Rattle.pd_match.specs.Progress.{PairsBefore, RowTells, RowsTell}
 use Rattle.pd_match.proofs.Places.{before_more, before_next, before_next_process, before_process_end, here_before_next, none_before_first, each_before_end}
 
@@ -122,17 +121,54 @@ module _ (c : Computation) (p n : ℕ) (pairs : List (events.Place × events.Pla
 length_push : {A : Type 0} (xs : List A) (x : A) (n : ℕ) → length xs ≡ n → length (xs ++ x ∷ []) ≡ suc n
 length_push xs x n e = length-append xs (x ∷ []) ∙ (add-one (length xs) ∙ ap suc e)
 
-pub row_first : (c : Computation) (p : ℕ) → RowTells c p [] 0
-row_first c p = record { same = refl; tells = λ k send lt. absurd (omega arith) }
+-- a sender at the end of a row
+pub pairs_from_push : (p k n : ℕ) (row : List Sender) (sender : Sender) → length row + k ≡ n
+    → pairs_from p k (row ++ sender ∷ []) ≡ pairs_from p k row ++ kept (send_in sender) (event_place p n)
+pairs_from_push p k n [] sender e =
+    append_none (kept (send_in sender) (event_place p k))
+    ∙ ap (λ j. kept (send_in sender) (event_place p j)) (let same : k ≡ n = omega (arith, e) in same)
+pairs_from_push p k n (first ∷ rest) sender e =
+    ap (λ pairs. kept (send_in first) (event_place p k) ++ pairs)
+    (pairs_from_push p (suc k) n rest sender (omega (arith, e)))
+    ∙ sym (append_assoc (kept (send_in first) (event_place p k)) (pairs_from p (suc k) rest)
+    (kept (send_in sender) (event_place p n)))
 
-pub row_next : (c : Computation) (p n : ℕ) (row : List (Option Place)) (sender : Option Place) → RowTells c p row n
-    → ((d : events.Place) → (option_map place_view sender ≡ Some d) ↔ IsMessage c d (event_place p n))
+-- a row at the end of a table
+pub pairs_in_push : (p q : ℕ) (rows : List (Vec Sender Global)) (row : Vec Sender Global) → length rows + p ≡ q
+    → pairs_in p (rows ++ row ∷ []) ≡ pairs_in p rows ++ pairs_from q 0 row.items
+pairs_in_push p q [] row e =
+    append_none (pairs_from p 0 row.items)
+    ∙ ap (λ j. pairs_from j 0 row.items) (let same : p ≡ q = omega (arith, e) in same)
+pairs_in_push p q (first ∷ rest) row e =
+    ap (λ pairs. pairs_from p 0 first.items ++ pairs) (pairs_in_push (suc p) q rest row (omega (arith, e)))
+    ∙ sym (append_assoc (pairs_from p 0 first.items) (pairs_in (suc p) rest) (pairs_from q 0 row.items))
+
+pub row_first : (c : Computation) (p : ℕ) → RowTells c p [] 0
+row_first c p = record {
+  same = refl;
+  tells = λ k send lt. absurd (omega arith);
+  adds = λ pairs so_far. subst (PairsBefore c (event_place p 0)) (sym (append_none pairs)) so_far;
+}
+
+pub row_next : (c : Computation) (p n : ℕ) (row : List Sender) (sender : Sender) → RowTells c p row n
+    → ((d : events.Place) → (send_in sender ≡ Some d) ↔ IsMessage c d (event_place p n))
     → RowTells c p (row ++ sender ∷ []) (suc n)
 row_next c p n row sender so_far is = record {
   same = length_push row sender n so_far.same;
   tells = λ k send lt. go k send (cases_lt k n) lt;
+  adds = λ pairs first.
+      subst (PairsBefore c (event_place p (suc n))) (pairs_grown pairs)
+      (pairs_next c p n (pairs ++ pairs_from p 0 row) (so_far.adds pairs first) (send_in sender) is);
 }
   where
+    pairs_grown : (pairs : List (events.Place × events.Place))
+        → (pairs ++ pairs_from p 0 row) ++ kept (send_in sender) (event_place p n)
+        ≡ pairs ++ pairs_from p 0 (row ++ sender ∷ [])
+    pairs_grown pairs =
+        append_assoc pairs (pairs_from p 0 row) (kept (send_in sender) (event_place p n))
+        ∙ ap (λ rest. pairs ++ rest) (sym (pairs_from_push p 0 n row sender (let same : length row ≡ n = so_far.same in
+        omega arith)))
+
     go : (k : ℕ) (send : events.Place) → (k < n) ⊎ (n ≤ k) → k < suc n
         → (sender_view (slice_get (row ++ sender ∷ []) k) ≡ Some send) ↔ IsMessage c send (event_place p k)
     go k send (inl lt) top =
@@ -143,17 +179,21 @@ row_next c p n row sender so_far is = record {
         let here : k ≡ n = omega arith in
         let last : k ≡ length row = here ∙ sym so_far.same in
         subst (λ o. (sender_view o ≡ Some send) ↔ IsMessage c send (event_place p k))
-        (sym (get_push_last row sender k last)) (subst (λ j. (option_map place_view sender ≡ Some send)
+        (sym (get_push_last row sender k last)) (subst (λ j. (send_in sender ≡ Some send)
         ↔ IsMessage c send (event_place p j)) (sym here) (is send))
 
 pub rows_first : (c : Computation) → RowsTell c [] 0
-rows_first c = record { same = refl; tell = λ q lt. absurd (omega arith) }
+rows_first c = record { same = refl; tell = λ q lt. absurd (omega arith); pairs = pairs_first c }
 
-pub rows_next : (c : Computation) (p : ℕ) (rows : List (Vec (Option Place) Global)) (row : Vec (Option Place) Global)
+pub rows_next : (c : Computation) (p : ℕ) (rows : List (Vec Sender Global)) (row : Vec Sender Global)
     → RowsTell c rows p → RowTells c p row.items (event_count c p) → RowsTell c (rows ++ row ∷ []) (suc p)
 rows_next c p rows row so_far is = record {
   same = length_push rows row p so_far.same;
   tell = λ q lt. go q (cases_lt q p) lt;
+  pairs =
+      subst (PairsBefore c (event_place (suc p) 0)) (sym (pairs_in_push 0 p rows row
+      (let same : length rows ≡ p = so_far.same in omega arith)))
+      (pairs_process c p (pairs_in 0 rows ++ pairs_from p 0 row.items) (is.adds (pairs_in 0 rows) so_far.pairs));
 }
   where
     go : (q : ℕ) → (q < p) ⊎ (p ≤ q) → q < suc p → RowTells c q (row_at (rows ++ row ∷ []) q) (event_count c q)
@@ -168,7 +208,7 @@ rows_next c p rows row so_far is = record {
         (subst (λ j. RowTells c j row.items (event_count c j)) (sym here) is)
 
 -- the whole table has the sender of each receipt, and none elsewhere
-module _ (c : Computation) (rows : List (Vec (Option Place) Global)) (whole : RowsTell c rows (length c)) where
+module _ (c : Computation) (rows : List (Vec Sender Global)) (whole : RowsTell c rows (length c)) where
   reported_none : (q n : ℕ) (send : events.Place) → sender_at rows (place q n) ≡ None → ¬ IsEvent c (place q n)
       → (sender_at rows (place q n) ≡ Some send) ↔ IsMessage c send (place q n)
   reported_none q n send none not =

@@ -1,12 +1,14 @@
 -- Which fault is reported, from what is noted.
-use Rattle.std.proofs.Common.{◌≡◌, ◌≢◌, ℕ, suc, List, length, Option, Some, None, refl, sym, ◌∙◌, ap, subst, inl, inr, ◌⊎◌, ◌↔◌}
-use Rattle.std.specs.Prelude.{is_some, true, false, IfSome}
+use Rattle.std.proofs.Common.{◌≡◌, ◌≢◌, ℕ, suc, List, length, Option, Some, None, option_map, ◌≤◌, refl, sym, ◌∙◌, ap, subst, inl, inr, ◌⊎◌, ◌↔◌}
+use Rattle.std.specs.Prelude.{Bool, is_some, true, false, IfSome}
 use Rattle.std.proofs.lemmas.Bool.{false≢true}
 use Rattle.std.proofs.lemmas.Option.{same_Some}
 use Rattle.pd_model.specs.Events.{Send, Receive, Computation, Place, IsBefore, kind_at, event_count}
 use Rattle.pd_model.specs.Messages.{Fault, SendTwice, Orphan, SelfMessage, ReceivedTwice, IsSentAgain, IsOrphan, IsSelfMessage, IsReceivedAgain, IsBadReceipt, orphan, self_message, received_again, IsReported, IsMessage, HasLawfulMessages}
 use Rattle.pd_model.proofs.Chains.{event_from_kind}
-use Rattle.pd_match.specs.Noted.{event_place, HasBefore, HasAll, NoneBadBefore, IsReportedOf}
+use Rattle.pd_match.specs.declared.place.Place as matches
+use Rattle.pd_match.specs.Views.{place_view}
+use Rattle.pd_match.specs.Noted.{event_place, HasBefore, HasAll, HasReceived, NoneBadBefore, IsReportedOf}
 use Rattle.pd_match.proofs.Places.{not_before_itself, before_transitive, before_next, before_process_end, none_before_first, each_before_end}
 
 pub same_send : (x y : List ℕ) → Send x ≡ Send y → x ≡ y
@@ -60,9 +62,9 @@ pub other_is_good : (c : Computation) (e : Place) → ((id : List ℕ) → ¬ (k
     → ¬ IsBadReceipt c e
 other_is_good c e not bad = let w = kind_of_bad c e bad in not w.0 w.1
 
-module _ (c : Computation) (here : Place) (id : List ℕ) (sent received : List ℕ
-    → Option Place) (has : HasAll Send c sent) (before : HasBefore Receive c here received) (is : kind_at c here
-    ≡ Some (Receive id)) where
+module _ (c : Computation) (here : Place) (id : List ℕ) (sent : List ℕ → Option Place)
+    (received : List ℕ → Bool) (has : HasAll Send c sent) (before : HasReceived c here received)
+    (is : kind_at c here ≡ Some (Receive id)) where
   not_orphan : (send : Place) → sent id ≡ Some send → ¬ IsOrphan c here
   not_orphan send found w =
       let same : id ≡ w.0 = one_id c here id w.0 is w.1 in
@@ -75,14 +77,13 @@ module _ (c : Computation) (here : Place) (id : List ℕ) (sent received : List 
       let one : w.1 ≡ send = same_Some _ _ (sym other ∙ (ap sent (sym same) ∙ found)) in
       apart (ap (λ (d : Place). d.process) (sym one) ∙ w.4)
 
-  not_again : received id ≡ None → ¬ IsReceivedAgain c here
+  not_again : received id ≡ false → ¬ IsReceivedAgain c here
   not_again fresh w =
       let same : id ≡ w.0 = one_id c here id w.0 is w.2 in
-      let other : received w.0 ≡ Some w.1 = (before w.0 w.1).1 (w.3, w.4) in
-      let none : received w.0 ≡ None = ap received (sym same) ∙ fresh in
-      cc
+      let marked : received w.0 ≡ true = (before w.0).1 (w.1, w.3, w.4) in
+      false≢true (sym (ap received (sym same) ∙ fresh) ∙ marked)
 
-  pub receipt_is_good : (send : Place) → sent id ≡ Some send → send.process ≢ here.process → received id ≡ None
+  pub receipt_is_good : (send : Place) → sent id ≡ Some send → send.process ≢ here.process → received id ≡ false
       → ¬ IsBadReceipt c here
   receipt_is_good send found apart fresh (orphan w) = not_orphan send found w
   receipt_is_good send found apart fresh (self_message w) = not_self send found apart w
@@ -113,20 +114,25 @@ module _ (c : Computation) (here : Place) (id : List ℕ) (sent received : List 
         not_orphan h.1.0 h.1.1,
         w,
       )
-  receipt_fault good (Some (ReceivedTwice e)) h = again (received id) refl h.2
-    where
-      again : (o : Option Place) → received id ≡ o → is_some o ≡ true → IsReported c (ReceivedTwice e)
-      again None at some = absurd (false≢true some)
-      again (Some d) at some =
-          let first = (before id d).0 at in
-          let w : IsReceivedAgain c here = (id, d, is, first.0, first.1) in
-          subst (λ f. IsReported c (ReceivedTwice f)) (sym h.0) (
-            sent_once c sent has,
-            (received_again w, good),
-            not_orphan h.1.0 h.1.1,
-            not_self h.1.0 h.1.1 h.1.2,
-            w,
-          )
+  receipt_fault good (Some (ReceivedTwice e)) h =
+      let first = (before id).0 h.2 in
+      let w : IsReceivedAgain c here = (id, first.0, is, first.1, first.2) in
+      subst (λ f. IsReported c (ReceivedTwice f)) (sym h.0) (
+        sent_once c sent has,
+        (received_again w, good),
+        not_orphan h.1.0 h.1.1,
+        not_self h.1.0 h.1.1 h.1.2,
+        w,
+      )
+
+-- a send that is found has a number
+pub send_numbered : (c : Computation) (here : Place) (send : Option matches.Place)
+    → ((d : Place) → (option_map place_view send ≡ Some d) ↔ IsMessage c d here)
+    → IfSome send (λ (place : matches.Place). 1 ≤ place.number)
+send_numbered c here None is = tt
+send_numbered c here (Some place) is =
+    let m = (is (place_view place)).0 refl in
+    (event_from_kind c (place_view place) (Send m.0) m.1).0
 
 -- no receipt has a fault, step by step
 pub none_bad_first : (c : Computation) → NoneBadBefore c (event_place 0 0)

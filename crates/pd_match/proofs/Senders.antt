@@ -5,20 +5,20 @@ use Rattle.std.specs.Global.{Global}
 use Rattle.std.proofs.lemmas.Option.{slice_get_past, slice_get_read}
 use Rattle.pd_model.specs.Events.{numbered}
 use Rattle.pd_model.specs.Events as events
-use Rattle.pd_match.specs.declared.place.Place.{Place}
+use Rattle.pd_match.specs.declared.sender.Sender.{Sender}
 use Rattle.pd_match.specs.Noted.{items_in, sender_at, sender_view}
 
-pub sender_past : (rows : List (Vec (Option Place) Global)) (e : events.Place) → length rows ≤ e.process
+pub sender_past : (rows : List (Vec Sender Global)) (e : events.Place) → length rows ≤ e.process
     → sender_at rows e ≡ None
 sender_past rows e past =
     ap (λ o. sender_view (numbered (items_in o) e.number)) (slice_get_past rows e.process past)
     ∙ ap sender_view (none e.number)
   where
-    none : (n : ℕ) → numbered {A = Option Place} [] n ≡ None
+    none : (n : ℕ) → numbered {A = Sender} [] n ≡ None
     none zero = refl
     none (suc n) = slice_get_past [] n (omega arith)
 
-pub sender_of_none : (rows : List (Vec (Option Place) Global)) (e : events.Place) → ¬ (1 ≤ e.number)
+pub sender_of_none : (rows : List (Vec Sender Global)) (e : events.Place) → ¬ (1 ≤ e.number)
     → sender_at rows e ≡ None
 sender_of_none rows e not = go e.number not
   where
@@ -26,7 +26,7 @@ sender_of_none rows e not = go e.number not
     go zero low = refl
     go (suc n) low = absurd (low (omega arith))
 
-pub sender_in_row : (rows : List (Vec (Option Place) Global)) (row : Vec (Option Place) Global) (e : events.Place)
+pub sender_in_row : (rows : List (Vec Sender Global)) (row : Vec Sender Global) (e : events.Place)
     (i : ℕ) → e.process < length rows → row ≡ get_or rows e.process row → 1 ≤ e.number → i ≡ e.number - 1
     → sender_at rows e ≡ sender_view (slice_get row.items i)
 sender_in_row rows row e i there is some index =
@@ -40,7 +40,7 @@ sender_in_row rows row e i there is some index =
         ap (λ k. sender_view (slice_get row.items k)) same
 
 -- what the table has for a receipt is what the pairs have
-pub sender_agrees : (pairs self : List (events.Place × events.Place)) (rows : List (Vec (Option Place) Global))
+pub sender_agrees : (pairs self : List (events.Place × events.Place)) (rows : List (Vec Sender Global))
     (e : events.Place) (answer : Option events.Place) → pairs ≡ self
     → ((send receipt : events.Place) → Contains pairs (send, receipt) ↔ (sender_at rows receipt ≡ Some send))
     → sender_at rows e ≡ answer → (send : events.Place) → Contains self (send, e) ↔ (answer ≡ Some send)

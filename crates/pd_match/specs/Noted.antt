@@ -1,13 +1,15 @@
 -- What the maps of ids, the pairs and the table of senders stand for.
-use Rattle.std.specs.Prelude.{◌≡◌, ◌≢◌, ◌↔◌, ℕ, suc, List, [], ◌∷◌, Option, Some, None, option_map, slice_get, bytes_eq, Vec, is_some, true}
+use Rattle.std.specs.Prelude.{◌≡◌, ◌≢◌, ◌↔◌, ℕ, suc, Bool, true, false, List, [], ◌∷◌, Option, Some, None, option_map, slice_get, slice_index_or, bytes_eq, nat_eq, cond, ◌++◌, Vec}
+use Rattle.std.specs.List.{count_by}
 use Rattle.std.specs.Borrow.{Bor}
 use Rattle.std.specs.declared.alloc.Global.{Global}
-use Rattle.indexmap.specs.IndexMap.{IndexMap, get_by}
-use Rattle.pd_model.specs.Events.{Kind, Computation, IsBefore, kind_at, numbered, place}
+use Rattle.indexmap.specs.IndexMap.{IndexMap, get_by, index_of_by}
+use Rattle.pd_model.specs.Events.{Kind, Receive, Computation, IsBefore, kind_at, numbered, place}
 use Rattle.pd_model.specs.Events as events
 use Rattle.pd_model.specs.Messages.{IsBadReceipt}
 use Rattle.pd_model.specs.Messages as messages
 use Rattle.pd_match.specs.declared.place.Place.{Place}
+use Rattle.pd_match.specs.declared.sender.Sender.{Sender}
 use Rattle.pd_match.specs.Views.{place_view}
 
 -- the place of a process's event with this index, which is counted from 0
@@ -17,6 +19,15 @@ event_place p n = place p (suc n)
 -- the place that a map has for an id
 abbrev pub place_noted : {S : Type 0} → IndexMap (Bor (List ℕ)) Place S → List ℕ → Option events.Place
 place_noted places id = option_map place_view (get_by (λ k. bytes_eq id k.now) places)
+
+-- the mark with this index
+abbrev pub mark_at : List Bool → Option ℕ → Bool
+mark_at marks None = false
+mark_at marks (Some index) = slice_index_or marks index false
+
+-- whether an id is marked: the mark of each id has the index that the id has in the map
+abbrev pub is_marked : {S : Type 0} → IndexMap (Bor (List ℕ)) Place S → List Bool → List ℕ → Bool
+is_marked places marks id = mark_at marks (index_of_by (λ k. bytes_eq id k.now) places)
 
 -- Each id that stands in an event of this sort before this place is noted, with the place of the event, and no other id
 -- is.
@@ -28,12 +39,17 @@ HasBefore sort c here noted =
 abbrev pub HasAll : (List ℕ → Kind) → Computation → (List ℕ → Option events.Place) → Type 0
 HasAll sort c noted = (id : List ℕ) (d : events.Place) → (noted id ≡ Some d) ↔ (kind_at c d ≡ Some (sort id))
 
+-- each id that is received before this place is marked, and no other id is
+abbrev pub HasReceived : Computation → events.Place → (List ℕ → Bool) → Type 0
+HasReceived c here marked = (id : List ℕ) → (marked id ≡ true)
+    ↔ ((d : events.Place) × (kind_at c d ≡ Some (Receive id)) × IsBefore d here)
+
 -- no receipt before this place has a fault
 abbrev pub NoneBadBefore : Computation → events.Place → Type 0
 NoneBadBefore c here = (d : events.Place) → IsBefore d here → ¬ IsBadReceipt c d
 
 -- The fault that is reported of a receipt: whether its id is sent, and whether it is received before, says which.
-abbrev pub IsReportedOf : Option events.Place → Option events.Place → events.Place → Option messages.Fault → Type 0
+abbrev pub IsReportedOf : Option events.Place → Bool → events.Place → Option messages.Fault → Type 0
 IsReportedOf sent received here None = Unit {0}
 IsReportedOf sent received here (Some (messages.SendTwice e)) = ⊥
 IsReportedOf sent received here (Some (messages.Orphan e)) = (e ≡ here) × (sent ≡ None)
@@ -41,25 +57,43 @@ IsReportedOf sent received here (Some (messages.SelfMessage e)) =
     (e ≡ here) × ((send : events.Place) × (sent ≡ Some send) × (send.process ≡ here.process))
 IsReportedOf sent received here (Some (messages.ReceivedTwice e)) =
     (e ≡ here) × ((send : events.Place) × (sent ≡ Some send) × (send.process ≢ here.process))
-    × (is_some received ≡ true)
+    × (received ≡ true)
 
 -- the pair of a receipt and its send, if there is one
 abbrev pub kept : Option events.Place → events.Place → List (events.Place × events.Place)
 kept None receipt = []
 kept (Some send) receipt = (send, receipt) ∷ []
 
+-- the send that is kept for an event
+abbrev pub send_in : Sender → Option events.Place
+send_in sender = cond (nat_eq sender.number 0) None (Some (place sender.process sender.number))
+
 -- the items of the vector, none where there is no vector
-abbrev pub items_in : Option (Vec (Option Place) Global) → List (Option Place)
+abbrev pub items_in : Option (Vec Sender Global) → List Sender
 items_in None = []
 items_in (Some row) = row.items
 
-abbrev pub row_at : List (Vec (Option Place) Global) → ℕ → List (Option Place)
+abbrev pub row_at : List (Vec Sender Global) → ℕ → List Sender
 row_at rows p = items_in (slice_get rows p)
 
-abbrev pub sender_view : Option (Option Place) → Option events.Place
+abbrev pub sender_view : Option Sender → Option events.Place
 sender_view None = None
-sender_view (Some sender) = option_map place_view sender
+sender_view (Some sender) = send_in sender
 
 -- the sender that a table of senders has for a receipt
-abbrev pub sender_at : List (Vec (Option Place) Global) → events.Place → Option events.Place
+abbrev pub sender_at : List (Vec Sender Global) → events.Place → Option events.Place
 sender_at rows receipt = sender_view (numbered (row_at rows receipt.process) receipt.number)
+
+-- the messages of a row of senders, which begins at the event of process p with this index
+abbrev pub pairs_from : ℕ → ℕ → List Sender → List (events.Place × events.Place)
+pairs_from p n [] = []
+pairs_from p n (sender ∷ rest) = kept (send_in sender) (event_place p n) ++ pairs_from p (suc n) rest
+
+-- the messages of a table of senders whose first row is that of process p
+abbrev pub pairs_in : ℕ → List (Vec Sender Global) → List (events.Place × events.Place)
+pairs_in p [] = []
+pairs_in p (row ∷ rest) = pairs_from p 0 row.items ++ pairs_in (suc p) rest
+
+-- how many marks are set
+abbrev pub marks_set : List Bool → ℕ
+marks_set marks = count_by (λ mark. mark) marks

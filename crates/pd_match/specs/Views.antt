@@ -1,5 +1,5 @@
 -- What the program's places, messages and faults stand for.
-use Rattle.std.specs.Prelude.{List, map, Option, Some, None}
+use Rattle.std.specs.Prelude.{List, Option, Some, None, map}
 use Rattle.pd_model.specs.Events as events
 use Rattle.pd_model.specs.Messages as messages
 use Rattle.pd_match.specs.declared.place.Place.{Place}
@@ -9,12 +9,6 @@ use Rattle.pd_match.specs.declared.fault.MatchFault.TheVariants as faults
 abbrev pub place_view : Place → events.Place
 place_view place = record { process = place.process; number = place.number }
 
-abbrev pub pair_view : Place × Place → events.Place × events.Place
-pair_view pair = (place_view pair.0, place_view pair.1)
-
-abbrev pub pairs_view : List (Place × Place) → List (events.Place × events.Place)
-pairs_view pairs = map pair_view pairs
-
 -- the fault that is reported, if it isn't out of memory
 abbrev pub match_fault_view : MatchFault → Option messages.Fault
 match_fault_view (faults.SendTwice place) = Some (messages.SendTwice (place_view place))
@@ -22,3 +16,7 @@ match_fault_view (faults.Orphan place) = Some (messages.Orphan (place_view place
 match_fault_view (faults.SelfMessage place) = Some (messages.SelfMessage (place_view place))
 match_fault_view (faults.ReceivedTwice place) = Some (messages.ReceivedTwice (place_view place))
 match_fault_view faults.Memory = None
+
+-- each message as its send and its receipt
+abbrev pub pairs_view : List (Place × Place) → List (events.Place × events.Place)
+pairs_view pairs = map (λ pair. (place_view pair.0, place_view pair.1)) pairs

@@ -13,7 +13,7 @@ pub enum MatchFault {
     SelfMessage(Place),
     /// The id of this receipt is received at an earlier place.
     ReceivedTwice(Place),
-    /// Memory ran out.
+    /// Memory ran out, or a send stands at a process or a number of 2^32 or more.
     Memory,
 }
 

@@ -10,6 +10,7 @@
 //!
 //! - `place`: where an event stands
 //! - `fault`: why the events can't be matched
+//! - `sender`: the send of an event, as the table of senders keeps it
 //! - `matched`: the messages
 //! - `noting`: notes at which places ids stand
 //! - `sending`: the first pass, over the sends
@@ -23,6 +24,7 @@ mod matching;
 mod noting;
 mod place;
 mod receiving;
+mod sender;
 mod sending;
 #[cfg(test)]
 mod tests;

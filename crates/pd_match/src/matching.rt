@@ -1,20 +1,55 @@
 //! Matches sends and receipts.
 ghost use Rattle.pd_events.specs.Views.{computation_view};
+ghost use Rattle.pd_match.specs.Noted.{HasAll, marks_set, place_noted};
 ghost use Rattle.pd_match.specs.Views.{match_fault_view};
+ghost use Rattle.pd_model.specs.Events.{Send};
 ghost use Rattle.pd_model.specs.Messages.{HasLawfulMessages, IsMessageList, IsReported};
-ghost use Rattle.std.specs.Prelude.{IfErr, IfOk, IfSome};
+ghost use Rattle.std.specs.Prelude.{◌≡◌, IfErr, IfOk, IfSome};
 
 use super::receiving::senders_in;
 use super::sending::sends_of;
-use super::{MatchFault, Matched};
+use super::{MatchFault, Matched, Place};
 use indexmap::IndexMap;
 use pd_events::Trace;
 use std::alloc::Global;
 use std::hash::{BuildHasher, BuildHasherDefault, FoldHasher, RandomState};
 use std::random::RandomSource;
 
-/// Matches sends and receipts. Ids are looked up in maps with this hasher.
-fn match_by<S: BuildHasher + Copy + Drop>(
+/// How many of the marks are set.
+fn count_of(marks: &[bool]) -> u64
+    ensures { result ≡ marks_set marks.now }
+{
+    let mut count = 0;
+    for mark in marks {
+        if *mark {
+            count += 1;
+        }
+    }
+    count
+}
+
+/// Matches the receipts with these sends.
+fn match_receipts<'a, S: BuildHasher>(
+    alloc: Global,
+    traces: &'a [Trace],
+    sends: &IndexMap<&'a str, Place, S>,
+) -> Result<Matched, MatchFault>
+    requires { HasAll Send (computation_view traces.now) (place_noted sends.now) }
+    ensures lawful { IfOk result (λ matched. HasLawfulMessages (computation_view traces.now)) }
+    ensures messages { IfOk result (λ matched. IsMessageList (computation_view traces.now) matched) }
+    ensures fault { IfErr result (λ reported.
+        IfSome (match_fault_view reported) (λ fault. IsReported (computation_view traces.now) fault)) }
+{
+    let mut received = vec![in alloc; false; sends.len()]?;
+    let mut senders = Vec::with_capacity(alloc, traces.len())?;
+    for p in 0..traces.len() {
+        senders.push(senders_in(alloc, traces, p, sends, &mut received)?)?;
+    }
+    Ok(Matched::new(senders, count_of(&received)))
+}
+
+/// Matches sends and receipts. Ids are looked up in a map with this hasher.
+fn match_by<S: BuildHasher + Drop>(
     alloc: Global,
     traces: &[Trace],
     hasher: S,
@@ -25,13 +60,7 @@ fn match_by<S: BuildHasher + Copy + Drop>(
         IfSome (match_fault_view reported) (λ fault. IsReported (computation_view traces.now) fault)) }
 {
     let sends = sends_of(alloc, traces, hasher)?;
-    let mut received = IndexMap::with_hasher(alloc, hasher);
-    let mut pairs = Vec::new(alloc);
-    let mut senders = Vec::new(alloc);
-    for p in 0..traces.len() {
-        senders.push(senders_in(alloc, traces, p, &sends, &mut received, &mut pairs)?)?;
-    }
-    Ok(Matched::new(pairs, senders))
+    match_receipts(alloc, traces, &sends)
 }
 
 /// Matches the sends and receipts of traces, which stand in the order of the processes: each receipt with the send that

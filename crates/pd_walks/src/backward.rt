@@ -56,7 +56,7 @@ fn few_levels_are_held(rt: HostRuntime) -> Result<(), Fail> {
     let c = stream_of(alloc, "c")?;
     let traces = traces_of(alloc, &spec, &[a.as_bytes(), b.as_bytes(), c.as_bytes()])?;
     let matched = match_messages(&rt, alloc, &traces)?;
-    let computation = Computation::build(alloc, &spec, &traces, &matched)?;
+    let computation = Computation::build(alloc, &spec, &traces, matched)?;
     let in_turn = in_turn(alloc, &[2, 1, 0])?;
     for named in spec.predicates() {
         let (answer, most) = definitely_counted(

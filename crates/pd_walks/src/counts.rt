@@ -64,7 +64,7 @@ fn the_last_levels_of_the_longest_process(rt: HostRuntime) -> Result<(), Fail> {
     let stream = longest_stream(alloc)?;
     let traces = traces_of(alloc, &spec, &[stream.as_bytes()])?;
     let matched = match_messages(&rt, alloc, &traces)?;
-    let computation = Computation::build(alloc, &spec, &traces, &matched)?;
+    let computation = Computation::build(alloc, &spec, &traces, matched)?;
     let before = level_of(alloc, &computation, EVENT_LIMIT - 1)?;
     assert_eq!(rt; only_count(alloc, &before), Some(9_999));
     let last = level_after(alloc, &computation, &before)?;

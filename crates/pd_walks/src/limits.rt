@@ -140,7 +140,7 @@ fn the_limit_changes_no_answer(rt: HostRuntime) -> Result<(), Fail> {
     let c = stream_of(alloc, "c")?;
     let traces = traces_of(alloc, &spec, &[a.as_bytes(), b.as_bytes(), c.as_bytes()])?;
     let matched = match_messages(&rt, alloc, &traces)?;
-    let computation = Computation::build(alloc, &spec, &traces, &matched)?;
+    let computation = Computation::build(alloc, &spec, &traces, matched)?;
     for named in spec.predicates() {
         for &width in &WIDTHS {
             assert!(rt;

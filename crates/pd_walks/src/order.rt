@@ -102,7 +102,7 @@ fn before_follows_processes_and_messages(rt: HostRuntime) -> Result<(), Fail> {
     let spec = Spec::read(alloc, DOCUMENT.as_bytes())?;
     let traces = traces_of(alloc, &spec, &[A.as_bytes(), B.as_bytes()])?;
     let matched = match_messages(&rt, alloc, &traces)?;
-    let computation = Computation::build(alloc, &spec, &traces, &matched)?;
+    let computation = Computation::build(alloc, &spec, &traces, matched)?;
     for pair in &PAIRS {
         let found = is_before(&computation, place(pair.first), place(pair.second));
         assert!(rt; found == Some(pair.before), "{}", pair.name);
@@ -116,7 +116,7 @@ fn a_clock_counts_the_event_and_its_past(rt: HostRuntime) -> Result<(), Fail> {
     let spec = Spec::read(alloc, DOCUMENT.as_bytes())?;
     let traces = traces_of(alloc, &spec, &[A.as_bytes(), B.as_bytes()])?;
     let matched = match_messages(&rt, alloc, &traces)?;
-    let computation = Computation::build(alloc, &spec, &traces, &matched)?;
+    let computation = Computation::build(alloc, &spec, &traces, matched)?;
     assert_eq!(rt; clock_of(&computation, place((0, 3)), 0), Some(3));
     assert_eq!(rt; clock_of(&computation, place((0, 3)), 1), Some(0));
     assert_eq!(rt; clock_of(&computation, place((1, 1)), 0), Some(0));

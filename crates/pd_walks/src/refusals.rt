@@ -309,7 +309,7 @@ fn skipping_changes_no_answer(rt: HostRuntime) -> Result<(), Fail> {
     ];
     let traces = traces_of(alloc, &spec, &streams)?;
     let matched = match_messages(&rt, alloc, &traces)?;
-    let computation = Computation::build(alloc, &spec, &traces, &matched)?;
+    let computation = Computation::build(alloc, &spec, &traces, matched)?;
     if computation.processes() < 2 {
         return Err(Fail::from("there are four processes"));
     }

@@ -85,7 +85,7 @@ fn two_processes(rt: HostRuntime) -> Result<(), Fail> {
         &[TWO_STREAMS[0].as_bytes(), TWO_STREAMS[1].as_bytes()],
     )?;
     let matched = match_messages(&rt, alloc, &traces)?;
-    let computation = Computation::build(alloc, &spec, &traces, &matched)?;
+    let computation = Computation::build(alloc, &spec, &traces, matched)?;
     if computation.processes() < 2 {
         return Err(Fail::from("there are two processes"));
     }
@@ -106,7 +106,7 @@ fn four_processes(rt: HostRuntime) -> Result<(), Fail> {
     ];
     let traces = traces_of(alloc, &spec, &streams)?;
     let matched = match_messages(&rt, alloc, &traces)?;
-    let computation = Computation::build(alloc, &spec, &traces, &matched)?;
+    let computation = Computation::build(alloc, &spec, &traces, matched)?;
     if computation.processes() < 2 {
         return Err(Fail::from("there are four processes"));
     }

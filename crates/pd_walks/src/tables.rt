@@ -119,7 +119,7 @@ fn tables_agree_with_texts(rt: HostRuntime) -> Result<(), Fail> {
     let spec = Spec::read(alloc, DOCUMENT.as_bytes())?;
     let traces = traces_of(alloc, &spec, &[A.as_bytes(), B.as_bytes(), C.as_bytes()])?;
     let matched = match_messages(&rt, alloc, &traces)?;
-    let computation = Computation::build(alloc, &spec, &traces, &matched)?;
+    let computation = Computation::build(alloc, &spec, &traces, matched)?;
     let mut seen = 0;
     for named in spec.predicates() {
         assert!(rt; agrees(alloc, &computation, &named.pred, 1_000_000)?);

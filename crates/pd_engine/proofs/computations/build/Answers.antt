@@ -29,11 +29,11 @@ pub returns-in-Ok-clause-formed : goal.returns-in-Ok-clause-formed
 returns-in-Ok-clause-formed c =
     let names : List ProcessNames = (document_view c.args.spec.now).names in
     let well : AreWellFormed (document_view c.args.spec.now) (traces_view c.args.traces.now)
-    (recorded_view (document_view c.args.spec.now).initial c.args.traces.now) (length c.args.matched.now) =
-    well_formed (document_view c.args.spec.now) c.args.traces.now c.args.matched.now
+    (recorded_view (document_view c.args.spec.now).initial c.args.traces.now) (length c.args.matched) =
+    well_formed (document_view c.args.spec.now) c.args.traces.now c.args.matched
     (traces_length names c.args.traces.now c.requires.traces) c.requires.lawful
     c.in-Ok.ensures.acyclic c.requires.messages in
-    rw (c.in-Ok.ensures.recorded, c.messages.ensures) well
+    rw (c.in-Ok.ensures.recorded, c.messages-messages.ensures) well
 
 pub returns-in_ok-refusal-in-Err-Cycle-clause-refused : goal.returns-in_ok-refusal-in-Err-Cycle-clause-refused
 returns-in_ok-refusal-in-Err-Cycle-clause-refused c =

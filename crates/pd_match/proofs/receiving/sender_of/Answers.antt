@@ -1,13 +1,13 @@
 -- The send of the event at index `n` of process `p`, if it is a receipt.
-use Rattle.std.proofs.Common.{◌≡◌, ◌∙◌, ℕ, Some, ap, rules, subst, sym, List}
+use Rattle.std.proofs.Common.{arith, ◌≡◌, ◌∙◌, ℕ, Some, ap, rules, refl, subst, sym, List}
 use Rattle.std.specs.Prelude.{IfSome}
 use Rattle.pd_events.specs.Views.{computation_view, kind_view}
 use Rattle.pd_model.specs.Events.{Receive, kind_at}
 use Rattle.pd_model.specs.Messages.{IsReported}
-use Rattle.pd_match.specs.Noted.{IsReportedOf, event_place, place_noted}
+use Rattle.pd_match.specs.Noted.{IsReportedOf, event_place, is_marked, place_noted}
 use Rattle.pd_match.specs.Views.{match_fault_view, place_view}
-use Rattle.pd_match.proofs.Ids.{noted_more, noted_other}
-use Rattle.pd_match.proofs.Reports.{none_bad_next, other_is_good, receipt_fault, receipt_is_good, same_receive, sender_is}
+use Rattle.pd_match.proofs.Marks.{received_more, received_other}
+use Rattle.pd_match.proofs.Reports.{none_bad_next, other_is_good, receipt_fault, receipt_is_good, sender_is}
 use Rattle.pd_match.proofs.Traces.{kind_here, kind_is_not_receive, receives_here}
 use Rattle.pd_match.proofs.receiving.sender_of.Goals as goal
 
@@ -20,9 +20,11 @@ returns-in_err-send-in-Recv-clause-fault g c =
     receives_here c.args.traces.now c.args.p c.args.n c.index-traces-p.result c.index.result.now c.requires.process
     c.index-traces-p.is c.requires.event c.index.ensures c.in-Recv.id id c.in-Recv.is c.as_str.ensures.value in
     let reported : IfSome (match_fault_view c.in_err-send-in-Recv.field-0.0) (IsReported all) =
-    receipt_fault all here id (place_noted c.args.sends.now) (place_noted c.args.received.now) c.requires.sent
+    receipt_fault all here id (place_noted c.args.sends.now)
+    (is_marked c.args.sends.now c.args.received.now.items) c.requires.sent
     c.requires.before is c.requires.good (match_fault_view c.in_err-send-in-Recv.field-0.0)
-    (subst (λ at. IsReportedOf (place_noted c.args.sends.now id) (place_noted c.args.received.now id) at
+    (subst (λ at. IsReportedOf (place_noted c.args.sends.now id)
+    (is_marked c.args.sends.now c.args.received.now.items id) at
     (match_fault_view c.in_err-send-in-Recv.field-0.0)) c.of_event.ensures c.in_err-send-in-Recv.ensures.fault) in
     search rules
 
@@ -36,21 +38,22 @@ returns-in_ok-send-in-Recv-clause-sender g c =
     c.index-traces-p.is c.requires.event c.index.ensures c.in-Recv.id id c.in-Recv.is c.as_str.ensures.value in
     let send = place_view c.in_ok-send-in-Recv.send in
     let process : c.of_event.result.process ≡ c.args.p = ap (λ e. e.process) c.of_event.ensures in
-    sender_is all here id (place_noted c.args.sends.now) (place_noted c.args.received.now) c.requires.sent
+    sender_is all here id (place_noted c.args.sends.now)
+    (is_marked c.args.sends.now c.args.received.now.items) c.requires.sent
     c.requires.before is send c.in_ok-send-in-Recv.ensures.sender
     (λ e. c.in_ok-send-in-Recv.ensures.apart (e ∙ sym process))
 
-pub returns-in_ok-send-in-Recv-clause-noted : goal.returns-in_ok-send-in-Recv-clause-noted
-returns-in_ok-send-in-Recv-clause-noted g c =
+pub returns-in_ok-send-in-Recv-clause-marked : goal.returns-in_ok-send-in-Recv-clause-marked
+returns-in_ok-send-in-Recv-clause-marked g c =
     let all = computation_view c.args.traces.now in
     let here = event_place c.args.p c.args.n in
     let id = c.as_str.result.now in
     let is : kind_at all here ≡ Some (Receive id) =
     receives_here c.args.traces.now c.args.p c.args.n c.index-traces-p.result c.index.result.now c.requires.process
     c.index-traces-p.is c.requires.event c.index.ensures c.in-Recv.id id c.in-Recv.is c.as_str.ensures.value in
-    noted_more Receive all c.args.p c.args.n (place_noted c.args.received.now)
-    (place_noted c.match_receipt.new.received) id same_receive is c.in_ok-send-in-Recv.ensures.fresh
-    (λ other. rw (sym c.of_event.ensures) (c.in_ok-send-in-Recv.ensures.noted other)) c.requires.before
+    received_more all c.args.p c.args.n (is_marked c.args.sends.now c.args.received.now.items)
+    (is_marked c.args.sends.now c.match_receipt.new.received.items) id is c.in_ok-send-in-Recv.ensures.marked
+    c.requires.before
 
 pub returns-in_ok-send-in-Recv-clause-good : goal.returns-in_ok-send-in-Recv-clause-good
 returns-in_ok-send-in-Recv-clause-good g c =
@@ -63,7 +66,8 @@ returns-in_ok-send-in-Recv-clause-good g c =
     let send = place_view c.in_ok-send-in-Recv.send in
     let process : c.of_event.result.process ≡ c.args.p = ap (λ e. e.process) c.of_event.ensures in
     none_bad_next all c.args.p c.args.n c.requires.good
-    (receipt_is_good all here id (place_noted c.args.sends.now) (place_noted c.args.received.now) c.requires.sent
+    (receipt_is_good all here id (place_noted c.args.sends.now)
+    (is_marked c.args.sends.now c.args.received.now.items) c.requires.sent
     c.requires.before is send c.in_ok-send-in-Recv.ensures.sender
     (λ e. c.in_ok-send-in-Recv.ensures.apart (e ∙ sym process)) c.in_ok-send-in-Recv.ensures.fresh)
 
@@ -78,7 +82,10 @@ returns-in_default g c =
     λ id. kind_is_not_receive c.index.result.now.kind all here is id c.in_default.not-Recv in
     record {
       sender = λ send. (λ e. cc, λ m. absurd (not m.0 m.2));
-      noted = noted_other Receive all c.args.p c.args.n (place_noted c.args.received.now) not c.requires.before;
+      marked = received_other all c.args.p c.args.n (is_marked c.args.sends.now c.args.received.now.items) not
+          c.requires.before;
+      same = refl;
+      count = omega arith;
       good = none_bad_next all c.args.p c.args.n c.requires.good (other_is_good all here not);
       fault = tt;
     }

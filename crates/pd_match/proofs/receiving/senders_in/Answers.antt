@@ -1,68 +1,85 @@
 -- For each event of process `p` its send, if it is a receipt.
-use Rattle.std.proofs.Common.{◌≡◌, ◌∙◌, ◌++◌, add-one, arith, ap, option_map, suc, subst, sym}
+use Rattle.std.proofs.Common.{◌≡◌, ◌↔◌, Some, option_map, ◌∙◌, ◌+◌, add-one, arith, ap, length, length-append, refl, suc, subst, sym}
 use Rattle.pd_events.specs.Views.{computation_view}
-use Rattle.pd_model.specs.Events.{Receive, event_count}
-use Rattle.pd_match.specs.Noted.{event_place, kept, place_noted}
-use Rattle.pd_match.specs.Progress.{MatchedBefore, PairsBefore, RowTells}
-use Rattle.pd_match.specs.Views.{pairs_view, place_view}
-use Rattle.pd_match.proofs.Ids.{noted_process}
-use Rattle.pd_match.proofs.Pairs.{pairs_next, pairs_process, row_first, row_next}
-use Rattle.pd_match.proofs.Reports.{none_bad_process}
+use Rattle.pd_model.specs.Events.{event_count}
+use Rattle.pd_model.specs.Events as events
+use Rattle.pd_model.specs.Messages.{IsMessage}
+use Rattle.pd_match.specs.Views.{place_view}
+use Rattle.pd_match.specs.Noted.{HasReceived, NoneBadBefore, event_place, is_marked, kept, pairs_from, send_in}
+use Rattle.pd_match.specs.Progress.{MatchedBefore, RowTells}
+use Rattle.pd_match.proofs.Marks.{received_process}
+use Rattle.pd_match.proofs.Pairs.{pairs_from_push, row_first, row_next}
+use Rattle.pd_match.proofs.Reports.{none_bad_process, send_numbered}
 use Rattle.pd_match.proofs.Traces.{length_read}
 use Rattle.pd_match.proofs.receiving.senders_in.Goals as goal
 
 pub loop-n-init : goal.loop-n-init
-loop-n-init g c = (
-  c.requires.before,
-  subst (λ row. RowTells (computation_view c.args.traces.now) c.args.p row 0)
-      (sym c.new-row.ensures.items) (row_first (computation_view c.args.traces.now) c.args.p),
-)
+loop-n-init g c = record {
+  matched = c.requires.before;
+  row =
+      subst (λ row. RowTells (computation_view c.args.traces.now) c.args.p row 0)
+      (sym c.in_ok-row.ensures.items) (row_first (computation_view c.args.traces.now) c.args.p);
+  same = refl;
+  count =
+      let none : length (pairs_from c.args.p 0 c.in_ok-row.row.items) ≡ 0 =
+      ap (λ row. length (pairs_from c.args.p 0 row)) c.in_ok-row.ensures.items in
+      omega (arith, none);
+}
 
 pub sender_of-requires-clause-before : goal.sender_of-requires-clause-before
-sender_of-requires-clause-before g c = c.loop-n.invariant.0.noted
+sender_of-requires-clause-before g c = c.loop-n.invariant.matched.marked
 
 pub sender_of-requires-clause-good : goal.sender_of-requires-clause-good
-sender_of-requires-clause-good g c = c.loop-n.invariant.0.good
+sender_of-requires-clause-good g c = c.loop-n.invariant.matched.good
+
+pub of-requires : goal.of-requires
+of-requires g c =
+    send_numbered (computation_view c.args.traces.now) (event_place c.args.p c.loop-n.n) c.in_ok-send.send
+    c.in_ok-send.ensures.sender
 
 pub loop-n-preserved : goal.loop-n-preserved
 loop-n-preserved g c =
     let all = computation_view c.args.traces.now in
     let here = event_place c.args.p c.loop-n.n in
-    let kept_here : pairs_view c.keep.new.pairs.items ≡ pairs_view c.loop-n.pairs.items
-    ++ kept (option_map place_view c.in_ok-sender.sender) here =
-    c.in_ok-keep.ensures ∙ ap (λ e. pairs_view c.loop-n.pairs.items
-    ++ kept (option_map place_view c.in_ok-sender.sender) e) c.of_event.ensures in
-    let matched : MatchedBefore all (event_place c.args.p (suc c.loop-n.n)) (place_noted c.sender_of.new.received)
-    (pairs_view c.keep.new.pairs.items) = record {
-      noted = c.in_ok-sender.ensures.noted;
-      good = c.in_ok-sender.ensures.good;
-      matched = subst (PairsBefore all (event_place c.args.p (suc c.loop-n.n))) (sym kept_here)
-          (pairs_next all c.args.p c.loop-n.n (pairs_view c.loop-n.pairs.items) c.loop-n.invariant.0.matched
-          (option_map place_view c.in_ok-sender.sender) c.in_ok-sender.ensures.sender);
-    } in
+    let sender = c.in_ok-of.field-0 in
+    let send = c.in_ok-send.send in
+    let is : send_in sender ≡ option_map place_view send = c.in_ok-of.ensures.kept in
+    let next : suc c.loop-n.n ≡ c.loop-n.n + 1 = sym (add-one c.loop-n.n) in
     let row : RowTells all c.args.p c.push.new.self.items (suc c.loop-n.n) =
     subst (λ row. RowTells all c.args.p row (suc c.loop-n.n)) (sym c.in_ok-push.ensures.items)
-    (row_next all c.args.p c.loop-n.n c.loop-n.row.items c.in_ok-sender.sender c.loop-n.invariant.1
-    c.in_ok-sender.ensures.sender) in
-    subst (λ k. MatchedBefore all (event_place c.args.p k) (place_noted c.sender_of.new.received)
-    (pairs_view c.keep.new.pairs.items) × RowTells all c.args.p c.push.new.self.items k) (sym (add-one c.loop-n.n))
-    (matched, row)
+    (row_next all c.args.p c.loop-n.n c.loop-n.row.items sender c.loop-n.invariant.row
+    (subst (λ o. (d : events.Place) → (o ≡ Some d) ↔ IsMessage all d here) (sym is) c.in_ok-send.ensures.sender)) in
+    let more : length (pairs_from c.args.p 0 c.push.new.self.items)
+    ≡ length (pairs_from c.args.p 0 c.loop-n.row.items) + length (kept (option_map place_view send) here) =
+    ap (λ row. length (pairs_from c.args.p 0 row)) c.in_ok-push.ensures.items
+    ∙ (ap length (pairs_from_push c.args.p 0 c.loop-n.n c.loop-n.row.items sender
+    (let same : length c.loop-n.row.items ≡ c.loop-n.n = c.loop-n.invariant.row.same in omega arith))
+    ∙ (length-append (pairs_from c.args.p 0 c.loop-n.row.items) (kept (send_in sender) here)
+    ∙ ap (λ o. length (pairs_from c.args.p 0 c.loop-n.row.items) + length (kept o here)) is)) in record {
+      matched = record {
+        marked =
+            subst (λ n. HasReceived all (event_place c.args.p n)
+            (is_marked c.args.sends.now c.sender_of.new.received.items)) next c.in_ok-send.ensures.marked;
+        good = subst (λ n. NoneBadBefore all (event_place c.args.p n)) next c.in_ok-send.ensures.good;
+      };
+      row = subst (λ n. RowTells all c.args.p c.push.new.self.items n) next row;
+      same = c.in_ok-send.ensures.same ∙ c.loop-n.invariant.same;
+      count = omega (arith, c.in_ok-send.ensures.count, c.loop-n.invariant.count, more);
+    }
 
 pub returns-clause-after : goal.returns-clause-after
 returns-clause-after g c =
     let all = computation_view c.args.traces.now in
     let at : c.loop-n.n ≡ event_count all c.args.p =
     let end : c.loop-n.n ≡ c.len-n-end.result = omega arith in
-    length_read c.args.traces.now c.args.p c.loop-n.n c.index-traces-p.result c.requires.process c.index-traces-p.is
+    length_read c.args.traces.now c.args.p c.loop-n.n c.index-traces-p-2.result c.requires.process c.index-traces-p-2.is
     (end ∙ c.len-n-end.ensures) in
-    let so_far : MatchedBefore all (event_place c.args.p (event_count all c.args.p)) (place_noted c.loop-n.received)
-    (pairs_view c.loop-n.pairs.items) =
-    subst (λ k. MatchedBefore all (event_place c.args.p k) (place_noted c.loop-n.received)
-    (pairs_view c.loop-n.pairs.items)) at c.loop-n.invariant.0 in
+    let marked = is_marked c.args.sends.now c.loop-n.received.items in
+    let so_far : MatchedBefore all (event_place c.args.p (event_count all c.args.p)) marked =
+    subst (λ k. MatchedBefore all (event_place c.args.p k) marked) at c.loop-n.invariant.matched in
     record {
-      noted = noted_process Receive all c.args.p (place_noted c.loop-n.received) so_far.noted;
+      marked = received_process all c.args.p marked so_far.marked;
       good = none_bad_process all c.args.p so_far.good;
-      matched = pairs_process all c.args.p (pairs_view c.loop-n.pairs.items) so_far.matched;
     }
 
 pub returns-clause-row : goal.returns-clause-row
@@ -70,6 +87,6 @@ returns-clause-row g c =
     let all = computation_view c.args.traces.now in
     let at : c.loop-n.n ≡ event_count all c.args.p =
     let end : c.loop-n.n ≡ c.len-n-end.result = omega arith in
-    length_read c.args.traces.now c.args.p c.loop-n.n c.index-traces-p.result c.requires.process c.index-traces-p.is
+    length_read c.args.traces.now c.args.p c.loop-n.n c.index-traces-p-2.result c.requires.process c.index-traces-p-2.is
     (end ∙ c.len-n-end.ensures) in
-    subst (λ k. RowTells all c.args.p c.loop-n.row.items k) at c.loop-n.invariant.1
+    subst (λ k. RowTells all c.args.p c.loop-n.row.items k) at c.loop-n.invariant.row

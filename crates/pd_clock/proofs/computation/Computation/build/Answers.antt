@@ -52,5 +52,5 @@ invariant_of-result c =
       all_clocks (computation_view c.args.traces.now) c.in_ok-done.field-0.done.items
           c.in_ok-done.field-0.clocks.items acyclic c.in_ok-done.ensures.stuck c.in_ok-done.ensures.clocks,
       acyclic,
-      c.in_ok-senders_of.ensures,
+      c.requires.messages,
     )

@@ -1,8 +1,8 @@
 -- The send of this receipt, if the place is that of a receipt.
 use Rattle.std.proofs.Common.{◌≡◌, ◌∙◌, ◌<◌, ◌≤◌, ap, get_or, length, option_map, refl, subst, sym}
 use Rattle.std.proofs.lemmas.Option.{slice_get_past, slice_get_read}
-use Rattle.pd_match.specs.Noted.{sender_view}
-use Rattle.pd_match.specs.Views.{pairs_view, place_view}
+use Rattle.pd_match.specs.Noted.{pairs_in, sender_view}
+use Rattle.pd_match.specs.Views.{place_view}
 use Rattle.pd_match.proofs.Senders.{sender_agrees, sender_in_row, sender_of_none, sender_past}
 use Rattle.pd_match.proofs.matched.Matched.sender.Goals as goal
 
@@ -12,16 +12,16 @@ returns-in_err-row c =
     let e = place_view c.args.receipt in
     let past : length rows ≤ c.args.receipt.process =
     subst (λ xs. length xs ≤ c.args.receipt.process) c.deref.ensures.value c.in_err-row.ensures.lookup.3 in
-    sender_agrees (pairs_view c.self.inside.pairs.items) c.args.self.now rows e
-    (option_map place_view c.from_residual.result) c.self.view_is c.self.invariant
+    sender_agrees (pairs_in 0 rows) c.args.self.now rows e
+    (option_map place_view c.from_residual.result) c.self.view_is c.self.invariant.1
     (sender_past rows e past ∙ sym (ap (option_map place_view) c.from_residual.ensures))
 
 pub returns-in_err-index : goal.returns-in_err-index
 returns-in_err-index c =
     let rows = c.self.inside.senders.items in
     let e = place_view c.args.receipt in
-    sender_agrees (pairs_view c.self.inside.pairs.items) c.args.self.now rows e
-    (option_map place_view c.from_residual-in_err-index.result) c.self.view_is c.self.invariant
+    sender_agrees (pairs_in 0 rows) c.args.self.now rows e
+    (option_map place_view c.from_residual-in_err-index.result) c.self.view_is c.self.invariant.1
     (sender_of_none rows e c.in_err-index.ensures
     ∙ sym (ap (option_map place_view) c.from_residual-in_err-index.ensures))
 
@@ -36,8 +36,8 @@ returns-in_err-get c =
     c.in_ok-row.ensures.lookup.1 in
     let past : length c.in_ok-row.row.now.items ≤ c.in_ok-index.index =
     subst (λ xs. length xs ≤ c.in_ok-index.index) c.deref-2.ensures.value c.in_err-get.ensures.lookup.3 in
-    sender_agrees (pairs_view c.self.inside.pairs.items) c.args.self.now rows e
-    (option_map place_view c.from_residual-in_err-get.result) c.self.view_is c.self.invariant
+    sender_agrees (pairs_in 0 rows) c.args.self.now rows e
+    (option_map place_view c.from_residual-in_err-get.result) c.self.view_is c.self.invariant.1
     (sender_in_row rows c.in_ok-row.row.now e c.in_ok-index.index there is c.in_ok-index.ensures.0
     c.in_ok-index.ensures.1 ∙ (ap sender_view (slice_get_past c.in_ok-row.row.now.items c.in_ok-index.index past)
     ∙ sym (ap (option_map place_view) c.from_residual-in_err-get.ensures)))
@@ -56,8 +56,8 @@ returns c =
     let at : c.in_ok-get.field-0.now ≡ get_or row.items c.in_ok-index.index c.in_ok-get.field-0.now =
     subst (λ xs. c.in_ok-get.field-0.now ≡ get_or xs c.in_ok-index.index c.in_ok-get.field-0.now)
     c.deref-2.ensures.value c.in_ok-get.ensures.lookup.1 in
-    sender_agrees (pairs_view c.self.inside.pairs.items) c.args.self.now rows e
-    (option_map place_view c.in_ok-get.field-0.now) c.self.view_is c.self.invariant
+    sender_agrees (pairs_in 0 rows) c.args.self.now rows e (option_map place_view c.send.result) c.self.view_is
+    c.self.invariant.1
     (sender_in_row rows row e c.in_ok-index.index there is c.in_ok-index.ensures.0 c.in_ok-index.ensures.1
-    ∙ ap sender_view (slice_get_read row.items (length row.items) c.in_ok-index.index c.in_ok-get.field-0.now refl
-    within at))
+    ∙ (ap sender_view (slice_get_read row.items (length row.items) c.in_ok-index.index c.in_ok-get.field-0.now refl
+    within at) ∙ sym c.send.ensures))
