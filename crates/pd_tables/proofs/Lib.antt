@@ -7,3 +7,4 @@ pub mod Rows
 pub mod Comparisons
 pub mod Differences
 pub mod Compiles
+pub mod Conjunctions

@@ -6,12 +6,16 @@ use Rattle.pd_pred.specs.Trees.{tree_view}
 use Rattle.pd_runs.specs.Runs.{cut_at}
 use Rattle.pd_tables.specs.Zero.{joined, turned}
 use Rattle.pd_tables.specs.Tables.{linear_holds}
-use Rattle.pd_tables.specs.declared.node.Node.{Node, Constant, Compare, Direct, And', Or'}
+use Rattle.pd_tables.specs.Clauses.{clauses_hold}
+use Rattle.pd_tables.specs.declared.node.Node.{Node, Constant, Compare, Conjunction, Direct, And', Or'}
 use Rattle.pd_tables.specs.declared.compile.Rest.{Rest}
+use Rattle.pd_tables.specs.declared.join.Head.{Head}
+use Rattle.pd_tables.specs.declared.join.Head.TheVariants.{Alone, Chain, Other}
 
 abbrev pub node_holds : Recorded → Node → List ℕ → ℕ → ℕ → Bool
 node_holds r (Constant truth) prefix x y = truth
 node_holds r (Compare linear) prefix x y = linear_holds linear prefix x y
+node_holds r (Conjunction clauses) prefix x y = clauses_hold clauses prefix x y
 node_holds r (Direct tree negated) prefix x y = turned negated (test_of r (tree_view tree.now) (cut_at prefix x y))
 node_holds r (And' p left q right) prefix x y = node_holds r left prefix x y && node_holds r right prefix x y
 node_holds r (Or' p left q right) prefix x y = node_holds r left prefix x y || node_holds r right prefix x y
@@ -36,3 +40,10 @@ IsSplit rest is_and end later =
     → joined later.is_and (joined is_and first (joined is_and second (node_holds r end prefix x y)))
     (node_holds r later.node prefix x y)
     ≡ joined rest.is_and (joined is_and first second) (node_holds r rest.node prefix x y)
+
+-- whether a predicate holds that begins with clauses, or another one
+abbrev pub head_holds : Recorded → Bool → Head → List ℕ → ℕ → ℕ → Bool
+head_holds r is_and (Alone clauses) prefix x y = clauses_hold clauses prefix x y
+head_holds r is_and (Chain clauses rest) prefix x y =
+    joined is_and (clauses_hold clauses prefix x y) (node_holds r rest prefix x y)
+head_holds r is_and (Other node) prefix x y = node_holds r node prefix x y

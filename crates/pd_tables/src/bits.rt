@@ -1,5 +1,6 @@
 //! Truths that are put into a word.
 ghost use Rattle.pd_bits.specs.Words.{has_bit};
+ghost use Rattle.pd_tables.specs.Rows.{all_below};
 ghost use Rattle.std.specs.Prelude.{◌≡◌, ◌≢◌, ◌<◌, ◌≤◌, ℕ, false};
 
 /// The bits with bit `j` for the truth.
@@ -23,4 +24,14 @@ pub(crate) fn all_or_none(truth: bool, n: u64) -> u64
     } else {
         pd_bits::lowest(0)
     }
+}
+
+/// Whether all of the lowest `n` bits are set.
+pub(crate) fn has_lowest(word: u64, n: u64) -> bool
+    requires { n ≤ 64 }
+    ensures { result ≡ all_below n (has_bit word) }
+{
+    let missing = pd_bits::without(pd_bits::lowest(n), word);
+    pd_bits::words(missing);
+    missing == 0
 }

@@ -2,22 +2,19 @@
 ghost use Rattle.pd_pred.specs.Trees.{tree_view};
 ghost use Rattle.pd_model.specs.Predicates as model;
 ghost use Rattle.pd_tables.specs.Nodes.{IsCompiled, IsJoined, IsSplit, node_holds};
-ghost use Rattle.pd_tables.specs.Zero.{joined};
+ghost use Rattle.pd_tables.specs.Tables.{linear_holds};
 ghost use Rattle.pd_model.specs.Predicates.{Recorded};
-ghost use Rattle.std.specs.Prelude.{◌≡◌, ℕ, ◌≤◌, IfOk, IfSome, List, length};
+ghost use Rattle.std.specs.Prelude.{◌≡◌, ℕ, ◌≤◌, IfOk, List, length};
 
 use super::build::linear_of;
+use super::clause::clause_of;
+use super::join::join;
+use super::linear::Linear;
 use super::node::Node;
 use super::zero::turned_comparison;
 use pd_clock::Computation;
 use pd_pred::Tree;
 use std::alloc::{AllocError, Global};
-
-/// What a chain of parts weighs, more than a comparison by tables.
-const CHAIN_WEIGHT: usize = 100;
-
-/// What a part weighs that is evaluated as its text spells it.
-const DIRECT_WEIGHT: usize = 1_000;
 
 /// What a predicate is joined with.
 #[derive(Drop)]
@@ -26,75 +23,16 @@ pub(crate) struct Rest<'a> {
     pub(crate) node: Node<'a>,
 }
 
-/// The truth of a predicate that is the same at each cut.
-fn constant(node: &Node<'_>) -> Option<bool>
-    ensures { IfSome result (λ truth. (r : Recorded) (prefix : List ℕ) (x y : ℕ)
-        → node_holds r node.now prefix x y ≡ truth) }
-{
-    match node {
-        Node::Constant(truth) => Some(*truth),
-        _ => None,
-    }
-}
-
-/// Both predicates, or one of them.
-fn pair<'a>(
-    alloc: Global,
-    is_and: bool,
-    left: Node<'a>,
-    right: Node<'a>,
-) -> Result<Node<'a>, AllocError>
+/// A comparison by tables as a predicate.
+fn compared<'a>(alloc: Global, linear: Linear) -> Result<Node<'a>, AllocError>
     ensures { IfOk result (λ node. (r : Recorded) (prefix : List ℕ) (x y : ℕ) → node_holds r node prefix x y
-        ≡ joined is_and (node_holds r left.entry prefix x y) (node_holds r right.entry prefix x y)) }
+        ≡ linear_holds linear prefix x y) }
 {
-    let left = Box::new(alloc, left)?;
-    let right = Box::new(alloc, right)?;
-    if is_and {
-        Ok(Node::And(left, right))
-    } else {
-        Ok(Node::Or(left, right))
-    }
-}
-
-/// How much work the predicate is. What may stop early weighs more than one comparison.
-fn weight(node: &Node<'_>) -> usize {
-    match node {
-        Node::Constant(_) => 0,
-        Node::Compare(linear) => linear.weight(),
-        Node::And(_, _) | Node::Or(_, _) => CHAIN_WEIGHT,
-        Node::Direct { .. } => DIRECT_WEIGHT,
-    }
-}
-
-/// Both predicates, or one of them. One that is the same at each cut goes, and the lighter one is asked first.
-fn join<'a>(
-    alloc: Global,
-    is_and: bool,
-    left: Node<'a>,
-    right: Node<'a>,
-) -> Result<Node<'a>, AllocError>
-    ensures { IfOk result (λ node. (r : Recorded) (prefix : List ℕ) (x y : ℕ) → node_holds r node prefix x y
-        ≡ joined is_and (node_holds r left.entry prefix x y) (node_holds r right.entry prefix x y)) }
-{
-    match constant(&left) {
-        Some(truth) => if truth == is_and {
-            Ok(right)
-        } else {
-            Ok(Node::Constant(truth))
-        },
-        None => match constant(&right) {
-            Some(truth) => if truth == is_and {
-                Ok(left)
-            } else {
-                Ok(Node::Constant(truth))
-            },
-            None => {
-                if weight(&right) < weight(&left) {
-                    pair(alloc, is_and, right, left)
-                } else {
-                    pair(alloc, is_and, left, right)
-                }
-            }
+    match linear.decided() {
+        Some(truth) => Ok(Node::Constant(truth)),
+        None => match clause_of(alloc, &linear)? {
+            Some(clauses) => Ok(Node::Conjunction(clauses)),
+            None => Ok(Node::Compare(linear)),
         },
     }
 }
@@ -127,10 +65,7 @@ fn leaf<'a>(
                 &right.terms,
                 room,
             )? {
-                Some(linear) => match linear.decided() {
-                    Some(truth) => Ok(Node::Constant(truth)),
-                    None => Ok(Node::Compare(linear)),
-                },
+                Some(linear) => Ok(compared(alloc, linear)?),
                 None => Ok(Node::Direct { tree, negated }),
             }
         }

@@ -16,9 +16,19 @@
 //! table knows its least and its greatest number. `mask` asks the same first: a comparison that these numbers decide is
 //! answered for the whole run at once. Neither takes memory.
 //!
+//! A comparison that depends on the count of one process alone is a clause: that process has a word for each count,
+//! with a bit that is set where the comparison holds. Words of an `or` of such comparisons are or-ed, and an `and` of
+//! up to 64 clauses has a bit for each. The clauses hold at a cut exactly if the words of its counts, or-ed, have all
+//! bits. So a long `and` costs two look-ups for a cut, whatever its length. The words of a comparison take the place of
+//! its table, and those of several clauses share one row for a process, so they need no room of their own.
+//!
+//! ```text
+//! (a.n > 1 or b.n == 4) and c.n > 0    is    A[count of a] | B[count of b] | C[count of c]  ==  0b11
+//! ```
+//!
 //! Negations are pushed down to the comparisons. A comparison whose least and greatest sums decide it is a constant,
-//! and constants go. Parts that are joined in one way stand in a chain to the right, so that the first part is asked
-//! first, and of the last two the lighter one.
+//! and constants go. Parts that are joined in one way stand in a chain to the right: its clauses are asked first, then
+//! the other parts in turn, and of the last two the lighter one.
 //!
 //! No number of a table is further from 0 than 2^59, so that no sum wraps. A comparison whose numbers are larger, for
 //! which there is no room, or which speaks of a process that isn't there, is evaluated as its text spells it, in 128
@@ -27,6 +37,11 @@
 //! - `compiled`: the compiled predicate that callers see
 //! - `node`: its tree, the masks of runs, and whether a prefix may satisfy
 //! - `compile`: how the tree is made
+//! - `join`: two predicates joined, with clauses as one conjunction
+//! - `clauses`: a conjunction of clauses
+//! - `clause`: a comparison that depends on one process as a clause
+//! - `clause_column`: the clauses that the first processes make true
+//! - `row`: the clauses that a process makes true, for each count
 //! - `build`: a comparison of two sums as tables
 //! - `parts`: what each process adds to the difference of two sums
 //! - `linear`: a sum of tables that is compared with 0
@@ -38,11 +53,16 @@
 
 mod bits;
 mod build;
+mod clause;
+mod clause_column;
+mod clauses;
 mod compile;
 mod compiled;
+mod join;
 mod linear;
 mod node;
 mod parts;
+mod row;
 mod run_state;
 mod table;
 #[cfg(test)]

@@ -140,7 +140,7 @@ impl Linear {
 }
 
 /// The count of a process, and 0 if there is none.
-fn count_of(prefix: &[u64], process: usize) -> u64
+pub(crate) fn count_of(prefix: &[u64], process: usize) -> u64
     ensures { result ≡ slice_index prefix.now process }
 {
     if process < prefix.len() {

@@ -3,6 +3,7 @@ ghost use Rattle.pd_bits.specs.Words.{has_bit};
 ghost use Rattle.pd_model.specs.Cuts.{FitsProcesses};
 ghost use Rattle.pd_model.specs.Predicates.{test_of};
 ghost use Rattle.pd_pred.specs.Trees.{tree_view};
+ghost use Rattle.pd_tables.specs.Clauses.{clauses_hold};
 ghost use Rattle.pd_tables.specs.Nodes.{node_holds};
 ghost use Rattle.pd_runs.specs.Runs.{cut_at};
 ghost use Rattle.pd_tables.specs.Tables.{linear_holds};
@@ -11,6 +12,7 @@ ghost use Rattle.pd_model.specs.Predicates.{Recorded};
 ghost use Rattle.std.specs.Prelude.{◌≡◌, ℕ, ◌+◌, ◌-◌, ◌<◌, ◌≤◌, false, true};
 
 use super::bits::{all_or_none, put};
+use super::clauses::Clauses;
 use super::linear::Linear;
 use super::run_state::RunState;
 use pd_clock::Computation;
@@ -23,6 +25,8 @@ pub(crate) enum Node<'a> {
     Constant(bool),
     /// A comparison by tables.
     Compare(Linear),
+    /// Clauses that are all true.
+    Conjunction(Clauses),
     /// A part that is evaluated as its text spells it, or its opposite.
     Direct { tree: &'a Tree, negated: bool },
     /// Both.
@@ -51,6 +55,7 @@ pub(crate) fn mask(
     match node {
         Node::Constant(truth) => all_or_none(*truth, n),
         Node::Compare(linear) => linear_mask(linear, computation, prefix, x, y, n),
+        Node::Conjunction(clauses) => conjunction_mask(clauses, computation, prefix, x, y, n),
         Node::Direct { tree, negated } => direct_mask(tree, *negated, computation, prefix, x, y, n),
         Node::And(left, right) => {
             let first = mask(left, computation, prefix, x, y, n);
@@ -90,6 +95,26 @@ fn linear_mask(
     linear.mask(prefix, x, y, n)
 }
 
+/// `mask` of clauses.
+fn conjunction_mask(
+    clauses: &Clauses,
+    computation: &Computation<'_>,
+    prefix: &[u64],
+    x: u64,
+    y: u64,
+    n: u64,
+) -> u64
+    requires some { 1 ≤ n }
+    requires few { n ≤ 64 }
+    requires down { n ≤ y + 1 }
+    requires fits { (j : ℕ) → j < n → FitsProcesses computation.now.events (cut_at prefix.now (x + j) (y - j)) }
+    ensures within { (j : ℕ) → j < n → has_bit result j ≡ clauses_hold clauses.now prefix.now (x + j) (y - j) }
+    ensures beyond { (j : ℕ) → n ≤ j → has_bit result j ≡ false }
+{
+    computation.limits();
+    clauses.mask(prefix, x, y, n)
+}
+
 /// `mask` of a part that is evaluated as its text spells it, or of its opposite.
 fn direct_mask(
     tree: &Tree,
@@ -124,6 +149,7 @@ pub(crate) fn may(node: &Node<'_>, prefix: &[u64]) -> bool
     match node {
         Node::Constant(truth) => *truth,
         Node::Compare(linear) => linear.may(prefix),
+        Node::Conjunction(clauses) => clauses.may(prefix),
         Node::Direct { .. } => true,
         Node::And(left, right) => may(left, prefix) && may(right, prefix),
         Node::Or(left, right) => may(left, prefix) || may(right, prefix),

@@ -63,6 +63,21 @@ impl Table {
         }
     }
 
+    /// How many numbers the table has.
+    pub(crate) fn len(&self) -> usize
+        ensures { result ≡ length self.now.values.items }
+    {
+        self.values.len()
+    }
+
+    /// The number past the end.
+    pub(crate) fn at_end(&self) -> i64
+        ensures value { result ≡ self.now.beyond }
+        ensures small { IsSmall result }
+    {
+        self.beyond
+    }
+
     /// The number at a count.
     pub(crate) fn at(&self, count: u64) -> i64
         ensures value { result ≡ table_at self.now count }

@@ -1,5 +1,9 @@
 //! Tables, and comparisons by tables.
+use super::clause::clause_of;
+use super::clauses::Clauses;
+use super::join::join;
 use super::linear::{Column, Linear};
+use super::node::{Node, may};
 use super::table::Table;
 use super::zero::{decided, turned_comparison};
 use pd_pred::Comparison;
@@ -59,6 +63,116 @@ fn a_prefix_is_refused_by_the_least_and_the_greatest(rt: HostRuntime) -> Result<
     assert!(rt; !linear.may(&[0]));
     assert!(rt; !linear.may(&[1]));
     assert_eq!(rt; linear.decided(), Some(false));
+    Ok(())
+}
+
+/// The comparison `p > 0`.
+fn of_first(alloc: Global) -> Result<Linear, Fail> {
+    let mut columns = Vec::new(alloc);
+    columns.push(Column {
+        process: 0,
+        table: Table::new(vec![in alloc; 0i64, 1]?),
+    })?;
+    Ok(Linear {
+        comparison: Comparison::IsGreater,
+        constant: 0,
+        columns,
+        across: Table::new(Vec::new(alloc)),
+        down: Table::new(Vec::new(alloc)),
+    })
+}
+
+/// The comparison `2 * x == 2`.
+fn of_across(alloc: Global) -> Result<Linear, Fail> {
+    Ok(Linear {
+        comparison: Comparison::Equals,
+        constant: -2,
+        columns: Vec::new(alloc),
+        across: Table::new(vec![in alloc; 0i64, 2, 4]?),
+        down: Table::new(Vec::new(alloc)),
+    })
+}
+
+/// The comparison `1 - y >= 0`.
+fn of_down(alloc: Global) -> Result<Linear, Fail> {
+    Ok(Linear {
+        comparison: Comparison::IsAtLeast,
+        constant: 1,
+        columns: Vec::new(alloc),
+        across: Table::new(Vec::new(alloc)),
+        down: Table::new(vec![in alloc; 0i64, -1, -2]?),
+    })
+}
+
+/// Both conjunctions, or one of them.
+fn joined(
+    alloc: Global,
+    is_and: bool,
+    first: Option<Clauses>,
+    second: Option<Clauses>,
+) -> Result<Option<Clauses>, Fail> {
+    match first {
+        None => Ok(None),
+        Some(first) => match second {
+            None => Ok(None),
+            Some(second) => {
+                if !first.can_join(is_and, &second) {
+                    return Ok(None);
+                }
+                Ok(Some(Clauses::join(alloc, is_and, first, second)?))
+            }
+        },
+    }
+}
+
+#[test]
+fn clauses_speak_of_three_processes(rt: HostRuntime) -> Result<(), Fail> {
+    let alloc = rt.alloc();
+    let first = clause_of(alloc, &of_first(alloc)?)?;
+    let across = clause_of(alloc, &of_across(alloc)?)?;
+    let down = clause_of(alloc, &of_down(alloc)?)?;
+    // p > 0 and (x == 1 or y <= 1)
+    let either = joined(alloc, false, across, down)?;
+    match joined(alloc, true, first, either)? {
+        None => assert!(rt; false),
+        Some(clauses) => {
+            assert_eq!(rt; clauses.mask(&[1], 0, 2, 3), 0b110);
+            assert_eq!(rt; clauses.mask(&[1], 1, 2, 1), 0b1);
+            assert_eq!(rt; clauses.mask(&[0], 0, 2, 3), 0);
+            assert!(rt; clauses.may(&[1]));
+            assert!(rt; !clauses.may(&[0]));
+        }
+    }
+    // p + x - y == 1 speaks of all three at once.
+    assert!(rt; clause_of(alloc, &comparison(alloc)?)?.is_none());
+    Ok(())
+}
+
+/// How many parts a chain has.
+fn parts(node: &Node<'_>) -> usize {
+    match node {
+        Node::And(left, right) => parts(left).saturating_add(parts(right)),
+        _ => 1,
+    }
+}
+
+#[test]
+fn more_than_64_clauses_are_two_conjunctions(rt: HostRuntime) -> Result<(), Fail> {
+    let alloc = rt.alloc();
+    let mut node = Node::Compare(comparison(alloc)?);
+    for number in 0..70 {
+        let linear = if number == 3 {
+            of_first(alloc)?
+        } else {
+            of_across(alloc)?
+        };
+        if let Some(clauses) = clause_of(alloc, &linear)? {
+            node = join(alloc, true, Node::Conjunction(clauses), node)?;
+        }
+    }
+    assert_eq!(rt; parts(&node), 3);
+    assert!(rt; may(&node, &[1]));
+    assert!(rt; !may(&node, &[0]));
     Ok(())
 }
 
