@@ -1,13 +1,13 @@
 -- The fields of a JSON object beside the entries of the map that holds them.
-use Rattle.std.proofs.Common.{◌≡◌, ℕ, List, [], ◌∷◌, Bool, length, map, String, Global, string_bytes, refl, ap, arith}
-use Rattle.std.specs.Map.{keys_of, values_of}
+use Rattle.std.proofs.Common.{◌≡◌, ℕ, List, [], ◌∷◌, length, map, String, Global, string_bytes, refl, ap, arith}
+use Rattle.std.specs.Map.{keys_of}
 use Rattle.std.specs.Str.{bytes_eq}
 use Rattle.std.specs.Prelude.{◌&&◌, Some, slice_get}
 use Rattle.std.specs.List.{list_any, list_all}
-use Rattle.serde_json.specs.Data.{Data, member, no_members}
+use Rattle.serde_json.specs.Data.{member, no_members}
 use Rattle.serde_json.specs.View.{view, members_view}
 use Rattle.serde_json.specs.declared.value.Value.{Value}
-use Rattle.pd_format.specs.Records.{values, has_only}
+use Rattle.pd_format.specs.Records.{has_only}
 use Rattle.pd_format.proofs.ListTests.{list_any-map}
 
 -- each field is one of these variables, as the program finds it

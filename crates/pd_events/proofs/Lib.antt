@@ -3,3 +3,7 @@ pub mod FieldViews
 pub mod StatementFacts
 pub mod RecordFacts
 pub mod ReaderSteps
+pub mod PlainReading
+pub mod PlainSettings
+pub mod PlainLines
+pub mod PlainNumbers

@@ -4,4 +4,5 @@ pub mod Views
 pub mod Progress
 pub mod Reads
 pub mod Parts
+pub mod Plain
 pub mod SessionTraces

@@ -8,6 +8,8 @@
 //! - `fault`: what is wrong with a line or a stream, and how far a stream is
 //! - `fields`: the fields of a JSON object that a line has
 //! - `statement`: what a line of right shape says
+//! - `plain`: the record of a line of the plain shape, token by token
+//! - `room`: what is kept from line to line
 //! - `record`: the record of a line
 //! - `progress`: how far the lines have been read
 //! - `reader`: the reader of a stream
@@ -16,9 +18,11 @@
 mod event;
 mod fault;
 mod fields;
+mod plain;
 mod progress;
 mod reader;
 mod record;
+mod room;
 mod statement;
 #[cfg(test)]
 mod tests;

@@ -9,7 +9,9 @@ ghost use Rattle.pd_events.specs.Faults.{record_fault_view};
 ghost use Rattle.pd_events.specs.Progress.{in_record, joined_of, joined_view, open_reading, reading_view, stop_of, stop_of_fault};
 ghost use Rattle.pd_events.specs.Views.{events_view, record_view, stream_kind_view};
 
-use super::{Event, LineRecord, RecordFault, StreamFault, StreamKind, read_record};
+use super::record::next_record;
+use super::room::Room;
+use super::{Event, LineRecord, RecordFault, StreamFault, StreamKind};
 use pd_format::EVENT_LIMIT;
 use pd_frames::Line;
 use pd_spec::Spec;
@@ -126,6 +128,7 @@ fn take_record(
 fn take_line(
     alloc: Global,
     spec: &Spec,
+    room: &mut Room,
     phase: Phase,
     kept: usize,
     new: &mut Vec<Event>,
@@ -141,7 +144,7 @@ fn take_line(
     }
     let joined = phase.join();
     let process = joined.map(|join| join.process);
-    match read_record(alloc, spec, process, line.bytes.as_slice()) {
+    match next_record(alloc, spec, room, process, line.bytes.as_slice()) {
         Ok(record) => take_record(joined, kept, new, line.number, record),
         Err(fault) => {
             let kind = kind_of(fault).ok_or(AllocError)?;
@@ -186,9 +189,10 @@ impl Progress {
     {
         let mut phase = self.phase;
         let mut new = Vec::new(alloc);
+        let mut room = Room::new(alloc);
         let kept = self.events.len();
         for line in lines {
-            phase = take_line(alloc, spec, phase, kept, &mut new, line)?;
+            phase = take_line(alloc, spec, &mut room, phase, kept, &mut new, line)?;
         }
         self.events.append(&mut new)?;
         self.phase = phase.with_fault(following);

@@ -10,6 +10,8 @@ ghost use Rattle.pd_events.specs.Statements.{kind_said, settings_view, statement
 ghost use Rattle.pd_events.specs.Views.{IsRecord};
 
 use super::fields::has_only_vars;
+use super::plain::plain_record;
+use super::room::Room;
 use super::statement::{Said, Statement, statement_of};
 use super::{Event, EventKind, LineRecord, RecordFault};
 use pd_pred::Names;
@@ -18,7 +20,7 @@ use serde_json::{Map, Value};
 use std::alloc::{AllocError, Global};
 
 /// The variables of this process; none if there is no such process.
-fn vars_of(names: &Names, process: usize) -> &[String]
+pub fn vars_of(names: &Names, process: usize) -> &[String]
     ensures { map string_bytes result.now ≡ vars_of names.now process }
 {
     if process < names.processes() {
@@ -44,7 +46,7 @@ fn sets_of(
     ensures { IfOk result (λ sets. sets.items
         ≡ sets_from 0 (map string_bytes vars.now) (members_view settings.now.entries)) }
 {
-    let mut sets = Vec::new(alloc);
+    let mut sets = Vec::with_capacity(alloc, settings.len())?;
     for (number, var) in vars.iter().enumerate() {
         if let Some(value) = whole_at(settings, var.as_str()) {
             sets.push((number, value))?;
@@ -95,7 +97,7 @@ fn id_of(alloc: Global, id: &str) -> Result<String, RecordFault>
 }
 
 /// The kind of event, with its id.
-fn kind_of(alloc: Global, said: Said<'_>) -> Result<EventKind, RecordFault>
+pub fn kind_of(alloc: Global, said: Said<'_>) -> Result<EventKind, RecordFault>
     ensures { IsKind (kind_said said.entry) result }
 {
     match said {
@@ -143,11 +145,8 @@ fn record_of(
     }
 }
 
-/// The record of a line, before the join or after the join of a process, which is counted from 0.
-///
-/// # Errors
-/// The first fault that applies, or out of memory.
-pub fn read_record(
+/// The record of a line, by the JSON value that the line is.
+fn record_by_value(
     alloc: Global,
     spec: &Spec,
     joined: Option<usize>,
@@ -162,4 +161,41 @@ pub fn read_record(
         Some(statement) => record_of(alloc, spec.names(), joined, statement),
         None => Err(RecordFault::Shape),
     }
+}
+
+/// The record of a line, as `read_record` gives it. The room is kept from line to line.
+///
+/// # Errors
+/// The first fault that applies, or out of memory.
+pub fn next_record(
+    alloc: Global,
+    spec: &Spec,
+    room: &mut Room,
+    joined: Option<usize>,
+    bytes: &[u8],
+) -> Result<LineRecord, RecordFault>
+    ensures { IsRecord (record_of (document_view spec.now).names joined bytes.now) result }
+{
+    if let Some(process) = joined {
+        if let Some(record) = plain_record(alloc, spec.names(), room, process, bytes)? {
+            return Ok(record);
+        }
+    }
+    record_by_value(alloc, spec, joined, bytes)
+}
+
+/// The record of a line, before the join or after the join of a process, which is counted from 0.
+///
+/// # Errors
+/// The first fault that applies, or out of memory.
+pub fn read_record(
+    alloc: Global,
+    spec: &Spec,
+    joined: Option<usize>,
+    bytes: &[u8],
+) -> Result<LineRecord, RecordFault>
+    ensures { IsRecord (record_of (document_view spec.now).names joined bytes.now) result }
+{
+    let mut room = Room::new(alloc);
+    next_record(alloc, spec, &mut room, joined, bytes)
 }

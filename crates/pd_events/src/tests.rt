@@ -238,3 +238,159 @@ fn a_line_is_a_record(rt: HostRuntime) -> Result<(), Fail> {
     assert_eq!(rt; early, Err(RecordFault::Join));
     Ok(())
 }
+
+/// What a line says after the join of the first process.
+fn said(alloc: Global, spec: &Spec, line: &str) -> Result<LineRecord, RecordFault> {
+    read_record(alloc, spec, Some(0), line.as_bytes())
+}
+
+#[test]
+fn lines_that_say_the_same(rt: HostRuntime) -> Result<(), Fail> {
+    let spec = document(rt.alloc())?;
+    let pairs = [
+        ("{}", " \t{ \r\n} "),
+        ("{}", r#"{"set":{}}"#),
+        (r#"{"send":"m"}"#, "\r\n { \t\"send\" : \"m\"\n} \r"),
+        (r#"{"send":"m"}"#, r#"{"\u0073end":"m"}"#),
+        (r#"{"send":"m"}"#, r#"{"send":"\u006d"}"#),
+        (r#"{"send":"m"}"#, r#"{"send":"k","send":"m"}"#),
+        (r#"{"send":"\ud83d\ude00"}"#, r#"{"send":"😀"}"#),
+        (r#"{"recv":"a\/b"}"#, r#"{"recv":"a/b"}"#),
+        (r#"{"set":{"x":1}}"#, " { \"set\" :\t{ \"x\"\r:\n1 } } "),
+        (r#"{"set":{"x":1}}"#, r#"{"set":{"\u0078":1}}"#),
+        (r#"{"set":{"x":1}}"#, r#"{"set":{"x":7,"x":1}}"#),
+        (r#"{"set":{"x":1}}"#, r#"{"set":{"y":7},"set":{"x":1}}"#),
+        (r#"{"set":{"x":1,"y":-2}}"#, r#"{"set":{"y":-2,"x":1}}"#),
+        (r#"{"set":{"x":1,"y":2}}"#, r#"{"set":{"x":3,"y":2,"x":1}}"#),
+        (
+            r#"{"send":"m","set":{"y":0}}"#,
+            r#"{"set":{"y":0},"send":"m"}"#,
+        ),
+        (
+            r#"{"recv":"m","set":{"x":5}}"#,
+            r#"{"recv":"k","set":{"x":5},"recv":"m"}"#,
+        ),
+    ];
+    for (line, other) in pairs {
+        let first = said(rt.alloc(), &spec, line);
+        assert!(rt; first.is_ok(), "{line}");
+        assert!(rt;
+            first == said(rt.alloc(), &spec, other),
+            "{line} and {other}"
+        );
+    }
+    Ok(())
+}
+
+/// The values that a line gives to the first process's variables, or its fault.
+fn sets_of(alloc: Global, spec: &Spec, line: &str) -> Result<Vec<(usize, i64)>, RecordFault> {
+    match said(alloc, spec, line)? {
+        LineRecord::Happened(event) => Ok(event.sets),
+        LineRecord::Join(_) | LineRecord::Finish => Err(RecordFault::Join),
+    }
+}
+
+#[test]
+fn numbers_have_bounds(rt: HostRuntime) -> Result<(), Fail> {
+    let spec = document(rt.alloc())?;
+    let numbers = [
+        ("0", 0),
+        ("-1", -1),
+        ("9223372036854775807", 9_223_372_036_854_775_807),
+        ("-9223372036854775807", -9_223_372_036_854_775_807),
+        ("-9223372036854775808", i64::MIN),
+    ];
+    for (text, value) in numbers {
+        let line = format!(in rt.alloc(); "{{\"set\":{{\"y\":{text}}}}}")?;
+        let Ok(sets) = sets_of(rt.alloc(), &spec, line.as_str()) else {
+            return Err(Fail::from("no event"));
+        };
+        assert_eq!(rt; sets.as_slice(), [(1, value)].as_slice(), "{text}");
+    }
+    let refused = [
+        ("-0", RecordFault::Value),
+        ("1.0", RecordFault::Value),
+        ("1e3", RecordFault::Value),
+        ("9223372036854775808", RecordFault::Value),
+        ("-9223372036854775809", RecordFault::Value),
+        ("18446744073709551616", RecordFault::Value),
+        ("1e999", RecordFault::Json),
+        ("01", RecordFault::Json),
+        ("+1", RecordFault::Json),
+        ("-", RecordFault::Json),
+        ("true", RecordFault::Value),
+        ("\"1\"", RecordFault::Value),
+    ];
+    for (text, fault) in refused {
+        let line = format!(in rt.alloc(); "{{\"set\":{{\"y\":{text}}}}}")?;
+        assert!(rt;
+            said(rt.alloc(), &spec, line.as_str()) == Err(fault),
+            "{text}"
+        );
+    }
+    Ok(())
+}
+
+#[test]
+fn lines_that_are_refused(rt: HostRuntime) -> Result<(), Fail> {
+    let spec = document(rt.alloc())?;
+    let lines = [
+        ("", RecordFault::Json),
+        ("{", RecordFault::Json),
+        ("{}{}", RecordFault::Json),
+        ("{},", RecordFault::Json),
+        (r#"{"send":"m"}}"#, RecordFault::Json),
+        (r#"{"send":"m",}"#, RecordFault::Json),
+        (r#"{"set":{"x":1}"#, RecordFault::Json),
+        (r#"{"set":{"x":1},}"#, RecordFault::Json),
+        (r#"{"set":{"x":1]}"#, RecordFault::Json),
+        (r#"{"send":"\ud83d"}"#, RecordFault::Json),
+        ("\u{feff}{}", RecordFault::Json),
+        (r#"{"send":"m","recv":"m"}"#, RecordFault::Shape),
+        (r#"{"set":{},"at":1}"#, RecordFault::Shape),
+        (r#"{"set":[]}"#, RecordFault::Shape),
+        (r#"{"send":""}"#, RecordFault::MessageId),
+        (r#"{"set":{"z":1}}"#, RecordFault::UnknownVar),
+        (r#"{"send":"","set":{"z":1}}"#, RecordFault::UnknownVar),
+        (r#"{"process":"a"}"#, RecordFault::Join),
+    ];
+    for (line, fault) in lines {
+        assert!(rt; said(rt.alloc(), &spec, line) == Err(fault), "{line}");
+    }
+    Ok(())
+}
+
+/// A line in which a variable's value has this many nested arrays.
+fn nested(alloc: Global, arrays: usize) -> Result<String, AllocError> {
+    let mut line = String::from_str(alloc, "{\"set\":{\"x\":")?;
+    for _ in 0..arrays {
+        line.push('[')?;
+    }
+    for _ in 0..arrays {
+        line.push(']')?;
+    }
+    line.push_str("}}")?;
+    Ok(line)
+}
+
+#[test]
+fn ids_and_nesting_have_limits(rt: HostRuntime) -> Result<(), Fail> {
+    let spec = document(rt.alloc())?;
+    let mut id = String::new(rt.alloc());
+    for _ in 0..pd_format::ID_BYTE_LIMIT {
+        id.push('i')?;
+    }
+    for word in ["send", "recv"] {
+        let line = format!(in rt.alloc(); "{{\"{word}\":\"{id}\"}}")?;
+        assert!(rt; said(rt.alloc(), &spec, line.as_str()).is_ok());
+        let escaped = format!(in rt.alloc(); "{{\"{word}\":\"{id}\\u0069\"}}")?;
+        assert!(rt; said(rt.alloc(), &spec, escaped.as_str()) == Err(RecordFault::MessageId));
+        let longer = format!(in rt.alloc(); "{{\"{word}\":\"{id}i\"}}")?;
+        assert!(rt; said(rt.alloc(), &spec, longer.as_str()) == Err(RecordFault::MessageId));
+    }
+    let deepest = nested(rt.alloc(), 125)?;
+    assert!(rt; said(rt.alloc(), &spec, deepest.as_str()) == Err(RecordFault::Value));
+    let deeper = nested(rt.alloc(), 126)?;
+    assert!(rt; said(rt.alloc(), &spec, deeper.as_str()) == Err(RecordFault::Json));
+    Ok(())
+}
