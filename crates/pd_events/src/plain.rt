@@ -274,7 +274,7 @@ fn event_of(
 ///
 /// # Errors
 /// The first fault that applies, or out of memory.
-pub fn plain_record(
+pub(crate) fn plain_record(
     alloc: Global,
     names: &Names,
     room: &mut Room,

@@ -20,7 +20,7 @@ use serde_json::{Map, Value};
 use std::alloc::{AllocError, Global};
 
 /// The variables of this process; none if there is no such process.
-pub fn vars_of(names: &Names, process: usize) -> &[String]
+pub(crate) fn vars_of(names: &Names, process: usize) -> &[String]
     ensures { map string_bytes result.now ≡ vars_of names.now process }
 {
     if process < names.processes() {
@@ -97,7 +97,7 @@ fn id_of(alloc: Global, id: &str) -> Result<String, RecordFault>
 }
 
 /// The kind of event, with its id.
-pub fn kind_of(alloc: Global, said: Said<'_>) -> Result<EventKind, RecordFault>
+pub(crate) fn kind_of(alloc: Global, said: Said<'_>) -> Result<EventKind, RecordFault>
     ensures { IsKind (kind_said said.entry) result }
 {
     match said {
@@ -167,7 +167,7 @@ fn record_by_value(
 ///
 /// # Errors
 /// The first fault that applies, or out of memory.
-pub fn next_record(
+pub(crate) fn next_record(
     alloc: Global,
     spec: &Spec,
     room: &mut Room,

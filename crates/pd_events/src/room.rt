@@ -4,16 +4,16 @@ use std::alloc::Global;
 
 /// What is kept from line to line of a stream, so that lines are read faster. Nothing in it changes what a line says.
 #[derive(Drop)]
-pub struct Room {
+pub(crate) struct Room {
     /// Room for the reader of tokens.
-    pub scratch: Scratch,
+    pub(crate) scratch: Scratch,
     /// The variables that the members of an earlier `set` set, in the order in which they stood.
-    pub hints: Vec<usize>,
+    pub(crate) hints: Vec<usize>,
 }
 
 impl Room {
     /// Room for the lines of a stream. It takes no memory.
-    pub fn new(alloc: Global) -> Room {
+    pub(crate) fn new(alloc: Global) -> Room {
         Room {
             scratch: Scratch::new(alloc),
             hints: Vec::new(alloc),
