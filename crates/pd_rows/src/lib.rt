@@ -16,6 +16,7 @@
 //! - `plain`: a plain program that judges all counts of small computations
 //! - `observations`: Definitely by all observations, where there are few of them
 //! - `turns`: streams that take turns
+//! - `mixed`: streams that mix lines of the plain shape with others, cut at each byte
 #![tactic(auto)]
 
 #[cfg(test)]
@@ -32,6 +33,8 @@ mod definite;
 mod faults;
 #[cfg(test)]
 mod messages;
+#[cfg(test)]
+mod mixed;
 #[cfg(test)]
 mod observations;
 #[cfg(test)]
