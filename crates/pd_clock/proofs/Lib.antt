@@ -7,3 +7,4 @@ pub mod Cycles
 pub mod OrderSteps
 pub mod ClockRows
 pub mod FitTraces
+pub mod UndoFacts

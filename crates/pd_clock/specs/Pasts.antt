@@ -18,3 +18,9 @@ HasPasts clocks counts =
 pub record Reach (clocks : List (Vec ℕ Global)) (counts : List ℕ) : Type 0 where
   pub one_each : length clocks ≡ length counts
   pub rows : (p : ℕ) → slice_index counts p * length counts ≤ length (clocks_of clocks p)
+
+-- the last counted event of process p is in the clock of the last counted event of no other process
+abbrev pub IsInNoPast : List (Vec ℕ Global) → List ℕ → ℕ → Type 0
+IsInNoPast clocks counts p =
+    (q : ℕ) → q ≢ p → 0 < slice_index counts q
+    → slice_index (clocks_of clocks q) ((slice_index counts q - 1) * length counts + p) < slice_index counts p

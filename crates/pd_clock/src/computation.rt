@@ -7,7 +7,7 @@ ghost use Rattle.pd_spec.specs.Views.{document_view};
 ghost use Rattle.pd_clock.specs.Orders.{cycle_view};
 ghost use Rattle.pd_clock.specs.Senders.{IsSender};
 ghost use Rattle.pd_clock.specs.StateViews.{state_view};
-ghost use Rattle.pd_model.specs.Cuts.{FitsProcesses, IsConsistent, total};
+ghost use Rattle.pd_model.specs.Cuts.{FitsProcesses, IsConsistent, one_less, total};
 ghost use Rattle.pd_match.specs.Views.{place_view};
 ghost use Rattle.pd_model.specs.Events.{IsEvent, event_count};
 ghost use Rattle.pd_model.specs.Messages.{IsMessageList};
@@ -15,7 +15,7 @@ ghost use Rattle.pd_model.specs.Order.{HappenedBefore, HasNoCycle, IsClock, IsRe
 ghost use Rattle.pd_model.specs.Predicates.{state_at};
 ghost use Rattle.std.specs.Prelude.{◌≡◌, ◌<◌, ◌≤◌, ◌*◌, ◌↔◌, ℕ, List, IfErr, IfOk, IfSome, IsTrue, length, slice_index};
 
-use super::clocks::has_pasts;
+use super::clocks::{has_pasts, is_in_no_past};
 use super::cycle::reported_cycle;
 use super::history::history;
 use super::order::{Order, put_in_order};
@@ -183,6 +183,18 @@ impl<'a> Computation<'a> {
         ensures { IsTrue result ↔ IsConsistent self.now.events cut.now }
     {
         self.fits(cut) && has_pasts(&self.clocks, cut.counts())
+    }
+
+    /// Whether the last event of process `p`, counted from 0, can be undone: the cut has one, and a consistent cut is
+    /// left without it.
+    pub fn can_undo(&self, cut: &Cut, p: usize) -> bool
+        requires consistent { IsConsistent self.now.events cut.now }
+        requires within { p < length self.now.events }
+        ensures { IsTrue result
+            ↔ ((0 < slice_index cut.now p) × IsConsistent self.now.events (one_less cut.now p)) }
+    {
+        let counts = cut.counts();
+        counts[p] > 0 && is_in_no_past(&self.clocks, counts, p)
     }
 
     /// Whether the place is that of an event.

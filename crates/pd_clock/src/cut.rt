@@ -1,6 +1,7 @@
 //! Counts of events, one for each process.
-ghost use Rattle.std.specs.Prelude.{◌≡◌, ◌≤◌, length, IfOk, IsOk};
+ghost use Rattle.std.specs.Prelude.{◌≡◌, ◌<◌, ◌≤◌, length, slice_index, IfOk, IsOk};
 ghost use Rattle.pd_format.specs.Limits.{process_limit};
+ghost use Rattle.pd_model.specs.Cuts.{one_less, one_more};
 
 use pd_format::PROCESS_LIMIT;
 use smallvec::SmallVec;
@@ -37,5 +38,21 @@ impl Cut {
         ensures { result.now ≡ self.now }
     {
         self.counts.as_slice()
+    }
+    /// Takes the last event of process `p`, counted from 0, out of the cut.
+    pub fn undo(&mut self, p: usize)
+        requires { 0 < slice_index self.old p }
+        ensures { self.new ≡ one_less self.old p }
+    {
+        self.counts[p] -= 1;
+    }
+
+    /// Adds the next event of process `p`, counted from 0, to the cut.
+    pub fn redo(&mut self, p: usize)
+        requires there { p < length self.old }
+        requires room { slice_index self.old p < 18446744073709551615 }
+        ensures { self.new ≡ one_more self.old p }
+    {
+        self.counts[p] += 1;
     }
 }

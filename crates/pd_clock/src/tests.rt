@@ -1,5 +1,5 @@
 //! Cuts of few and of many processes, and the clocks of two processes that send to each other at once.
-use super::clocks::has_past;
+use super::clocks::{has_past, is_in_no_past};
 use super::{BuildFault, Cut, Place};
 use std::test::Fail;
 
@@ -14,6 +14,16 @@ fn cuts_keep_their_counts(rt: HostRuntime) -> Result<(), Fail> {
     assert_eq!(rt; few.counts(), [3, 0, 2].as_slice());
     let many = Cut::new(rt.alloc(), &[1, 2, 3, 4, 5, 6, 7, 8, 9])?;
     assert_eq!(rt; many.counts(), [1, 2, 3, 4, 5, 6, 7, 8, 9].as_slice());
+    Ok(())
+}
+
+#[test]
+fn events_are_undone_and_redone(rt: HostRuntime) -> Result<(), Fail> {
+    let mut cut = Cut::new(rt.alloc(), &[3, 0, 2])?;
+    cut.undo(2);
+    assert_eq!(rt; cut.counts(), [3, 0, 1].as_slice());
+    cut.redo(1);
+    assert_eq!(rt; cut.counts(), [3, 1, 1].as_slice());
     Ok(())
 }
 
