@@ -1,7 +1,7 @@
 -- While none satisfies, all consistent cuts avoid.
 use Rattle.std.proofs.Common.{◌≡◌, ℕ, ◌+◌, Bool, List, sum, ◌↔◌, arith}
 use Rattle.pd_model.specs.Answers.{LeavesAvoiding}
-use Rattle.pd_model.specs.Cuts.{IsConsistent, IsOfLevel, one_less}
+use Rattle.pd_model.specs.Cuts.{IsOfLevel, one_less}
 use Rattle.pd_model.specs.Events.{Computation}
 use Rattle.pd_model.specs.Order.{HasNoCycle}
 use Rattle.pd_model.specs.Walks.{NoneBelow}

@@ -1,7 +1,7 @@
 -- The way back, one step at a time.
 use Rattle.std.proofs.Common.{◌≡◌, ℕ, ◌+◌, ◌<◌, Bool, List, [], ◌∷◌, ◌++◌, length, sum, sym, subst, ◌↔◌, arith, append_assoc, append-nil}
 use Rattle.pd_model.specs.Answers.{IsUndoing, LeavesAvoiding}
-use Rattle.pd_model.specs.Cuts.{IsOfLevel, empty_cut, full_cut, one_less, total}
+use Rattle.pd_model.specs.Cuts.{IsConsistent, IsOfLevel, empty_cut, full_cut, one_less, total}
 use Rattle.pd_model.specs.Events.{Computation}
 use Rattle.pd_model.specs.Observations.{IsAvoiding}
 use Rattle.pd_model.specs.Order.{HasNoCycle}
@@ -49,6 +49,11 @@ pub reached_counts : (c : Computation) (test : List ℕ → Bool) (path cut : Li
     → length cut ≡ length c
 reached_counts c test path cut reached =
     (avoiding_level c test (sum cut) cut reached.avoiding).0.fits.one_each
+
+-- and is consistent
+pub reached_consistent : (c : Computation) (test : List ℕ → Bool) (path cut : List ℕ) → IsReached c test path cut
+    → IsConsistent c cut
+reached_consistent c test path cut reached = (avoiding_level c test (sum cut) cut reached.avoiding).0
 
 -- some event of a cut that is reached, and isn't empty, can be undone
 pub some_leaves : (c : Computation) (test : List ℕ → Bool) (path cut : List ℕ) (k : ℕ) → IsReached c test path cut

@@ -55,7 +55,7 @@ pub fn way_back(
         k = held.last().number();
         held.drop_last();
     }
-    free_way(alloc, computation, pred, k, cut, &mut path)?;
+    free_way(computation, pred, k, cut, &mut path)?;
     path.reverse();
     Ok(path)
 }

@@ -3,12 +3,13 @@ ghost use Rattle.pd_back.specs.Searches.{AreDead, IsWorthTrying, NoneLeaves};
 ghost use Rattle.pd_back.specs.Ways.{IsAvoidingLevel, IsReached};
 ghost use Rattle.pd_format.specs.Limits.{process_limit};
 ghost use Rattle.pd_model.specs.Answers.{LeavesAvoiding};
+ghost use Rattle.pd_model.specs.Cuts.{IsConsistent};
 ghost use Rattle.pd_model.specs.Predicates.{test_of};
 ghost use Rattle.pd_pred.specs.Views.{predicate_view};
 ghost use Rattle.std.specs.Prelude.{◌≡◌, ◌+◌, ◌<◌, ◌≤◌, ℕ, Contains, IfNone, IfOk, IfSome, IsTrue, false, true, length, sum};
 ghost use Rattle.std.specs.List.{insert};
 
-use super::undo::{leaves_consistent, same_cut, without_last};
+use super::undo::{same_cut, without_last};
 use pd_clock::{Computation, Cut};
 use pd_level::Level;
 use pd_pred::Pred;
@@ -88,6 +89,7 @@ fn next_step(
         (test_of computation.now (predicate_view pred.now)) kept.now }
     requires dead { AreDead computation.now.events (test_of computation.now (predicate_view pred.now)) dead.now }
     requires few { length cut.now ≤ process_limit }
+    requires consistent { IsConsistent computation.now.events cut.now }
     requires number { sum cut.now ≡ level }
     requires tried { NoneLeaves computation.now.events
         (test_of computation.now (predicate_view pred.now)) cut.now next }
@@ -122,6 +124,7 @@ fn is_worth_trying(
         (test_of computation.now (predicate_view pred.now)) kept.now }
     requires dead { AreDead computation.now.events (test_of computation.now (predicate_view pred.now)) dead.now }
     requires few { length cut.now ≤ process_limit }
+    requires consistent { IsConsistent computation.now.events cut.now }
     requires number { sum cut.now ≡ level }
     requires within { p < length cut.now }
     ensures yes { IsTrue result → IsWorthTrying computation.now.events
@@ -129,7 +132,7 @@ fn is_worth_trying(
     ensures no { result ≡ false → ¬ LeavesAvoiding computation.now.events
         (test_of computation.now (predicate_view pred.now)) cut.now p }
 {
-    if !leaves_consistent(alloc, computation, cut, p) {
+    if !computation.can_undo(cut, p) {
         return false;
     }
     let low = without_last(alloc, cut, p);

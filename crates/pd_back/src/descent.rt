@@ -7,7 +7,7 @@ ghost use Rattle.std.specs.Prelude.{◌≡◌, ◌+◌, ◌-◌, ◌<◌, ◌≤
 use super::Held;
 use super::avoiding::next_avoiding;
 use super::depth::search_down;
-use super::undo::{least_undone, without_last};
+use super::undo::least_undone;
 use pd_clock::{Computation, Cut};
 use pd_level::Level;
 use pd_pred::Pred;
@@ -131,7 +131,9 @@ pub(crate) fn step_to(
     ensures number { IfOk result (λ low. sum low ≡ level.now.number) }
 {
     computation.limits();
+    let mut cut = cut;
     let p = least_undone(alloc, &cut, level);
     path.push(p)?;
-    Ok(without_last(alloc, &cut, p))
+    cut.undo(p);
+    Ok(cut)
 }

@@ -7,15 +7,14 @@ ghost use Rattle.pd_model.specs.Walks.{NoneBelow};
 ghost use Rattle.pd_pred.specs.Views.{predicate_view};
 ghost use Rattle.std.specs.Prelude.{◌≡◌, IfOk, sum};
 
-use super::undo::{least_free, without_last};
+use super::undo::least_free;
 use pd_clock::{Computation, Cut};
 use pd_pred::Pred;
-use std::alloc::{AllocError, Global};
+use std::alloc::AllocError;
 
 /// The way from a cut of level `k` to the empty cut, if no cut of a lower level satisfies. The predicate is there for
 /// the contract alone.
 pub(crate) fn free_way(
-    alloc: Global,
     computation: &Computation<'_>,
     _pred: &Pred,
     k: u64,
@@ -35,9 +34,9 @@ pub(crate) fn free_way(
     let mut cut = cut;
     while events > 0 {
         events -= 1;
-        let p = least_free(alloc, &cut, computation);
+        let p = least_free(&cut, computation);
         path.push(p)?;
-        cut = without_last(alloc, &cut, p);
+        cut.undo(p);
     }
     Ok(())
 }

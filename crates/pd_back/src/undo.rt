@@ -1,7 +1,7 @@
 //! Cuts without the last event of a process.
 ghost use Rattle.pd_back.specs.Ways.{LeavesConsistent, LeavesOneOf};
 ghost use Rattle.pd_format.specs.Limits.{process_limit};
-ghost use Rattle.pd_model.specs.Cuts.{full_cut, one_less};
+ghost use Rattle.pd_model.specs.Cuts.{IsConsistent, full_cut, one_less};
 ghost use Rattle.std.specs.Prelude.{◌≡◌, ◌<◌, ◌≤◌, ◌↔◌, ℕ, IsTrue, length, slice_index};
 
 use pd_clock::{Computation, Cut};
@@ -69,29 +69,16 @@ fn leaves_one_of(alloc: Global, level: &Level, cut: &Cut, p: usize) -> bool
 }
 
 /// The least process whose last event can be undone so that a consistent cut is left.
-pub(crate) fn least_free(alloc: Global, cut: &Cut, computation: &Computation<'_>) -> usize
+pub(crate) fn least_free(cut: &Cut, computation: &Computation<'_>) -> usize
     requires few { length cut.now ≤ process_limit }
+    requires consistent { IsConsistent computation.now.events cut.now }
     requires some { (p : ℕ) × (p < length cut.now) × LeavesConsistent computation.now.events cut.now p }
     ensures leaves { LeavesConsistent computation.now.events cut.now result }
     ensures least { (q : ℕ) → q < result → ¬ LeavesConsistent computation.now.events cut.now q }
 {
     let mut p = 0;
-    while !leaves_consistent(alloc, computation, cut, p) {
+    while !computation.can_undo(cut, p) {
         p += 1;
     }
     p
-}
-
-/// Whether the last event of process `p` can be undone so that a consistent cut is left.
-pub(crate) fn leaves_consistent(
-    alloc: Global,
-    computation: &Computation<'_>,
-    cut: &Cut,
-    p: usize,
-) -> bool
-    requires few { length cut.now ≤ process_limit }
-    requires within { p < length cut.now }
-    ensures { IsTrue result ↔ LeavesConsistent computation.now.events cut.now p }
-{
-    cut.counts()[p] > 0 && computation.consistent(&without_last(alloc, cut, p))
 }

@@ -5,8 +5,8 @@ use Rattle.pd_model.specs.Predicates.{test_of}
 use Rattle.pd_pred.specs.Views.{predicate_view}
 use Rattle.pd_back.proofs.back.way_back.Given as goal
 
-abbrev pub invariant-loop-cut : goal.invariant-loop-cut
-invariant-loop-cut l = record {
+abbrev pub invariant-loop-alloc : goal.invariant-loop-alloc
+invariant-loop-alloc l = record {
   number : sum l.cut ≡ l.k;
   kept : AreKept l.computation.events (test_of l.computation (predicate_view l.pred)) l._split l._gap l.k
       l.held.levels.items;
@@ -16,5 +16,5 @@ invariant-loop-cut l = record {
   most : l.held.most ≤ max l.fn.held.most (length l.fn.held.levels.items + l._gap);
 }
 
-abbrev pub decreases-loop-cut : goal.decreases-loop-cut
-decreases-loop-cut l = length l.held.levels.items
+abbrev pub decreases-loop-alloc : goal.decreases-loop-alloc
+decreases-loop-alloc l = length l.held.levels.items

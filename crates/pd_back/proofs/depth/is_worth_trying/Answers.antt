@@ -9,17 +9,17 @@ use Rattle.pd_back.specs.Ways.{LeavesConsistent}
 use Rattle.pd_back.proofs.Searching.{dead_found, leaves_parts, not_kept, worth_kept}
 use Rattle.pd_back.proofs.depth.is_worth_trying.Goals as goal
 
-pub returns-then-not-leaves_consistent-clause-no : goal.returns-then-not-leaves_consistent-clause-no
-returns-then-not-leaves_consistent-clause-no c = λ _ avoiding.
-    let t : c.leaves_consistent.result ≡ true =
-    c.leaves_consistent.ensures.1 (leaves_parts c.args.computation.now.events (test_of c.args.computation.now
+pub returns-then-not-can_undo-clause-no : goal.returns-then-not-can_undo-clause-no
+returns-then-not-can_undo-clause-no c = λ _ avoiding.
+    let t : c.can_undo.result ≡ true =
+    c.can_undo.ensures.1 (leaves_parts c.args.computation.now.events (test_of c.args.computation.now
     (predicate_view c.args.pred.now)) c.args.cut.now c.args.p avoiding).0 in
-    absurd (false≢true (sym (rw t at c.if-not-leaves_consistent.true)))
+    absurd (false≢true (sym (rw t at c.if-not-can_undo.true)))
 
 pub returns-then-level-number-clause-yes : goal.returns-then-level-number-clause-yes
 returns-then-level-number-clause-yes c = λ has.
     let leaves : LeavesConsistent c.args.computation.now.events c.args.cut.now c.args.p =
-    c.leaves_consistent.ensures.0 c.if-not-leaves_consistent.false in
+    c.can_undo.ensures.0 c.if-not-can_undo.false in
     let fewer : sum (one_less c.args.cut.now c.args.p) + 1 ≡ sum c.args.cut.now =
     sum_less c.args.cut.now c.args.p leaves.0 in
     worth_kept c.args.computation.now.events (test_of c.args.computation.now (predicate_view c.args.pred.now))

@@ -20,16 +20,9 @@ least_undone-p-requires-clause-some c =
     c.args.path.now.items c.args.cut c.args.level.now
     c.requires.reached c.requires.list c.requires.next
 
-pub without_last-requires-clause-few : goal.without_last-requires-clause-few
-without_last-requires-clause-few c =
-    let count : length c.args.cut ≡ length c.args.computation.now.events =
-    reached_counts c.args.computation.now.events (test_of c.args.computation.now (predicate_view c.args._pred.now))
-    c.args.path.now.items c.args.cut c.requires.reached in
-    omega (arith, c.limits.ensures.few)
-
 pub returns-clause-reached : goal.returns-clause-reached
 returns-clause-reached c =
-    let less : c.without_last.result ≡ one_less c.args.cut c.least_undone-p.result = c.without_last.ensures in
+    let less : c.undo.new.self ≡ one_less c.args.cut c.least_undone-p.result = c.undo.ensures in
     let pushed : c.push.new.self.items ≡ c.args.path.now.items ++ c.least_undone-p.result ∷ [] =
     c.in_ok-push.ensures.items in
     subst (λ (cut : List ℕ). IsReached c.args.computation.now.events (test_of c.args.computation.now (predicate_view

@@ -6,7 +6,7 @@ use Rattle.pd_model.specs.Cuts.{one_less}
 use Rattle.pd_model.specs.Walks.{NoneBelow}
 use Rattle.pd_model.proofs.Counts.{sum_less}
 use Rattle.pd_back.specs.Ways.{IsReached}
-use Rattle.pd_back.proofs.Reaching.{reached_counts, reached_empty, reached_free, some_leaves_free}
+use Rattle.pd_back.proofs.Reaching.{reached_consistent, reached_counts, reached_empty, reached_free, some_leaves_free}
 use Rattle.pd_back.proofs.free.free_way.Goals as goal
 
 pub least_free-p-requires-clause-few : goal.least_free-p-requires-clause-few
@@ -15,6 +15,11 @@ least_free-p-requires-clause-few c =
     reached_counts c.args.computation.now.events (test_of c.args.computation.now (predicate_view c.args._pred.now))
     c.loop-events.path.items c.loop-events.cut c.loop-events.invariant.reached in
     omega (arith, c.limits.ensures.few)
+
+pub least_free-p-requires-clause-consistent : goal.least_free-p-requires-clause-consistent
+least_free-p-requires-clause-consistent c =
+    reached_consistent c.args.computation.now.events (test_of c.args.computation.now (predicate_view c.args._pred.now))
+    c.loop-events.path.items c.loop-events.cut c.loop-events.invariant.reached
 
 pub least_free-p-requires-clause-some : goal.least_free-p-requires-clause-some
 least_free-p-requires-clause-some c =
@@ -32,11 +37,10 @@ loop-events-preserved c =
     let none : NoneBelow c.args.computation.now.events (test_of c.args.computation.now (predicate_view
     c.args._pred.now)) (c.loop-events.events - 1 + 1) =
     λ j other lt at. c.loop-events.invariant.none_below j other (omega (arith, c.loop-events.invariant.number)) at in
-    let less : c.without_last-cut.result ≡ one_less c.loop-events.cut c.least_free-p.result =
-    c.without_last-cut.ensures in
+    let less : c.undo.new.self ≡ one_less c.loop-events.cut c.least_free-p.result = c.undo.ensures in
     let fewer : sum (one_less c.loop-events.cut c.least_free-p.result) + 1 ≡ sum c.loop-events.cut =
     sum_less c.loop-events.cut c.least_free-p.result c.least_free-p.ensures.leaves.0 in
-    let same : sum c.without_last-cut.result ≡ sum (one_less c.loop-events.cut c.least_free-p.result) = ap sum less in
+    let same : sum c.undo.new.self ≡ sum (one_less c.loop-events.cut c.least_free-p.result) = ap sum less in
     let pushed : c.push.new.self.items ≡ c.loop-events.path.items ++ c.least_free-p.result ∷ [] =
     c.in_ok-push.ensures.items in
     record {
