@@ -5,14 +5,14 @@ use Rattle.std.proofs.lemmas.List.{get_or_append_left, get_or-append_right, leng
 use Rattle.std.proofs.lemmas.List.Edits.{get_or-insert_above, get_or-insert_at, get_or-insert_below, length-insert}
 use Rattle.std.specs.List.{insert}
 use Rattle.pd_model.specs.Answers.{LeavesAvoiding}
-use Rattle.pd_model.specs.Cuts.{one_less}
-use Rattle.pd_model.specs.Events.{Computation}
+use Rattle.pd_model.specs.Cuts.{one_less, one_more}
+use Rattle.pd_model.specs.Events.{Computation, event_count}
 use Rattle.pd_model.specs.Observations.{IsAvoiding}
 use Rattle.pd_level.specs.Levels.{Levelled}
-use Rattle.pd_model.proofs.Counts.{sum_less}
+use Rattle.pd_model.proofs.Counts.{in_range, length_less, less_same, more_less, sum_less}
 use Rattle.pd_model.proofs.Paths.{avoiding_level}
 use Rattle.pd_model.proofs.WalkSteps.{some_undone}
-use Rattle.pd_back.specs.Searches.{AreDead, IsSearched, IsStacked, IsWorthTrying, NoneLeaves}
+use Rattle.pd_back.specs.Searches.{AreDead, IsSearched, IsStacked, IsWorthTrying, NoneLeaves, undone}
 use Rattle.pd_back.specs.Ways.{IsAvoidingLevel, IsReached, LeavesConsistent, LeavesOneOf}
 use Rattle.pd_model.proofs.AvoidingCuts.{avoiding_fails, avoiding_more}
 use Rattle.pd_back.proofs.Reaching.{level_leaves, reached_less}
@@ -56,12 +56,21 @@ pub dead_found : (c : Computation) (test : List ℕ → Bool) (cuts : List (List
 dead_found c test cuts cut dead (i, lt, at) =
     subst (λ (x : List ℕ). ¬ IsAvoiding c test (sum x) x) at (dead i cut lt)
 
+-- one step more at the end
+undone_push : (cut steps : List ℕ) (p : ℕ) → undone cut (steps ++ p ∷ []) ≡ one_less (undone cut steps) p
+undone_push cut [] p = refl
+undone_push cut (q ∷ steps) p = undone_push (one_less cut q) steps p
+
+take_before : (steps : List ℕ) (p : ℕ) → take (length steps) (steps ++ p ∷ []) ≡ steps
+take_before steps p =
+    take-append-le (length steps) steps (p ∷ []) (omega arith) ∙ take_all (length steps) steps (omega arith)
+
 -- the search begins
 pub searched_first : (c : Computation) (test : List ℕ → Bool) (path : List ℕ) (number k : ℕ) (cut : List ℕ)
-    → IsReached c test path cut → sum cut ≡ k → number < k → IsSearched c test path number k cut 0 [] []
+    → IsReached c test path cut → sum cut ≡ k → number < k → IsSearched c test path number k cut cut 0 []
 searched_first c test path number k cut reached s above =
     record {
-      count = refl;
+      at = refl;
       above = omega arith;
       here = record {
         here = (
@@ -73,15 +82,16 @@ searched_first c test path number k cut reached s above =
         tried = λ q lt. absurd (omega arith);
         onward = λ a. subst (λ (ps : List ℕ). IsReached c test ps cut) (sym (append-nil path)) reached;
       };
-      each = λ i d e lt. absurd (omega arith);
+      each = λ i e lt. absurd (omega arith);
+      some = λ i e lt. absurd (omega arith);
     }
 
 -- where the cut below avoids, so does this one, and the way leads to the one below
-pub searched_on : (c : Computation) (test : List ℕ → Bool) (path : List ℕ) (number k : ℕ) (cut : List ℕ) (p : ℕ)
-    (stack : List (List ℕ)) (steps : List ℕ) (next : ℕ) → IsSearched c test path number k cut next stack steps
+pub searched_on : (c : Computation) (test : List ℕ → Bool) (path : List ℕ) (number k : ℕ) (top cut : List ℕ) (p : ℕ)
+    (steps : List ℕ) (next : ℕ) → IsSearched c test path number k top cut next steps
     → NoneLeaves c test cut p → LeavesAvoiding c test cut p
     → IsReached c test (path ++ (steps ++ p ∷ [])) (one_less cut p)
-searched_on c test path number k cut p stack steps next searched tried leaves =
+searched_on c test path number k top cut p steps next searched tried leaves =
     let here : IsStacked c test path steps k (length steps) cut next = searched.here in
     let avoids : IsAvoiding c test (sum cut) cut = avoiding_more c test cut p here.here.0 here.here.1 leaves in
     let whole : take (length steps) steps ≡ steps = take_all (length steps) steps (omega arith) in
@@ -90,22 +100,22 @@ searched_on c test path number k cut p stack steps next searched tried leaves =
     subst (λ (ps : List ℕ). IsReached c test ps (one_less cut p)) (append_assoc path steps (p ∷ []))
     (reached_less c test (path ++ steps) cut p reached leaves tried)
 
-pub searched_found : (c : Computation) (test : List ℕ → Bool) (path : List ℕ) (number k : ℕ) (cut : List ℕ) (p : ℕ)
-    (stack : List (List ℕ)) (steps : List ℕ) (next : ℕ) → IsSearched c test path number k cut next stack steps
+pub searched_found : (c : Computation) (test : List ℕ → Bool) (path : List ℕ) (number k : ℕ) (top cut : List ℕ)
+    (p : ℕ) (steps : List ℕ) (next : ℕ) → IsSearched c test path number k top cut next steps
     → NoneLeaves c test cut p → IsWorthTrying c test number cut p → sum cut ≡ number + 1
     → IsReached c test (path ++ (steps ++ p ∷ [])) (one_less cut p)
-searched_found c test path number k cut p stack steps next searched tried worth s =
-    searched_on c test path number k cut p stack steps next searched tried (worth.lowest s)
+searched_found c test path number k top cut p steps next searched tried worth s =
+    searched_on c test path number k top cut p steps next searched tried (worth.lowest s)
 
 -- one step down
-pub searched_push : (c : Computation) (test : List ℕ → Bool) (path : List ℕ) (number k : ℕ) (cut : List ℕ) (p : ℕ)
-    (stack : List (List ℕ)) (steps : List ℕ) (next : ℕ) → IsSearched c test path number k cut next stack steps
-    → p < length cut → NoneLeaves c test cut p → IsWorthTrying c test number cut p → number + (length stack + 1) < k
-    → IsSearched c test path number k (one_less cut p) 0 (stack ++ cut ∷ []) (steps ++ p ∷ [])
-searched_push c test path number k cut p stack steps next searched inside tried worth above =
+pub searched_push : (c : Computation) (test : List ℕ → Bool) (path : List ℕ) (number k : ℕ) (top cut : List ℕ) (p : ℕ)
+    (steps : List ℕ) (next : ℕ) → IsSearched c test path number k top cut next steps
+    → p < length cut → NoneLeaves c test cut p → IsWorthTrying c test number cut p → number + (length steps + 1) < k
+    → IsSearched c test path number k top (one_less cut p) 0 (steps ++ p ∷ [])
+searched_push c test path number k top cut p steps next searched inside tried worth above =
     record {
-      count = omega (arith, stacked, stepped, searched.count);
-      above = omega (arith, stacked);
+      at = undone_push top steps p ∙ ap (λ (x : List ℕ). one_less x p) searched.at;
+      above = omega (arith, stepped);
       here = record {
         here = (worth.leaves.1, worth.fails);
         level =
@@ -116,14 +126,12 @@ searched_push c test path number k cut p stack steps next searched inside tried 
         onward = λ a.
             subst (λ (ps : List ℕ). IsReached c test (path ++ ps) (one_less cut p))
             (sym (take_all (length (steps ++ p ∷ [])) (steps ++ p ∷ []) (omega arith)))
-            (searched_on c test path number k cut p stack steps next searched tried (worth.leaves.0, a));
+            (searched_on c test path number k top cut p steps next searched tried (worth.leaves.0, a));
       };
-      each = λ i d e lt. go i d e lt (cases_lt i (length stack));
+      each = λ i e lt. go i e lt (cases_lt i (length steps));
+      some = λ i e lt. counted i e lt (cases_lt i (length steps));
     }
   where
-    stacked : length (stack ++ cut ∷ []) ≡ length stack + 1
-    stacked = length_push stack cut
-
     stepped : length (steps ++ p ∷ []) ≡ length steps + 1
     stepped = length_push steps p
 
@@ -151,89 +159,124 @@ searched_push c test path number k cut p stack steps next searched inside tried 
           onward = searched.here.onward;
         }
 
-    go : (i : ℕ) (d : List ℕ) (e : ℕ) → i < length (stack ++ cut ∷ [])
-        → (i < length stack) ⊎ (length stack ≤ i)
-        → IsStacked c test path (steps ++ p ∷ []) k i (get_or (stack ++ cut ∷ []) i d) (get_or (steps ++ p ∷ []) i e)
-    go i d e lt (inl low) =
-        rw (
-          get_or_append_left stack (cut ∷ []) d i low,
-          get_or_append_left steps (p ∷ []) e i (omega (arith, searched.count)),
-        ) (kept i (get_or stack i d) (get_or steps i e) (omega (arith, searched.count)) (searched.each i d e low))
-    go i d e lt (inr high) =
-        let same : length steps ≡ i = omega (arith, stacked, searched.count) in
-        let same_stack : length stack ≡ i = omega (arith, stacked) in
-        let a : get_or (stack ++ cut ∷ []) i d ≡ cut =
-        ap (λ (n : ℕ). get_or (stack ++ cut ∷ []) n d) (sym same_stack) ∙ at_push stack cut d in
-        let b : get_or (steps ++ p ∷ []) i e ≡ p =
-        ap (λ (n : ℕ). get_or (steps ++ p ∷ []) n e) (sym same) ∙ at_push steps p e in
-        subst (λ (x : List ℕ). IsStacked c test path (steps ++ p ∷ []) k i x (get_or (steps ++ p ∷ []) i e)) (sym a)
-        (subst (λ (q : ℕ). IsStacked c test path (steps ++ p ∷ []) k i cut q) (sym b)
+    -- the cut at which the last step is tried, and its process
+    here_cut : (i : ℕ) → length steps ≡ i → undone top (take i (steps ++ p ∷ [])) ≡ cut
+    here_cut i same =
+        ap (λ (n : ℕ). undone top (take n (steps ++ p ∷ []))) (sym same)
+        ∙ (ap (undone top) (take_before steps p) ∙ searched.at)
+
+    here_step : (i e : ℕ) → length steps ≡ i → get_or (steps ++ p ∷ []) i e ≡ p
+    here_step i e same = ap (λ (n : ℕ). get_or (steps ++ p ∷ []) n e) (sym same) ∙ at_push steps p e
+
+    go : (i e : ℕ) → i < length (steps ++ p ∷ []) → (i < length steps) ⊎ (length steps ≤ i)
+        → IsStacked c test path (steps ++ p ∷ []) k i (undone top (take i (steps ++ p ∷ [])))
+        (get_or (steps ++ p ∷ []) i e)
+    go i e lt (inl low) =
+        subst (λ (xs : List ℕ). IsStacked c test path (steps ++ p ∷ []) k i (undone top xs)
+        (get_or (steps ++ p ∷ []) i e)) (sym (take-append-le i steps (p ∷ []) (omega arith)))
+        (subst (λ (q : ℕ). IsStacked c test path (steps ++ p ∷ []) k i (undone top (take i steps)) q)
+        (sym (get_or_append_left steps (p ∷ []) e i low))
+        (kept i (undone top (take i steps)) (get_or steps i e) (omega arith) (searched.each i e low)))
+    go i e lt (inr high) =
+        let same : length steps ≡ i = omega (arith, stepped) in
+        subst (λ (x : List ℕ). IsStacked c test path (steps ++ p ∷ []) k i x (get_or (steps ++ p ∷ []) i e))
+        (sym (here_cut i same))
+        (subst (λ (q : ℕ). IsStacked c test path (steps ++ p ∷ []) k i cut q) (sym (here_step i e same))
         (kept i cut p (omega arith)
         (subst (λ (n : ℕ). IsStacked c test path steps k n cut p) same last)))
 
--- one step back up
-pub searched_pop : (c : Computation) (test : List ℕ → Bool) (path : List ℕ) (number k : ℕ) (cut : List ℕ) (next : ℕ)
-    (stack : List (List ℕ)) (steps : List ℕ) (above : List ℕ) (p : ℕ)
-    → IsSearched c test path number k cut next (stack ++ above ∷ []) (steps ++ p ∷ [])
-    → IsSearched c test path number k above p stack steps
-searched_pop c test path number k cut next stack steps above p searched =
-    record {
-      count = count;
-      above = omega (arith, stacked, searched.above);
-      here = last;
-      each = λ i d e lt.
-          subst (λ (x : List ℕ). IsStacked c test path steps k i x (get_or steps i e))
-          (get_or_append_left stack (above ∷ []) d i lt)
-          (subst (λ (q : ℕ). IsStacked c test path steps k i (get_or (stack ++ above ∷ []) i d) q)
-          (get_or_append_left steps (p ∷ []) e i (omega (arith, count)))
-          (kept i (get_or (stack ++ above ∷ []) i d) (get_or (steps ++ p ∷ []) i e) (omega (arith, count))
-          (searched.each i d e (omega (arith, stacked)))));
-    }
-  where
-    stacked : length (stack ++ above ∷ []) ≡ length stack + 1
-    stacked = length_push stack above
+    counted : (i e : ℕ) → i < length (steps ++ p ∷ []) → (i < length steps) ⊎ (length steps ≤ i)
+        → 0 < get_or (undone top (take i (steps ++ p ∷ []))) (get_or (steps ++ p ∷ []) i e) 0
+    counted i e lt (inl low) =
+        subst (λ (xs : List ℕ). 0 < get_or (undone top xs) (get_or (steps ++ p ∷ []) i e) 0)
+        (sym (take-append-le i steps (p ∷ []) (omega arith)))
+        (subst (λ (q : ℕ). 0 < get_or (undone top (take i steps)) q 0)
+        (sym (get_or_append_left steps (p ∷ []) e i low)) (searched.some i e low))
+    counted i e lt (inr high) =
+        let same : length steps ≡ i = omega (arith, stepped) in
+        subst (λ (x : List ℕ). 0 < get_or x (get_or (steps ++ p ∷ []) i e) 0) (sym (here_cut i same))
+        (subst (λ (q : ℕ). 0 < get_or cut q 0) (sym (here_step i e same)) worth.leaves.0)
 
-    stepped : length (steps ++ p ∷ []) ≡ length steps + 1
-    stepped = length_push steps p
+-- what is known where a step is taken back: the cut above is the one with the event once more
+module _ (c : Computation) (test : List ℕ → Bool) (path : List ℕ) (number k : ℕ) (top cut : List ℕ) (next : ℕ)
+    (steps : List ℕ) (p : ℕ) (searched : IsSearched c test path number k top cut next (steps ++ p ∷ [])) where
+  stepped : length (steps ++ p ∷ []) ≡ length steps + 1
+  stepped = length_push steps p
 
-    count : length stack ≡ length steps
-    count = omega (arith, stacked, stepped, searched.count)
+  last_step : get_or (steps ++ p ∷ []) (length steps) p ≡ p
+  last_step = at_push steps p p
 
-    kept : (i : ℕ) (x : List ℕ) (q : ℕ) → i ≤ length steps → IsStacked c test path (steps ++ p ∷ []) k i x q
-        → IsStacked c test path steps k i x q
-    kept i x q le old =
-        record {
-          here = old.here;
-          level = old.level;
-          within = old.within;
-          tried = old.tried;
-          onward = λ a.
-              subst (λ (ps : List ℕ). IsReached c test (path ++ ps) x)
-              (take-append-le i steps (p ∷ []) le) (old.onward a);
-        }
+  has : 0 < get_or (undone top steps) p 0
+  has =
+      subst (λ (xs : List ℕ). 0 < get_or (undone top xs) p 0) (take_before steps p)
+      (subst (λ (q : ℕ). 0 < get_or (undone top (take (length steps) (steps ++ p ∷ []))) q 0) last_step
+      (searched.some (length steps) p (omega (arith, stepped))))
 
-    last : IsStacked c test path steps k (length steps) above p
-    last =
-        let at : IsStacked c test path (steps ++ p ∷ []) k (length stack)
-        (get_or (stack ++ above ∷ []) (length stack) above) (get_or (steps ++ p ∷ []) (length stack) p) =
-        searched.each (length stack) above p (omega (arith, stacked)) in
-        let b : get_or (steps ++ p ∷ []) (length stack) p ≡ p =
-        ap (λ (n : ℕ). get_or (steps ++ p ∷ []) n p) count ∙ at_push steps p p in
-        subst (λ (n : ℕ). IsStacked c test path steps k n above p) count
-        (kept (length stack) above p (omega (arith, count))
-        (subst (λ (x : List ℕ). IsStacked c test path (steps ++ p ∷ []) k (length stack) x p)
-        (at_push stack above above)
-        (subst (λ (q : ℕ).
-        IsStacked c test path (steps ++ p ∷ []) k (length stack) (get_or (stack ++ above ∷ []) (length stack) above)
-        q) b
-        at)))
+  less : cut ≡ one_less (undone top steps) p
+  less = sym searched.at ∙ undone_push top steps p
+
+  back : one_more cut p ≡ undone top steps
+  back = ap (λ (x : List ℕ). one_more x p) less ∙ more_less (undone top steps) p has
+
+  kept : (i : ℕ) (x : List ℕ) (q : ℕ) → i ≤ length steps → IsStacked c test path (steps ++ p ∷ []) k i x q
+      → IsStacked c test path steps k i x q
+  kept i x q le old =
+      record {
+        here = old.here;
+        level = old.level;
+        within = old.within;
+        tried = old.tried;
+        onward = λ a.
+            subst (λ (ps : List ℕ). IsReached c test (path ++ ps) x)
+            (take-append-le i steps (p ∷ []) le) (old.onward a);
+      }
+
+  last : IsStacked c test path steps k (length steps) (undone top steps) p
+  last =
+      kept (length steps) (undone top steps) p (omega arith)
+      (subst (λ (xs : List ℕ). IsStacked c test path (steps ++ p ∷ []) k (length steps) (undone top xs) p)
+      (take_before steps p)
+      (subst (λ (q : ℕ). IsStacked c test path (steps ++ p ∷ []) k (length steps)
+      (undone top (take (length steps) (steps ++ p ∷ []))) q) last_step
+      (searched.each (length steps) p (omega (arith, stepped)))))
+
+  pub searched_room : (p < length cut) × (get_or cut p 0 < event_count c p)
+  searched_room =
+      let there : p < length (undone top steps) = in_range (undone top steps) p has in
+      let count : length cut ≡ length (undone top steps) =
+      ap length less ∙ length_less (undone top steps) p in
+      let fewer : get_or cut p 0 + 1 ≡ get_or (undone top steps) p 0 =
+      ap (λ (x : List ℕ). get_or x p 0 + 1) less ∙ less_same (undone top steps) p has in
+      let within : get_or (undone top steps) p 0 ≤ event_count c p = last.here.0.fits.within p in
+      (omega arith, omega arith)
+
+  -- one step back up
+  pub searched_pop : IsSearched c test path number k top (one_more cut p) p steps
+  searched_pop =
+      record {
+        at = sym back;
+        above = omega (arith, stepped, searched.above);
+        here = subst (λ (x : List ℕ). IsStacked c test path steps k (length steps) x p) (sym back) last;
+        each = λ i e lt.
+            subst (λ (xs : List ℕ). IsStacked c test path steps k i (undone top xs) (get_or steps i e))
+            (take-append-le i steps (p ∷ []) (omega arith))
+            (subst (λ (q : ℕ). IsStacked c test path steps k i (undone top (take i (steps ++ p ∷ []))) q)
+            (get_or_append_left steps (p ∷ []) e i lt)
+            (kept i (undone top (take i (steps ++ p ∷ []))) (get_or (steps ++ p ∷ []) i e) (omega arith)
+            (searched.each i e (omega (arith, stepped)))));
+        some = λ i e lt.
+            subst (λ (xs : List ℕ). 0 < get_or (undone top xs) (get_or steps i e) 0)
+            (take-append-le i steps (p ∷ []) (omega arith))
+            (subst (λ (q : ℕ). 0 < get_or (undone top (take i (steps ++ p ∷ []))) q 0)
+            (get_or_append_left steps (p ∷ []) e i lt) (searched.some i e (omega (arith, stepped))));
+      }
 
 -- a cut of which each process is tried doesn't avoid
-pub searched_dead : (c : Computation) (test : List ℕ → Bool) (path : List ℕ) (number k : ℕ) (cut : List ℕ) (next : ℕ)
-    (stack : List (List ℕ)) (steps : List ℕ) → IsSearched c test path number k cut next stack steps
+pub searched_dead : (c : Computation) (test : List ℕ → Bool) (path : List ℕ) (number k : ℕ) (top cut : List ℕ)
+    (next : ℕ) (steps : List ℕ) → IsSearched c test path number k top cut next steps
     → NoneLeaves c test cut (length cut) → ¬ IsAvoiding c test (sum cut) cut
-searched_dead c test path number k cut next stack steps searched tried a =
-    let up : sum cut ≡ sum cut - 1 + 1 = omega (arith, searched.above, searched.count, searched.here.level) in
+searched_dead c test path number k top cut next steps searched tried a =
+    let up : sum cut ≡ sum cut - 1 + 1 = omega (arith, searched.above, searched.here.level) in
     let some : (p : ℕ) × (p < length cut) × LeavesAvoiding c test cut p =
     some_undone c test (sum cut - 1) cut (subst (λ (n : ℕ). IsAvoiding c test n cut) up a) in
     tried some.0 some.1 some.2

@@ -1,5 +1,5 @@
 -- What is known in the midst of a search depth first. `test` says whether a cut satisfies.
-use Rattle.std.specs.Prelude.{◌≡◌, ℕ, ◌+◌, ◌<◌, ◌≤◌, Bool, false, List, ◌++◌, length, sum, take, slice_index_or}
+use Rattle.std.specs.Prelude.{◌≡◌, ℕ, ◌+◌, ◌<◌, ◌≤◌, Bool, false, List, [], ◌∷◌, ◌++◌, length, sum, take, slice_index, slice_index_or}
 use Rattle.pd_model.specs.Answers.{LeavesAvoiding}
 use Rattle.pd_model.specs.Cuts.{one_less}
 use Rattle.pd_model.specs.Events.{Computation}
@@ -34,12 +34,19 @@ pub record IsStacked (c : Computation) (test : List ℕ → Bool) (path steps : 
   pub tried : NoneLeaves c test cut p
   pub onward : IsAvoiding c test (sum cut) cut → IsReached c test (path ++ take i steps) cut
 
--- The search is at a cut above the level with this number, and each cut before it is on the stack, with the process
--- that is tried.
-pub record IsSearched (c : Computation) (test : List ℕ → Bool) (path : List ℕ) (number k : ℕ) (cut : List ℕ)
-    (next : ℕ) (stack : List (List ℕ)) (steps : List ℕ) : Type 0 where
-  pub count : length stack ≡ length steps
-  pub above : number + length stack < k
+-- the cut without the last event of each of these processes, one after another
+abbrev pub undone : List ℕ → List ℕ → List ℕ
+undone cut [] = cut
+undone cut (p ∷ steps) = undone (one_less cut p) steps
+
+-- The search is at a cut above the level with this number, which these steps lead to from the top one. At each cut
+-- before it the process of the step is tried.
+pub record IsSearched (c : Computation) (test : List ℕ → Bool) (path : List ℕ) (number k : ℕ) (top cut : List ℕ)
+    (next : ℕ) (steps : List ℕ) : Type 0 where
+  pub at : undone top steps ≡ cut
+  pub above : number + length steps < k
   pub here : IsStacked c test path steps k (length steps) cut next
-  pub each : (i : ℕ) (d : List ℕ) (e : ℕ) → i < length stack
-      → IsStacked c test path steps k i (slice_index_or stack i d) (slice_index_or steps i e)
+  pub each : (i e : ℕ) → i < length steps
+      → IsStacked c test path steps k i (undone top (take i steps)) (slice_index_or steps i e)
+  pub some : (i e : ℕ) → i < length steps
+      → 0 < slice_index (undone top (take i steps)) (slice_index_or steps i e)

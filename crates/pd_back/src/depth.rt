@@ -42,33 +42,30 @@ pub(crate) fn search_down(
     computation.limits();
     let dead_ends = (k - kept.number()).saturating_mul(DEAD_ENDS);
     let mut dead = Vec::new(alloc);
-    let mut stack = Vec::new(alloc);
     let mut steps = Vec::new(alloc);
     let mut cut = same_cut(alloc, top);
     let mut next = 0;
     for _ in 0..u64::MAX {
-        let level = k - stack.len() as u64;
+        let level = k - steps.len() as u64;
         let p = next_step(alloc, computation, pred, kept, &dead, level, &cut, next);
         if p < computation.processes() {
-            let low = without_last(alloc, &cut, p);
             steps.push(p)?;
+            cut.undo(p);
             if level - 1 == kept.number() {
                 path.extend_from_slice(&steps)?;
-                return Ok(Some(low));
+                return Ok(Some(cut));
             }
-            stack.push(cut)?;
-            cut = low;
             next = 0;
             continue;
         }
-        let (Some(above), Some(tried)) = (stack.pop(), steps.pop()) else {
+        let Some(tried) = steps.pop() else {
             return Ok(None);
         };
-        add_dead(&mut dead, cut)?;
+        add_dead(&mut dead, same_cut(alloc, &cut))?;
         if dead.len() as u64 > dead_ends {
             return Ok(None);
         }
-        cut = above;
+        cut.redo(tried);
         next = tried;
     }
     Ok(None)

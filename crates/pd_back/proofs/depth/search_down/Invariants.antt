@@ -9,7 +9,7 @@ abbrev pub invariant-loop : goal.invariant-loop
 invariant-loop l = record {
   dead : AreDead l.computation.events (test_of l.computation (predicate_view l.pred)) l.dead.items;
   searched : IsSearched l.computation.events (test_of l.computation (predicate_view l.pred)) l.fn.path.items
-      l.kept.number l.k l.cut l.next l.stack.items l.steps.items;
+      l.kept.number l.k l.top l.cut l.next l.steps.items;
   within : l.next ≤ length l.cut;
   same : l.path.items ≡ l.fn.path.items;
 }
