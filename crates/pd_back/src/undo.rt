@@ -7,7 +7,6 @@ ghost use Rattle.std.specs.Prelude.{◌≡◌, ◌<◌, ◌≤◌, ◌↔◌, �
 use pd_clock::{Computation, Cut};
 use pd_format::PROCESS_LIMIT;
 use pd_level::Level;
-use smallvec::SmallVec;
 use std::alloc::Global;
 
 /// The cut with all events. It takes no memory.
@@ -37,12 +36,9 @@ pub(crate) fn without_last(alloc: Global, cut: &Cut, p: usize) -> Cut
     requires some { 0 < slice_index cut.now p }
     ensures { result ≡ one_less cut.now p }
 {
-    let mut counts: SmallVec<u64, PROCESS_LIMIT> = SmallVec::from_slice(
-        alloc,
-        cut.counts(),
-    ).unwrap();
-    counts[p] -= 1;
-    Cut::new(alloc, counts.as_slice()).unwrap()
+    let mut low = same_cut(alloc, cut);
+    low.undo(p);
+    low
 }
 
 /// The least process whose last event can be undone so that a cut of the level is left.
