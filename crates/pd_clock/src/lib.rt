@@ -3,9 +3,9 @@
 //! A computation is seen by contracts as what was recorded: the initial values and the events of each process. A cut is
 //! seen as its counts. `build` takes a document with the traces of its processes, and refuses events of which one
 //! happened before itself, with the causal cycle. `before` and `clock` decide happened-before, `sender` gives the send
-//! of a receipt, `consistent` whether counts are those of a cut that is closed under happened-before, and `at` gives
-//! the state there, whose values are looked up by index and computed once for each event. `value` gives one value by
-//! the count of its process alone.
+//! of a receipt, `consistent` whether counts are those of a cut that is closed under happened-before, and `can_undo`
+//! whether a consistent cut stays one without the last event of a process. `at` gives the state at a cut, whose values
+//! are looked up by index and computed once for each event. `value` gives one value by the count of its process alone.
 //!
 //! `has`, `fits`, `clock` and `before` are for programs that ask about single events and cuts: the walks of this
 //! workspace need none of them.
@@ -14,7 +14,7 @@
 //! - `history`: the values of one process's variables after each of its events
 //! - `order`: an order of the events by which each has its clock
 //! - `cycle`: the cycle that is reported where there is no such order
-//! - `clocks`: whether counts have the past of their last events, by clocks
+//! - `clocks`: whether counts have the past of their last events, and which of these can be undone, by clocks
 //! - `computation`: the whole
 //! - `state`: the values at a cut
 //! - `fault`: why there is no computation
