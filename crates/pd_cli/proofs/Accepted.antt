@@ -1,8 +1,11 @@
 -- What is left written of streams that were accepted, by what is left written of streams with these bytes.
-use Rattle.std.proofs.Common.{◌≡◌, ℕ, List, [], length, refl, sym, ap, subst, ◌∙◌, Some, None, Option, true, false, arith}
-use Rattle.std.specs.Prelude.{All, Bool, MatchOption}
+use Rattle.std.proofs.Common.{◌≡◌, ℕ, List, [], length, refl, sym, ap, subst, ◌∙◌, Some, None, Option, true, false, arith, inl, inr}
+use Rattle.std.specs.Prelude.{◌⊎◌, All, Bool, IfErr, IfOk, MatchOption, MatchResult, Result, Ok, Err}
 use Rattle.pd_format.specs.Documents.{Document, DocumentFault, IsDocument, IsRefusedDocument}
 use Rattle.pd_judgement.specs.OneReport.{DocumentNotRefused, OneDocument}
+use Rattle.pd_format.specs.Reports.{Report}
+use Rattle.pd_judgement.specs.Headline.{is_judged}
+use Rattle.pd_judgement.specs.Judgements.{IsJudgement, RawStream, of_read, of_refused}
 use Rattle.pd_judgement.specs.Statuses.{Ending, Success, Negative, Misuse, Failed, MemoryFailure, ReadFailure, WriteFailure, BundleFailure, NetworkFailure, FilesJudgementLeaves, IsTextOfAccepted, OfDocument, ServiceLeaves}
 use Rattle.pd_judgement.specs.Writes.{Whole, IsTextOfStreams}
 use Rattle.pd_judgement.proofs.Writing.{writes_weaker}
@@ -12,7 +15,11 @@ use Rattle.pd_format.specs.PredicateTexts.{PredicateFault}
 use Rattle.pd_spec.specs.Views.{IsFaultOf}
 use Rattle.pd_spec.specs.declared.fault.SpecFault.{SpecFault}
 use Rattle.pd_spec.specs.declared.fault.SpecFault.TheVariants as kinds
-use Rattle.pd_cli.specs.Faults.{is_out_of_memory}
+use Rattle.pd_cli.specs.Faults.{ending_view, is_out_of_memory}
+use Rattle.pd_cli.specs.declared.service_fault.ServiceFault.{ServiceFault}
+use Rattle.pd_cli.specs.declared.service_fault.ServiceFault.TheVariants.{Engine}
+use Rattle.pd_engine.specs.declared.fault.EngineFault.{EngineFault}
+use Rattle.pd_engine.specs.declared.fault.EngineFault.TheVariants.{Memory, Write}
 use Rattle.pd_cli.specs.FileSources.{SameOutline, StandsFor}
 use Rattle.pd_cli.proofs.DocumentPrefixes.{same_document, same_refusal, same_report_text}
 use Rattle.pd_cli.proofs.FilesRead.{of_document, up_to_weaker}
@@ -102,6 +109,55 @@ service_of_judgement document G inputs (Failed WriteFailure) old new are left =
 service_of_judgement document G inputs (Failed BundleFailure) old new are left = left
 service_of_judgement document G inputs (Failed NetworkFailure) old new are left = absurd left
 
+-- ---- how a session ends
+
+-- of accepted streams: memory ran out, or the output failed
+abbrev pub IsJudgementFault : EngineFault → Type 0
+IsJudgementFault fault = (fault ≡ Memory) ⊎ (fault ≡ Write)
+
+abbrev pub IsServiceFault : ServiceFault → Type 0
+IsServiceFault fault = (fault ≡ Engine Memory) ⊎ (fault ≡ Engine Write)
+
+-- a server ends as its judgement does
+pub service_faults : (end : Result Bool EngineFault) (result : Result Bool ServiceFault)
+    → MatchResult end (λ judged. result ≡ Ok judged) (λ fault. result ≡ Err (Engine fault))
+    → IfErr end IsJudgementFault → IfErr result IsServiceFault
+service_faults (Ok judged) result same two =
+    subst (λ (r : Result Bool ServiceFault). IfErr r IsServiceFault) (sym same) tt
+service_faults (Err fault) result same two =
+    subst (λ (r : Result Bool ServiceFault). IfErr r IsServiceFault) (sym same) (go two)
+  where
+    go : IsJudgementFault fault → IsServiceFault (Engine fault)
+    go (inl e) = inl (ap Engine e)
+    go (inr e) = inr (ap Engine e)
+
+pub service_outcome : (end : Result Bool EngineFault) (result : Result Bool ServiceFault)
+    (P : Bool → Type 0) → MatchResult end (λ judged. result ≡ Ok judged) (λ fault. result ≡ Err (Engine fault))
+    → IfOk end P → IfOk result P
+service_outcome (Ok judged) result P same holds =
+    subst (λ (r : Result Bool ServiceFault). IfOk r P) (sym same) holds
+service_outcome (Err fault) result P same holds =
+    subst (λ (r : Result Bool ServiceFault). IfOk r P) (sym same) tt
+
+-- the report of a refused document is its refusal
+refused_report : (document : List ℕ) (streams : List RawStream) (report : Report) (fault : DocumentFault)
+    → DocumentNotRefused → IsRefusedDocument document fault → IsJudgement document streams report
+    → is_judged report ≡ false
+refused_report document streams report fault not_refused refused (of_refused other _ e) = ap is_judged e
+refused_report document streams report fault not_refused refused (of_read read results is _ _) =
+    absurd (not_refused document read fault is refused)
+
+-- so a document that is refused isn't judged
+pub refused_outcome : (document : List ℕ) (inputs : List (Option (List ℕ))) (end : Result Bool EngineFault)
+    (old new : Option (List ℕ)) (fault : DocumentFault) → DocumentNotRefused → IsRefusedDocument document fault
+    → FilesJudgementLeaves (Some document) inputs (ending_view end) old new → IfOk end (λ judged. judged ≡ false)
+refused_outcome document inputs (Err fault) old new refusal not_refused refused left = tt
+refused_outcome document inputs (Ok false) old new refusal not_refused refused left = refl
+refused_outcome document inputs (Ok true) old new refusal not_refused refused left =
+    let text = left.holds.1.is_report_text in
+    let right = subst (λ (d : List ℕ). IsJudgement d left.holds.1.streams text.report) left.whole_document text.right in
+    sym text.said ∙ refused_report document left.holds.1.streams text.report refusal not_refused refused right
+
 -- ---- a document that stands in a file
 
 accepted_of_file : (read document : List ℕ) (G : Option (List ℕ) → Type 0) (judged : Option Bool) (text : List ℕ)
@@ -131,4 +187,8 @@ service_of_file file read G (Failed WriteFailure) old new stands left =
     of_document file read _ _ stands (λ document same. up_to_weaker _ _ old new (λ text.
     accepted_of_file read document G None text same)) left
 service_of_file file read G (Failed BundleFailure) old new stands left = left
-service_of_file file read G (Failed NetworkFailure) old new stands left = left
+service_of_file file read G (Failed NetworkFailure) old new stands left = (
+  of_document file read _ _ stands (λ document same holds.
+      (holds.0, same_document read document holds.0 same holds.1)) left.0,
+  left.1,
+)

@@ -3,7 +3,7 @@ ghost use Rattle.pd_cli.specs.Faults.{ending_view};
 ghost use Rattle.pd_judgement.specs.Judgements.{ended_streams};
 ghost use Rattle.pd_judgement.specs.Statuses.{FilesJudgementLeaves};
 ghost use Rattle.pd_judgement.specs.Writes.{WritesTruth};
-ghost use Rattle.std.specs.Prelude.{◌≡◌, ℕ, List, All, IfOk, Some, false, true, map};
+ghost use Rattle.std.specs.Prelude.{◌≡◌, ◌⊎◌, ℕ, List, All, IfErr, IfOk, Some, false, true, map};
 
 use super::file_source::FileSource;
 use super::outcomes::{WORKERS, is_judged};
@@ -32,6 +32,7 @@ pub(crate) fn judge_read<
     ensures headline { R.never_fails ≡ true → IfOk result (λ judged. (known : List (List ℕ))
         → map R.remaining streams.items ≡ map Some known → WritesTruth spec.now (ended_streams known) (judged ≡ true)
         (O.contents output.old) (O.contents output.new)) }
+    ensures err { IfErr result (λ fault. (fault ≡ EngineFault.Memory) ⊎ (fault ≡ EngineFault.Write)) }
 {
     let outcome = judge(rt, alloc, spec, streams, WORKERS, &NoGate, output)?;
     if output.flush().is_err() {

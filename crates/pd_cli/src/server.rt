@@ -1,10 +1,11 @@
 //! Judges a session whose streams come by connections.
+ghost use Rattle.pd_cli.specs.Arguments.{port_limit};
 ghost use Rattle.pd_cli.specs.Faults.{ending_view, is_out_of_memory, service_ending_view};
 ghost use Rattle.pd_cli.specs.declared.service_fault.ServiceFault.TheVariants as faults;
 ghost use Rattle.pd_format.specs.Documents.{IsDocument};
 ghost use Rattle.pd_judgement.specs.Statuses.{FilesJudgementLeaves, ServiceLeaves};
 ghost use Rattle.pd_spec.specs.Views.{IsFaultOf, document_view};
-ghost use Rattle.std.specs.Prelude.{◌≡◌, ◌⊎◌, ℕ, All, IfErr, IfOk, Some, [], false, length, map};
+ghost use Rattle.std.specs.Prelude.{◌≡◌, ◌≢◌, ◌⊎◌, ◌↔◌, ◌+◌, ◌<◌, ◌≤◌, ℕ, All, Err, IfErr, IfOk, IfSome, IsOk, IsSome, MatchResult, Ok, Some, [], false, length, map, true};
 
 use super::file_source::FileSource;
 use super::judge_files::judge_read;
@@ -28,6 +29,7 @@ use std::thread::Threads;
 /// `Network`, if it can't be bound.
 fn bind<N: Network>(network: &N, port: u16) -> Result<N::Listener, ServiceFault>
     ensures on { IfOk result (λ listener. N.is_on listener port) }
+    ensures sure { N.never_fails ≡ true → IsOk result }
     ensures err { IfErr result (λ fault. fault ≡ faults.Network) }
 {
     match network.bind_port(port) {
@@ -44,6 +46,9 @@ fn bind_watchers<N: Network>(
     network: &N,
     service: &Service<'_>,
 ) -> Result<Option<N::Listener>, ServiceFault>
+    ensures asked { IfOk result (λ listener. IsSome listener ↔ (0 < service.now.watchers)) }
+    ensures on { IfOk result (λ listener. IfSome listener (λ bound. N.is_on bound (service.now.port + 1))) }
+    ensures sure { N.never_fails ≡ true → service.now.port ≤ port_limit → IsOk result }
     ensures err { IfErr result (λ fault. fault ≡ faults.Network) }
 {
     if service.watchers == 0 {
@@ -69,6 +74,7 @@ fn accept_streams<N: Network>(
     ensures given { IfOk result (λ streams. (port : ℕ) → N.is_on listener port
         → All (λ stream. N.may_give network.now port (N.Connection.remaining stream)) streams.items) }
     ensures open { IfOk result (λ streams. All (λ stream. N.Connection.has_ended stream ≡ false) streams.items) }
+    ensures sure { N.never_fails ≡ true → IfErr result (λ fault. fault ≡ faults.Engine EngineFault.Memory) }
     ensures err { IfErr result (λ fault. (fault ≡ faults.Network) ⊎ (fault ≡ faults.Engine EngineFault.Memory)) }
 {
     let mut streams = Vec::new(alloc);
@@ -83,7 +89,8 @@ fn accept_streams<N: Network>(
 
 /// How a server ends by how its judgement ends.
 fn service_end(end: Result<bool, EngineFault>) -> Result<bool, ServiceFault>
-    ensures { service_ending_view result ≡ ending_view end }
+    ensures ending { service_ending_view result ≡ ending_view end }
+    ensures same { MatchResult end (λ judged. result ≡ Ok judged) (λ fault. result ≡ Err (faults.Engine fault)) }
 {
     match end {
         Ok(judged) => Ok(judged),
@@ -110,8 +117,9 @@ fn judge_accepted<
     output: &mut O,
 ) -> Result<bool, EngineFault>
     requires { All (λ stream. R.has_ended stream ≡ false) streams.items }
-    ensures { FilesJudgementLeaves (Some document.now) (map R.remaining streams.items) (ending_view result)
+    ensures written { FilesJudgementLeaves (Some document.now) (map R.remaining streams.items) (ending_view result)
         (O.contents output.old) (O.contents output.new) }
+    ensures err { IfErr result (λ fault. (fault ≡ EngineFault.Memory) ⊎ (fault ≡ EngineFault.Write)) }
 {
     let outcome = judge_watched(
         rt, alloc, document, streams, WORKERS, &NoGate, observer, output,
@@ -137,8 +145,12 @@ fn serve_session<S: RandomSource + Threads + Wait + Sync, N: Network + Sync, O: 
     output: &mut O,
 ) -> Result<bool, ServiceFault>
     requires { IsDocument document.now (document_view spec.now) }
-    ensures { ServiceLeaves (Some document.now) (N.may_give network.now service.now.port)
+    ensures written { ServiceLeaves (Some document.now) (N.may_give network.now service.now.port)
         (service_ending_view result) (O.contents output.old) (O.contents output.new) }
+    // It is a network failure only if a port can't be bound or a stream not be accepted.
+    ensures sure { N.never_fails ≡ true → service.now.port ≤ port_limit → result ≢ Err faults.Network }
+    ensures err { IfErr result (λ fault. (fault ≡ faults.Network) ⊎ (fault ≡ faults.Engine EngineFault.Memory)
+        ⊎ (fault ≡ faults.Engine EngineFault.Write)) }
 {
     one_document();
     let listener = bind(network, service.port)?;
@@ -163,8 +175,9 @@ fn judge_no_streams<S: RandomSource + Threads + Wait + Sync, N: Network, O: Writ
     document: &[u8],
     output: &mut O,
 ) -> Result<bool, EngineFault>
-    ensures { FilesJudgementLeaves (Some document.now) [] (ending_view result)
+    ensures written { FilesJudgementLeaves (Some document.now) [] (ending_view result)
         (O.contents output.old) (O.contents output.new) }
+    ensures err { IfErr result (λ fault. (fault ≡ EngineFault.Memory) ⊎ (fault ≡ EngineFault.Write)) }
 {
     judge_read(
         rt,
@@ -207,8 +220,12 @@ fn refuse_document<S: RandomSource + Threads + Wait + Sync, N: Network, O: Write
     output: &mut O,
 ) -> Result<bool, ServiceFault>
     requires { IsFaultOf document.now fault.now }
-    ensures { (port : ℕ) → ServiceLeaves (Some document.now) (N.may_give _network.now port)
+    ensures written { (port : ℕ) → ServiceLeaves (Some document.now) (N.may_give _network.now port)
         (service_ending_view result) (O.contents output.old) (O.contents output.new) }
+    // Its refusal is the report that is written whole, or the call fails.
+    ensures refused { IfOk result (λ judged. judged ≡ false) }
+    ensures err { IfErr result (λ fault. (fault ≡ faults.Engine EngineFault.Memory)
+        ⊎ (fault ≡ faults.Engine EngineFault.Write)) }
 {
     one_document();
     if is_out_of_memory(fault) {
@@ -239,9 +256,11 @@ pub(crate) fn serve<
     service: &Service<'_>,
     output: &mut O,
 ) -> Result<bool, ServiceFault>
-    ensures { ServiceLeaves (F.bytes_of files.now service.now.spec.now)
+    ensures written { ServiceLeaves (F.bytes_of files.now service.now.spec.now)
         (N.may_give network.now service.now.port) (service_ending_view result) (O.contents output.old)
         (O.contents output.new) }
+    // It is a network failure only if a port can't be bound or a stream not be accepted.
+    ensures sure { N.never_fails ≡ true → service.now.port ≤ port_limit → result ≢ Err faults.Network }
 {
     let file = files.open(service.spec)?;
     let document = read_document(alloc, file)?;

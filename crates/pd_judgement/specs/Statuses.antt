@@ -131,8 +131,12 @@ pub record IsTextOfAccepted (document : List ℕ) (G : Option (List ℕ) → Typ
   pub none_refused : (fault : DocumentFault) → IsRefusedDocument document fault → inputs ≡ []
   pub is_text : IsTextOfStreams document inputs judged text
 
--- The same of a document that stands in a file, and of streams that come by connections. If no port is bound, or a
--- stream isn't accepted: nothing.
+-- the bytes are a document, and aren't refused
+abbrev pub HoldsDocument : List ℕ → Type 0
+HoldsDocument bytes = (document : Document) × IsDocument bytes document
+
+-- The same of a document that stands in a file, and of streams that come by connections. If a port can't be bound, or a
+-- stream not be accepted: nothing; and that comes only of a document that isn't refused.
 abbrev pub ServiceLeaves : (document : Option (List ℕ)) (G : Option (List ℕ) → Type 0) → Ending
     → (old new : Option (List ℕ)) → Type 0
 ServiceLeaves document G Success old new =
@@ -145,7 +149,7 @@ ServiceLeaves document G (Failed ReadFailure) old new = Keeps old new
 ServiceLeaves document G (Failed WriteFailure) old new =
     OfDocument document (λ d. WritesUpTo (IsTextOfAccepted d G None) old new)
 ServiceLeaves document G (Failed BundleFailure) old new = ⊥
-ServiceLeaves document G (Failed NetworkFailure) old new = Keeps old new
+ServiceLeaves document G (Failed NetworkFailure) old new = OfDocument document HoldsDocument × Keeps old new
 
 -- P holds of the bytes of a document and of those of a report, which are all that their files hold, if that is known,
 -- and the report isn't too long.

@@ -43,7 +43,7 @@ impl Bound {
 }
 
 impl Network for Bound {
-    ghost use Rattle.std.specs.Prelude.{⊤};
+    ghost use Rattle.std.specs.Prelude.{⊤, false};
 
     type Listener = TcpListener;
 
@@ -52,6 +52,8 @@ impl Network for Bound {
     ghost may_give = { λ _ _ _. ⊤ };
 
     ghost is_on = { λ _ _. ⊤ };
+
+    ghost never_fails = { false };
 
     fn bind_port(&self, port: u16) -> io::Result<TcpListener> {
         if port == 1 {
@@ -119,7 +121,7 @@ impl Scripted {
 }
 
 impl Network for Scripted {
-    ghost use Rattle.std.specs.Prelude.{⊤};
+    ghost use Rattle.std.specs.Prelude.{⊤, false};
 
     type Listener = u16;
 
@@ -128,6 +130,8 @@ impl Network for Scripted {
     ghost may_give = { λ _ _ _. ⊤ };
 
     ghost is_on = { λ _ _. ⊤ };
+
+    ghost never_fails = { false };
 
     fn bind_port(&self, port: u16) -> io::Result<u16> {
         if port <= self.last_port {

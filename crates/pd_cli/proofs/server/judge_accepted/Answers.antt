@@ -5,8 +5,8 @@ use Rattle.pd_judgement.specs.Writes.{IsTextOfStreams}
 use Rattle.pd_cli.proofs.FlushedTexts.{flushed_up_to, unsaid_of_streams}
 use Rattle.pd_cli.proofs.server.judge_accepted.Goals as goal
 
-pub returns-then-is_err : goal.returns-then-is_err
-returns-then-is_err g c =
+pub returns-then-is_err-clause-written : goal.returns-then-is_err-clause-written
+returns-then-is_err-clause-written g c =
     let inputs = map g.R.ByteSource.remaining c.args.streams.items in
     let judged = Some (outcome_view c.in_ok-outcome.outcome) in
     record {

@@ -1,20 +1,36 @@
 -- A refused document has no streams.
-use Rattle.std.proofs.Common.{[], ◌∙◌, subst, sym}
+use Rattle.std.proofs.Common.{◌≡◌, [], ◌∙◌, false, subst, sym}
 use Rattle.std.specs.Prelude.{Some}
 use Rattle.pd_judgement.specs.Statuses.{Ending, ServiceLeaves}
-use Rattle.pd_cli.proofs.Accepted.{accepted_of_refused, refused_unless_memory, service_of_judgement}
+use Rattle.pd_cli.proofs.Accepted.{accepted_of_refused, refused_outcome, refused_unless_memory, service_faults, service_of_judgement, service_outcome}
 use Rattle.pd_cli.specs.Faults.{ending_view}
 use Rattle.pd_cli.proofs.server.refuse_document.Goals as goal
 
-pub returns : goal.returns
-returns g c port =
+pub returns-clause-written : goal.returns-clause-written
+returns-clause-written g c port =
     let document = c.args.document.now in
     let G = g.N.Network.may_give c.args._network.now port in
     let refused = refused_unless_memory document c.args.fault.now
     (sym c.is_out_of_memory.ensures ∙ c.if-is_out_of_memory.false) c.requires in
     subst (λ (e : Ending). ServiceLeaves (Some document) G e (g.O.Write.contents c.args.output.now)
-    (g.O.Write.contents c.judge_no_streams.new.output)) (sym c.service_end.ensures)
+    (g.O.Write.contents c.judge_no_streams.new.output)) (sym c.service_end.ensures.ending)
     (service_of_judgement document G [] (ending_view c.judge_no_streams.result)
     (g.O.Write.contents c.args.output.now) (g.O.Write.contents c.judge_no_streams.new.output)
     (accepted_of_refused document G refused.0 c.one_document.ensures.not_refused refused.1)
-    c.judge_no_streams.ensures)
+    c.judge_no_streams.ensures.written)
+
+pub returns-clause-refused : goal.returns-clause-refused
+returns-clause-refused g c =
+    let document = c.args.document.now in
+    let refused = refused_unless_memory document c.args.fault.now
+    (sym c.is_out_of_memory.ensures ∙ c.if-is_out_of_memory.false) c.requires in
+    service_outcome c.judge_no_streams.result c.service_end.result (λ judged. judged ≡ false)
+    c.service_end.ensures.same
+    (refused_outcome document [] c.judge_no_streams.result (g.O.Write.contents c.args.output.now)
+    (g.O.Write.contents c.judge_no_streams.new.output) refused.0 c.one_document.ensures.not_refused refused.1
+    c.judge_no_streams.ensures.written)
+
+pub returns-clause-err : goal.returns-clause-err
+returns-clause-err g c =
+    service_faults c.judge_no_streams.result c.service_end.result c.service_end.ensures.same
+    c.judge_no_streams.ensures.err

@@ -6,8 +6,8 @@ use Rattle.pd_cli.proofs.Accepted.{service_of_file}
 use Rattle.pd_cli.proofs.FilesRead.{of_file}
 use Rattle.pd_cli.proofs.server.serve.Goals as goal
 
-pub returns-in-Ok : goal.returns-in-Ok
-returns-in-Ok g c =
+pub returns-in-Ok-clause-written : goal.returns-in-Ok-clause-written
+returns-in-Ok-clause-written g c =
     let file = g.F.FileSource.bytes_of c.args.files.now c.args.service.now.spec.now in
     let left = g.F.File.ByteSource.remaining c.in_ok-file.file in
     let stands : StandsFor c.deref-in-Ok.result.now file =
@@ -17,10 +17,10 @@ returns-in-Ok g c =
     service_of_file file c.deref-in-Ok.result.now
     (g.N.Network.may_give c.args.network.now c.args.service.now.port) (service_ending_view c.serve_session.result)
     (g.O.Write.contents c.args.output.now) (g.O.Write.contents c.serve_session.new.output) stands
-    c.serve_session.ensures
+    c.serve_session.ensures.written
 
-pub returns : goal.returns
-returns g c =
+pub returns-clause-written : goal.returns-clause-written
+returns-clause-written g c =
     let G = g.N.Network.may_give c.args.network.now c.args.service.now.port in
     let file = g.F.FileSource.bytes_of c.args.files.now c.args.service.now.spec.now in
     let left = g.F.File.ByteSource.remaining c.in_ok-file.file in
@@ -30,4 +30,4 @@ returns g c =
     c.in_ok-document.ensures.same) in
     service_of_file file c.deref-in-Err.result.now G (service_ending_view c.refuse_document.result)
     (g.O.Write.contents c.args.output.now) (g.O.Write.contents c.refuse_document.new.output) stands
-    (c.refuse_document.ensures c.args.service.now.port)
+    (c.refuse_document.ensures.written c.args.service.now.port)

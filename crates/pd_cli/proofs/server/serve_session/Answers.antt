@@ -10,8 +10,8 @@ use Rattle.pd_cli.specs.Faults.{ending_view}
 use Rattle.pd_spec.specs.Views.{document_view}
 use Rattle.pd_cli.proofs.server.serve_session.Goals as goal
 
-pub returns : goal.returns
-returns g c =
+pub returns-clause-written : goal.returns-clause-written
+returns-clause-written g c =
     let port = c.args.service.now.port in
     let G = g.N.Network.may_give c.args.network.now port in
     let remaining = g.N.Connection.ByteSource.remaining in
@@ -24,7 +24,7 @@ returns g c =
     let are = accepted_of_read document G (map remaining streams) (document_view c.args.spec.now)
     c.one_document.ensures.single c.one_document.ensures.not_refused c.requires given count in
     subst (λ (e : Ending). ServiceLeaves (Some document) G e (g.O.Write.contents c.args.output.now)
-    (g.O.Write.contents c.judge_accepted.new.output)) (sym c.service_end.ensures)
+    (g.O.Write.contents c.judge_accepted.new.output)) (sym c.service_end.ensures.ending)
     (service_of_judgement document G (map remaining streams) (ending_view c.judge_accepted.result)
     (g.O.Write.contents c.args.output.now) (g.O.Write.contents c.judge_accepted.new.output) are
-    c.judge_accepted.ensures)
+    c.judge_accepted.ensures.written)
