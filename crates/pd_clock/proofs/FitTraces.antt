@@ -3,16 +3,14 @@ use Rattle.std.proofs.Common.{◌≡◌, ℕ, zero, suc, ◌<◌, ◌≤◌, Lis
 use Rattle.std.specs.Prelude.{slice_get, Vec}
 use Rattle.std.specs.Global.{Global}
 use Rattle.std.proofs.lemmas.List.{length-map}
-use Rattle.std.proofs.Math.ListN.{get_or-map}
 use Rattle.pd_model.specs.Events.{Event, events_of, event_count}
 use Rattle.pd_format.specs.Limits.{event_limit, process_limit}
 use Rattle.pd_format.specs.Names.{ProcessNames, vars_of}
 use Rattle.pd_format.specs.ReadingLaws.{FitsProcess}
 use Rattle.pd_spec.specs.Sound.{IsSound, lengths, vars_of_each}
 use Rattle.pd_events.specs.SessionTraces.{AreTraces}
-use Rattle.pd_events.specs.Views.{computation_view, event_view, events_view}
+use Rattle.pd_events.specs.Views.{computation_view}
 use Rattle.pd_events.specs.declared.event.Trace.{Trace}
-use Rattle.pd_events.specs.declared.event.Event.{Event as Happened}
 use Rattle.pd_clock.specs.Histories.{AreVars}
 use Rattle.pd_clock.specs.Computations.{FitsInitial, initial_view}
 use Rattle.pd_clock.specs.States.{values_at}
@@ -42,23 +40,18 @@ row_width (row ∷ rows) (n ∷ names) (suc p) e =
 
 abbrev view_in : Option Trace → List Event
 view_in None = []
-view_in (Some trace) = events_view trace.events.items
+view_in (Some trace) = trace.events
 
 events_at : (traces : List Trace) (p : ℕ) → events_of (computation_view traces) p ≡ view_in (slice_get traces p)
 events_at [] p = refl
 events_at (trace ∷ traces) zero = refl
 events_at (trace ∷ traces) (suc p) = events_at traces p
 
--- what holds of each event as it is seen holds of the events
-known_of_view : (names : List ProcessNames) (p n : ℕ) → length (vars_of names p) ≡ n → (events : List Happened)
-    → All (FitsProcess names p) (events_view events) → All (λ (event : Happened). AreVars n event.sets.items) events
-known_of_view names p n same events fits k d lt =
-    let within : k < length (events_view events) = rw (length-map events event_view) lt in
-    let at : get_or (events_view events) k (event_view d) ≡ event_view (get_or events k d) =
-    get_or-map event_view events k d in
-    let fit : FitsProcess names p (event_view (get_or events k d)) =
-    subst (FitsProcess names p) at (fits k (event_view d) within) in
-    subst (λ (m : ℕ). AreVars m (get_or events k d).sets.items) same fit.known
+-- events set variables that are there
+known_vars : (names : List ProcessNames) (p n : ℕ) → length (vars_of names p) ≡ n → (events : List Event)
+    → All (FitsProcess names p) events → All (λ (event : Event). AreVars n event.sets) events
+known_vars names p n same events fits k d lt =
+    subst (λ (m : ℕ). AreVars m (get_or events k d).sets) same (fits k d lt).known
 
 traces_short : (names : List ProcessNames) (traces : List Trace) → AreTraces names traces → (p : ℕ)
     → event_count (computation_view traces) p ≤ event_limit
@@ -82,7 +75,6 @@ fits_initial names rows predicates width traces sound are = record {
   short = traces_short names traces are;
   vars = λ p trace at.
       let same : trace.process ≡ p = are.process p trace at in
-      known_of_view names p (length (values_at rows p)) (sym (row_width rows names p sound.rows)) trace.events.items
-      (subst (λ (q : ℕ). All (FitsProcess names q) (events_view trace.events.items)) same
-      (are.fit p trace at).events_fit);
+      known_vars names p (length (values_at rows p)) (sym (row_width rows names p sound.rows)) trace.events
+      (subst (λ (q : ℕ). All (FitsProcess names q) trace.events) same (are.fit p trace at).events_fit);
 }

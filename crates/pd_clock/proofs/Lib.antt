@@ -1,5 +1,6 @@
 -- The modules of lemmas of this crate.
 pub mod Rows
+pub mod HistorySteps
 pub mod Parts
 pub mod Lookups
 pub mod PastFacts

@@ -10,7 +10,6 @@ use Rattle.pd_model.specs.Cuts.{FitsProcesses}
 use Rattle.pd_model.specs.Predicates.{last_set_if_there, state_at}
 use Rattle.pd_clock.specs.Histories.{rows_after}
 use Rattle.pd_events.specs.declared.event.Trace.{Trace}
-use Rattle.pd_events.specs.Views.{events_view}
 use Rattle.pd_clock.specs.Computations.{Keeps, initial_view}
 use Rattle.pd_events.specs.Views.{computation_view}
 use Rattle.std.proofs.lemmas.List.{length-map}
@@ -56,7 +55,7 @@ row_there initial traces histories keeps p count le =
     ) (omega arith)
 
 trace_count : (traces : List Trace) → length (computation_view traces) ≡ length traces
-trace_count traces = length-map traces (λ (process : Trace). events_view process.events.items)
+trace_count traces = length-map traces (λ (process : Trace). process.events)
 
 pub is_looked_up : (initial : List (Vec ℤ Global)) (traces : List Trace) (histories : List (Vec ℤ Global))
     → Keeps initial traces histories → (counts : List ℕ) → FitsProcesses (computation_view traces) counts

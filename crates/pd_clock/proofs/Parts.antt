@@ -6,7 +6,6 @@ use Rattle.std.proofs.lemmas.Option.{slice_get_read, slice_get_past}
 use Rattle.pd_model.specs.Events.{events_of}
 use Rattle.pd_model.proofs.ListPrefixes.{get_push_before, get_push_last}
 use Rattle.pd_events.specs.declared.event.Trace.{Trace}
-use Rattle.pd_events.specs.Views.{events_view}
 use Rattle.pd_events.specs.Views.{computation_view}
 use Rattle.pd_clock.specs.States.{values_at, values_in}
 
@@ -40,13 +39,13 @@ get_map_past f (y ∷ xs) zero d le = absurd (omega arith)
 get_map_past f (y ∷ xs) (suc p) d le = get_map_past f xs p d (omega arith)
 
 pub events_read : (traces : List Trace) (p : ℕ) (process : Trace) → p < length traces
-    → process ≡ get_or traces p process → events_of (computation_view traces) p ≡ events_view process.events.items
+    → process ≡ get_or traces p process → events_of (computation_view traces) p ≡ process.events
 events_read traces p process lt is =
-    get_map (λ (other : Trace). events_view other.events.items) traces p process [] (got traces p process lt is)
+    get_map (λ (other : Trace). other.events) traces p process [] (got traces p process lt is)
 
 pub events_past : (traces : List Trace) (p : ℕ) → length traces ≤ p → events_of (computation_view traces) p ≡ []
 events_past traces p le =
-    get_map_past (λ (other : Trace). events_view other.events.items) traces p [] le
+    get_map_past (λ (other : Trace). other.events) traces p [] le
 
 -- the initial values as they are recorded
 pub initial_read : (rows : List (Vec ℤ Global)) (p : ℕ) → get_or (map (λ (row : Vec ℤ Global). row.items) rows) p []

@@ -1,14 +1,13 @@
 -- What the parts of a computation stand for.
 use Rattle.std.specs.Prelude.{◌≡◌, ℕ, ◌≤◌, ◌++◌, List, length, map, All, ℤ, Vec, slice_get, Some}
 use Rattle.std.specs.Global.{Global}
-use Rattle.pd_model.specs.Events.{events_of, event_count}
+use Rattle.pd_model.specs.Events.{Event, events_of, event_count}
 use Rattle.pd_format.specs.Limits.{event_limit, process_limit}
 use Rattle.pd_model.specs.Predicates.{Initial, Recorded}
 use Rattle.pd_clock.specs.States.{values_at}
 use Rattle.pd_clock.specs.Histories.{AreVars, rows_after}
 use Rattle.pd_events.specs.Views.{computation_view}
 use Rattle.pd_events.specs.declared.event.Trace.{Trace}
-use Rattle.pd_events.specs.declared.event.Event.{Event as Happened}
 
 -- the initial values of each process
 abbrev pub initial_view : List (Vec ℤ Global) → Initial
@@ -25,7 +24,7 @@ pub record FitsInitial (initial : List (Vec ℤ Global)) (traces : List Trace) :
   pub few : length traces ≤ process_limit
   pub short : (p : ℕ) → event_count (computation_view traces) p ≤ event_limit
   pub vars : (p : ℕ) (process : Trace) → slice_get traces p ≡ Some process
-      → All (λ (event : Happened). AreVars (length (values_at initial p)) event.sets.items) process.events.items
+      → All (λ (event : Event). AreVars (length (values_at initial p)) event.sets) process.events
 
 -- the history of each process: its initial values and the row after each event
 pub record Keeps (initial : List (Vec ℤ Global)) (traces : List Trace) (histories : List (Vec ℤ Global)) : Type 0 where

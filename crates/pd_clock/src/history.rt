@@ -1,36 +1,40 @@
 //! The values of one process's variables after each of its events.
 ghost use Rattle.pd_clock.specs.Histories.{AreVars, row_after, rows_after};
-ghost use Rattle.pd_events.specs.Views.{event_view};
-ghost use Rattle.std.specs.Prelude.{◌≡◌, ◌++◌, All, IfOk, length, map};
+ghost use Rattle.pd_model.specs.Events.{Event};
+ghost use Rattle.std.specs.Prelude.{◌≡◌, ◌++◌, ◌<◌, All, IfOk, length, slice_set};
 
-use pd_events::Event;
+use pd_events::{Events, Settings};
 use std::alloc::{AllocError, Global};
 
 /// The row of values before the first event, and the row after each event, one after another.
-pub(crate) fn history(
-    alloc: Global,
-    start: &[i64],
-    events: &[Event],
-) -> Result<Vec<i64>, AllocError>
-    requires { All (λ event. AreVars (length start.now) event.sets.items) events.now }
-    ensures { IfOk result (λ values. values.items
-        ≡ start.now ++ rows_after start.now (map (λ event. event_view event) events.now)) }
+pub(crate) fn history(alloc: Global, start: &[i64], events: &Events) -> Result<Vec<i64>, AllocError>
+    requires { All (λ (event : Event). AreVars (length start.now) event.sets) events.now }
+    ensures { IfOk result (λ values. values.items ≡ start.now ++ rows_after start.now events.now) }
 {
     let mut row = start.to_vec(alloc)?;
     let mut values = start.to_vec(alloc)?;
-    for event in events {
-        apply(&mut row, &event.sets);
+    for k in 0..events.len() {
+        apply(&mut row, &events.settings(k));
         values.extend_from_slice(&row)?;
     }
     Ok(values)
 }
 
 /// Makes the settings, one after another.
-fn apply(row: &mut [i64], sets: &[(usize, i64)])
-    requires { AreVars (length row.old) sets.now }
-    ensures { row.new ≡ row_after row.old sets.now }
+fn apply(row: &mut Vec<i64>, settings: &Settings<'_>)
+    requires { AreVars (length row.old.items) settings.now }
+    ensures { row.new.items ≡ row_after row.old.items settings.now }
 {
-    for &(var, value) in sets {
-        row[var] = value;
+    for i in 0..settings.len() {
+        put(row, settings.get(i));
     }
+}
+
+/// Makes a setting.
+fn put(row: &mut Vec<i64>, setting: (usize, i64))
+    requires { setting.0 < length row.old.items }
+    ensures { row.new.items ≡ slice_set row.old.items setting.0 setting.1 }
+{
+    let (var, value) = setting;
+    row[var] = value;
 }

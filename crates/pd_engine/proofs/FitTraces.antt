@@ -17,7 +17,7 @@ use Rattle.pd_format.specs.Sessions.{SessionFault, StreamResult, session}
 use Rattle.pd_format.specs.Readings as readings
 use Rattle.pd_format.specs.Reports as reports
 use Rattle.pd_format.specs.Reports.{Refusal, Refused}
-use Rattle.pd_events.specs.Views.{computation_view, events_view}
+use Rattle.pd_events.specs.Views.{computation_view}
 use Rattle.pd_events.specs.declared.event.Trace.{Trace}
 use Rattle.pd_events.specs.SessionTraces.{AreTraces}
 use Rattle.pd_gather.specs.Views.{traces_view}
@@ -28,7 +28,7 @@ use Rattle.pd_engine.specs.Computations.{AreWellFormed}
 
 same_events : (traces : List Trace) → computation_view traces ≡ events_of_traces (traces_view traces)
 same_events [] = refl
-same_events (trace ∷ traces) = ap (λ (c : Computation). events_view trace.events.items ∷ c) (same_events traces)
+same_events (trace ∷ traces) = ap (λ (c : Computation). trace.events ∷ c) (same_events traces)
 
 pub same_recorded : (document : Document) (traces : List Trace) → recorded_view document.initial traces
     ≡ judgements.recorded_of document (traces_view traces)
@@ -38,7 +38,7 @@ same_recorded document traces =
 
 pub traces_length : (names : List ProcessNames) (traces : List Trace) → AreTraces names traces
     → length (computation_view traces) ≡ length names
-traces_length names traces are = length-map traces (λ (trace : Trace). events_view trace.events.items) ∙ are.one_each
+traces_length names traces are = length-map traces (λ (trace : Trace). trace.events) ∙ are.one_each
 
 -- ---- the reports of traces
 

@@ -1,5 +1,6 @@
 -- The modules of lemmas of this crate.
 pub mod FieldViews
+pub mod ColumnFacts
 pub mod StatementFacts
 pub mod RecordFacts
 pub mod ReaderSteps

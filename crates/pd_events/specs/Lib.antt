@@ -1,5 +1,6 @@
 pub mod Faults
 pub mod Statements
+pub mod Columns
 pub mod Views
 pub mod Progress
 pub mod Reads

@@ -3,8 +3,7 @@ use Rattle.std.specs.Prelude.{ℕ, List, Option, Some, None, option_map}
 use Rattle.pd_model.specs.Events as events
 use Rattle.pd_format.specs.Records as records
 use Rattle.pd_format.specs.Readings.{Reading, Stop, NothingMore, EndLine, Fault, InRecord, StreamKind}
-use Rattle.pd_events.specs.Views.{events_view, stream_kind_view}
-use Rattle.pd_events.specs.declared.event.Event.{Event}
+use Rattle.pd_events.specs.Views.{stream_kind_view}
 use Rattle.pd_events.specs.declared.fault.StreamFault.{StreamFault}
 use Rattle.pd_events.specs.declared.progress.Join.{Join}
 use Rattle.pd_events.specs.declared.progress.Phase.{Phase}
@@ -35,8 +34,8 @@ stop_of (Joined join) = NothingMore
 stop_of (Ended join) = EndLine
 stop_of (Faulted joined fault) = Fault fault.line (stream_kind_view fault.kind)
 
-abbrev pub reading_view : Phase → List Event → Reading
-reading_view phase events = record { joined = joined_of phase; events = events_view events; stop = stop_of phase }
+abbrev pub reading_view : Phase → List events.Event → Reading
+reading_view phase events = record { joined = joined_of phase; events = events; stop = stop_of phase }
 
 abbrev pub open_reading : Option (ℕ × ℕ) → List events.Event → Reading
 open_reading joined events = record { joined = joined; events = events; stop = NothingMore }

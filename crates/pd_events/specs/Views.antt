@@ -25,18 +25,15 @@ kind_view (kinds.Recv id) = events.Receive (string_bytes id)
 abbrev pub event_view : Event → events.Event
 event_view event = record { kind = kind_view event.kind; sets = event.sets.items }
 
-abbrev pub events_view : List Event → List events.Event
-events_view all = map event_view all
-
 -- the events of each trace
 abbrev pub computation_view : List Trace → events.Computation
-computation_view traces = map (λ (process : Trace). events_view process.events.items) traces
+computation_view traces = map (λ (process : Trace). process.events) traces
 
 abbrev pub trace_view : Trace → readings.Trace
 trace_view trace = record {
   process = trace.process;
   join_line = trace.join_line;
-  events = events_view trace.events.items;
+  events = trace.events;
 }
 
 abbrev pub record_view : LineRecord → records.LineRecord

@@ -1,4 +1,5 @@
 //! Events, traces and records.
+use super::Events;
 
 /// What kind of event it is.
 #[derive(Debug, PartialEq, Eq, Drop)]
@@ -22,14 +23,14 @@ pub struct Event {
 }
 
 /// The events of a process.
-#[derive(Debug, PartialEq, Eq, Drop)]
+#[derive(Drop)]
 pub struct Trace {
     /// The process, counted from 0.
     pub process: usize,
     /// The number of the line in which it joined, counted from 1.
     pub join_line: u64,
     /// Its events in their order, at most 10,000.
-    pub events: Vec<Event>,
+    pub events: Events,
 }
 
 /// What a line says.

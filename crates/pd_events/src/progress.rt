@@ -1,5 +1,6 @@
 //! How far the lines of a stream have been read.
-ghost use Rattle.std.specs.Prelude.{◌≡◌, List, ◌++◌, length, option_map, Ok, IfOk, OnErr, OnOk};
+ghost use Rattle.std.specs.Prelude.{◌≡◌, List, length, option_map, take, Ok, IfOk, OnErr, OnOk};
+ghost use Rattle.pd_model.specs.Events as events;
 ghost use Rattle.pd_frames.specs.Views.{line_view, lines_view};
 ghost use Rattle.pd_format.specs.Readings.{IsClosed, NothingMore, with_end};
 ghost use Rattle.std.specs.Bool.{OnFalse, OnTrue};
@@ -7,11 +8,11 @@ ghost use Rattle.pd_format.specs.ReadingLaws.{after_record, read_line, read_on, 
 ghost use Rattle.pd_spec.specs.Views.{document_view};
 ghost use Rattle.pd_events.specs.Faults.{record_fault_view};
 ghost use Rattle.pd_events.specs.Progress.{in_record, joined_of, joined_view, open_reading, reading_view, stop_of, stop_of_fault};
-ghost use Rattle.pd_events.specs.Views.{events_view, record_view, stream_kind_view};
+ghost use Rattle.pd_events.specs.Views.{record_view, stream_kind_view};
 
 use super::record::next_record;
 use super::room::Room;
-use super::{Event, LineRecord, RecordFault, StreamFault, StreamKind};
+use super::{Events, LineRecord, RecordFault, StreamFault, StreamKind};
 use pd_format::EVENT_LIMIT;
 use pd_frames::Line;
 use pd_spec::Spec;
@@ -65,7 +66,7 @@ impl Phase {
 
     /// The same phase with this fault after it, if there is one and the stream hasn't stopped before.
     fn with_fault(self, following: Option<StreamFault>) -> Phase
-        ensures { (events : List Event) → reading_view result events
+        ensures { (events : List events.Event) → reading_view result events
             ≡ with_end (stop_of_fault following) (reading_view self events) }
     {
         match (self, following) {
@@ -92,18 +93,17 @@ fn kind_of(fault: RecordFault) -> Option<StreamKind>
     }
 }
 
-/// Takes a record, after this many events; an event is added to the new ones.
+/// Takes a record. An event is added to those of the stream.
 fn take_record(
     joined: Option<Join>,
-    kept: usize,
-    new: &mut Vec<Event>,
+    events: &mut Events,
     number: u64,
     given: LineRecord,
 ) -> Result<Phase, AllocError>
-    ensures { IfOk result (λ phase. (events : List Event) → length events ≡ kept →
-        reading_view phase (events ++ new.new.items)
-        ≡ after_record (joined_view joined) (open_reading (joined_view joined) (events_view (events ++ new.old.items)))
+    ensures after { IfOk result (λ phase. reading_view phase events.new
+        ≡ after_record (joined_view joined) (open_reading (joined_view joined) events.old)
         number (Ok (record_view given))) }
+    ensures keeps { take (length events.old) events.new ≡ events.old }
 {
     let fault = |kind| Phase::Faulted(joined, StreamFault { line: number, kind });
     match (joined, given) {
@@ -114,30 +114,29 @@ fn take_record(
         (None, LineRecord::Happened(_) | LineRecord::Finish) => Ok(fault(StreamKind::Join)),
         (Some(_), LineRecord::Join(_)) => Ok(fault(StreamKind::Join)),
         (Some(join), LineRecord::Happened(event)) => {
-            if kept >= EVENT_LIMIT || new.len() >= EVENT_LIMIT - kept {
+            if events.len() >= EVENT_LIMIT {
                 return Ok(fault(StreamKind::Events));
             }
-            new.push(event)?;
+            events.push(&event)?;
             Ok(Phase::Joined(join))
         }
         (Some(join), LineRecord::Finish) => Ok(Phase::Ended(join)),
     }
 }
 
-/// Takes a line, after this many events. What has stopped stays as it is.
+/// Takes a line. What has stopped stays as it is.
 fn take_line(
     alloc: Global,
     spec: &Spec,
     room: &mut Room,
     phase: Phase,
-    kept: usize,
-    new: &mut Vec<Event>,
+    events: &mut Events,
     line: &Line<'_>,
 ) -> Result<Phase, AllocError>
-    ensures { IfOk result (λ after. (old : List Event) → length old ≡ kept →
-        reading_view after (old ++ new.new.items)
-        ≡ unless_stopped (stop_of phase) (reading_view phase (old ++ new.old.items))
-        (read_line (document_view spec.now).names (reading_view phase (old ++ new.old.items)) (line_view line.now))) }
+    ensures after { IfOk result (λ after. reading_view after events.new
+        ≡ unless_stopped (stop_of phase) (reading_view phase events.old)
+        (read_line (document_view spec.now).names (reading_view phase events.old) (line_view line.now))) }
+    ensures keeps { take (length events.old) events.new ≡ events.old }
 {
     if phase.is_closed() {
         return Ok(phase);
@@ -145,7 +144,7 @@ fn take_line(
     let joined = phase.join();
     let process = joined.map(|join| join.process);
     match next_record(alloc, spec, room, process, line.bytes.as_slice()) {
-        Ok(record) => take_record(joined, kept, new, line.number, record),
+        Ok(record) => take_record(joined, events, line.number, record),
         Err(fault) => {
             let kind = kind_of(fault).ok_or(AllocError)?;
             Ok(Phase::Faulted(
@@ -159,13 +158,34 @@ fn take_line(
     }
 }
 
+/// Takes these lines, from this phase on. If memory runs out, the events have some of theirs after those that they
+/// had.
+fn take_each(
+    alloc: Global,
+    spec: &Spec,
+    start: Phase,
+    events: &mut Events,
+    lines: &[Line<'_>],
+) -> Result<Phase, AllocError>
+    ensures after { IfOk result (λ after. reading_view after events.new
+        ≡ read_on (document_view spec.now).names (reading_view start events.old) (lines_view lines.now)) }
+    ensures keeps { take (length events.old) events.new ≡ events.old }
+{
+    let mut phase = start;
+    let mut room = Room::new(alloc);
+    for line in lines {
+        phase = take_line(alloc, spec, &mut room, phase, events, line)?;
+    }
+    Ok(phase)
+}
+
 /// How far the lines of a stream have been read.
 #[derive(Drop)]
 pub struct Progress {
     /// Where the stream is.
     pub phase: Phase,
     /// The events so far.
-    pub events: Vec<Event>,
+    pub events: Events,
 }
 
 impl Progress {
@@ -180,29 +200,30 @@ impl Progress {
         lines: &[Line<'_>],
         following: Option<StreamFault>,
     ) -> Result<(), AllocError>
-        ensures ok { OnOk result (reading_view self.new.phase self.new.events.items
+        ensures ok { OnOk result (reading_view self.new.phase self.new.events
             ≡ with_end (stop_of_fault following)
-            (read_on (document_view spec.now).names (reading_view self.old.phase self.old.events.items)
+            (read_on (document_view spec.now).names (reading_view self.old.phase self.old.events)
             (lines_view lines.now))) }
-        ensures err { OnErr result (reading_view self.new.phase self.new.events.items
-            ≡ reading_view self.old.phase self.old.events.items) }
+        ensures err { OnErr result (reading_view self.new.phase self.new.events
+            ≡ reading_view self.old.phase self.old.events) }
     {
-        let mut phase = self.phase;
-        let mut new = Vec::new(alloc);
-        let mut room = Room::new(alloc);
         let kept = self.events.len();
-        for line in lines {
-            phase = take_line(alloc, spec, &mut room, phase, kept, &mut new, line)?;
+        match take_each(alloc, spec, self.phase, &mut self.events, lines) {
+            Ok(phase) => {
+                self.phase = phase.with_fault(following);
+                Ok(())
+            }
+            Err(refused) => {
+                self.events.truncate(kept);
+                Err(refused)
+            }
         }
-        self.events.append(&mut new)?;
-        self.phase = phase.with_fault(following);
-        Ok(())
     }
 
     /// Takes the fault after the lines, if there is one and the stream hasn't stopped before.
     pub fn end_by(&mut self, following: Option<StreamFault>)
-        ensures { reading_view self.new.phase self.new.events.items
-            ≡ with_end (stop_of_fault following) (reading_view self.old.phase self.old.events.items) }
+        ensures { reading_view self.new.phase self.new.events
+            ≡ with_end (stop_of_fault following) (reading_view self.old.phase self.old.events) }
     {
         self.phase = self.phase.with_fault(following);
     }

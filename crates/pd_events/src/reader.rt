@@ -11,7 +11,7 @@ ghost use Rattle.pd_events.specs.Reads.{Reads, stop_of_frame};
 ghost use Rattle.pd_events.specs.Views.{result_view, state_view, trace_view};
 
 use super::progress::{Phase, Progress};
-use super::{StreamFault, StreamKind, StreamState, Trace};
+use super::{Events, StreamFault, StreamKind, StreamState, Trace};
 use pd_frames::{FrameFault, Framer, has_line_feed};
 use pd_spec::Spec;
 use std::alloc::{AllocError, Global};
@@ -63,7 +63,7 @@ impl<'spec> Model for TraceReader<'spec> {
     ghost view = { λ r. record {
       names = (document_view r.spec.now).names;
       framer = r.framer;
-      reading = reading_view r.progress.phase r.progress.events.items;
+      reading = reading_view r.progress.phase r.progress.events;
     } };
 
     ghost use Rattle.std.specs.Prelude.{◌≡◌, false};
@@ -84,7 +84,7 @@ impl<'spec> TraceReader<'spec> {
             framer: Framer::new(alloc),
             progress: Progress {
                 phase: Phase::Fresh,
-                events: Vec::new(alloc),
+                events: Events::new(alloc),
             },
         }
     }

@@ -2,8 +2,8 @@
 ghost use Rattle.std.specs.Prelude.{◌<◌};
 
 use super::{
-    EventKind, LineRecord, RecordFault, StreamFault, StreamKind, StreamState, Trace, TraceReader,
-    read_record,
+    EventKind, Kind, LineRecord, RecordFault, StreamFault, StreamKind, StreamState, Trace,
+    TraceReader, read_record,
 };
 use pd_format::{EVENT_LIMIT, LINE_BYTE_LIMIT};
 use pd_spec::Spec;
@@ -61,8 +61,9 @@ fn cuts_do_not_matter(rt: HostRuntime) -> Result<(), Fail> {
         };
         assert_eq!(rt; (trace.process, trace.join_line), (1, 2));
         assert_eq!(rt; trace.events.len(), 2);
-        assert_eq!(rt; trace.events[0].sets.as_slice(), [(0, -7)].as_slice());
-        assert_eq!(rt; trace.events[1].sets.len(), 0);
+        assert_eq!(rt; trace.events.settings(0).len(), 1);
+        assert_eq!(rt; trace.events.settings(0).get(0), (0, -7));
+        assert_eq!(rt; trace.events.settings(1).len(), 0);
     }
     Ok(())
 }
@@ -132,9 +133,10 @@ fn messages_are_read(rt: HostRuntime) -> Result<(), Fail> {
         return Err(Fail::from("no trace"));
     };
     assert_eq!(rt; trace.events.len(), 2);
-    assert!(rt; matches!(&trace.events[0].kind, EventKind::Send(id) if id.as_str() == "m"));
-    assert_eq!(rt; trace.events[0].sets.as_slice(), [(1, 3)].as_slice());
-    assert!(rt; matches!(&trace.events[1].kind, EventKind::Recv(id) if id.as_str() == longest));
+    assert!(rt; matches!(trace.events.kind(0), Kind::Send(id) if id == b"m".as_slice()));
+    assert_eq!(rt; trace.events.settings(0).len(), 1);
+    assert_eq!(rt; trace.events.settings(0).get(0), (1, 3));
+    assert!(rt; matches!(trace.events.kind(1), Kind::Recv(id) if id == longest.as_bytes()));
     Ok(())
 }
 

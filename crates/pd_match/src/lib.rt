@@ -12,6 +12,7 @@
 //! - `fault`: why the events can't be matched
 //! - `sender`: the send of an event, as the table of senders keeps it
 //! - `matched`: the messages
+//! - `kinds`: the kinds of events, by process and index
 //! - `noting`: notes at which places ids stand
 //! - `sending`: the first pass, over the sends
 //! - `receiving`: the second pass, over the receipts
@@ -19,6 +20,7 @@
 #![tactic(auto)]
 
 mod fault;
+mod kinds;
 mod matched;
 mod matching;
 mod noting;

@@ -32,7 +32,7 @@ fn count_of(marks: &[bool]) -> u64
 fn match_receipts<'a, S: BuildHasher>(
     alloc: Global,
     traces: &'a [Trace],
-    sends: &IndexMap<&'a str, Place, S>,
+    sends: &IndexMap<&'a [u8], Place, S>,
 ) -> Result<Matched, MatchFault>
     requires { HasAll Send (computation_view traces.now) (place_noted sends.now) }
     ensures lawful { IfOk result (λ matched. HasLawfulMessages (computation_view traces.now)) }

@@ -11,8 +11,8 @@ use std::hash::BuildHasher;
 
 /// Notes the place where an id stands. Whether one was noted before.
 pub(crate) fn note<'a, S: BuildHasher>(
-    places: &mut IndexMap<&'a str, Place, S>,
-    id: &'a str,
+    places: &mut IndexMap<&'a [u8], Place, S>,
+    id: &'a [u8],
     here: Place,
 ) -> Result<bool, AllocError>
     ensures before { IfOk result (λ before. before ≡ is_some (place_noted places.old id.now)) }

@@ -9,18 +9,19 @@ ghost use Rattle.pd_model.specs.Events.{Send, event_count};
 ghost use Rattle.pd_model.specs.Messages.{IsMessage, IsReported};
 ghost use Rattle.std.specs.Prelude.{◌≡◌, ◌≢◌, ◌+◌, ◌<◌, ◌↔◌, ◌||◌, ℕ, IfErr, IfOk, IfSome, List, OnOk, Some, bytes_eq, false, length, option_map, suc};
 
+use super::kinds::kind_of;
 use super::sender::Sender;
 use super::{MatchFault, Place};
 use indexmap::IndexMap;
-use pd_events::{EventKind, Trace};
+use pd_events::{Kind, Trace};
 use std::alloc::Global;
 use std::hash::BuildHasher;
 
 /// The send of the receipt of this id, which stands here. Its mark is set: each send has one, with the send's index.
 fn match_receipt<'a, S: BuildHasher>(
-    sends: &IndexMap<&'a str, Place, S>,
+    sends: &IndexMap<&'a [u8], Place, S>,
     received: &mut Vec<bool>,
-    id: &'a str,
+    id: &'a [u8],
     here: Place,
 ) -> Result<Place, MatchFault>
     requires { length received.old.items ≡ index_map_len sends.now }
@@ -56,7 +57,7 @@ fn sender_of<'a, S: BuildHasher>(
     traces: &'a [Trace],
     p: usize,
     n: usize,
-    sends: &IndexMap<&'a str, Place, S>,
+    sends: &IndexMap<&'a [u8], Place, S>,
     received: &mut Vec<bool>,
 ) -> Result<Option<Place>, MatchFault>
     requires process { p < length traces.now }
@@ -77,9 +78,9 @@ fn sender_of<'a, S: BuildHasher>(
     ensures fault { IfErr result (λ reported.
         IfSome (match_fault_view reported) (λ fault. IsReported (computation_view traces.now) fault)) }
 {
-    match &traces[p].events[n].kind {
-        EventKind::Recv(id) => {
-            let send = match_receipt(sends, received, id.as_str(), Place::of_event(p, n))?;
+    match kind_of(traces, p, n) {
+        Kind::Recv(id) => {
+            let send = match_receipt(sends, received, id, Place::of_event(p, n))?;
             Ok(Some(send))
         }
         _ => Ok(None),
@@ -91,7 +92,7 @@ pub(crate) fn senders_in<'a, S: BuildHasher>(
     alloc: Global,
     traces: &'a [Trace],
     p: usize,
-    sends: &IndexMap<&'a str, Place, S>,
+    sends: &IndexMap<&'a [u8], Place, S>,
     received: &mut Vec<bool>,
 ) -> Result<Vec<Sender>, MatchFault>
     requires process { p < length traces.now }

@@ -6,10 +6,11 @@ ghost use Rattle.pd_model.specs.Events.{Send, event_count};
 ghost use Rattle.pd_model.specs.Messages.{IsReported};
 ghost use Rattle.std.specs.Prelude.{◌<◌, IfErr, IfOk, IfSome, OnOk, length, suc};
 
+use super::kinds::kind_of;
 use super::noting::note;
 use super::{MatchFault, Place};
 use indexmap::IndexMap;
-use pd_events::{EventKind, Trace};
+use pd_events::{Kind, Trace};
 use std::alloc::Global;
 use std::hash::BuildHasher;
 
@@ -18,7 +19,7 @@ fn note_send<'a, S: BuildHasher>(
     traces: &'a [Trace],
     p: usize,
     n: usize,
-    sends: &mut IndexMap<&'a str, Place, S>,
+    sends: &mut IndexMap<&'a [u8], Place, S>,
 ) -> Result<(), MatchFault>
     requires process { p < length traces.now }
     requires event { n < event_count (computation_view traces.now) p }
@@ -28,9 +29,9 @@ fn note_send<'a, S: BuildHasher>(
     ensures fault { IfErr result (λ reported.
         IfSome (match_fault_view reported) (λ fault. IsReported (computation_view traces.now) fault)) }
 {
-    if let EventKind::Send(id) = &traces[p].events[n].kind {
+    if let Kind::Send(id) = kind_of(traces, p, n) {
         let here = Place::of_event(p, n);
-        if note(sends, id.as_str(), here)? {
+        if note(sends, id, here)? {
             return Err(MatchFault::SendTwice(here));
         }
     }
@@ -41,7 +42,7 @@ fn note_send<'a, S: BuildHasher>(
 fn note_sends<'a, S: BuildHasher>(
     traces: &'a [Trace],
     p: usize,
-    sends: &mut IndexMap<&'a str, Place, S>,
+    sends: &mut IndexMap<&'a [u8], Place, S>,
 ) -> Result<(), MatchFault>
     requires process { p < length traces.now }
     requires before { HasBefore Send (computation_view traces.now) (event_place p 0) (place_noted sends.old) }
@@ -64,7 +65,7 @@ pub(crate) fn sends_of<'a, S: BuildHasher + Drop>(
     alloc: Global,
     traces: &'a [Trace],
     hasher: S,
-) -> Result<IndexMap<&'a str, Place, S>, MatchFault>
+) -> Result<IndexMap<&'a [u8], Place, S>, MatchFault>
     ensures noted { IfOk result (λ sends. HasAll Send (computation_view traces.now) (place_noted sends)) }
     ensures fault { IfErr result (λ reported.
         IfSome (match_fault_view reported) (λ fault. IsReported (computation_view traces.now) fault)) }

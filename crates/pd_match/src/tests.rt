@@ -1,7 +1,7 @@
 //! Small sessions whose messages and faults are known.
 use super::{MatchFault, Matched, Place, match_messages};
 use Said::{Local, Recv, Send};
-use pd_events::{Event, EventKind, Trace};
+use pd_events::{Event, EventKind, Events, Trace};
 use std::alloc::{AllocError, Global};
 use std::io;
 use std::random::RandomSource;
@@ -15,7 +15,7 @@ enum Said {
 }
 
 fn trace_of(alloc: Global, process: usize, said: &[Said]) -> Result<Trace, AllocError> {
-    let mut events = Vec::new(alloc);
+    let mut events = Events::new(alloc);
     for what in said {
         let kind = match *what {
             Local => EventKind::Local,
@@ -23,7 +23,7 @@ fn trace_of(alloc: Global, process: usize, said: &[Said]) -> Result<Trace, Alloc
             Recv(id) => EventKind::Recv(String::from_str(alloc, id)?),
         };
         let sets = Vec::new(alloc);
-        events.push(Event { kind, sets })?;
+        events.push(&Event { kind, sets })?;
     }
     Ok(Trace {
         process,

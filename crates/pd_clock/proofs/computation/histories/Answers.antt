@@ -2,23 +2,21 @@
 use Rattle.std.proofs.Common.{◌≡◌, ℕ, ◌<◌, ◌≤◌, ◌++◌, List, [], ◌∷◌, length, length-append, refl, sym, ap, ◌∙◌, arith, subst, below_more, inl, inr, ◌⊎◌}
 use Rattle.std.specs.Prelude.{All}
 use Rattle.std.proofs.lemmas.Bool.{cases_lt}
-use Rattle.pd_model.specs.Events.{events_of}
+use Rattle.pd_model.specs.Events.{Event, events_of}
 use Rattle.pd_clock.specs.Histories.{AreVars, rows_after}
 use Rattle.pd_events.specs.declared.event.Trace.{Trace}
-use Rattle.pd_events.specs.declared.event.Event.{Event as Happened}
-use Rattle.pd_events.specs.Views.{events_view}
 use Rattle.pd_events.specs.Views.{computation_view}
 use Rattle.pd_clock.specs.States.{values_at}
 use Rattle.pd_clock.proofs.Parts.{got, values_read, values_before, values_last, values_past, events_read, events_past}
 use Rattle.pd_clock.proofs.computation.histories.Goals as goal
 
 -- what holds of each event's settings holds of them by other names
-moved : (vars other : ℕ) (events others : List Happened) → vars ≡ other → events ≡ others
-    → All (λ (event : Happened). AreVars vars event.sets.items) events
-    → All (λ (event : Happened). AreVars other event.sets.items) others
+moved : (vars other : ℕ) (events others : List Event) → vars ≡ other → events ≡ others
+    → All (λ (event : Event). AreVars vars event.sets) events
+    → All (λ (event : Event). AreVars other event.sets) others
 moved vars other events others e f h =
-    subst (λ (n : ℕ). All (λ (event : Happened). AreVars n event.sets.items) others) e
-    (subst (λ (xs : List Happened). All (λ (event : Happened). AreVars vars event.sets.items) xs) f h)
+    subst (λ (n : ℕ). All (λ (event : Event). AreVars n event.sets) others) e
+    (subst (λ (xs : List Event). All (λ (event : Event). AreVars vars event.sets) xs) f h)
 
 pub history-requires : goal.history-requires
 history-requires c =
@@ -27,9 +25,8 @@ history-requires c =
     let row : values_at c.args.initial.now c.loop-p.p ≡ c.index-initial-p.result.items =
     values_read c.args.initial.now c.loop-p.p c.index-initial-p.result there c.index-initial-p.is in
     moved (length (values_at c.args.initial.now c.loop-p.p)) (length c.deref.result.now)
-    c.index-traces-p.result.events.items c.deref-in-loop-p.result.now
-    (ap length (row ∙ sym c.deref.ensures.value)) (ap (λ (t : Trace). t.events.items) c.index-traces-p.is
-    ∙ sym c.deref-in-loop-p.ensures.value)
+    c.index-traces-p.result.events _
+    (ap length (row ∙ sym c.deref.ensures.value)) (ap (λ (t : Trace). t.events) c.index-traces-p.is)
     (c.requires.vars c.loop-p.p c.index-traces-p.result
     (got c.args.traces.now c.loop-p.p c.index-traces-p.result within c.index-traces-p.is))
 
@@ -40,12 +37,14 @@ loop-p-preserved c =
     let row : values_at c.args.initial.now c.loop-p.p ≡ c.index-initial-p.result.items =
     values_read c.args.initial.now c.loop-p.p c.index-initial-p.result there c.index-initial-p.is in
     let events : events_of (computation_view c.args.traces.now) c.loop-p.p
-    ≡ events_view c.index-traces-p.result.events.items =
+    ≡ c.index-traces-p.result.events =
     events_read c.args.traces.now c.loop-p.p c.index-traces-p.result within c.index-traces-p.is in
     let pushed : c.push.new.self.items ≡ c.loop-p.histories.items ++ c.in_ok-history.field-0 ∷ [] =
     c.in_ok-push.ensures.items in
     let made : c.in_ok-history.field-0.items ≡ c.deref.result.now
-    ++ rows_after c.deref.result.now (events_view c.deref-in-loop-p.result.now) = c.in_ok-history.ensures in
+    ++ rows_after c.deref.result.now c.index-traces-p.result.events =
+    c.in_ok-history.ensures
+    ∙ ap (λ (t : Trace). c.deref.result.now ++ rows_after c.deref.result.now t.events) (sym c.index-traces-p.is) in
     record {
       count = rw pushed (simp (length-append) (omega (arith, c.loop-p.invariant.count)));
       rows = below_more (λ (k : ℕ). values_at c.push.new.self.items k ≡ values_at c.args.initial.now k
@@ -54,11 +53,7 @@ loop-p-preserved c =
           (omega (arith, c.loop-p.invariant.count)) ∙ c.loop-p.invariant.rows k lt))
           (rw (pushed, row, events) (values_last c.loop-p.histories.items c.in_ok-history.field-0 c.loop-p.p
           (sym c.loop-p.invariant.count)
-          ∙ (made ∙ rw (
-            c.deref.ensures.value,
-            c.deref-in-loop-p.ensures.value
-                ∙ sym (ap (λ (t : Trace). t.events.items) c.index-traces-p.is),
-          ) refl)));
+          ∙ (made ∙ rw c.deref.ensures.value refl)));
     }
 
 pub returns : goal.returns

@@ -6,7 +6,7 @@ use Rattle.std.proofs.lemmas.Result.{IfOk-weaker}
 use Rattle.pd_model.specs.Events as events
 use Rattle.pd_model.specs.Order.{IsReportedCycle}
 use Rattle.pd_events.specs.declared.event.Trace.{Trace}
-use Rattle.pd_events.specs.Views.{computation_view, events_view}
+use Rattle.pd_events.specs.Views.{computation_view}
 use Rattle.pd_match.specs.Views.{place_view}
 use Rattle.pd_clock.specs.Orders.{places_view}
 use Rattle.pd_model.proofs.StuckWay.{IsWay, way_start, way_more, way_short, way_back}
@@ -48,7 +48,7 @@ loop-start-smaller c =
     let taken : length (places_view c.loop-start.taken.items) ≡ length c.loop-start.taken.items =
     length-map c.loop-start.taken.items place_view in
     let processes : length (computation_view c.args.traces.now) ≡ length c.args.traces.now =
-    length-map c.args.traces.now (λ (process : Trace). events_view process.events.items) in
+    length-map c.args.traces.now (λ (process : Trace). process.events) in
     let more : length c.push.new.self.items ≡ length c.loop-start.taken.items + 1 = ap length c.in_ok-push.ensures.items
     ∙ length_push c.loop-start.taken.items c.loop-start.here in
     omega arith

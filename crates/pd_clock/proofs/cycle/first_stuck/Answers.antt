@@ -4,36 +4,32 @@ use Rattle.std.specs.Prelude.{vec_len}
 use Rattle.std.proofs.lemmas.List.{length-map}
 use Rattle.pd_model.specs.Events.{event_count}
 use Rattle.pd_events.specs.declared.event.Trace.{Trace}
-use Rattle.pd_events.specs.declared.event.Event.{Event as Happened}
-use Rattle.pd_events.specs.Views.{computation_view, event_view}
+use Rattle.pd_events.specs.Views.{computation_view}
 use Rattle.pd_clock.proofs.Parts.{events_read}
 use Rattle.pd_clock.proofs.Cycles.{first_left, none_left}
 use Rattle.pd_clock.proofs.cycle.first_stuck.Goals as goal
 
 count_read : (traces : List Trace) (p : ℕ) (process : Trace) → p < length traces → process ≡ get_or traces p process
-    → event_count (computation_view traces) p ≡ length process.events.items
+    → event_count (computation_view traces) p ≡ length process.events
 count_read traces p process within is =
     ap length (events_read traces p process within is)
-    ∙ length-map process.events.items (λ (event : Happened). event_view event)
 
 pub returns-then-done-p-clause-some : goal.returns-then-done-p-clause-some
 returns-then-done-p-clause-some c =
     let count : event_count (computation_view c.args.traces.now) c.args.p
-    ≡ length c.index-traces-p.result.events.items =
+    ≡ length c.index-traces-p.result.events =
     count_read c.args.traces.now c.args.p c.index-traces-p.result c.requires.within c.index-traces-p.is in
-    let len : c.len.result ≡ length c.index-traces-p.result.events.items =
-    c.len.ensures ∙ (ap (λ (t : Trace). vec_len t.events) (sym c.index-traces-p.is)
-    ∙ c.index-traces-p.result.events.ok.0) in
+    let len : c.len.result ≡ length c.index-traces-p.result.events =
+    c.len.ensures ∙ ap (λ (t : Trace). length t.events) (sym c.index-traces-p.is) in
     let less : get_or c.args.done.now c.args.p 0 < c.len.result = c.if-done-p.true in
     first_left (computation_view c.args.traces.now) c.args.done.now c.requires.stuck c.args.p (omega arith)
 
 pub returns-clause-none : goal.returns-clause-none
 returns-clause-none c =
     let count : event_count (computation_view c.args.traces.now) c.args.p
-    ≡ length c.index-traces-p.result.events.items =
+    ≡ length c.index-traces-p.result.events =
     count_read c.args.traces.now c.args.p c.index-traces-p.result c.requires.within c.index-traces-p.is in
-    let len : c.len.result ≡ length c.index-traces-p.result.events.items =
-    c.len.ensures ∙ (ap (λ (t : Trace). vec_len t.events) (sym c.index-traces-p.is)
-    ∙ c.index-traces-p.result.events.ok.0) in
+    let len : c.len.result ≡ length c.index-traces-p.result.events =
+    c.len.ensures ∙ ap (λ (t : Trace). length t.events) (sym c.index-traces-p.is) in
     let all : c.len.result ≤ get_or c.args.done.now c.args.p 0 = c.if-done-p.false in
     none_left (computation_view c.args.traces.now) c.args.done.now c.requires.stuck c.args.p (omega arith)

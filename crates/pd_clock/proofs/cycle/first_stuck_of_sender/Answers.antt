@@ -10,7 +10,7 @@ use Rattle.pd_model.specs.Order.{IsStuck, IsFirstStuck}
 use Rattle.pd_model.proofs.Stuck.{stuck_receipt}
 use Rattle.pd_model.proofs.Consistency.{process_in_range}
 use Rattle.pd_events.specs.declared.event.Trace.{Trace}
-use Rattle.pd_events.specs.Views.{computation_view, events_view}
+use Rattle.pd_events.specs.Views.{computation_view}
 use Rattle.pd_match.specs.Views.{place_view}
 use Rattle.pd_match.specs.declared.place.Place.{Place}
 use Rattle.pd_model.proofs.StuckWay.{stuck_event}
@@ -60,7 +60,7 @@ first_stuck-requires-clause-within c =
     process_in_range (computation_view c.args.traces.now) (place_view c.unwrap-send.result)
     (stuck_event (computation_view c.args.traces.now) (place_view c.unwrap-send.result) w.1) in
     let count : length (computation_view c.args.traces.now) ≡ length c.args.traces.now =
-    length-map c.args.traces.now (λ (process : Trace). events_view process.events.items) in
+    length-map c.args.traces.now (λ (process : Trace). process.events) in
     omega arith
 
 pub unwrap-requires : goal.unwrap-requires

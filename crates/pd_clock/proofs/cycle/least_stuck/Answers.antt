@@ -5,7 +5,7 @@ use Rattle.pd_model.specs.Events.{place}
 use Rattle.pd_model.specs.Order.{IsStuck}
 use Rattle.pd_model.proofs.Consistency.{process_in_range}
 use Rattle.pd_events.specs.declared.event.Trace.{Trace}
-use Rattle.pd_events.specs.Views.{computation_view, events_view}
+use Rattle.pd_events.specs.Views.{computation_view}
 use Rattle.pd_model.proofs.StuckWay.{stuck_event}
 use Rattle.pd_clock.proofs.cycle.least_stuck.Goals as goal
 
@@ -25,6 +25,6 @@ returns-clause-none c = λ e stuck.
     process_in_range (computation_view c.args.traces.now) e
     (stuck_event (computation_view c.args.traces.now) e stuck) in
     let count : length (computation_view c.args.traces.now) ≡ length c.args.traces.now =
-    length-map c.args.traces.now (λ (process : Trace). events_view process.events.items) in
+    length-map c.args.traces.now (λ (process : Trace). process.events) in
     let all : length c.args.traces.now ≤ c.loop-p.p = c.loop-p-test.false in
     c.loop-p.invariant e.process (omega arith) e.number stuck

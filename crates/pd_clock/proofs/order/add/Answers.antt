@@ -7,14 +7,14 @@ use Rattle.pd_model.specs.Order.{IsClock}
 use Rattle.pd_clock.specs.Orders.{HasClocks, clocks_of, next_of}
 use Rattle.pd_clock.proofs.OrderSteps.{go_within}
 use Rattle.pd_clock.proofs.ClockRows.{clocks_more, rows_written, rows_kept, rows_read}
-use Rattle.pd_events.specs.Views.{computation_view, events_view}
+use Rattle.pd_events.specs.Views.{computation_view}
 use Rattle.pd_events.specs.declared.event.Trace.{Trace}
 use Rattle.pd_clock.proofs.order.add.Goals as goal
 
 pub returns-clause-clocks : goal.returns-clause-clocks
 returns-clause-clocks c =
     let many : length (computation_view c.args.traces.now) ≡ length c.args.traces.now =
-    length-map c.args.traces.now (λ (process : Trace). events_view process.events.items) in
+    length-map c.args.traces.now (λ (process : Trace). process.events) in
     let there : c.args.p < length (computation_view c.args.traces.now) =
     go_within (computation_view c.args.traces.now) c.args.order.now.done.items c.args.p c.requires.goes in
     let read : c.index_mut-2.result.now ≡ get_or c.args.order.now.done.items c.args.p 0 =

@@ -6,8 +6,7 @@ use Rattle.std.proofs.lemmas.List.{length-map}
 use Rattle.std.proofs.lemmas.Option.{same_Some, none-some}
 use Rattle.pd_clock.specs.Orders.{IsDone, next_of}
 use Rattle.pd_events.specs.declared.event.Trace.{Trace}
-use Rattle.pd_events.specs.Views.{computation_view, event_view}
-use Rattle.pd_events.specs.declared.event.Event.{Event as Happened}
+use Rattle.pd_events.specs.Views.{computation_view}
 use Rattle.pd_match.specs.Views.{place_view}
 use Rattle.pd_model.specs.Events.{Place, event_count}
 use Rattle.pd_model.specs.Messages.{IsMessage}
@@ -17,10 +16,9 @@ use Rattle.pd_clock.proofs.OrderSteps.{IsSendOf, send_found, send_event}
 use Rattle.pd_clock.proofs.order.can_go.Goals as goal
 
 counted : (traces : List Trace) (p : ℕ) (process : Trace) → p < length traces → process ≡ get_or traces p process
-    → event_count (computation_view traces) p ≡ length process.events.items
+    → event_count (computation_view traces) p ≡ length process.events
 counted traces p process within is =
     ap length (events_read traces p process within is)
-    ∙ length-map process.events.items (λ (event : Happened). event_view event)
 
 pub offset_bounds-done-send : goal.offset_bounds-done-send
 offset_bounds-done-send c =
@@ -64,8 +62,7 @@ returns-in-Some-clause-goes c = λ yes.
       arith,
       counted c.args.traces.now c.args.p c.index-traces-p.result c.requires.within c.index-traces-p.is,
       c.len.ensures,
-      ap (λ (t : Trace). vec_len t.events) c.index-traces-p.is,
-      c.index-traces-p.result.events.ok.0,
+      ap (λ (t : Trace). length t.events) c.index-traces-p.is,
     ) in
     record {
       there = there;
@@ -97,7 +94,6 @@ returns-in-None-clause-goes c = λ yes.
       arith,
       counted c.args.traces.now c.args.p c.index-traces-p.result c.requires.within c.index-traces-p.is,
       c.len.ensures,
-      ap (λ (t : Trace). vec_len t.events) c.index-traces-p.is,
-      c.index-traces-p.result.events.ok.0,
+      ap (λ (t : Trace). length t.events) c.index-traces-p.is,
     ) in
     record { there = there; sent = λ send message. absurd (none-some send ((found send).0 message)) }

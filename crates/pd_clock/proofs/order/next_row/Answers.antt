@@ -7,7 +7,7 @@ use Rattle.pd_model.specs.Cuts.{Includes}
 use Rattle.pd_clock.specs.Orders.{next_of, count_of}
 use Rattle.pd_clock.proofs.OrderSteps.{IsSendOf, next_found, sent_some, go_within}
 use Rattle.pd_clock.proofs.ClockRows.{IsBeforeNext, has_rows, next_clock}
-use Rattle.pd_events.specs.Views.{computation_view, events_view}
+use Rattle.pd_events.specs.Views.{computation_view}
 use Rattle.pd_events.specs.declared.event.Trace.{Trace}
 use Rattle.pd_match.specs.Views.{place_view}
 use Rattle.pd_match.specs.declared.place.Place.{Place}
@@ -49,7 +49,7 @@ count_in-sent-requires-clause-there c =
 pub returns-clause-clock : goal.returns-clause-clock
 returns-clause-clock c = λ q lt.
     let many : length (computation_view c.args.traces.now) ≡ length c.args.traces.now =
-    length-map c.args.traces.now (λ (process : Trace). events_view process.events.items) in
+    length-map c.args.traces.now (λ (process : Trace). process.events) in
     let each : length c.args.order.now.done.items ≡ length (computation_view c.args.traces.now) =
     c.requires.ordered.one_each in
     let there : c.args.p < length (computation_view c.args.traces.now) =

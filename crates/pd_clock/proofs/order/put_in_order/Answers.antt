@@ -1,7 +1,7 @@
 -- Event after event is put into the order, until every process waits.
 use Rattle.std.proofs.Common.{◌≡◌, ℕ, ◌<◌, List, length, sym, subst, arith}
 use Rattle.std.proofs.lemmas.List.{length-map}
-use Rattle.pd_events.specs.Views.{computation_view, events_view}
+use Rattle.pd_events.specs.Views.{computation_view}
 use Rattle.pd_events.specs.declared.event.Trace.{Trace}
 use Rattle.pd_clock.specs.Orders.{CanGo, Waits}
 use Rattle.pd_clock.proofs.OrderSteps.{none_ordered, order_more, fewer_left, go_within, leaves_stuck}
@@ -11,7 +11,7 @@ use Rattle.pd_clock.proofs.order.put_in_order.Goals as goal
 pub loop-p-init : goal.loop-p-init
 loop-p-init c =
     let many : length c.args.traces.now ≡ length (computation_view c.args.traces.now) =
-    sym (length-map c.args.traces.now (λ (process : Trace). events_view process.events.items)) in
+    sym (length-map c.args.traces.now (λ (process : Trace). process.events)) in
     record {
       last = omega arith;
       ordered =
@@ -37,7 +37,7 @@ loop-p-preserved c =
     let within : c.in-Some.p < length (computation_view c.args.traces.now) =
     go_within (computation_view c.args.traces.now) c.loop-p.order.done.items c.in-Some.p goes in
     let many : length (computation_view c.args.traces.now) ≡ length c.args.traces.now =
-    length-map c.args.traces.now (λ (process : Trace). events_view process.events.items) in
+    length-map c.args.traces.now (λ (process : Trace). process.events) in
     record {
       last = omega arith;
       ordered =

@@ -3,7 +3,7 @@ use Rattle.std.proofs.Common.{◌≡◌, ◌∙◌, ◌+◌, [], add-one, ap, ar
 use Rattle.std.proofs.lemmas.List.{length-map, length-replicate}
 use Rattle.indexmap.specs.IndexMap.{index_map_len}
 use Rattle.pd_events.specs.declared.event.Trace.{Trace}
-use Rattle.pd_events.specs.Views.{computation_view, events_view}
+use Rattle.pd_events.specs.Views.{computation_view}
 use Rattle.pd_model.specs.Messages.{IsMessageList}
 use Rattle.pd_match.specs.Noted.{event_place, is_marked, marks_set, pairs_from, pairs_in, place_noted}
 use Rattle.pd_match.specs.Progress.{MatchedBefore, RowsTell}
@@ -57,7 +57,7 @@ loop-p-preserved g c =
 -- all processes are done
 processes : (traces : List Trace) (p : ℕ) → p ≡ length traces → p ≡ length (computation_view traces)
 processes traces p end =
-    end ∙ sym (length-map traces (λ (process : Trace). events_view process.events.items))
+    end ∙ sym (length-map traces (λ (process : Trace). process.events))
 
 pub new-requires-clause-found : goal.new-requires-clause-found
 new-requires-clause-found g c =

@@ -2,7 +2,7 @@
 use Rattle.std.proofs.Common.{◌≡◌, ◌∙◌, add-one, arith, length, subst, sym}
 use Rattle.std.proofs.lemmas.List.{length-map}
 use Rattle.pd_events.specs.declared.event.Trace.{Trace}
-use Rattle.pd_events.specs.Views.{computation_view, events_view}
+use Rattle.pd_events.specs.Views.{computation_view}
 use Rattle.pd_model.specs.Events.{Send}
 use Rattle.pd_match.specs.Noted.{HasBefore, event_place, place_noted}
 use Rattle.pd_match.proofs.Ids.{none_noted, noted_all, noted_first}
@@ -23,7 +23,7 @@ returns-clause-noted g c =
     let all = computation_view c.args.traces.now in
     let end : c.loop-p.p ≡ length c.args.traces.now = omega arith in
     let same : length all ≡ length c.args.traces.now =
-    length-map c.args.traces.now (λ (process : Trace). events_view process.events.items) in
+    length-map c.args.traces.now (λ (process : Trace). process.events) in
     noted_all Send all (place_noted c.loop-p.sends)
     (subst (λ k. HasBefore Send all (event_place k 0) (place_noted c.loop-p.sends)) (end ∙ sym same)
     c.loop-p.invariant)
