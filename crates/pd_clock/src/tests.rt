@@ -1,5 +1,5 @@
 //! Cuts of few and of many processes, and the clocks of two processes that send to each other at once.
-use super::clocks::{has_past, is_in_no_past};
+use super::clocks::has_past;
 use super::{BuildFault, Cut, Place};
 use std::test::Fail;
 
