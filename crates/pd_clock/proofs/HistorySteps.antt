@@ -29,7 +29,8 @@ pub row_more : (row : List ℤ) (settings : List (ℕ × ℤ)) (i : ℕ) (settin
 row_more row settings i setting at = ap (row_after row) (sym (rest_from settings i setting at))
 
 -- the event whose settings these are
-event_there : (found : Option Event) (sets : List (ℕ × ℤ)) → option_map (λ (event : Event). event.sets) found ≡ Some sets
+event_there : (found : Option Event) (sets : List (ℕ × ℤ)) → option_map (λ (event : Event). event.sets) found ≡ Some
+    sets
     → (event : Event) × (found ≡ Some event) × (event.sets ≡ sets)
 event_there None sets e = absurd (cc)
 event_there (Some event) sets e = (event, (λ i. Some event), same_Some event.sets sets e)

@@ -24,13 +24,17 @@ same_cut-cut-requires c =
 pub loop-init : goal.loop-init
 loop-init c =
     record {
-      dead = subst (λ (cuts : List (List ℕ)). AreDead c.args.computation.now.events (test_of c.args.computation.now (predicate_view c.args.pred.now)) cuts) (sym c.new-dead.ensures.items)
+      dead = subst (λ (cuts : List (List ℕ)). AreDead c.args.computation.now.events (test_of c.args.computation.now
+          (predicate_view c.args.pred.now)) cuts) (sym c.new-dead.ensures.items)
           (λ i d lt. absurd (omega arith));
-      searched = subst (λ (cut : List ℕ). IsSearched c.args.computation.now.events (test_of c.args.computation.now (predicate_view c.args.pred.now)) c.args.path.now.items c.args.kept.now.number c.args.k
+      searched = subst (λ (cut : List ℕ). IsSearched c.args.computation.now.events (test_of c.args.computation.now
+          (predicate_view c.args.pred.now)) c.args.path.now.items c.args.kept.now.number c.args.k
           c.args.top.now cut 0 c.new-steps.result.items) (sym c.same_cut-cut.ensures)
-          (subst (λ (steps : List ℕ). IsSearched c.args.computation.now.events (test_of c.args.computation.now (predicate_view c.args.pred.now)) c.args.path.now.items c.args.kept.now.number c.args.k
+          (subst (λ (steps : List ℕ). IsSearched c.args.computation.now.events (test_of c.args.computation.now
+          (predicate_view c.args.pred.now)) c.args.path.now.items c.args.kept.now.number c.args.k
           c.args.top.now c.args.top.now 0 steps) (sym c.new-steps.ensures.items)
-          (searched_first c.args.computation.now.events (test_of c.args.computation.now (predicate_view c.args.pred.now)) c.args.path.now.items c.args.kept.now.number c.args.k c.args.top.now
+          (searched_first c.args.computation.now.events (test_of c.args.computation.now (predicate_view
+          c.args.pred.now)) c.args.path.now.items c.args.kept.now.number c.args.k c.args.top.now
           c.requires.reached c.requires.number c.requires.above));
       within = omega arith;
       same = refl;
@@ -38,7 +42,8 @@ loop-init c =
 
 pub next_step-p-requires-clause-dead : goal.next_step-p-requires-clause-dead
 next_step-p-requires-clause-dead c =
-    subst (λ (cuts : List (List ℕ)). AreDead c.args.computation.now.events (test_of c.args.computation.now (predicate_view c.args.pred.now)) cuts) (sym c.deref.ensures.value) c.loop.invariant.dead
+    subst (λ (cuts : List (List ℕ)). AreDead c.args.computation.now.events (test_of c.args.computation.now
+    (predicate_view c.args.pred.now)) cuts) (sym c.deref.ensures.value) c.loop.invariant.dead
 
 pub next_step-p-requires-clause-consistent : goal.next_step-p-requires-clause-consistent
 next_step-p-requires-clause-consistent c = c.loop.invariant.searched.here.here.0
@@ -49,7 +54,8 @@ returns-then-level-number-clause-found c =
     c.loop.invariant.searched.here.here.0.fits.one_each in
     let inside : c.next_step-p.result < length c.loop.cut =
     omega (arith, c.if-p-processes.true, c.processes.ensures) in
-    let worth : IsWorthTrying c.args.computation.now.events (test_of c.args.computation.now (predicate_view c.args.pred.now)) c.args.kept.now.number c.loop.cut c.next_step-p.result =
+    let worth : IsWorthTrying c.args.computation.now.events (test_of c.args.computation.now (predicate_view
+    c.args.pred.now)) c.args.kept.now.number c.loop.cut c.next_step-p.result =
     c.next_step-p.ensures.worth_trying inside in
     let less : c.undo.new.self ≡ one_less c.loop.cut c.next_step-p.result = c.undo.ensures in
     let fewer : sum (one_less c.loop.cut c.next_step-p.result) + 1 ≡ sum c.loop.cut =
@@ -64,9 +70,12 @@ returns-then-level-number-clause-found c =
     c.in_ok-extend_from_slice.ensures.items
     ∙ (ap (λ (steps : List ℕ). c.loop.path.items ++ steps) (c.deref-then-level-number.ensures.value ∙ pushed)
     ∙ ap (λ (path : List ℕ). path ++ (c.loop.steps.items ++ c.next_step-p.result ∷ [])) c.loop.invariant.same) in (
-      subst (λ (cut : List ℕ). IsReached c.args.computation.now.events (test_of c.args.computation.now (predicate_view c.args.pred.now)) c.extend_from_slice.new.self.items cut) (sym less)
-          (subst (λ (path : List ℕ). IsReached c.args.computation.now.events (test_of c.args.computation.now (predicate_view c.args.pred.now)) path (one_less c.loop.cut c.next_step-p.result)) (sym longer)
-          (searched_found c.args.computation.now.events (test_of c.args.computation.now (predicate_view c.args.pred.now)) c.args.path.now.items c.args.kept.now.number c.args.k c.args.top.now c.loop.cut
+      subst (λ (cut : List ℕ). IsReached c.args.computation.now.events (test_of c.args.computation.now (predicate_view
+          c.args.pred.now)) c.extend_from_slice.new.self.items cut) (sym less)
+          (subst (λ (path : List ℕ). IsReached c.args.computation.now.events (test_of c.args.computation.now
+          (predicate_view c.args.pred.now)) path (one_less c.loop.cut c.next_step-p.result)) (sym longer)
+          (searched_found c.args.computation.now.events (test_of c.args.computation.now (predicate_view
+          c.args.pred.now)) c.args.path.now.items c.args.kept.now.number c.args.k c.args.top.now c.loop.cut
           c.next_step-p.result c.loop.steps.items c.loop.next c.loop.invariant.searched
           c.next_step-p.ensures.tried worth here)),
       ap sum less ∙ (omega arith),
@@ -78,7 +87,8 @@ loop-preserved-then-p-processes c =
     c.loop.invariant.searched.here.here.0.fits.one_each in
     let inside : c.next_step-p.result < length c.loop.cut =
     omega (arith, c.if-p-processes.true, c.processes.ensures) in
-    let worth : IsWorthTrying c.args.computation.now.events (test_of c.args.computation.now (predicate_view c.args.pred.now)) c.args.kept.now.number c.loop.cut c.next_step-p.result =
+    let worth : IsWorthTrying c.args.computation.now.events (test_of c.args.computation.now (predicate_view
+    c.args.pred.now)) c.args.kept.now.number c.loop.cut c.next_step-p.result =
     c.next_step-p.ensures.worth_trying inside in
     let above : c.args.kept.now.number + (length c.loop.steps.items + 1) < c.args.k =
     omega (
@@ -92,11 +102,14 @@ loop-preserved-then-p-processes c =
     c.in_ok-push.ensures.items in
     record {
       dead = c.loop.invariant.dead;
-      searched = subst (λ (cut : List ℕ). IsSearched c.args.computation.now.events (test_of c.args.computation.now (predicate_view c.args.pred.now)) c.args.path.now.items c.args.kept.now.number c.args.k
+      searched = subst (λ (cut : List ℕ). IsSearched c.args.computation.now.events (test_of c.args.computation.now
+          (predicate_view c.args.pred.now)) c.args.path.now.items c.args.kept.now.number c.args.k
           c.args.top.now cut 0 c.push.new.self.items) (sym c.undo.ensures)
-          (subst (λ (steps : List ℕ). IsSearched c.args.computation.now.events (test_of c.args.computation.now (predicate_view c.args.pred.now)) c.args.path.now.items c.args.kept.now.number c.args.k
+          (subst (λ (steps : List ℕ). IsSearched c.args.computation.now.events (test_of c.args.computation.now
+          (predicate_view c.args.pred.now)) c.args.path.now.items c.args.kept.now.number c.args.k
           c.args.top.now (one_less c.loop.cut c.next_step-p.result) 0 steps) (sym stepped)
-          (searched_push c.args.computation.now.events (test_of c.args.computation.now (predicate_view c.args.pred.now)) c.args.path.now.items c.args.kept.now.number c.args.k c.args.top.now c.loop.cut
+          (searched_push c.args.computation.now.events (test_of c.args.computation.now (predicate_view
+          c.args.pred.now)) c.args.path.now.items c.args.kept.now.number c.args.k c.args.top.now c.loop.cut
           c.next_step-p.result c.loop.steps.items c.loop.next c.loop.invariant.searched inside
           c.next_step-p.ensures.tried worth above));
       within = omega arith;
@@ -107,9 +120,11 @@ pub redo-requires-clause-there : goal.redo-requires-clause-there
 redo-requires-clause-there c =
     let stepped : c.loop.steps.items ≡ c.pop.new.self.items ++ c.in-Some.tried ∷ [] =
     rw c.in-Some.is at c.pop.ensures.items in
-    (searched_room c.args.computation.now.events (test_of c.args.computation.now (predicate_view c.args.pred.now)) c.args.path.now.items c.args.kept.now.number c.args.k c.args.top.now c.loop.cut c.loop.next
+    (searched_room c.args.computation.now.events (test_of c.args.computation.now (predicate_view c.args.pred.now))
+    c.args.path.now.items c.args.kept.now.number c.args.k c.args.top.now c.loop.cut c.loop.next
     c.pop.new.self.items c.in-Some.tried
-    (subst (λ (steps : List ℕ). IsSearched c.args.computation.now.events (test_of c.args.computation.now (predicate_view c.args.pred.now)) c.args.path.now.items c.args.kept.now.number c.args.k c.args.top.now
+    (subst (λ (steps : List ℕ). IsSearched c.args.computation.now.events (test_of c.args.computation.now
+    (predicate_view c.args.pred.now)) c.args.path.now.items c.args.kept.now.number c.args.k c.args.top.now
     c.loop.cut c.loop.next steps) stepped c.loop.invariant.searched)).0
 
 pub redo-requires-clause-room : goal.redo-requires-clause-room
@@ -117,11 +132,14 @@ redo-requires-clause-room c =
     let stepped : c.loop.steps.items ≡ c.pop.new.self.items ++ c.in-Some.tried ∷ [] =
     rw c.in-Some.is at c.pop.ensures.items in
     let below : get_or c.loop.cut c.in-Some.tried 0 < event_count c.args.computation.now.events c.in-Some.tried =
-    (searched_room c.args.computation.now.events (test_of c.args.computation.now (predicate_view c.args.pred.now)) c.args.path.now.items c.args.kept.now.number c.args.k c.args.top.now c.loop.cut c.loop.next
+    (searched_room c.args.computation.now.events (test_of c.args.computation.now (predicate_view c.args.pred.now))
+    c.args.path.now.items c.args.kept.now.number c.args.k c.args.top.now c.loop.cut c.loop.next
     c.pop.new.self.items c.in-Some.tried
-    (subst (λ (steps : List ℕ). IsSearched c.args.computation.now.events (test_of c.args.computation.now (predicate_view c.args.pred.now)) c.args.path.now.items c.args.kept.now.number c.args.k c.args.top.now
+    (subst (λ (steps : List ℕ). IsSearched c.args.computation.now.events (test_of c.args.computation.now
+    (predicate_view c.args.pred.now)) c.args.path.now.items c.args.kept.now.number c.args.k c.args.top.now
     c.loop.cut c.loop.next steps) stepped c.loop.invariant.searched)).1 in
-    let short : event_count c.args.computation.now.events c.in-Some.tried ≤ event_limit = c.limits.ensures.short c.in-Some.tried in
+    let short : event_count c.args.computation.now.events c.in-Some.tried ≤ event_limit = c.limits.ensures.short
+    c.in-Some.tried in
     omega (arith, below, short)
 
 pub loop-preserved : goal.loop-preserved
@@ -132,24 +150,34 @@ loop-preserved c =
     rw c.in-Some.is at c.pop.ensures.items in
     let added : (i : ℕ) × (i ≤ length c.loop.dead.items)
     × (c.add_dead.new.dead.items ≡ insert c.loop.dead.items i c.same_cut.result) = c.in_ok-add_dead.ensures in
-    let none : ¬ IsAvoiding c.args.computation.now.events (test_of c.args.computation.now (predicate_view c.args.pred.now)) (sum c.loop.cut) c.loop.cut =
-    searched_dead c.args.computation.now.events (test_of c.args.computation.now (predicate_view c.args.pred.now)) c.args.path.now.items c.args.kept.now.number c.args.k c.args.top.now c.loop.cut c.loop.next
+    let none : ¬ IsAvoiding c.args.computation.now.events (test_of c.args.computation.now (predicate_view
+    c.args.pred.now)) (sum c.loop.cut) c.loop.cut =
+    searched_dead c.args.computation.now.events (test_of c.args.computation.now (predicate_view c.args.pred.now))
+    c.args.path.now.items c.args.kept.now.number c.args.k c.args.top.now c.loop.cut c.loop.next
     c.loop.steps.items c.loop.invariant.searched
     (λ q lt. c.next_step-p.ensures.tried q (omega (arith, c.if-p-processes.false, c.processes.ensures))) in
-    let popped : IsSearched c.args.computation.now.events (test_of c.args.computation.now (predicate_view c.args.pred.now)) c.args.path.now.items c.args.kept.now.number c.args.k c.args.top.now
+    let popped : IsSearched c.args.computation.now.events (test_of c.args.computation.now (predicate_view
+    c.args.pred.now)) c.args.path.now.items c.args.kept.now.number c.args.k c.args.top.now
     (one_more c.loop.cut c.in-Some.tried) c.in-Some.tried c.pop.new.self.items =
-    searched_pop c.args.computation.now.events (test_of c.args.computation.now (predicate_view c.args.pred.now)) c.args.path.now.items c.args.kept.now.number c.args.k c.args.top.now c.loop.cut c.loop.next
+    searched_pop c.args.computation.now.events (test_of c.args.computation.now (predicate_view c.args.pred.now))
+    c.args.path.now.items c.args.kept.now.number c.args.k c.args.top.now c.loop.cut c.loop.next
     c.pop.new.self.items c.in-Some.tried
-    (subst (λ (steps : List ℕ). IsSearched c.args.computation.now.events (test_of c.args.computation.now (predicate_view c.args.pred.now)) c.args.path.now.items c.args.kept.now.number c.args.k c.args.top.now
+    (subst (λ (steps : List ℕ). IsSearched c.args.computation.now.events (test_of c.args.computation.now
+    (predicate_view c.args.pred.now)) c.args.path.now.items c.args.kept.now.number c.args.k c.args.top.now
     c.loop.cut c.loop.next steps) stepped c.loop.invariant.searched) in
-    let back : IsSearched c.args.computation.now.events (test_of c.args.computation.now (predicate_view c.args.pred.now)) c.args.path.now.items c.args.kept.now.number c.args.k c.args.top.now
+    let back : IsSearched c.args.computation.now.events (test_of c.args.computation.now (predicate_view
+    c.args.pred.now)) c.args.path.now.items c.args.kept.now.number c.args.k c.args.top.now
     c.redo.new.self c.in-Some.tried c.pop.new.self.items =
-    subst (λ (cut : List ℕ). IsSearched c.args.computation.now.events (test_of c.args.computation.now (predicate_view c.args.pred.now)) c.args.path.now.items c.args.kept.now.number c.args.k c.args.top.now
+    subst (λ (cut : List ℕ). IsSearched c.args.computation.now.events (test_of c.args.computation.now (predicate_view
+    c.args.pred.now)) c.args.path.now.items c.args.kept.now.number c.args.k c.args.top.now
     cut c.in-Some.tried c.pop.new.self.items) (sym c.redo.ensures) popped in
     record {
-      dead = subst (λ (cuts : List (List ℕ)). AreDead c.args.computation.now.events (test_of c.args.computation.now (predicate_view c.args.pred.now)) cuts) (sym added.2)
-          (subst (λ (cut : List ℕ). AreDead c.args.computation.now.events (test_of c.args.computation.now (predicate_view c.args.pred.now)) (insert c.loop.dead.items added.0 cut)) (sym c.same_cut.ensures)
-          (dead_insert c.args.computation.now.events (test_of c.args.computation.now (predicate_view c.args.pred.now)) c.loop.dead.items added.0 c.loop.cut c.loop.invariant.dead none added.1));
+      dead = subst (λ (cuts : List (List ℕ)). AreDead c.args.computation.now.events (test_of c.args.computation.now
+          (predicate_view c.args.pred.now)) cuts) (sym added.2)
+          (subst (λ (cut : List ℕ). AreDead c.args.computation.now.events (test_of c.args.computation.now
+          (predicate_view c.args.pred.now)) (insert c.loop.dead.items added.0 cut)) (sym c.same_cut.ensures)
+          (dead_insert c.args.computation.now.events (test_of c.args.computation.now (predicate_view c.args.pred.now))
+          c.loop.dead.items added.0 c.loop.cut c.loop.invariant.dead none added.1));
       searched = back;
       within = back.here.within;
       same = c.loop.invariant.same;

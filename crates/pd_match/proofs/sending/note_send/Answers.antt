@@ -33,7 +33,8 @@ returns-else-branch-clause-noted g c =
 pub returns-in_default : goal.returns-in_default
 returns-in_default g c =
     let all = computation_view c.args.traces.now in
-    let is : kind_at all (event_place c.args.p c.args.n) ≡ Some (seen_kind_view c.kind_of.result) = c.kind_of.ensures.kind in
+    let is : kind_at all (event_place c.args.p c.args.n) ≡ Some (seen_kind_view c.kind_of.result) =
+    c.kind_of.ensures.kind in
     record {
       noted = noted_other Send all c.args.p c.args.n (place_noted c.args.sends.now)
           (λ id. kind_is_not_send c.kind_of.result all (event_place c.args.p c.args.n) is id
