@@ -1,0 +1,5 @@
+-- The modules of definitions of this crate.
+pub mod Cutting
+pub mod Steps
+pub mod Moves
+pub mod PartsRead
