@@ -10,11 +10,12 @@ use Rattle.pd_bundle.specs.Steps.{AreParts, Goes, HasCut, HasParts, State}
 use Rattle.pd_bundle.specs.declared.next.Next.{Next}
 
 -- The part goes on, or has ended, from where another part had begun; and this holds of its bytes before the last step.
-pub record AtStep (P : List ℕ → Type 0) (begin left : Option (List ℕ)) (first state : State) (next : Next) : Type 0 where
-  pub part : List ℕ
-  pub holds_so_far : P part
-  pub goes : (input : Option (List ℕ)) (closed : List (List ℕ)) → HasCut input begin closed [] first
-      → Goes next input left closed part state
+pub record AtStep (P : List ℕ → Type 0) (begin left : Option (List ℕ)) (first state : State) (next : Next) : Type 0
+  where
+    pub part : List ℕ
+    pub holds_so_far : P part
+    pub goes : (input : Option (List ℕ)) (closed : List (List ℕ)) → HasCut input begin closed [] first
+        → Goes next input left closed part state
 
 -- a part of which this holds was read, after which another one begins or not
 pub record HasReadPart (P : List ℕ → Type 0) (begin left : Option (List ℕ)) (first state : State) (begins : Bool) :

@@ -52,7 +52,8 @@ fn ends_separator(held: u64, byte: u8) -> bool
 fn is_held(held: u64, byte: u8) -> bool
     ensures few { OnTrue result (held < 4) }
     ensures yes { OnTrue result (take (held + 1) line_marks ≡ take held line_marks ++ byte ∷ []) }
-    ensures no { OnFalse result ((3 ≤ held → byte ≡ 10 → ⊥) → (rest : List ℕ) → parts_from (cutters.Held held) (byte ∷ rest)
+    ensures no { OnFalse result ((3 ≤ held → byte ≡ 10 → ⊥) → (rest : List ℕ)
+        → parts_from (cutters.Held held) (byte ∷ rest)
         ≡ onto_part (take held line_marks) (parts_in_line (byte ∷ rest))) }
 {
     if held < 3 {

@@ -1,11 +1,9 @@
 -- The modules of lemmas of this crate.
-pub mod Parts
 pub mod FitTraces
 pub mod SessionNumbers
 pub mod SessionReports
 pub mod ReportTexts
 pub mod SessionFindings
-pub mod WholeInputs
 pub mod DocumentRefusals
 pub mod RefusedPlaces
 pub mod PrintedPaths
@@ -13,3 +11,4 @@ pub mod Ends
 pub mod SnapshotTexts
 pub mod Zips
 pub mod WalkAnswers
+pub mod BundleReads

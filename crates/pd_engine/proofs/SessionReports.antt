@@ -1,20 +1,17 @@
 -- The report of the results that readers gave is that of the document's bytes and of the streams that they gave.
 use Rattle.std.proofs.Common.{◌≡◌, ℕ, List, [], ◌∷◌, map, refl, sym, subst, Some, None, Option, Ok, Err}
-use Rattle.std.specs.Prelude.{IfErr, IfOk, IfSome, IsErrAnd, Result}
+use Rattle.std.specs.Prelude.{IfErr, IfSome, IsErrAnd, Result}
 use Rattle.std.specs.List.{AllZip}
 use Rattle.pd_format.specs.Documents.{Document, IsDocument}
 use Rattle.pd_format.specs.Readings.{Failed, Trace}
 use Rattle.pd_format.specs.Reports.{Report}
 use Rattle.pd_format.specs.Sessions.{SessionFault, StreamResult, session}
 use Rattle.pd_gather.specs.ReadStreams.{ComesTo}
-use Rattle.pd_judgement.specs.Judgements.{IsJudgement, IsReportOfBundle, IsReportOfParts, IsReportOfResults, IsReportOfSession, IsTracesReport, RawStream, ended_streams, of_read}
+use Rattle.pd_judgement.specs.Judgements.{IsJudgement, IsReportOfResults, IsReportOfSession, IsTracesReport, RawStream, ended_streams, of_read}
 use Rattle.pd_judgement.specs.Writes.{IsGivenBy}
-use Rattle.pd_format.specs.Bundles.{parts_of}
-use Rattle.pd_report.specs.Views.{report_view}
 use Rattle.pd_report.specs.declared.report.Report.{Report as Judged}
 use Rattle.pd_engine.specs.SessionReports.{IsReportOfInputs, IsReportOfWhole}
 use Rattle.pd_engine.specs.Unanswered.{IsUnanswered, given_report, refused_report}
-use Rattle.pd_engine.specs.declared.fault.EngineFault.{EngineFault}
 use Rattle.pd_engine.specs.declared.unanswered.Unanswered.{Unanswered}
 
 -- what holds of a report that is given
@@ -116,12 +113,3 @@ pub traces_report : (document : Document) (count : ℕ) (results : List StreamRe
     → IsReportOfResults document count results report
 traces_report document count results traces report joined right =
     subst (λ (r : Result (List Trace) SessionFault). IsReportOfSession document r report) (sym joined) right
-
--- the report of a bundle's parts, of which the first is the document, is the bundle's
-pub bundle_of_parts : (bundle document : List ℕ) (streams : List (List ℕ)) (inputs : List (Option (List ℕ)))
-    (result : Result Judged EngineFault) → parts_of bundle ≡ document ∷ streams → inputs ≡ map Some streams
-    → IfOk result (λ report. IsReportOfWhole document inputs (report_view report))
-    → IfOk result (λ report. IsReportOfBundle bundle (report_view report))
-bundle_of_parts bundle document streams inputs (Err fault) parts same right = tt
-bundle_of_parts bundle document streams inputs (Ok report) parts same right =
-    subst (λ (all : List (List ℕ)). IsReportOfParts all (report_view report)) (sym parts) (right streams same)

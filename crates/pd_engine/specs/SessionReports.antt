@@ -1,9 +1,10 @@
 -- The report of a session that readers gave.
-use Rattle.std.specs.Prelude.{◌≡◌, ℕ, List, Option, Some, map}
+use Rattle.std.specs.Prelude.{◌≡◌, ◌≤◌, ℕ, length, List, Option, Some, map}
 use Rattle.std.specs.List.{AllZip}
+use Rattle.pd_format.specs.Limits.{bundle_byte_limit}
 use Rattle.pd_format.specs.Reports.{Report}
-use Rattle.pd_judgement.specs.Judgements.{IsJudgement, RawStream, ended_streams}
-use Rattle.pd_judgement.specs.Writes.{IsGivenBy}
+use Rattle.pd_judgement.specs.Judgements.{IsJudgement, IsReportOfBundle, RawStream, ended_streams}
+use Rattle.pd_judgement.specs.Writes.{IsGivenBy, IsWholeInput}
 
 -- the report of a document's bytes and of the streams that readers with this left gave
 pub record IsReportOfInputs (document : List ℕ) (inputs : List (Option (List ℕ))) (report : Report) : Type 0 where
@@ -15,3 +16,10 @@ pub record IsReportOfInputs (document : List ℕ) (inputs : List (Option (List �
 abbrev pub IsReportOfWhole : List ℕ → List (Option (List ℕ)) → Report → Type 0
 IsReportOfWhole document inputs report =
     (streams : List (List ℕ)) → inputs ≡ map Some streams → IsJudgement document (ended_streams streams) report
+
+-- the report of the bundle that a reader with this left gave to its end, and that is within the limit
+pub record IsReportOfRead (input : Option (List ℕ)) (report : Report) : Type 0 where
+  pub bundle : List ℕ
+  pub is_given : IsWholeInput input bundle
+  pub fits : length bundle ≤ bundle_byte_limit
+  pub right : IsReportOfBundle bundle report

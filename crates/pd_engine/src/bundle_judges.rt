@@ -1,83 +1,144 @@
 //! Judges a bundle, and writes its report.
+ghost use Rattle.pd_bundle.specs.PartsRead.{IsKept};
 ghost use Rattle.pd_engine.specs.Ends.{call_end, judged_as};
+ghost use Rattle.pd_engine.specs.SessionReports.{IsReportOfRead};
+ghost use Rattle.pd_engine.specs.Unanswered.{IsUnanswered};
 ghost use Rattle.pd_engine.specs.declared.outcome.Outcome.TheVariants as outcomes;
-ghost use Rattle.pd_format.specs.Limits.{bundle_byte_limit};
-ghost use Rattle.pd_judgement.specs.Judgements.{IsReportOfBundle};
-ghost use Rattle.pd_judgement.specs.Writes.{IsTextOfBundle, IsTooLong, IsWholeInput, Silent, Writes, WritesTruthOfBundle};
+ghost use Rattle.pd_format.specs.Documents.{IsDocument};
+ghost use Rattle.pd_judgement.specs.Judgements.{IsJudgement, RawStream};
+ghost use Rattle.pd_judgement.specs.Writes.{IsTextOfBundle, IsTooLong, Silent, Writes, WritesTruthOfBundle};
 ghost use Rattle.pd_report.specs.Views.{report_view};
-ghost use Rattle.std.specs.Prelude.{◌≡◌, ◌≢◌, ◌≤◌, Err, IfErr, IfOk, IsOkUnless, Some, false, length, map, true};
+ghost use Rattle.pd_spec.specs.Views.{document_view};
+ghost use Rattle.pd_bundle.specs.Steps.{HasParts};
+ghost use Rattle.std.specs.Prelude.{◌≡◌, ◌≢◌, ◌∷◌, [], ℕ, Err, IfErr, IfOk, List, Option, false, true};
 
-use super::bundle::parts;
+use super::document::read_document;
 use super::judges::write_report;
-use super::reports::streams_report;
-use super::{EngineFault, Outcome, read_upto, within_limit};
-use pd_format::BUNDLE_BYTE_LIMIT;
-use pd_gather::{ByteSource, NoObserver, WholeBytes};
+use super::refusal::of_document;
+use super::reports::report_of;
+use super::unanswered::{Unanswered, settled};
+use super::{EngineFault, Outcome};
+use pd_bundle::{Bundle, read_document_part, read_stream_parts, skip_parts};
+use pd_format::DOCUMENT_BYTE_LIMIT;
+use pd_gather::ByteSource;
 use pd_level::Gate;
 use pd_report::Report;
-use std::alloc::{AllocError, Global};
+use pd_spec::{Spec, SpecFault};
+use std::alloc::Global;
 use std::io::Write;
 use std::random::RandomSource;
 use std::sync::Wait;
 use std::thread::Threads;
 
-/// Reads a bundle.
+/// The document in what is kept of a bundle's first part, or its refusal.
+fn read_kept_document(alloc: Global, kept: &[u8]) -> Result<Spec, Unanswered>
+    ensures read { IfOk result (λ spec. (part : List ℕ) → IsKept kept.now part
+        → IsDocument part (document_view spec)) }
+    ensures refused { IfErr result (IsUnanswered (λ report. (part : List ℕ) → IsKept kept.now part
+        → (streams : List RawStream) → IsJudgement part streams report)) }
+{
+    if kept.len() > DOCUMENT_BYTE_LIMIT {
+        return Err(Unanswered::Refused(of_document(alloc, SpecFault::Long)?));
+    }
+    read_document(alloc, kept)
+}
+
+/// The report of the streams in the parts that are left, of a session with this document.
+///
+/// # Errors
+/// `BundleLong` if the bundle has over 67,108,864 bytes, `Read` if a read fails, and `Memory`.
+fn streams_report_of<S: RandomSource, R: ByteSource, G: Gate + Sync>(
+    rt: &S,
+    alloc: Global,
+    spec: &Spec,
+    reader: &mut R,
+    bundle: &mut Bundle,
+    begins: bool,
+    workers: u64,
+    gate: &G,
+) -> Result<Report, EngineFault>
+    requires ready { bundle.old.ended ≡ false → R.has_ended reader.old ≡ false }
+    ensures report { IfOk result (λ report. (input : Option (List ℕ)) (document : List ℕ)
+        → IsDocument document (document_view spec.now)
+        → HasParts begins input (R.remaining reader.old) (document ∷ []) bundle.old
+        → IsReportOfRead input (report_view report)) }
+    ensures long { result ≡ Err EngineFault.BundleLong → (input : Option (List ℕ)) (closed : List (List ℕ))
+        → HasParts begins input (R.remaining reader.old) closed bundle.old → IsTooLong input }
+    ensures sure { R.never_fails ≡ true → result ≢ Err EngineFault.Read }
+    ensures err { IfErr result (λ _. call_end result ≡ Silent) }
+{
+    let gathered = read_stream_parts(alloc, spec, reader, bundle, begins)?;
+    let report = report_of(rt, alloc, spec, gathered, workers, gate)?;
+    Ok(report)
+}
+
+/// The report of a refused document, once the parts that are left were read.
+///
+/// # Errors
+/// `BundleLong` if the bundle has over 67,108,864 bytes, `Read` if a read fails, and `Memory`.
+fn refusal_report_of<R: ByteSource>(
+    reader: &mut R,
+    bundle: &mut Bundle,
+    begins: bool,
+    unanswered: Unanswered,
+) -> Result<Report, EngineFault>
+    requires ready { bundle.old.ended ≡ false → R.has_ended reader.old ≡ false }
+    ensures report { IfOk result (λ report. (input : Option (List ℕ)) (document : List ℕ)
+        → IsUnanswered (λ r. (streams : List RawStream) → IsJudgement document streams r) unanswered
+        → HasParts begins input (R.remaining reader.old) (document ∷ []) bundle.old
+        → IsReportOfRead input (report_view report)) }
+    ensures long { result ≡ Err EngineFault.BundleLong → (input : Option (List ℕ)) (closed : List (List ℕ))
+        → HasParts begins input (R.remaining reader.old) closed bundle.old → IsTooLong input }
+    ensures sure { R.never_fails ≡ true → result ≢ Err EngineFault.Read }
+    ensures err { IfErr result (λ _. call_end result ≡ Silent) }
+{
+    if begins {
+        skip_parts(reader, bundle)?;
+        let report = settled(Err(unanswered))?;
+        return Ok(report);
+    }
+    let report = settled(Err(unanswered))?;
+    Ok(report)
+}
+
+/// The report of the bundle that the reader gives, which is read to its end in pieces.
 ///
 /// # Errors
 /// `BundleLong` if it has over 67,108,864 bytes, `Read` if a read fails, and `Memory`.
-fn read_bundle<R: ByteSource + Drop>(alloc: Global, reader: R) -> Result<Vec<u8>, EngineFault>
+fn bundle_report<S: RandomSource, R: ByteSource + Drop, G: Gate + Sync>(
+    rt: &S,
+    alloc: Global,
+    reader: R,
+    workers: u64,
+    gate: &G,
+) -> Result<Report, EngineFault>
     requires open { R.has_ended reader ≡ false }
-    ensures whole { IfOk result (λ bundle. IsWholeInput (R.remaining reader) bundle.items) }
-    ensures fits { IfOk result (λ bundle. length bundle.items ≤ bundle_byte_limit) }
+    ensures report { IfOk result (λ report. IsReportOfRead (R.remaining reader) (report_view report)) }
     ensures long { result ≡ Err EngineFault.BundleLong → IsTooLong (R.remaining reader) }
     ensures sure { R.never_fails ≡ true → result ≢ Err EngineFault.Read }
     ensures err { IfErr result (λ _. call_end result ≡ Silent) }
 {
-    let bundle = read_upto(alloc, reader, BUNDLE_BYTE_LIMIT)?;
-    within_limit(bundle, BUNDLE_BYTE_LIMIT, EngineFault::BundleLong)
-}
-
-/// The streams of a bundle as sources, each with all its bytes.
-fn whole_streams<'a>(alloc: Global, parts: &[&'a [u8]]) -> Result<Vec<WholeBytes<'a>>, AllocError>
-    ensures { IfOk result (λ streams. map ⟦<WholeBytes<'a> as ByteSource>⟧.remaining streams.items
-        ≡ map Some (map (λ part. part.now) parts.now)) }
-{
-    let mut streams = Vec::new(alloc);
-    for &part in parts {
-        streams.push(WholeBytes::new(part))?;
+    let mut reader = reader;
+    let mut bundle = Bundle::new(alloc)?;
+    let (document, begins) = read_document_part(alloc, &mut reader, &mut bundle)?;
+    match read_kept_document(alloc, &document) {
+        Ok(spec) => streams_report_of(
+            rt,
+            alloc,
+            &spec,
+            &mut reader,
+            &mut bundle,
+            begins,
+            workers,
+            gate,
+        ),
+        Err(unanswered) => refusal_report_of(&mut reader, &mut bundle, begins, unanswered),
     }
-    Ok(streams)
-}
-
-/// The report of a bundle's bytes.
-///
-/// # Errors
-/// `Memory`.
-fn bundle_report<S: RandomSource + Threads + Wait + Sync, G: Gate + Sync>(
-    rt: &S,
-    alloc: Global,
-    bundle: &[u8],
-    workers: u64,
-    gate: &G,
-) -> Result<Report, EngineFault>
-    ensures report { IfOk result (λ report. IsReportOfBundle bundle.now (report_view report)) }
-    ensures err { IsOkUnless result EngineFault.Memory }
-{
-    let parts = parts(alloc, bundle)?;
-    let streams = whole_streams(alloc, &parts[1..])?;
-    streams_report(
-        rt,
-        alloc,
-        parts[0],
-        streams,
-        workers,
-        gate,
-        None::<&NoObserver>,
-    )
 }
 
 /// Reads a bundle, judges it, and writes its report. Its first part is the document, and each of the others is a whole
-/// stream. `workers`, from 1 to 16, and the gate change nothing yet.
+/// stream. They are read one after another, in pieces, and no bundle is held in memory. `workers`, from 1 to 16, and
+/// the gate change nothing yet.
 ///
 /// # Errors
 /// `Memory`, `Read` if the reader fails, and `BundleLong` if it has more than 67,108,864 bytes leave nothing written.
@@ -109,7 +170,6 @@ pub fn judge_bundle<
     ensures long { result ≡ Err EngineFault.BundleLong → IsTooLong (R.remaining reader) }
     ensures sure { R.never_fails ≡ true → result ≢ Err EngineFault.Read }
 {
-    let bundle = read_bundle(alloc, reader)?;
-    let report = bundle_report(rt, alloc, &bundle, workers, gate)?;
+    let report = bundle_report(rt, alloc, reader, workers, gate)?;
     write_report(alloc, &report, writer)
 }

@@ -1,4 +1,5 @@
 //! Why the engine gives no report.
+use pd_bundle::BundleFault;
 use pd_gather::ReadFault;
 use pd_report::WriteFault;
 use std::alloc::{AllocError, AllocFailed};
@@ -67,6 +68,21 @@ impl From<ReadFault> for EngineFault {
         match fault {
             ReadFault::Memory => EngineFault::Memory,
             ReadFault::Read => EngineFault::Read,
+        }
+    }
+}
+
+impl From<BundleFault> for EngineFault {
+    ghost use Rattle.std.specs.Prelude.{◌≡◌};
+    ghost use Rattle.pd_engine.specs.Faults.{engine_bundle_fault};
+
+    ghost from_gives = { λ fault e. e ≡ engine_bundle_fault fault };
+
+    fn from(fault: BundleFault) -> EngineFault {
+        match fault {
+            BundleFault::Memory => EngineFault::Memory,
+            BundleFault::Read => EngineFault::Read,
+            BundleFault::Long => EngineFault::BundleLong,
         }
     }
 }

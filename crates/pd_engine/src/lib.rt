@@ -17,7 +17,6 @@
 //! - `bundle_judges`: judges a bundle, and writes its report
 //! - `checks`: checks a report's evidence
 //! - `snapshots`: writes what is shown of the streams while they are read
-//! - `bundle`: the parts of a bundle
 //! - `input`: reads a source up to a limit
 //! - `refusal`: refusals in the words of a report
 //! - `unanswered`: why a session comes to no answers
@@ -26,7 +25,6 @@
 #![tactic(auto)]
 
 mod answers;
-mod bundle;
 mod bundle_judges;
 mod checks;
 mod computations;

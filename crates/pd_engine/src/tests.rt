@@ -2,59 +2,16 @@
 mod snapshots;
 mod watched;
 
-use super::bundle::parts;
 use super::{EngineFault, NoGate, Outcome, check, judge, judge_bundle, read_upto, within_limit};
 use pd_format::BUNDLE_BYTE_LIMIT;
 use pd_gather::WholeBytes;
-use std::alloc::{AllocError, Global};
+use std::alloc::Global;
 use std::io;
 use std::io::{Error, ErrorKind, Read, Write};
 use std::random::RandomSource;
 use std::sync::Wait;
 use std::test::Fail;
 use std::thread::Threads;
-
-/// The parts, each between angle brackets.
-fn bracketed(alloc: Global, bytes: &[u8]) -> Result<Vec<u8>, AllocError> {
-    let mut all = Vec::new(alloc);
-    for part in &parts(alloc, bytes)? {
-        all.push(b'<')?;
-        all.extend_from_slice(part)?;
-        all.push(b'>')?;
-    }
-    Ok(all)
-}
-
-#[test]
-fn bundles_have_parts(rt: HostRuntime) -> Result<(), Fail> {
-    let cases = [
-        ("no bytes are one empty part", "", "<>"),
-        ("no separator", "a\nb", "<a\nb>"),
-        (
-            "separators with CR and without",
-            "a\r\n---\r\nb\r\n---\nc\n",
-            "<a\r\n><b\r\n><c\n>",
-        ),
-        (
-            "a separator at the end begins an empty part",
-            "a\n---\n",
-            "<a\n><>",
-        ),
-        ("a separator ends with the bytes", "a\n---", "<a\n><>"),
-        ("a separator with CR ends with the bytes", "---\r", "<><>"),
-        ("two separators", "---\n---\n", "<><><>"),
-        (
-            "lines that are almost separators",
-            "----\n ---\n--- \n--\n",
-            "<----\n ---\n--- \n--\n>",
-        ),
-    ];
-    for (row, bundle, want) in cases {
-        let found = bracketed(rt.alloc(), bundle.as_bytes())?;
-        assert_eq!(rt; found.as_slice(), want.as_bytes(), "{row}");
-    }
-    Ok(())
-}
 
 #[test]
 fn reads_stop_at_the_limit(rt: HostRuntime) -> Result<(), Fail> {

@@ -6,7 +6,8 @@ use Rattle.pd_bundle.proofs.parts.read_document_part.Goals as goal
 
 pub steps-preserved : goal.steps-preserved
 steps-preserved g c = record {
-  at = part_grows (IsKept c.steps.document.items) (IsKept c.keep_given.new.document.items) (g.R.ByteSource.remaining c.args.reader.now) (g.R.ByteSource.remaining c.steps.reader) (g.R.ByteSource.remaining c.next-in-steps.new.reader)
+  at = part_grows (IsKept c.steps.document.items) (IsKept c.keep_given.new.document.items) (g.R.ByteSource.remaining
+      c.args.reader.now) (g.R.ByteSource.remaining c.steps.reader) (g.R.ByteSource.remaining c.next-in-steps.new.reader)
       c.args.bundle.now c.steps.bundle c.next-in-steps.new.self c.steps.next c.in_ok-next-2.next
       c.steps-test.ensures.yes c.steps.invariant.at c.in_ok-keep_given.ensures c.in_ok-next-2.ensures.steps;
   ready = c.in_ok-next-2.ensures.ready;
@@ -14,7 +15,8 @@ steps-preserved g c = record {
 
 pub returns-clause-part : goal.returns-clause-part
 returns-clause-part g c =
-    rw c.begins_part.ensures (part_read (IsKept c.steps.document.items) (IsKept c.steps.document.items) (g.R.ByteSource.remaining c.args.reader.now) (g.R.ByteSource.remaining c.steps.reader)
+    rw c.begins_part.ensures (part_read (IsKept c.steps.document.items) (IsKept c.steps.document.items)
+    (g.R.ByteSource.remaining c.args.reader.now) (g.R.ByteSource.remaining c.steps.reader)
     c.args.bundle.now c.steps.bundle c.steps.next c.steps-test.ensures.no c.steps.invariant.at (λ part kept. kept))
 
 pub returns-in_err-next-clause-long : goal.returns-in_err-next-clause-long
@@ -24,7 +26,8 @@ returns-in_err-next-clause-long g c reported = λ input closed cut.
 
 pub returns-in_err-next-2-clause-long : goal.returns-in_err-next-2-clause-long
 returns-in_err-next-2-clause-long g c reported =
-    part_long (IsKept c.steps.document.items) (g.R.ByteSource.remaining c.args.reader.now) (g.R.ByteSource.remaining c.steps.reader) c.args.bundle.now c.steps.bundle c.steps.next
+    part_long (IsKept c.steps.document.items) (g.R.ByteSource.remaining c.args.reader.now) (g.R.ByteSource.remaining
+    c.steps.reader) c.args.bundle.now c.steps.bundle c.steps.next
     c.steps-test.ensures.yes c.steps.invariant.at
     (c.in_err-next-2.ensures.long (same_fault c.from_residual-in_err-next-2.result c.in_err-next-2.field-0.0
     c.from_residual-in_err-next-2.ensures.1 reported))

@@ -13,7 +13,9 @@ pub steps-preserved : goal.steps-preserved
 steps-preserved g c =
     let names = (document_view c.args.spec.now).names in
     record {
-      at = part_grows (Reads c.steps.stream names Open) (Reads c.feed_given.new.stream names Open) (g.R.ByteSource.remaining c.args.reader.now) (g.R.ByteSource.remaining c.steps.reader) (g.R.ByteSource.remaining c.next-in-steps.new.reader)
+      at = part_grows (Reads c.steps.stream names Open) (Reads c.feed_given.new.stream names Open)
+          (g.R.ByteSource.remaining c.args.reader.now) (g.R.ByteSource.remaining c.steps.reader)
+          (g.R.ByteSource.remaining c.next-in-steps.new.reader)
           c.args.bundle.now c.steps.bundle c.next-in-steps.new.self c.steps.next c.in_ok-next-2.next
           c.steps-test.ensures.yes c.steps.invariant.at (c.in_ok-feed_given.ensures names)
           c.in_ok-next-2.ensures.steps;
@@ -24,7 +26,8 @@ pub returns-clause-part : goal.returns-clause-part
 returns-clause-part g c =
     let names = (document_view c.args.spec.now).names in
     rw c.begins_part.ensures (part_read (Reads c.steps.stream names Open)
-    (IsResultOfPart names (result_view c.outcome.result)) (g.R.ByteSource.remaining c.args.reader.now) (g.R.ByteSource.remaining c.steps.reader) c.args.bundle.now c.steps.bundle c.steps.next
+    (IsResultOfPart names (result_view c.outcome.result)) (g.R.ByteSource.remaining c.args.reader.now)
+    (g.R.ByteSource.remaining c.steps.reader) c.args.bundle.now c.steps.bundle c.steps.next
     c.steps-test.ensures.no c.steps.invariant.at
     (λ part reads. result_of_part names part c.end.new.self c.outcome.result c.outcome.ensures.value
     (c.in_ok-end.ensures.reads names part reads)))
@@ -44,7 +47,8 @@ returns-in_err-next-clause-long g c reported = λ input closed cut.
 pub returns-in_err-next-2-clause-long : goal.returns-in_err-next-2-clause-long
 returns-in_err-next-2-clause-long g c reported =
     part_long (Reads c.steps.stream (document_view c.args.spec.now).names Open)
-    (g.R.ByteSource.remaining c.args.reader.now) (g.R.ByteSource.remaining c.steps.reader) c.args.bundle.now c.steps.bundle c.steps.next
+    (g.R.ByteSource.remaining c.args.reader.now) (g.R.ByteSource.remaining c.steps.reader) c.args.bundle.now
+    c.steps.bundle c.steps.next
     c.steps-test.ensures.yes c.steps.invariant.at
     (c.in_err-next-2.ensures.long (same_fault c.from_residual-in_err-next-2.result c.in_err-next-2.field-0.0
     c.from_residual-in_err-next-2.ensures.1 reported))

@@ -32,7 +32,12 @@ returns-then-begins-clause-read g c =
     let readings = c.streams.readings.items in
     let many : stream_count_limit ≤ length readings =
     elim c.streams-test.branch [
-      | then-streams-test+else-len-lt-STREAM_COUNT_LIMIT w ↦ omega (arith, w.if-len-lt-STREAM_COUNT_LIMIT.false, w.len.ensures, c.streams.readings.ok.0)
+      | then-streams-test+else-len-lt-STREAM_COUNT_LIMIT w ↦ omega (
+        arith,
+        w.if-len-lt-STREAM_COUNT_LIMIT.false,
+        w.len.ensures,
+        c.streams.readings.ok.0,
+      )
       | else-streams-test w ↦ absurd (grind (arith, w.streams-test.false, c.if-begins.true))
     ] in
     rw c.new.ensures.items

@@ -5,21 +5,25 @@ use Rattle.pd_bundle.proofs.parts.skip_parts.Goals as goal
 
 pub steps-init : goal.steps-init
 steps-init g c = record {
-  has = skip_begins (g.R.ByteSource.remaining c.args.reader.now) (g.R.ByteSource.remaining c.next.new.reader) c.args.bundle.now c.next.new.self c.in_ok-next.next
+  has = skip_begins (g.R.ByteSource.remaining c.args.reader.now) (g.R.ByteSource.remaining c.next.new.reader)
+      c.args.bundle.now c.next.new.self c.in_ok-next.next
       c.in_ok-next.ensures.steps;
   ready = c.in_ok-next.ensures.ready;
 }
 
 pub steps-preserved : goal.steps-preserved
 steps-preserved g c = record {
-  has = skip_goes (g.R.ByteSource.remaining c.args.reader.now) (g.R.ByteSource.remaining c.steps.reader) (g.R.ByteSource.remaining c.next-in-steps.new.reader) c.args.bundle.now c.steps.bundle c.next-in-steps.new.self c.steps.next
+  has = skip_goes (g.R.ByteSource.remaining c.args.reader.now) (g.R.ByteSource.remaining c.steps.reader)
+      (g.R.ByteSource.remaining c.next-in-steps.new.reader) c.args.bundle.now c.steps.bundle c.next-in-steps.new.self
+      c.steps.next
       c.in_ok-next-2.next c.steps-test.ensures.no c.steps.invariant.has c.in_ok-next-2.ensures.steps;
   ready = c.in_ok-next-2.ensures.ready;
 }
 
 pub returns-clause-parts : goal.returns-clause-parts
 returns-clause-parts g c =
-    skip_ends (g.R.ByteSource.remaining c.args.reader.now) (g.R.ByteSource.remaining c.steps.reader) c.args.bundle.now c.steps.bundle c.steps.next c.steps-test.ensures.yes c.steps.invariant.has
+    skip_ends (g.R.ByteSource.remaining c.args.reader.now) (g.R.ByteSource.remaining c.steps.reader) c.args.bundle.now
+    c.steps.bundle c.steps.next c.steps-test.ensures.yes c.steps.invariant.has
 
 pub returns-in_err-next-clause-long : goal.returns-in_err-next-clause-long
 returns-in_err-next-clause-long g c reported = λ input closed cut.
@@ -28,7 +32,8 @@ returns-in_err-next-clause-long g c reported = λ input closed cut.
 
 pub returns-in_err-next-2-clause-long : goal.returns-in_err-next-2-clause-long
 returns-in_err-next-2-clause-long g c reported =
-    skip_long (g.R.ByteSource.remaining c.args.reader.now) (g.R.ByteSource.remaining c.steps.reader) c.args.bundle.now c.steps.bundle c.steps.next
+    skip_long (g.R.ByteSource.remaining c.args.reader.now) (g.R.ByteSource.remaining c.steps.reader) c.args.bundle.now
+    c.steps.bundle c.steps.next
     c.steps-test.ensures.no c.steps.invariant.has
     (c.in_err-next-2.ensures.long (same_fault c.from_residual-in_err-next-2.result c.in_err-next-2.field-0.0
     c.from_residual-in_err-next-2.ensures.1 reported))

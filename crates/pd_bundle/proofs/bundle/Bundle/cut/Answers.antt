@@ -13,7 +13,8 @@ returns-in-Hold c =
     let cut : IsCut c.self.inside.cutter c.cut-cut.new.self (take (end - start) (drop start piece)) cuts.Hold =
     rw c.deref.ensures.value at c.in-Hold.ensures in
     let room : start + 1 ≤ end = slice_room piece start end 1 c.self.invariant.1 cut.within in
-    rw (← c.self.view_is) (cut_hold _ _ cut (slice_rest piece start end 1 room) (slice_none [] piece (start + 1)) refl refl
+    rw (← c.self.view_is) (cut_hold _ _ cut (slice_rest piece start end 1 room) (slice_none [] piece (start + 1)) refl
+    refl
     c.self.invariant.4)
 
 pub returns-in-Separator : goal.returns-in-Separator
