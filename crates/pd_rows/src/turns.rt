@@ -146,9 +146,17 @@ fn turns_change_nothing(rt: HostRuntime) -> Result<(), Fail> {
         assert!(rt; turns.closed(), "{}", case.name);
         let whole = whole.outcome();
         let turns = turns.outcome();
-        assert!(rt; whole.readings == turns.readings, "{}", case.name);
         assert_eq!(rt; (whole.streams, turns.streams), (2, 2));
         assert_eq!(rt; whole.readings.len(), 2);
+        assert_eq!(rt; turns.readings.len(), 2);
+        assert_eq!(rt;
+            (case.name, given(&turns.readings[0])),
+            (case.name, case.given_first)
+        );
+        assert_eq!(rt;
+            (case.name, given(&turns.readings[1])),
+            (case.name, case.given_second)
+        );
         assert_eq!(rt;
             (case.name, given(&whole.readings[0])),
             (case.name, case.given_first)
