@@ -1,5 +1,6 @@
 -- Each part that is read is one stream more, and streams that are too many are skipped.
-use Rattle.std.proofs.Common.{rules, ◌≡◌, ◌≤◌, All, length, arith}
+use Rattle.std.proofs.Common.{rules, ◌≡◌, ◌≤◌, All, length, subst, sym, arith}
+use Rattle.std.proofs.lemmas.List.Elements.{All-push}
 use Rattle.std.proofs.lemmas.List.{length-map, map_push}
 use Rattle.pd_events.specs.Views.{result_view}
 use Rattle.pd_format.specs.Limits.{stream_count_limit}
@@ -12,7 +13,10 @@ use Rattle.pd_bundle.proofs.parts.read_stream_parts.Goals.{then-streams-test+els
 pub streams-preserved : goal.streams-preserved
 streams-preserved g c =
     let names = (document_view c.args.spec.now).names in
-    let fit : All (ReadingFits names) c.push.new.self.items = search rules in
+    let fit : All (ReadingFits names) c.push.new.self.items =
+    subst (All (ReadingFits names)) (sym c.in_ok-push.ensures.items)
+    (All-push (ReadingFits names) c.streams.readings.items c.in_ok-reading.reading c.streams.invariant.fit
+    c.in_ok-reading.ensures.fits) in
     let few : length c.push.new.self.items ≤ stream_count_limit = search rules in
     record {
       has = rw (c.in_ok-push.ensures.items, map_push)
