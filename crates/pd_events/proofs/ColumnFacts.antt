@@ -1,11 +1,12 @@
 -- What columns stand for after an event is added, and which events are kept.
-use Rattle.std.proofs.Common.{◌≡◌, ℕ, ℤ, zero, suc, ◌+◌, ◌-◌, ◌≤◌, List, [], ◌∷◌, ◌++◌, length, map, take, drop, refl, sym, ap, ◌∙◌, arith}
+use Rattle.std.proofs.Common.{◌≡◌, ℕ, ℤ, ◌+◌, ◌-◌, ◌≤◌, List, [], ◌∷◌, ◌++◌, length, take, drop, refl, sym, ap, ◌∙◌, arith}
+use Rattle.std.specs.List.{zip}
 use Rattle.std.specs.Prelude.{All}
 use Rattle.std.proofs.Math.Seq.{drop-append_seam, take-length}
-use Rattle.std.proofs.lemmas.List.{drop-append-le, length-drop, map-append, take-append-le}
+use Rattle.std.proofs.lemmas.List.{drop-append-le, length-drop, length-map, length-take-le, map-append, take-append-le}
 use Rattle.std.proofs.lemmas.List.Elements.{All-head, All-tail}
 use Rattle.pd_model.specs.Events as events
-use Rattle.pd_events.specs.Columns.{IsWithin, AreWithin, columns_view, entry_view, entry_with, part, tag_view}
+use Rattle.pd_events.specs.Columns.{IsWithin, AreWithin, columns_view, entry_view, entry_with, event_with, part, places_in, tag_view, values_in}
 use Rattle.pd_events.specs.declared.entry.Entry.{Entry}
 use Rattle.pd_events.specs.declared.entry.Tag.{Tag}
 
@@ -16,39 +17,63 @@ part_grown start len xs ys within =
     ap (take len) (drop-append-le start xs ys (omega arith))
     ∙ take-append-le len (drop start xs) ys (omega arith)
 
-part_last : {A : Type 0} (xs ys : List A) → part (length xs) (length ys) (xs ++ ys) ≡ ys
-part_last xs ys = ap (take (length ys)) (drop-append_seam xs ys) ∙ take-length ys
+part_last : {A : Type 0} (start len : ℕ) (xs ys : List A) → start ≡ length xs → len ≡ length ys
+    → part start len (xs ++ ys) ≡ ys
+part_last start len xs ys e f = rw (e, f) (ap (take (length ys)) (drop-append_seam xs ys) ∙ take-length ys)
 
-module _ (ids : List ℕ) (sets : List (ℕ × ℤ)) (id : List ℕ) (new : List (ℕ × ℤ)) where
-  entry_grown : (e : Entry) → IsWithin ids sets e → entry_view (ids ++ id) (sets ++ new) e ≡ entry_view ids sets e
+pub length_part : {A : Type 0} (start len : ℕ) (xs : List A) → start + len ≤ length xs
+    → length (part start len xs) ≡ len
+length_part start len xs within =
+    let rest : length (drop start xs) ≡ length xs - start = length-drop start xs in
+    length-take-le len (drop start xs) (omega arith)
+
+-- the settings, from their variables and their values
+parts_zipped : (sets : List (ℕ × ℤ)) → zip (places_in sets) (values_in sets) ≡ sets
+parts_zipped [] = refl
+parts_zipped (set_ ∷ sets) = λ i. set_ ∷ parts_zipped sets i
+
+module _ (ids places : List ℕ) (values : List ℤ) (id : List ℕ) (new : List (ℕ × ℤ)) where
+  entry_grown : (e : Entry) → IsWithin ids places values e
+      → entry_view (ids ++ id) (places ++ places_in new) (values ++ values_in new) e ≡ entry_view ids places values e
   entry_grown e within = λ i. record {
-    kind = tag_view e.tag (part_grown e.id_start e.id_len ids id within.id i);
-    sets = part_grown e.set_start e.set_len sets new within.settings i;
+    kind = tag_view e.tag (part_grown e.id_start e.id_len ids id within.in_ids i);
+    sets = zip (part_grown e.set_start e.set_len places (places_in new) within.in_places i)
+        (part_grown e.set_start e.set_len values (values_in new) within.in_values i);
   }
 
-  columns_grown : (entries : List Entry) → AreWithin ids sets entries
-      → columns_view (ids ++ id) (sets ++ new) entries ≡ columns_view ids sets entries
+  columns_grown : (entries : List Entry) → All (IsWithin ids places values) entries
+      → columns_view (ids ++ id) (places ++ places_in new) (values ++ values_in new) entries
+      ≡ columns_view ids places values entries
   columns_grown [] within = refl
   columns_grown (e ∷ entries) within = λ i.
-      entry_grown e (All-head (IsWithin ids sets) e entries within) i
-      ∷ columns_grown entries (All-tail (IsWithin ids sets) e entries within) i
+      entry_grown e (All-head (IsWithin ids places values) e entries within) i
+      ∷ columns_grown entries (All-tail (IsWithin ids places values) e entries within) i
 
-  entry_last : (tag : Tag)
-      → entry_view (ids ++ id) (sets ++ new) (entry_with tag (length ids) (length id) (length sets) (length new))
-      ≡ record { kind = tag_view tag id; sets = new }
-  entry_last tag = λ i. record { kind = tag_view tag (part_last ids id i); sets = part_last sets new i }
+  entry_last : (tag : Tag) → length places ≡ length values
+      → entry_view (ids ++ id) (places ++ places_in new) (values ++ values_in new)
+      (entry_with tag (length ids) (length id) (length places) (length new))
+      ≡ event_with (tag_view tag id) new
+  entry_last tag same =
+      let placed : part (length places) (length new) (places ++ places_in new) ≡ places_in new =
+      part_last (length places) (length new) places (places_in new) refl (sym (length-map new _)) in
+      let valued : part (length places) (length new) (values ++ values_in new) ≡ values_in new =
+      part_last (length places) (length new) values (values_in new) same (sym (length-map new _)) in
+      let sets : zip (part (length places) (length new) (places ++ places_in new))
+      (part (length places) (length new) (values ++ values_in new)) ≡ new =
+      (λ i. zip (placed i) (valued i)) ∙ parts_zipped new in
+      λ i. event_with (tag_view tag (part_last (length ids) (length id) ids id refl refl i)) (sets i)
 
   -- the events after one is added
-  pub columns_pushed : (entries : List Entry) (tag : Tag) (event : events.Event) → AreWithin ids sets entries
-      → tag_view tag id ≡ event.kind → new ≡ event.sets
-      → columns_view (ids ++ id) (sets ++ new)
-      (entries ++ entry_with tag (length ids) (length id) (length sets) (length new) ∷ [])
-      ≡ columns_view ids sets entries ++ event ∷ []
-  columns_pushed entries tag event within kind settings =
-      let last = entry_with tag (length ids) (length id) (length sets) (length new) in
-      map-append (entry_view (ids ++ id) (sets ++ new)) entries (last ∷ [])
-      ∙ (λ i. columns_grown entries within i ++ (entry_last tag
-      ∙ (λ j. record { kind = kind j; sets = settings j })) i ∷ [])
+  pub columns_pushed : (entries : List Entry) (tag : Tag) (kind : events.Kind) → AreWithin ids places values entries
+      → tag_view tag id ≡ kind
+      → columns_view (ids ++ id) (places ++ places_in new) (values ++ values_in new)
+      (entries ++ entry_with tag (length ids) (length id) (length places) (length new) ∷ [])
+      ≡ columns_view ids places values entries ++ event_with kind new ∷ []
+  columns_pushed entries tag kind within is =
+      let last = entry_with tag (length ids) (length id) (length places) (length new) in
+      map-append (entry_view (ids ++ id) (places ++ places_in new) (values ++ values_in new)) entries (last ∷ [])
+      ∙ (λ i. columns_grown entries within.each i ++ (entry_last tag within.same
+      ∙ (λ j. event_with (is j) new)) i ∷ [])
 
 -- what keeps what was kept keeps it
 pub keeps_more : {A : Type 0} (old more new : List A) → take (length old) more ≡ old → take (length more) new ≡ more

@@ -1,5 +1,6 @@
 -- What the columns of a process's events stand for.
-use Rattle.std.specs.Prelude.{ℕ, ◌+◌, ◌≤◌, List, All, drop, length, map, take, ℤ}
+use Rattle.std.specs.Prelude.{◌≡◌, ℕ, ◌+◌, ◌≤◌, List, All, drop, length, map, take, ℤ}
+use Rattle.std.specs.List.{zip}
 use Rattle.pd_model.specs.Events as events
 use Rattle.pd_events.specs.declared.entry.Entry.{Entry}
 use Rattle.pd_events.specs.declared.entry.Tag.{Tag}
@@ -30,20 +31,34 @@ entry_with tag id_start id_len set_start set_len = record {
   set_len = set_len;
 }
 
--- the event whose parts stand there, among these bytes of ids and these settings
-abbrev pub entry_view : List ℕ → List (ℕ × ℤ) → Entry → events.Event
-entry_view ids sets e = record {
+-- the variables of settings
+abbrev pub places_in : List (ℕ × ℤ) → List ℕ
+places_in sets = map (λ (set : ℕ × ℤ). set.0) sets
+
+-- the values of settings
+abbrev pub values_in : List (ℕ × ℤ) → List ℤ
+values_in sets = map (λ (set : ℕ × ℤ). set.1) sets
+
+abbrev pub event_with : events.Kind → List (ℕ × ℤ) → events.Event
+event_with kind sets = record { kind = kind; sets = sets }
+
+-- the event whose parts stand there, among these bytes of ids and these variables and values of settings
+abbrev pub entry_view : List ℕ → List ℕ → List ℤ → Entry → events.Event
+entry_view ids places values e = record {
   kind = tag_view e.tag (part e.id_start e.id_len ids);
-  sets = part e.set_start e.set_len sets;
+  sets = zip (part e.set_start e.set_len places) (part e.set_start e.set_len values);
 }
 
-abbrev pub columns_view : List ℕ → List (ℕ × ℤ) → List Entry → List events.Event
-columns_view ids sets entries = map (entry_view ids sets) entries
+abbrev pub columns_view : List ℕ → List ℕ → List ℤ → List Entry → List events.Event
+columns_view ids places values entries = map (entry_view ids places values) entries
 
 -- the event's parts stand within the columns
-pub record IsWithin (ids : List ℕ) (sets : List (ℕ × ℤ)) (e : Entry) : Type 0 where
-  pub id : e.id_start + e.id_len ≤ length ids
-  pub settings : e.set_start + e.set_len ≤ length sets
+pub record IsWithin (ids places : List ℕ) (values : List ℤ) (e : Entry) : Type 0 where
+  pub in_ids : e.id_start + e.id_len ≤ length ids
+  pub in_places : e.set_start + e.set_len ≤ length places
+  pub in_values : e.set_start + e.set_len ≤ length values
 
-abbrev pub AreWithin : List ℕ → List (ℕ × ℤ) → List Entry → Type 0
-AreWithin ids sets entries = All (IsWithin ids sets) entries
+-- there is a value for each variable that is set, and each event's parts stand within the columns
+pub record AreWithin (ids places : List ℕ) (values : List ℤ) (entries : List Entry) : Type 0 where
+  pub same : length places ≡ length values
+  pub each : All (IsWithin ids places values) entries

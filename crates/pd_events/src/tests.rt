@@ -2,8 +2,8 @@
 ghost use Rattle.std.specs.Prelude.{◌<◌};
 
 use super::{
-    EventKind, Kind, LineRecord, RecordFault, StreamFault, StreamKind, StreamState, Trace,
-    TraceReader, read_record,
+    Event, EventKind, Events, Kind, LineRecord, RecordFault, StreamFault, StreamKind, StreamState,
+    Trace, TraceReader, read_record,
 };
 use pd_format::{EVENT_LIMIT, LINE_BYTE_LIMIT};
 use pd_spec::Spec;
@@ -166,6 +166,27 @@ fn events_have_a_limit(rt: HostRuntime) -> Result<(), Fail> {
         (fault.line, fault.kind),
         (EVENT_LIMIT as u64 + 2, StreamKind::Events)
     );
+    Ok(())
+}
+
+/// An event of a process alone that sets this variable.
+fn setting(alloc: Global, place: usize, value: i64) -> Result<Event, AllocError> {
+    let kind = EventKind::Local;
+    let sets = Vec::from_slice(alloc, &[(0, 1), (place, value)])?;
+    Ok(Event { kind, sets })
+}
+
+#[test]
+fn variables_have_a_limit(rt: HostRuntime) -> Result<(), Fail> {
+    let mut events = Events::new(rt.alloc());
+    events.push(&setting(rt.alloc(), 255, -3)?)?;
+    assert!(rt; events.push(&setting(rt.alloc(), 256, 4)?).is_err());
+    events.push(&setting(rt.alloc(), 2, 5)?)?;
+    assert_eq!(rt; events.len(), 2);
+    assert_eq!(rt; events.settings(0).len(), 2);
+    assert_eq!(rt; events.settings(0).get(1), (255, -3));
+    assert_eq!(rt; events.settings(1).len(), 2);
+    assert_eq!(rt; events.settings(1).get(1), (2, 5));
     Ok(())
 }
 

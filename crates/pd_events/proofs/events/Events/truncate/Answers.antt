@@ -6,7 +6,9 @@ use Rattle.pd_events.proofs.events.Events.truncate.Goals as goal
 
 pub returns : goal.returns
 returns c =
-    ap (columns_view c.self.inside.ids.items c.self.inside.sets.items) c.truncate.ensures.items
-    ∙ (sym (take-map (entry_view c.self.inside.ids.items c.self.inside.sets.items) c.args.n
-    c.self.inside.entries.items)
+    let ids = c.self.inside.ids.items in
+    let places = c.self.inside.places.items in
+    let values = c.self.inside.values.items in
+    ap (columns_view ids places values) c.truncate.ensures.items
+    ∙ (sym (take-map (entry_view ids places values) c.args.n c.self.inside.entries.items)
     ∙ ap (take c.args.n) c.self.view_is)
