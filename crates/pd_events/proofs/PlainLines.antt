@@ -1,14 +1,17 @@
 -- What a line of the plain shape says, from its fields.
 use Rattle.std.proofs.Common.{◌≡◌, ℕ, ℤ, Bool, true, false, true≢false, List, [], ◌∷◌, Option, Some, None, codes, refl, sym, ◌∙◌}
-use Rattle.std.specs.Prelude.{IsUtf8, MatchOption, is_some, Ok}
+use Rattle.std.specs.Prelude.{IsUtf8, MatchOption, is_some, not, Ok, Err, if◌then◌else◌}
+use Rattle.std.specs.List.{list_all}
 use Rattle.json.specs.Token.{Token}
 use Rattle.json.specs.Lex.{tokens}
 use Rattle.serde_json.specs.Data.{string, object, Members, no_members, put}
 use Rattle.pd_model.specs.Events.{Kind, Local, Send, Receive}
+use Rattle.pd_format.specs.Lists.{first_that_applies, unless}
 use Rattle.pd_format.specs.Names.{ProcessNames, vars_of}
-use Rattle.pd_format.specs.Records.{SaysEvent, event_record, record_of, statement_of}
+use Rattle.pd_format.specs.Records.{RecordFault, Happens, MessageId, SaysEvent, UnknownVar, Value, event_record, has_only, id_fits, record_of, sets_from, statement_of, values, whole_number}
 use Rattle.pd_format.proofs.JsonFacts.{json_value-some}
-use Rattle.pd_events.specs.Parts.{sets_due}
+use Rattle.pd_events.specs.Columns.{event_with}
+use Rattle.pd_events.specs.Parts.{event_due, sets_due}
 use Rattle.pd_events.specs.Plain.{AreSets, GivesFields, GoesOn, line_fields, settings_or_none}
 use Rattle.pd_events.proofs.PlainReading.{ends, goes_on_and_on, goes_on_from_here, object_goes_in, text_goes_in, whole_object}
 use Rattle.pd_events.proofs.RecordFacts.{nothing_set, record_of_its_value}
@@ -112,6 +115,9 @@ fields_read vars start before rest kind settings said sets are goes e = (
 
 -- ---- the whole line
 
+same_ok : (found sets : List (ℕ × ℤ)) → unless {F = RecordFault} None found ≡ Ok sets → found ≡ sets
+same_ok found sets e = cc
+
 statement_is : (kind : Kind) (settings : Option Members)
     → statement_of (object (line_fields kind settings)) ≡ Some (SaysEvent kind (settings_or_none settings))
 statement_is Local None = refl
@@ -131,6 +137,22 @@ line_read names p bytes text now kind settings same utf8 e gives =
     (json_value-some bytes _ utf8 (rw (← same) (whole_object text now (line_fields kind settings) e gives)))
     (sym (statement_is kind settings))
 
+event_due_by : (known whole fits : Bool) (kind : Kind) (found sets : List (ℕ × ℤ))
+    → unless (first_that_applies ((not known, UnknownVar) ∷ (not whole, Value) ∷ [])) found ≡ Ok sets
+    → unless (first_that_applies ((not known, UnknownVar) ∷ (not whole, Value) ∷ (not fits, MessageId) ∷ []))
+    (Happens (event_with kind found)) ≡ if fits then Ok (Happens (event_with kind sets)) else Err MessageId
+event_due_by true true true kind found sets e = λ i. Ok (Happens (event_with kind (same_ok found sets e i)))
+event_due_by true true false kind found sets e = refl
+event_due_by true false fits kind found sets e = absurd (cc)
+event_due_by false whole fits kind found sets e = absurd (cc)
+
+-- the record of an event that sets what is due
+event_is_due : (vars : List (List ℕ)) (kind : Kind) (settings : Members) (sets : List (ℕ × ℤ))
+    → sets_due vars settings ≡ Ok sets → event_record vars kind settings ≡ event_due kind sets
+event_is_due vars kind settings sets e =
+    event_due_by (has_only vars settings) (list_all (λ value. is_some (whole_number value)) (values settings))
+    (id_fits kind) kind (sets_from 0 vars settings) sets e
+
 -- nothing comes next
 pub nothing_next : {A : Type 0} (next : Option A) (P : Type 0) (Q : A → Type 0) → MatchOption next P Q
     → false ≡ is_some next → P
@@ -138,9 +160,10 @@ nothing_next None P Q match e = match
 nothing_next (Some x) P Q match e = absurd (true≢false (sym e))
 
 pub whole_line_read : (names : List ProcessNames) (p : ℕ) (vars : List (List ℕ)) (bytes text : List ℕ)
-    (start now rest : List Token) (kind : Kind) (settings : Option Members) → vars ≡ vars_of names p → text ≡ bytes
-    → IsUtf8 bytes → start ≡ tokens text → start ≡ Token.begin_object ∷ now
+    (start now rest : List Token) (kind : Kind) (settings : Option Members) (sets : List (ℕ × ℤ))
+    → vars ≡ vars_of names p → text ≡ bytes → IsUtf8 bytes → start ≡ tokens text → start ≡ Token.begin_object ∷ now
     → GivesFields 126 no_members now (line_fields kind settings) rest → rest ≡ []
-    → record_of names (Some p) bytes ≡ event_record vars kind (settings_or_none settings)
-whole_line_read names p vars bytes text start now rest kind settings known same utf8 e f gives none =
-    rw known (line_read names p bytes text now kind settings same utf8 (sym e ∙ f) (rw none at gives))
+    → sets_due vars (settings_or_none settings) ≡ Ok sets → record_of names (Some p) bytes ≡ event_due kind sets
+whole_line_read names p vars bytes text start now rest kind settings sets known same utf8 e f gives none due =
+    (rw known (line_read names p bytes text now kind settings same utf8 (sym e ∙ f) (rw none at gives)))
+    ∙ event_is_due vars kind (settings_or_none settings) sets due

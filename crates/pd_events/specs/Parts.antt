@@ -8,6 +8,7 @@ use Rattle.pd_format.specs.Lists.{first_that_applies, unless}
 use Rattle.pd_format.specs.Limits.{id_byte_limit}
 use Rattle.pd_format.specs.Records.{has_only, id_fits, sets_from, values, whole_number, UnknownVar, Value, MessageId}
 use Rattle.pd_format.specs.Records as records
+use Rattle.pd_events.specs.Columns.{event_with}
 use Rattle.pd_events.specs.Faults.{record_fault_view}
 use Rattle.pd_events.specs.Views.{kind_view}
 use Rattle.pd_events.specs.declared.event.EventKind.{EventKind}
@@ -37,6 +38,10 @@ kind_due kind = if id_fits kind then Ok kind else Err MessageId
 
 abbrev pub IsKind : Kind → Result EventKind RecordFault → Type 0
 IsKind kind answer = IsAnswerBy kind_view (kind_due kind) answer
+
+-- the event of this kind that sets these variables, if its id has its length
+abbrev pub event_due : Kind → List (ℕ × ℤ) → Result records.LineRecord records.RecordFault
+event_due kind sets = if id_fits kind then Ok (records.Happens (event_with kind sets)) else Err MessageId
 
 -- the id, if it has its length
 abbrev pub id_due : List ℕ → Result (List ℕ) records.RecordFault

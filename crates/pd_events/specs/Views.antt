@@ -1,5 +1,5 @@
 -- What the program's records, traces and faults stand for.
-use Rattle.std.specs.Prelude.{◌≡◌, List, map, string_bytes, Option, Result, Ok, Err, IfSome, MatchResult, MatchOption}
+use Rattle.std.specs.Prelude.{◌≡◌, List, map, string_bytes, Result, Ok, Err, MatchResult, MatchOption}
 use Rattle.pd_model.specs.Events as events
 use Rattle.pd_format.specs.Records as records
 use Rattle.pd_format.specs.Readings as readings
@@ -45,13 +45,6 @@ record_view says.Finish = records.Ends
 abbrev pub IsRecord : Result records.LineRecord records.RecordFault → Result LineRecord RecordFault → Type 0
 IsRecord due answer =
     MatchResult answer (λ reported_record. due ≡ Ok (record_view reported_record)) (λ fault.
-    MatchOption (record_fault_view fault) (Unit {0}) (λ f. due ≡ Err f))
-
--- the same, if there is an answer
-abbrev pub IsRecordIfAny : Result records.LineRecord records.RecordFault → Result (Option LineRecord) RecordFault
-    → Type 0
-IsRecordIfAny due answer =
-    MatchResult answer (λ found. IfSome found (λ reported_record. due ≡ Ok (record_view reported_record))) (λ fault.
     MatchOption (record_fault_view fault) (Unit {0}) (λ f. due ≡ Err f))
 
 abbrev pub stream_kind_view : StreamKind → readings.StreamKind

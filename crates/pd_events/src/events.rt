@@ -72,7 +72,7 @@ fn tagged(kind: Kind<'_>) -> (Tag, &[u8])
 }
 
 /// The kind of event, as it is seen among others.
-fn seen(kind: &EventKind) -> Kind<'_>
+pub(crate) fn seen(kind: &EventKind) -> Kind<'_>
     ensures { seen_kind_view result ≡ kind_view kind.now }
 {
     match kind {

@@ -12,7 +12,7 @@
 //! - `fault`: what is wrong with a line or a stream, and how far a stream is
 //! - `fields`: the fields of a JSON object that a line has
 //! - `statement`: what a line of right shape says
-//! - `plain`: the record of a line of the plain shape, token by token
+//! - `plain`: what a line of the plain shape says, token by token
 //! - `room`: what is kept from line to line
 //! - `record`: the record of a line
 //! - `progress`: how far the lines have been read

@@ -1,25 +1,24 @@
-//! Lines of the plain shape: an event whose fields are read token by token, with no JSON value in between.
-ghost use Rattle.std.specs.Prelude.{◌≡◌, ◌≢◌, ◌==◌, None, ℕ, ◌<◌, ◌≤◌, true, false, List, [], ◌∷◌, length, AllPairs, map, string_bytes, Option, Some, option_and_then, Ok, IfOk, IfSome, IsTrue, slice_index, slice_index_or, slice_set};
+//! Lines of the plain shape: an event whose fields are read token by token, with no JSON value in between. A line takes
+//! no memory of its own.
+ghost use Rattle.std.specs.Prelude.{◌≡◌, ◌≢◌, ◌==◌, None, ℕ, ◌<◌, ◌≤◌, true, false, List, [], ◌∷◌, length, AllPairs, map, string_bytes, Option, Some, option_and_then, Ok, IfOk, IfSome, IsTrue, OnOk, slice_index, slice_index_or, slice_set};
 ghost use Rattle.fast_float.specs.Text.{minus, scan};
 ghost use Rattle.json.specs.Token.{number, string, key as symbol_key};
 ghost use Rattle.serde_json.specs.Data.{Members, no_members};
 ghost use Rattle.serde_json.specs.Find.{as_i64};
 ghost use Rattle.serde_json.specs.Read.{number_from};
 ghost use Rattle.pd_format.specs.Names.{vars_of};
-ghost use Rattle.pd_format.specs.Records.{event_record, record_of};
-ghost use Rattle.pd_events.specs.Parts.{sets_due};
+ghost use Rattle.pd_format.specs.Records.{record_of};
+ghost use Rattle.pd_events.specs.Parts.{event_due, sets_due};
 ghost use Rattle.pd_events.specs.Plain.{GivesFields, GoesOn, line_fields, row_sets, settings_or_none, text_number};
 ghost use Rattle.pd_events.specs.Statements.{kind_said};
-ghost use Rattle.pd_events.specs.Views.{IsRecordIfAny};
 
-use super::record::{kind_of, vars_of};
-use super::room::Room;
+use super::record::vars_of;
+use super::room::SettingsRoom;
 use super::statement::Said;
-use super::{Event, LineRecord, RecordFault};
 use fast_float::Numeral;
-use json::{Reader, Token};
+use json::{Reader, Scratch, Token};
 use pd_pred::Names;
-use std::alloc::{AllocError, Global};
+use std::alloc::AllocError;
 
 /// The whole number of 64 bits that a number's text is, with no minus.
 fn number_without_minus(digits: &[u8]) -> Option<i64>
@@ -124,16 +123,16 @@ fn remember(hints: &mut Vec<usize>, place: usize, v: usize) -> Result<(), AllocE
     Ok(())
 }
 
-/// A row for this many variables, none of which has a number.
-fn no_numbers(alloc: Global, count: usize) -> Result<Vec<Option<i64>>, AllocError>
-    ensures len { IfOk result (λ row. length row.items ≡ count) }
-    ensures none { IfOk result (λ row. (v : ℕ) → slice_index_or row.items v None ≡ None) }
+/// Makes this a row for this many variables, none of which has a number.
+fn no_numbers(row: &mut Vec<Option<i64>>, count: usize) -> Result<(), AllocError>
+    ensures len { OnOk result (length row.new.items ≡ count) }
+    ensures none { OnOk result ((v : ℕ) → slice_index_or row.new.items v None ≡ None) }
 {
-    let mut row = Vec::with_capacity(alloc, count)?;
+    row.clear();
     for _v in 0..count {
         row.push(None)?;
     }
-    Ok(row)
+    Ok(())
 }
 
 /// Sets the number of a variable.
@@ -144,54 +143,52 @@ fn set_number(row: &mut Vec<Option<i64>>, v: usize, value: i64)
     row[v] = Some(value);
 }
 
-/// The variables that have a number in this row, with it, in their order.
-fn sets_in(
-    alloc: Global,
-    row: &[Option<i64>],
-    count: usize,
-) -> Result<Vec<(usize, i64)>, AllocError>
-    ensures { IfOk result (λ sets. sets.items ≡ row_sets 0 row.now) }
+/// Keeps the variables that have a number in this row, with it, in their order.
+fn find_sets(row: &[Option<i64>], sets: &mut Vec<(usize, i64)>) -> Result<(), AllocError>
+    ensures { OnOk result (sets.new.items ≡ row_sets 0 row.now) }
 {
-    let mut sets = Vec::with_capacity(alloc, count)?;
+    sets.clear();
     for v in 0..row.len() {
         if let Some(value) = row[v] {
             sets.push((v, value))?;
         }
     }
-    Ok(sets)
+    Ok(())
 }
 
-/// The variables that the members of an object set, after its opening brace, if all of them are variables and have
-/// whole numbers. The hints are the variables that the members of an earlier object set: most lines have the same
-/// order.
+/// Whether the members of an object, after its opening brace, are all variables with whole numbers. What they set is
+/// then in the room. The hints there are the variables that the members of an earlier object set: most lines have the
+/// same order.
 fn next_sets(
-    alloc: Global,
     vars: &[String],
-    hints: &mut Vec<usize>,
+    room: &mut SettingsRoom,
     reader: &mut Reader<'_>,
-) -> Result<Option<Vec<(usize, i64)>>, AllocError>
+) -> Result<bool, AllocError>
     requires { AllPairs (λ (x y : List ℕ). x ≢ y) (map string_bytes vars.now) }
-    ensures { IfOk result (λ found. IfSome found (λ sets. (settings : Members)
+    ensures { IfOk result (λ found. IsTrue found → (settings : Members)
         × GivesFields 125 no_members reader.old settings reader.new
-        × (sets_due (map string_bytes vars.now) settings ≡ Ok sets.items))) }
+        × (sets_due (map string_bytes vars.now) settings ≡ Ok room.new.sets.items)) }
 {
-    let mut row = no_numbers(alloc, vars.len())?;
+    no_numbers(&mut room.row, vars.len())?;
     let mut count = 0usize;
     'members: loop {
         match reader.next() {
-            Some(Token::EndObject) => return Ok(Some(sets_in(alloc, &row, count)?)),
+            Some(Token::EndObject) => {
+                find_sets(&room.row, &mut room.sets)?;
+                return Ok(true);
+            }
             Some(Token::Key(name)) => {
-                let Some(v) = var_named(vars, hint_at(hints, count), name) else {
-                    return Ok(None);
+                let Some(v) = var_named(vars, hint_at(&room.hints, count), name) else {
+                    return Ok(false);
                 };
                 let Some(value) = next_number(reader) else {
-                    return Ok(None);
+                    return Ok(false);
                 };
-                remember(hints, count, v)?;
-                set_number(&mut row, v, value);
+                remember(&mut room.hints, count, v)?;
+                set_number(&mut room.row, v, value);
                 count = count.saturating_add(1);
             }
-            _ => return Ok(None),
+            _ => return Ok(false),
         }
     }
 }
@@ -215,34 +212,33 @@ fn next_said<'a>(reader: &mut Reader<'a>, name: &str, said: Said<'a>) -> Option<
     None
 }
 
-/// The kind of event and the variables that it sets, which the fields of an object say after its opening brace.
+/// The kind of event that the fields of an object say after its opening brace. The variables that it sets are then in
+/// the room.
 fn next_event<'a>(
-    alloc: Global,
     vars: &[String],
-    hints: &mut Vec<usize>,
+    room: &mut SettingsRoom,
     reader: &mut Reader<'a>,
-) -> Result<Option<(Said<'a>, Vec<(usize, i64)>)>, AllocError>
+) -> Result<Option<Said<'a>>, AllocError>
     requires { AllPairs (λ (x y : List ℕ). x ≢ y) (map string_bytes vars.now) }
-    ensures { IfOk result (λ found. IfSome found (λ event. (settings : Option Members)
-        × GivesFields 126 no_members reader.old (line_fields (kind_said event.0) settings) reader.new
-        × (sets_due (map string_bytes vars.now) (settings_or_none settings) ≡ Ok event.1.items))) }
+    ensures { IfOk result (λ found. IfSome found (λ said. (settings : Option Members)
+        × GivesFields 126 no_members reader.old (line_fields (kind_said said) settings) reader.new
+        × (sets_due (map string_bytes vars.now) (settings_or_none settings) ≡ Ok room.new.sets.items))) }
 {
     let mut said = Said::Local;
-    let mut sets = Vec::new(alloc);
     let mut has_sets = false;
+    room.sets.clear();
     // Two fields at most, and the closing brace.
     'fields: for _ in 0..3 {
         match reader.next() {
-            Some(Token::EndObject) => return Ok(Some((said, sets))),
+            Some(Token::EndObject) => return Ok(Some(said)),
             Some(Token::Key(name)) => {
                 if name == "set" && !has_sets {
                     let Some(Token::BeginObject) = reader.next() else {
                         return Ok(None);
                     };
-                    let Some(found) = next_sets(alloc, vars, hints, reader)? else {
+                    if !next_sets(vars, room, reader)? {
                         return Ok(None);
-                    };
-                    sets = found;
+                    }
                     has_sets = true;
                     continue;
                 }
@@ -257,51 +253,35 @@ fn next_event<'a>(
     Ok(None)
 }
 
-/// The event of this kind that sets these variables.
-fn event_of(
-    alloc: Global,
-    said: Said<'_>,
-    sets: Vec<(usize, i64)>,
-) -> Result<Option<LineRecord>, RecordFault>
-    ensures { (vars : List (List ℕ)) (settings : Members) → sets_due vars settings ≡ Ok sets.items →
-        IsRecordIfAny (event_record vars (kind_said said.entry) settings) result }
-{
-    let kind = kind_of(alloc, said)?;
-    Ok(Some(LineRecord::Happened(Event { kind, sets })))
-}
-
-/// The record of a line after the join of this process, which is counted from 0, if the line has the plain shape.
+/// The kind of event of a line after the join of this process, which is counted from 0, if the line has the plain
+/// shape. The variables that it sets are then in the room for them, and the line's record is that event if its id has
+/// its length, otherwise the fault of the id.
 ///
 /// # Errors
-/// The first fault that applies, or out of memory.
-pub(crate) fn plain_record(
-    alloc: Global,
+/// If memory runs out.
+pub(crate) fn plain_event<'a>(
     names: &Names,
-    room: &mut Room,
+    scratch: &'a mut Scratch,
+    room: &mut SettingsRoom,
     process: usize,
-    bytes: &[u8],
-) -> Result<Option<LineRecord>, RecordFault>
-    ensures { IsRecordIfAny (record_of names.now (Some process) bytes.now) result }
+    bytes: &'a [u8],
+) -> Result<Option<Said<'a>>, AllocError>
+    ensures { IfOk result (λ found. IfSome found (λ said. record_of names.now (Some process) bytes.now
+        ≡ event_due (kind_said said) room.new.sets.items)) }
 {
     names.differ();
     let Ok(text) = str::from_utf8(bytes) else {
         return Ok(None);
     };
-    let mut reader = Reader::new(text, &mut room.scratch)?;
+    let mut reader = Reader::new(text, scratch)?;
     let Some(Token::BeginObject) = reader.next() else {
         return Ok(None);
     };
-    let Some((said, sets)) = next_event(
-        alloc,
-        vars_of(names, process),
-        &mut room.hints,
-        &mut reader,
-    )?
-    else {
+    let Some(said) = next_event(vars_of(names, process), room, &mut reader)? else {
         return Ok(None);
     };
     if reader.next().is_some() {
         return Ok(None);
     }
-    event_of(alloc, said, sets)
+    Ok(Some(said))
 }

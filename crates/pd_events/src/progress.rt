@@ -1,20 +1,28 @@
 //! How far the lines of a stream have been read.
-ghost use Rattle.std.specs.Prelude.{◌≡◌, List, length, option_map, take, Ok, IfOk, OnErr, OnOk};
+ghost use Rattle.std.specs.Prelude.{◌≡◌, List, length, option_map, take, Ok, Some, IfNone, IfOk, IfSome, OnErr, OnOk};
 ghost use Rattle.pd_model.specs.Events as events;
 ghost use Rattle.pd_frames.specs.Views.{line_view, lines_view};
 ghost use Rattle.pd_format.specs.Readings.{IsClosed, NothingMore, with_end};
 ghost use Rattle.std.specs.Bool.{OnFalse, OnTrue};
 ghost use Rattle.pd_format.specs.ReadingLaws.{after_record, read_line, read_on, unless_stopped};
+ghost use Rattle.pd_format.specs.Records.{Happens};
 ghost use Rattle.pd_spec.specs.Views.{document_view};
+ghost use Rattle.pd_events.specs.Columns.{event_with, seen_kind_view};
 ghost use Rattle.pd_events.specs.Faults.{record_fault_view};
-ghost use Rattle.pd_events.specs.Progress.{in_record, joined_of, joined_view, open_reading, reading_view, stop_of, stop_of_fault};
+ghost use Rattle.pd_events.specs.Parts.{event_due};
+ghost use Rattle.pd_events.specs.Progress.{in_record, join_view, joined_of, joined_view, open_reading, reading_view, stop_of, stop_of_fault};
+ghost use Rattle.pd_events.specs.Statements.{kind_said};
 ghost use Rattle.pd_events.specs.Views.{record_view, stream_kind_view};
 
-use super::record::next_record;
+use super::events::seen;
+use super::plain::plain_event;
+use super::record::read_record;
 use super::room::Room;
-use super::{Events, LineRecord, RecordFault, StreamFault, StreamKind};
+use super::statement::Said;
+use super::{Events, Kind, LineRecord, RecordFault, StreamFault, StreamKind};
 use pd_format::EVENT_LIMIT;
 use pd_frames::Line;
+use pd_pred::Names;
 use pd_spec::Spec;
 use std::alloc::{AllocError, Global};
 
@@ -78,7 +86,7 @@ impl Phase {
 }
 
 /// What a record's fault is in a stream, if it isn't out of memory.
-fn kind_of(fault: RecordFault) -> Option<StreamKind>
+pub(crate) fn kind_of(fault: RecordFault) -> Option<StreamKind>
     ensures { option_map stream_kind_view result ≡ option_map in_record (record_fault_view fault) }
 {
     match fault {
@@ -91,6 +99,32 @@ fn kind_of(fault: RecordFault) -> Option<StreamKind>
         RecordFault::MessageId => Some(StreamKind::MessageId),
         RecordFault::Memory => None,
     }
+}
+
+/// Adds an event after the join, unless there are as many as a stream may have.
+fn add_event(
+    join: Join,
+    events: &mut Events,
+    number: u64,
+    kind: Kind<'_>,
+    sets: &[(usize, i64)],
+) -> Result<Phase, AllocError>
+    ensures after { IfOk result (λ phase. reading_view phase events.new
+        ≡ after_record (Some (join_view join)) (open_reading (Some (join_view join)) events.old)
+        number (Ok (Happens (event_with (seen_kind_view kind.entry) sets.now)))) }
+    ensures keeps { take (length events.old) events.new ≡ events.old }
+{
+    if events.len() >= EVENT_LIMIT {
+        return Ok(Phase::Faulted(
+            Some(join),
+            StreamFault {
+                line: number,
+                kind: StreamKind::Events,
+            },
+        ));
+    }
+    events.push_parts(kind, sets)?;
+    Ok(Phase::Joined(join))
 }
 
 /// Takes a record. An event is added to those of the stream.
@@ -114,13 +148,90 @@ fn take_record(
         (None, LineRecord::Happened(_) | LineRecord::Finish) => Ok(fault(StreamKind::Join)),
         (Some(_), LineRecord::Join(_)) => Ok(fault(StreamKind::Join)),
         (Some(join), LineRecord::Happened(event)) => {
-            if events.len() >= EVENT_LIMIT {
-                return Ok(fault(StreamKind::Events));
-            }
-            events.push(&event)?;
-            Ok(Phase::Joined(join))
+            add_event(join, events, number, seen(&event.kind), &event.sets)
         }
         (Some(join), LineRecord::Finish) => Ok(Phase::Ended(join)),
+    }
+}
+
+/// Takes the event that a line of the plain shape says, or the fault of its id.
+fn take_said(
+    join: Join,
+    events: &mut Events,
+    number: u64,
+    said: Said<'_>,
+    sets: &[(usize, i64)],
+) -> Result<Phase, AllocError>
+    ensures after { IfOk result (λ phase. reading_view phase events.new
+        ≡ after_record (Some (join_view join)) (open_reading (Some (join_view join)) events.old)
+        number (event_due (kind_said said.entry) sets.now)) }
+    ensures keeps { take (length events.old) events.new ≡ events.old }
+{
+    if !said.id_fits() {
+        return Ok(Phase::Faulted(
+            Some(join),
+            StreamFault {
+                line: number,
+                kind: StreamKind::MessageId,
+            },
+        ));
+    }
+    add_event(join, events, number, said.seen(), sets)
+}
+
+/// Takes a line after the join, if it has the plain shape.
+fn take_plain(
+    names: &Names,
+    room: &mut Room,
+    join: Join,
+    events: &mut Events,
+    line: &Line<'_>,
+) -> Result<Option<Phase>, AllocError>
+    ensures after { IfOk result (λ found. IfSome found (λ after. reading_view after events.new
+        ≡ read_line names.now (open_reading (Some (join_view join)) events.old) (line_view line.now))) }
+    ensures not_plain { IfOk result (λ found. IfNone found (events.new ≡ events.old)) }
+    ensures keeps { take (length events.old) events.new ≡ events.old }
+{
+    let found = plain_event(
+        names,
+        &mut room.scratch,
+        &mut room.settings,
+        join.process,
+        line.bytes.as_slice(),
+    )?;
+    let Some(said) = found else {
+        return Ok(None);
+    };
+    let after = take_said(join, events, line.number, said, &room.settings.sets)?;
+    Ok(Some(after))
+}
+
+/// Takes a line by the JSON value that it is.
+fn take_value(
+    alloc: Global,
+    spec: &Spec,
+    joined: Option<Join>,
+    events: &mut Events,
+    line: &Line<'_>,
+) -> Result<Phase, AllocError>
+    ensures after { IfOk result (λ after. reading_view after events.new
+        ≡ read_line (document_view spec.now).names (open_reading (joined_view joined) events.old)
+        (line_view line.now)) }
+    ensures keeps { take (length events.old) events.new ≡ events.old }
+{
+    let process = joined.map(|join| join.process);
+    match read_record(alloc, spec, process, line.bytes.as_slice()) {
+        Ok(record) => take_record(joined, events, line.number, record),
+        Err(fault) => {
+            let kind = kind_of(fault).ok_or(AllocError)?;
+            Ok(Phase::Faulted(
+                joined,
+                StreamFault {
+                    line: line.number,
+                    kind,
+                },
+            ))
+        }
     }
 }
 
@@ -141,21 +252,12 @@ fn take_line(
     if phase.is_closed() {
         return Ok(phase);
     }
-    let joined = phase.join();
-    let process = joined.map(|join| join.process);
-    match next_record(alloc, spec, room, process, line.bytes.as_slice()) {
-        Ok(record) => take_record(joined, events, line.number, record),
-        Err(fault) => {
-            let kind = kind_of(fault).ok_or(AllocError)?;
-            Ok(Phase::Faulted(
-                joined,
-                StreamFault {
-                    line: line.number,
-                    kind,
-                },
-            ))
+    if let Phase::Joined(join) = phase {
+        if let Some(after) = take_plain(spec.names(), room, join, events, line)? {
+            return Ok(after);
         }
     }
+    take_value(alloc, spec, phase.join(), events, line)
 }
 
 /// Takes these lines, from this phase on. If memory runs out, the events have some of theirs after those that they

@@ -10,9 +10,7 @@ ghost use Rattle.pd_events.specs.Statements.{kind_said, settings_view, statement
 ghost use Rattle.pd_events.specs.Views.{IsRecord};
 
 use super::fields::has_only_vars;
-use super::plain::plain_record;
-use super::room::Room;
-use super::statement::{Said, Statement, statement_of};
+use super::statement::{Said, Statement, has_id_length, statement_of};
 use super::{Event, EventKind, LineRecord, RecordFault};
 use pd_pred::Names;
 use pd_spec::{Spec, are_whole, json_value, value_at};
@@ -90,14 +88,14 @@ fn sets_of_event(
 fn id_of(alloc: Global, id: &str) -> Result<String, RecordFault>
     ensures { IsId id.now result }
 {
-    if id.is_empty() || id.len() > pd_format::ID_BYTE_LIMIT {
+    if !has_id_length(id) {
         return Err(RecordFault::MessageId);
     }
     Ok(String::from_str(alloc, id)?)
 }
 
 /// The kind of event, with its id.
-pub(crate) fn kind_of(alloc: Global, said: Said<'_>) -> Result<EventKind, RecordFault>
+fn kind_of(alloc: Global, said: Said<'_>) -> Result<EventKind, RecordFault>
     ensures { IsKind (kind_said said.entry) result }
 {
     match said {
@@ -145,8 +143,11 @@ fn record_of(
     }
 }
 
-/// The record of a line, by the JSON value that the line is.
-fn record_by_value(
+/// The record of a line, before the join or after the join of a process, which is counted from 0.
+///
+/// # Errors
+/// The first fault that applies, or out of memory.
+pub fn read_record(
     alloc: Global,
     spec: &Spec,
     joined: Option<usize>,
@@ -161,41 +162,4 @@ fn record_by_value(
         Some(statement) => record_of(alloc, spec.names(), joined, statement),
         None => Err(RecordFault::Shape),
     }
-}
-
-/// The record of a line, as `read_record` gives it. The room is kept from line to line.
-///
-/// # Errors
-/// The first fault that applies, or out of memory.
-pub(crate) fn next_record(
-    alloc: Global,
-    spec: &Spec,
-    room: &mut Room,
-    joined: Option<usize>,
-    bytes: &[u8],
-) -> Result<LineRecord, RecordFault>
-    ensures { IsRecord (record_of (document_view spec.now).names joined bytes.now) result }
-{
-    if let Some(process) = joined {
-        if let Some(record) = plain_record(alloc, spec.names(), room, process, bytes)? {
-            return Ok(record);
-        }
-    }
-    record_by_value(alloc, spec, joined, bytes)
-}
-
-/// The record of a line, before the join or after the join of a process, which is counted from 0.
-///
-/// # Errors
-/// The first fault that applies, or out of memory.
-pub fn read_record(
-    alloc: Global,
-    spec: &Spec,
-    joined: Option<usize>,
-    bytes: &[u8],
-) -> Result<LineRecord, RecordFault>
-    ensures { IsRecord (record_of (document_view spec.now).names joined bytes.now) result }
-{
-    let mut room = Room::new(alloc);
-    next_record(alloc, spec, &mut room, joined, bytes)
 }

@@ -1,6 +1,7 @@
 //! Streams whose traces and faults are known.
 ghost use Rattle.std.specs.Prelude.{◌<◌};
 
+use super::progress::kind_of;
 use super::{
     Event, EventKind, Events, Kind, LineRecord, RecordFault, StreamFault, StreamKind, StreamState,
     Trace, TraceReader, read_record,
@@ -267,6 +268,52 @@ fn said(alloc: Global, spec: &Spec, line: &str) -> Result<LineRecord, RecordFaul
     read_record(alloc, spec, Some(0), line.as_bytes())
 }
 
+/// What a stream gives that has a line after the join of the first process. An LF in it is a blank there.
+fn outcome_with(
+    alloc: Global,
+    spec: &Spec,
+    line: &str,
+) -> Result<Result<Trace, StreamFault>, AllocError> {
+    let mut stream = Vec::from_slice(alloc, b"{\"process\":\"a\"}\n")?;
+    for byte in line.as_bytes() {
+        stream.push(if *byte == b'\n' { b' ' } else { *byte })?;
+    }
+    stream.extend_from_slice(b"\n{\"end\":true}\n")?;
+    outcome_of(alloc, spec, &stream, 1000)
+}
+
+/// Whether a trace has this event alone.
+fn has_only(trace: &Trace, event: &Event) -> bool {
+    if trace.events.len() != 1 {
+        return false;
+    }
+    let settings = trace.events.settings(0);
+    if settings.len() != event.sets.len() {
+        return false;
+    }
+    for i in 0..settings.len() {
+        if settings.get(i) != event.sets[i] {
+            return false;
+        }
+    }
+    match (&event.kind, trace.events.kind(0)) {
+        (EventKind::Local, Kind::Local) => true,
+        (EventKind::Send(id), Kind::Send(seen)) => id.as_bytes() == seen,
+        (EventKind::Recv(id), Kind::Recv(seen)) => id.as_bytes() == seen,
+        _ => false,
+    }
+}
+
+/// Whether a line says in a stream what it says by itself.
+fn says_the_same_in_a_stream(alloc: Global, spec: &Spec, line: &str) -> Result<bool, AllocError> {
+    let in_stream = outcome_with(alloc, spec, line)?;
+    match (said(alloc, spec, line), in_stream) {
+        (Ok(LineRecord::Happened(event)), Ok(trace)) => Ok(has_only(&trace, &event)),
+        (Err(fault), Err(found)) => Ok(found.line == 2 && kind_of(fault) == Some(found.kind)),
+        _ => Ok(false),
+    }
+}
+
 #[test]
 fn lines_that_say_the_same(rt: HostRuntime) -> Result<(), Fail> {
     let spec = document(rt.alloc())?;
@@ -301,6 +348,12 @@ fn lines_that_say_the_same(rt: HostRuntime) -> Result<(), Fail> {
             first == said(rt.alloc(), &spec, other),
             "{line} and {other}"
         );
+        for either in [line, other] {
+            assert!(rt;
+                says_the_same_in_a_stream(rt.alloc(), &spec, either)?,
+                "{either}"
+            );
+        }
     }
     Ok(())
 }
@@ -329,6 +382,10 @@ fn numbers_have_bounds(rt: HostRuntime) -> Result<(), Fail> {
             return Err(Fail::from("no event"));
         };
         assert_eq!(rt; sets.as_slice(), [(1, value)].as_slice(), "{text}");
+        assert!(rt;
+            says_the_same_in_a_stream(rt.alloc(), &spec, line.as_str())?,
+            "{text}"
+        );
     }
     let refused = [
         ("-0", RecordFault::Value),
@@ -350,6 +407,10 @@ fn numbers_have_bounds(rt: HostRuntime) -> Result<(), Fail> {
             said(rt.alloc(), &spec, line.as_str()) == Err(fault),
             "{text}"
         );
+        assert!(rt;
+            says_the_same_in_a_stream(rt.alloc(), &spec, line.as_str())?,
+            "{text}"
+        );
     }
     Ok(())
 }
@@ -358,7 +419,6 @@ fn numbers_have_bounds(rt: HostRuntime) -> Result<(), Fail> {
 fn lines_that_are_refused(rt: HostRuntime) -> Result<(), Fail> {
     let spec = document(rt.alloc())?;
     let lines = [
-        ("", RecordFault::Json),
         ("{", RecordFault::Json),
         ("{}{}", RecordFault::Json),
         ("{},", RecordFault::Json),
@@ -379,7 +439,12 @@ fn lines_that_are_refused(rt: HostRuntime) -> Result<(), Fail> {
     ];
     for (line, fault) in lines {
         assert!(rt; said(rt.alloc(), &spec, line) == Err(fault), "{line}");
+        assert!(rt;
+            says_the_same_in_a_stream(rt.alloc(), &spec, line)?,
+            "{line}"
+        );
     }
+    assert!(rt; said(rt.alloc(), &spec, "") == Err(RecordFault::Json));
     Ok(())
 }
 
@@ -410,6 +475,12 @@ fn ids_and_nesting_have_limits(rt: HostRuntime) -> Result<(), Fail> {
         assert!(rt; said(rt.alloc(), &spec, escaped.as_str()) == Err(RecordFault::MessageId));
         let longer = format!(in rt.alloc(); "{{\"{word}\":\"{id}i\"}}")?;
         assert!(rt; said(rt.alloc(), &spec, longer.as_str()) == Err(RecordFault::MessageId));
+        for text in [&line, &escaped, &longer] {
+            assert!(rt;
+                says_the_same_in_a_stream(rt.alloc(), &spec, text.as_str())?,
+                "{text}"
+            );
+        }
     }
     let deepest = nested(rt.alloc(), 125)?;
     assert!(rt; said(rt.alloc(), &spec, deepest.as_str()) == Err(RecordFault::Value));

@@ -7,5 +7,5 @@ use Rattle.pd_events.proofs.plain.next_event.Given as goal
 
 abbrev pub invariant-fields : goal.invariant-fields
 invariant-fields l =
-    (settings : Option Members) × AreSets (map string_bytes l.vars) settings l.has_sets l.sets.items
+    (settings : Option Members) × AreSets (map string_bytes l.vars) settings l.has_sets l.room.sets.items
     × GoesOn 126 no_members l.initial.reader (line_fields (kind_said l.said) settings) l.reader

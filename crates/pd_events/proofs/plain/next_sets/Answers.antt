@@ -6,21 +6,22 @@ use Rattle.pd_events.proofs.plain.next_sets.Goals as goal
 
 pub members-init : goal.members-init
 members-init c =
-    nothing_read (map string_bytes c.args.vars.now) c.in_ok-row.row.items c.args.reader.now
-    (c.in_ok-row.ensures.len ∙ sym (length-map c.args.vars.now string_bytes)) (λ w h. c.in_ok-row.ensures.none w)
+    nothing_read (map string_bytes c.args.vars.now) c.no_numbers.new.row.items c.args.reader.now
+    (c.in_ok-no_numbers.ensures.len ∙ sym (length-map c.args.vars.now string_bytes))
+    (λ w h. c.in_ok-no_numbers.ensures.none w)
 
 pub returns-in-Some-EndObject : goal.returns-in-Some-EndObject
-returns-in-Some-EndObject c =
-    let found = c.in_ok-sets_in-in-Some-EndObject in
-    brace_read (map string_bytes c.args.vars.now) c.members.row.items found.field-0.items c.args.reader.now
-    c.members.reader c.next.new.self (rw c.in-Some-EndObject.field-0-is at c.in-Some-EndObject.ensures.value)
-    (rw (c.deref.ensures.value) at found.ensures) c.members.invariant
+returns-in-Some-EndObject c = λ yes.
+    let found = c.in_ok-find_sets-in-Some-EndObject in
+    brace_read (map string_bytes c.args.vars.now) c.members.room.row.items c.find_sets.new.sets.items
+    c.args.reader.now c.members.reader c.next.new.self
+    (rw c.in-Some-EndObject.field-0-is at c.in-Some-EndObject.ensures.value) (rw (c.deref.ensures.value) at found.ensures) c.members.invariant
 
 pub members-preserved : goal.members-preserved
 members-preserved c =
     let number = c.in-Some-next_number.ensures in
     let vars = map string_bytes c.args.vars.now in
-    number_read vars c.in-Some.v c.members.row.items c.set_number.new.row.items c.args.reader.now
+    number_read vars c.in-Some.v c.members.room.row.items c.set_number.new.row.items c.args.reader.now
     c.members.reader c.next.new.self c.next_number.new.reader c.in-Some-Key.name.now number.0
     c.in-Some-next_number.value _ c.requires
     (rw (length-map c.args.vars.now string_bytes) c.in-Some.ensures.0) c.in-Some.ensures.1

@@ -16,7 +16,8 @@ returns-in-Ok-clause-ok c =
     let new = c.args.sets.now in
     let tag = c.tagged-tag.result.0 in
     let kind = seen_kind_view c.args.kind in
-    let made : c.in_ok-made.made ≡ entry_with tag (length ids) (length id) (length places) (length new) = search rules in
+    let made : c.in_ok-made.made ≡ entry_with tag (length ids) (length id) (length places) (length new) =
+    search rules in
     let all : c.add.new.entries.items
     ≡ entries ++ entry_with tag (length ids) (length id) (length places) (length new) ∷ [] =
     c.in-Ok.ensures.entries ∙ ap (λ (e : Entry). entries ++ e ∷ []) made in

@@ -1,7 +1,7 @@
--- What the loop of `sets_in` keeps.
+-- What the loop of `find_sets` keeps.
 use Rattle.std.proofs.Common.{◌≡◌, ◌++◌, drop}
 use Rattle.pd_events.specs.Plain.{row_sets}
-use Rattle.pd_events.proofs.plain.sets_in.Given as goal
+use Rattle.pd_events.proofs.plain.find_sets.Given as goal
 
 -- the variables so far, and then those of the rest of the row
 abbrev pub invariant-loop-v : goal.invariant-loop-v

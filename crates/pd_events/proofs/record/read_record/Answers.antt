@@ -5,7 +5,7 @@ use Rattle.serde_json.specs.View.{view}
 use Rattle.pd_format.specs.Records.{json_value}
 use Rattle.pd_events.specs.Statements.{statement_view}
 use Rattle.pd_events.proofs.RecordFacts.{no_value, record_of_its_value}
-use Rattle.pd_events.proofs.record.record_by_value.Goals as goal
+use Rattle.pd_events.proofs.record.read_record.Goals as goal
 
 pub returns-in_default : goal.returns-in_default
 returns-in_default c =
