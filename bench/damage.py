@@ -170,7 +170,7 @@ def judge(program, other, document, streams, folder):
     ended = run([program], bundle, folder)
     if is_wrong(ended):
         return f"bundle: {ended}"
-    if all(is_plain(part) for part in parts):
+    if streams and all(is_plain(part) for part in parts):
         names = [f"part{k}" for k in range(len(parts))]
         for name, part in zip(names, parts):
             with open(os.path.join(folder, name), "wb") as file:
