@@ -3,3 +3,4 @@ pub mod Merges
 pub mod Steps
 pub mod Levels
 pub mod Kept
+pub mod Unions

@@ -1,5 +1,5 @@
 -- What a level stands for.
-use Rattle.std.specs.Prelude.{ℕ, ◌≤◌, Bool, List, [], ◌∷◌, map, cond}
+use Rattle.std.specs.Prelude.{ℕ, ◌≤◌, ◌⊎◌, Bool, List, [], ◌∷◌, Contains, map, cond}
 use Rattle.std.specs.Bool.{beq}
 use Rattle.pd_format.specs.Limits.{process_limit}
 use Rattle.pd_keys.specs.Keys.{AreKeys, digits}
@@ -17,6 +17,10 @@ cuts_of processes keys = map (λ key. digits processes key) keys
 pub record IsKept (processes : ℕ) (keys : List ℕ) : Type 0 where
   pub few : processes ≤ process_limit
   pub are_keys : AreKeys processes keys
+
+-- the cut stands in one of two lists, or in both
+abbrev pub IsInEither : List (List ℕ) → List (List ℕ) → List ℕ → Type 0
+IsInEither first last cut = Contains first cut ⊎ Contains last cut
 
 -- those of the elements whose mark is the one that is wanted
 abbrev pub kept_by : {A : Type 0} → Bool → List Bool → List A → List A

@@ -2,12 +2,13 @@
 ghost use Rattle.pd_model.specs.Answers.{IsListOf, MoreThan};
 ghost use Rattle.pd_model.specs.Cuts.{IsConsistent, IsNextOf, empty_cut};
 ghost use Rattle.pd_model.specs.Predicates.{test_of};
-ghost use Rattle.pd_level.specs.Levels.{IsKept, cuts_of, kept_by};
+ghost use Rattle.pd_level.specs.Levels.{IsInEither, IsKept, cuts_of, kept_by};
 ghost use Rattle.pd_pred.specs.Views.{predicate_view};
-ghost use Rattle.std.specs.Prelude.{◌≡◌, ◌+◌, ◌<◌, ◌≤◌, ◌==◌, ◌↔◌, All, Contains, IfErr, IfOk, IfSome, IsTrue, List, [], ◌∷◌, Some, length, min, slice_get};
+ghost use Rattle.std.specs.Prelude.{◌≡◌, ◌+◌, ◌-◌, ◌<◌, ◌≤◌, ◌==◌, ◌↔◌, All, Contains, IfErr, IfOk, IfSome, IsTrue, List, [], ◌∷◌, Some, drop, length, min, slice_get, take};
 
 use super::LevelFault;
 use super::keep::keep_marked;
+use super::merge::merge;
 use super::state::KeyState;
 use super::step::more_by_any;
 use pd_clock::{Computation, Cut};
@@ -34,26 +35,17 @@ impl Model for Level {
     ghost invariant = { λ l. IsKept l.processes l.keys.items };
 }
 
-/// The level of these keys, or `Wide` exactly if they are more than `width`. It takes no memory.
-fn level_within(
-    number: u64,
-    processes: usize,
-    keys: Vec<u128>,
-    width: u64,
-) -> Result<Level, LevelFault>
-    requires { IsKept processes keys.items }
-    ensures level { IfOk result (λ level. level ≡ record { number = number; cuts = cuts_of processes keys.items }) }
-    ensures narrow { IfOk result (λ level. length level.cuts ≤ width) }
-    ensures wide { IfErr result (λ fault. (fault ≡ LevelFault.Wide) × (width < length keys.items)) }
+/// Those of the numbers that stand from one place to another.
+fn numbers_between(
+    alloc: Global,
+    keys: &[u128],
+    from: usize,
+    to: usize,
+) -> Result<Vec<u128>, AllocError>
+    requires { (from ≤ to) × (to ≤ length keys.now) }
+    ensures { IfOk result (λ part. part.items ≡ take (to - from) (drop from keys.now)) }
 {
-    if keys.len() as u64 > width {
-        return Err(LevelFault::Wide);
-    }
-    Ok(Level {
-        number,
-        processes,
-        keys,
-    })
+    keys[from..to].to_vec(alloc)
 }
 
 impl Level {
@@ -92,10 +84,97 @@ impl Level {
         ensures number { IfOk result (λ next. next.number ≡ min (level.now.number + 1) 18446744073709551615) }
         ensures wide { result ≡ Err LevelFault.Wide → MoreThan width (IsNextOf computation.now.events level.now.cuts) }
     {
+        let next = Level::successors(alloc, computation, level)?;
+        next.within(width)
+    }
+
+    /// The cuts that have one event more than one of the level's, in lexicographic order, however many they are. The
+    /// number stays at the greatest `u64` once it is there.
+    ///
+    /// # Errors
+    /// An allocation was refused.
+    pub fn successors(
+        alloc: Global,
+        computation: &Computation<'_>,
+        level: &Level,
+    ) -> Result<Level, AllocError>
+        requires cuts { All (IsConsistent computation.now.events) level.now.cuts }
+        ensures list { IfOk result (λ next. IsListOf (IsNextOf computation.now.events level.now.cuts) next.cuts) }
+        ensures number { IfOk result (λ next. next.number ≡ min (level.now.number + 1) 18446744073709551615) }
+    {
         computation.limits();
         let keys = more_by_any(alloc, computation, &level.keys)?;
-        let number = level.number.saturating_add(1);
-        level_within(number, computation.processes(), keys, width)
+        Ok(Level {
+            number: level.number.saturating_add(1),
+            processes: computation.processes(),
+            keys,
+        })
+    }
+
+    /// The same level, or `Wide` exactly if it has more than `width` cuts. It takes no memory.
+    pub fn within(self, width: u64) -> Result<Level, LevelFault>
+        ensures level { IfOk result (λ level. level ≡ self) }
+        ensures narrow { IfOk result (λ level. length level.cuts ≤ width) }
+        ensures wide { IfErr result (λ fault. (fault ≡ LevelFault.Wide) × (width < length self.cuts)) }
+    {
+        if self.keys.len() as u64 > width {
+            return Err(LevelFault::Wide);
+        }
+        Ok(self)
+    }
+
+    /// Those of the level's cuts that stand from one index to another, the last of them left out, as a level of the
+    /// same number.
+    ///
+    /// # Errors
+    /// An allocation was refused.
+    pub fn part(&self, alloc: Global, from: usize, to: usize) -> Result<Level, AllocError>
+        requires { (from ≤ to) × (to ≤ length self.now.cuts) }
+        ensures cuts { IfOk result (λ part. part.cuts ≡ take (to - from) (drop from self.now.cuts)) }
+        ensures number { IfOk result (λ part. part.number ≡ self.now.number) }
+    {
+        let keys = numbers_between(alloc, &self.keys, from, to)?;
+        Ok(Level {
+            number: self.number,
+            processes: self.processes,
+            keys,
+        })
+    }
+
+    /// The cuts that stand in one of two levels or in both, each once and in lexicographic order. The number is that of
+    /// the first level.
+    ///
+    /// # Errors
+    /// An allocation was refused.
+    pub fn union(
+        alloc: Global,
+        computation: &Computation<'_>,
+        first: &Level,
+        last: &Level,
+    ) -> Result<Level, AllocError>
+        requires first { All (IsConsistent computation.now.events) first.now.cuts }
+        requires last { All (IsConsistent computation.now.events) last.now.cuts }
+        ensures list { IfOk result (λ both. IsListOf (IsInEither first.now.cuts last.now.cuts) both.cuts) }
+        ensures number { IfOk result (λ both. both.number ≡ first.now.number) }
+    {
+        computation.limits();
+        let keys = merge(alloc, &first.keys, &last.keys)?;
+        Ok(Level {
+            number: first.number,
+            processes: computation.processes(),
+            keys,
+        })
+    }
+
+    /// A level of this number without a cut. It takes no memory.
+    pub fn empty(alloc: Global, number: u64) -> Level
+        ensures { result ≡ record { number = number; cuts = [] } }
+    {
+        Level {
+            number,
+            processes: 0,
+            keys: Vec::new(alloc),
+        }
     }
 
     /// The level of this number with the cuts of these keys, each of which has as many digits as there are processes.
