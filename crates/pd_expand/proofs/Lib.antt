@@ -1,0 +1,4 @@
+-- The modules of lemmas of this crate.
+pub mod RuleSteps
+pub mod PartFacts
+pub mod MarkFacts

@@ -1,0 +1,4 @@
+pub mod Limits
+pub mod ClaimRule
+pub mod Claims
+pub mod Parts

@@ -1,0 +1,2 @@
+//! Claims drawn by three threads, and levels expanded by several workers.
+mod claims;
