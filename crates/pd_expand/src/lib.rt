@@ -2,9 +2,9 @@
 //!
 //! Block *b* of a level holds its cuts 64*b* to 64*b* + 63, as far as they go. `next_level` gives what
 //! `pd_level::Level::next` gives: each worker, on a thread of its own, draws the numbers of blocks, expands each block,
-//! and keeps its part of the next level with the block's number. The parts of all workers are then put together, so that
-//! neither the number of workers nor their turns show in the answer. `marks` tells of each cut of a level whether it
-//! satisfies a predicate, by as many threads as there are processors.
+//! and keeps its part of the next level with the block's number. The parts of all workers are then put together, so
+//! that neither the number of workers nor their turns show in the answer. `marks` says of each cut of a level whether
+//! it satisfies a predicate, by as many threads as there are processors.
 //!
 //! The numbers of blocks lie in one word of an `atomic_table`, from which each is drawn once. What that word keeps is
 //! stated in `specs/ClaimRule.antt`.

@@ -11,8 +11,8 @@ use rayon::prelude::*;
 use std::alloc::{AllocError, Global};
 use std::thread::Threads;
 
-/// Whether the predicate is true at the state of each of the level's cuts, in the order of the cuts. The cuts are shared
-/// out to as many threads as there are processors.
+/// Whether the predicate is true at the state of each of the level's cuts, in the order of the cuts. The cuts are
+/// shared out to as many threads as there are processors.
 ///
 /// # Errors
 /// An allocation was refused.

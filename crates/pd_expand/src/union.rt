@@ -8,7 +8,8 @@ use pd_clock::Computation;
 use pd_level::Level;
 use std::alloc::{AllocError, Global};
 
-/// The cuts of all parts of the level's next one, each once and in lexicographic order. They are put together by halves.
+/// The cuts of all parts of the level's next one, each once and in lexicographic order. They are put together by
+/// halves.
 ///
 /// # Errors
 /// An allocation was refused.

@@ -88,8 +88,8 @@ fn both_halves(first: Parts, last: Parts) -> Parts
     Ok(parts)
 }
 
-/// The parts that the workers keep: each draws with a seat of its own, on its own thread. They go by halves, one of them
-/// in a new thread.
+/// The parts that the workers keep: each draws with a seat of its own, on its own thread. They go by halves, one of
+/// them in a new thread.
 pub(crate) fn expand_halves<T: Threads + Wait + Sync, G: Gate + Sync>(
     rt: &T,
     alloc: &Global,
@@ -139,8 +139,8 @@ pub(crate) fn expand_halves<T: Threads + Wait + Sync, G: Gate + Sync>(
     both_halves(first, last)
 }
 
-/// The parts of all blocks, each of which is drawn by one of the seats. These are all seats of the claims, none of which
-/// drew a number yet.
+/// The parts of all blocks, each of which is drawn by one of the seats. These are all seats of the claims, none of
+/// which drew a number yet.
 pub(crate) fn expand_all<T: Threads + Wait + Sync, G: Gate + Sync>(
     rt: &T,
     alloc: Global,

@@ -82,10 +82,14 @@ fn three_threads_draw_each_number_once(rt: HostRuntime) -> Result<(), Fail> {
     let lists = draw_halves(&rt, &alloc, &claims, seats.as_mut_slice())?;
     assert_eq!(rt; lists.len(), 3);
     for number in 0..5u64 {
-        let times: usize = lists
-            .iter()
-            .map(|list| list.iter().filter(|drawn| **drawn == number).count())
-            .sum();
+        let mut times = 0u64;
+        for list in lists.iter() {
+            for drawn in list.iter() {
+                if *drawn == number {
+                    times = times.saturating_add(1);
+                }
+            }
+        }
         assert_eq!(rt; times, 1, "of {number}");
     }
     for list in lists.iter() {

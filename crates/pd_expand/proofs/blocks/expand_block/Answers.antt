@@ -1,5 +1,5 @@
 -- The cuts that are held are the block's.
-use Rattle.std.proofs.Common.{◌≡◌, ℕ, ◌+◌, List, ap, sym, subst, ◌∙◌, arith}
+use Rattle.std.proofs.Common.{◌≡◌, ℕ, ◌+◌, List, ap, subst, ◌∙◌, arith}
 use Rattle.std.specs.Prelude.{min}
 use Rattle.pd_model.specs.Answers.{IsListOf}
 use Rattle.pd_model.specs.Cuts.{IsNextOf}

@@ -1,5 +1,5 @@
 -- Each place has the mark of the cut there.
-use Rattle.std.proofs.Common.{◌≡◌, ℕ, ◌<◌, ◌-◌, ◌∙◌, All, length, ap, arith}
+use Rattle.std.proofs.Common.{◌≡◌, ◌<◌, ◌-◌, ◌∙◌, All, length, ap, arith}
 use Rattle.std.specs.List.{range_with_len}
 use Rattle.rayon.specs.Numbers.{nat_range}
 use Rattle.rayon.proofs.ListFacts.{IfOk-then}

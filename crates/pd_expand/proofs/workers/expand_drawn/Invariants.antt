@@ -1,5 +1,5 @@
 -- The parts so far are those of the blocks that the seat drew.
-use Rattle.std.proofs.Common.{IfOk, ◌≡◌}
+use Rattle.std.proofs.Common.{IfOk}
 use Rattle.pd_expand.specs.Claims.{IsSeatOf, block_count, drawn}
 use Rattle.pd_expand.specs.ClaimRule.{times}
 use Rattle.pd_expand.specs.Parts.{ArePartsOf}
