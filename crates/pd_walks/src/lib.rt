@@ -3,7 +3,6 @@
 //! - `sessions`: the traces of streams
 //! - `order`: which event happened before which, and the clock of one
 //! - `counts`: the levels at the greatest count that a process may have
-//! - `expanding`: levels expanded by several workers, and the marks of their cuts
 //! - `runs`: whole levels as runs, and how many cuts they have
 //! - `tables`: predicates by tables, and as their texts spell them
 //! - `refusals`: runs that are skipped
@@ -15,8 +14,6 @@
 mod backward;
 #[cfg(test)]
 mod counts;
-#[cfg(test)]
-mod expanding;
 #[cfg(test)]
 mod limits;
 #[cfg(test)]
