@@ -100,7 +100,8 @@ class Lines(Case):
             recorder.event(self=1, **{"class": 2})
             recorder.send(message=3)
             recorder.receive("m", message=4, self=5)
-        self.assertEqual(self.lines()[1:4], [{"set": {"self": 1, "class": 2}}, {"send": "from-1", "set": {"message": 3}},
+        self.assertEqual(self.lines()[1:4], [{"set": {"self": 1, "class": 2}},
+                                             {"send": "from-1", "set": {"message": 3}},
                                              {"recv": "m", "set": {"message": 4, "self": 5}}])
 
     def test_ids(self):

@@ -1,0 +1,488 @@
+/* See monitor_recorder.h. */
+#define _POSIX_C_SOURCE 200809L
+
+#include "monitor_recorder.h"
+
+#include <arpa/inet.h>
+#include <errno.h>
+#include <fcntl.h>
+#include <inttypes.h>
+#include <netinet/in.h>
+#include <netinet/tcp.h>
+#include <pthread.h>
+#include <stdbool.h>
+#include <stdio.h>
+#include <stdlib.h>
+#include <string.h>
+#include <sys/socket.h>
+#include <sys/stat.h>
+#include <time.h>
+#include <unistd.h>
+
+/* A line with 16 settings and an id of 64 control characters has 1,301 bytes. So 10,000 of them stay below the
+ * 16,777,216 bytes that monitor takes of a stream, and each below the 65,536 of a line. */
+#define LINE_ROOM 1400
+
+/* A power of two, over twice the number of ids. */
+#define SLOTS 32768
+
+typedef struct {
+    char bytes[LINE_ROOM];
+    size_t size;
+} line_text;
+
+struct monitor_recorder {
+    pthread_mutex_t lock;
+    pid_t owner;
+    int descriptor;
+    bool is_socket;
+    bool is_broken;
+    size_t events;
+    size_t sends;
+    char process[MONITOR_NAME_BYTE_LIMIT + 1];
+    size_t variable_count;
+    char variables[MONITOR_VARIABLE_LIMIT][MONITOR_NAME_BYTE_LIMIT + 1];
+    /* The ids that were sent or received, and for each hash the place of an id and 1, or 0. */
+    size_t id_count;
+    char ids[MONITOR_EVENT_LIMIT][MONITOR_ID_ROOM];
+    uint16_t slots[SLOTS];
+};
+
+/* The texts of lines */
+
+static void put_bytes(line_text *line, const char *bytes, size_t size)
+{
+    memcpy(line->bytes + line->size, bytes, size);
+    line->size += size;
+}
+
+static void put(line_text *line, const char *text)
+{
+    put_bytes(line, text, strlen(text));
+}
+
+/* The text as JSON has it between quotes. */
+static void put_quoted(line_text *line, const char *text)
+{
+    put(line, "\"");
+    for (const char *next = text; *next != '\0'; next++) {
+        if (*next == '"' || *next == '\\') {
+            put(line, "\\");
+            put_bytes(line, next, 1);
+        } else if ((unsigned char)*next < 0x20) {
+            char escape[8];
+            snprintf(escape, sizeof escape, "\\u%04x", (unsigned)(unsigned char)*next);
+            put(line, escape);
+        } else {
+            put_bytes(line, next, 1);
+        }
+    }
+    put(line, "\"");
+}
+
+/* `{`, the field with the id if there is one, the settings if there are some, `}` and the LF. */
+static void put_event(line_text *line, const char *field, const char *id, const monitor_setting *settings, size_t count)
+{
+    put(line, "{");
+    if (id != NULL) {
+        put_quoted(line, field);
+        put(line, ":");
+        put_quoted(line, id);
+    }
+    for (size_t i = 0; i < count; i++) {
+        char value[24];
+        put(line, i > 0 ? "," : id != NULL ? ",\"set\":{" : "\"set\":{");
+        put_quoted(line, settings[i].name);
+        snprintf(value, sizeof value, ":%" PRId64, settings[i].value);
+        put(line, value);
+    }
+    put(line, count > 0 ? "}}\n" : "}\n");
+}
+
+/* Hands the whole line to the system. If that fails, nothing more is written later. */
+static monitor_status write_line(monitor_recorder *recorder, const line_text *line)
+{
+    size_t done = 0;
+    recorder->is_broken = true;
+    while (done < line->size) {
+        const char *rest = line->bytes + done;
+        size_t size = line->size - done;
+        ssize_t taken = recorder->is_socket ? send(recorder->descriptor, rest, size, MSG_NOSIGNAL)
+                                            : write(recorder->descriptor, rest, size);
+        if (taken < 0 && errno == EINTR)
+            continue;
+        if (taken == 0)
+            errno = EIO;
+        if (taken <= 0)
+            return MONITOR_SYSTEM;
+        done += (size_t)taken;
+    }
+    recorder->is_broken = false;
+    return MONITOR_RECORDED;
+}
+
+/* Names and ids */
+
+static bool is_letter(char c)
+{
+    return (c >= 'A' && c <= 'Z') || (c >= 'a' && c <= 'z') || c == '_';
+}
+
+static bool is_name(const char *name)
+{
+    static const char *const reserved[] = {"and", "or", "not", "true", "false"};
+    size_t size = 0;
+    if (name == NULL || !is_letter(name[0]))
+        return false;
+    while (is_letter(name[size]) || (name[size] >= '0' && name[size] <= '9'))
+        if (++size > MONITOR_NAME_BYTE_LIMIT)
+            return false;
+    if (name[size] != '\0')
+        return false;
+    for (size_t i = 0; i < sizeof reserved / sizeof reserved[0]; i++)
+        if (strcmp(name, reserved[i]) == 0)
+            return false;
+    return true;
+}
+
+/* How many bytes the character has with which the text begins; 0 if that isn't UTF-8. The text ends with a NUL. */
+static size_t character_size(const unsigned char *text)
+{
+    unsigned char first = text[0];
+    size_t size = first < 0x80 ? 1 : first < 0xc2 ? 0 : first < 0xe0 ? 2 : first < 0xf0 ? 3 : first < 0xf5 ? 4 : 0;
+    for (size_t i = 1; i < size; i++)
+        if ((text[i] & 0xc0) != 0x80)
+            return 0;
+    bool is_overlong = (first == 0xe0 && text[1] < 0xa0) || (first == 0xf0 && text[1] < 0x90);
+    bool is_surrogate = first == 0xed && text[1] >= 0xa0;
+    bool is_too_large = first == 0xf4 && text[1] >= 0x90;
+    return is_overlong || is_surrogate || is_too_large ? 0 : size;
+}
+
+static bool is_id(const char *id)
+{
+    if (id == NULL || id[0] == '\0')
+        return false;
+    size_t size = 0;
+    while (id[size] != '\0') {
+        size_t step = character_size((const unsigned char *)id + size);
+        size += step;
+        if (step == 0 || size > MONITOR_ID_BYTE_LIMIT)
+            return false;
+    }
+    return true;
+}
+
+/* The slot in which the id stands, or the empty one into which it may be put. */
+static uint16_t *slot_of(monitor_recorder *recorder, const char *id)
+{
+    uint32_t hash = 2166136261u;
+    for (const char *next = id; *next != '\0'; next++)
+        hash = (hash ^ (unsigned char)*next) * 16777619u;
+    size_t place = hash % SLOTS;
+    while (recorder->slots[place] != 0 && strcmp(recorder->ids[recorder->slots[place] - 1], id) != 0)
+        place = (place + 1) % SLOTS;
+    return &recorder->slots[place];
+}
+
+static void keep_id(monitor_recorder *recorder, const char *id)
+{
+    strcpy(recorder->ids[recorder->id_count], id);
+    recorder->id_count++;
+    *slot_of(recorder, id) = (uint16_t)recorder->id_count;
+}
+
+static bool has_variable(const monitor_recorder *recorder, const char *name)
+{
+    for (size_t i = 0; i < recorder->variable_count; i++)
+        if (strcmp(recorder->variables[i], name) == 0)
+            return true;
+    return false;
+}
+
+/* What is wrong with the settings. */
+static monitor_status check_settings(const monitor_recorder *recorder, const monitor_setting *settings, size_t count)
+{
+    size_t added = 0;
+    if (count > MONITOR_VARIABLE_LIMIT)
+        return MONITOR_VARIABLES;
+    for (size_t i = 0; i < count; i++) {
+        if (!is_name(settings[i].name))
+            return MONITOR_VARIABLE_NAME;
+        for (size_t j = 0; j < i; j++)
+            if (strcmp(settings[i].name, settings[j].name) == 0)
+                return MONITOR_VARIABLE_NAME;
+        added += !has_variable(recorder, settings[i].name);
+    }
+    return recorder->variable_count + added > MONITOR_VARIABLE_LIMIT ? MONITOR_VARIABLES : MONITOR_RECORDED;
+}
+
+static void keep_variables(monitor_recorder *recorder, const monitor_setting *settings, size_t count)
+{
+    for (size_t i = 0; i < count; i++)
+        if (!has_variable(recorder, settings[i].name))
+            strcpy(recorder->variables[recorder->variable_count++], settings[i].name);
+}
+
+/* Recorders */
+
+static pthread_mutex_t *new_lock(pthread_mutex_t *lock)
+{
+    pthread_mutexattr_t attributes;
+    if ((errno = pthread_mutexattr_init(&attributes)) != 0)
+        return NULL;
+    errno = pthread_mutexattr_settype(&attributes, PTHREAD_MUTEX_RECURSIVE);
+    if (errno == 0)
+        errno = pthread_mutex_init(lock, &attributes);
+    pthread_mutexattr_destroy(&attributes);
+    return errno == 0 ? lock : NULL;
+}
+
+monitor_status monitor_to_descriptor(const char *process, int descriptor, monitor_recorder **made)
+{
+    struct stat kind;
+    *made = NULL;
+    if (!is_name(process))
+        return MONITOR_PROCESS_NAME;
+    if (fstat(descriptor, &kind) != 0)
+        return MONITOR_SYSTEM;
+    monitor_recorder *recorder = calloc(1, sizeof *recorder);
+    if (recorder == NULL)
+        return MONITOR_SYSTEM;
+    if (new_lock(&recorder->lock) == NULL) {
+        free(recorder);
+        return MONITOR_SYSTEM;
+    }
+    strcpy(recorder->process, process);
+    recorder->owner = getpid();
+    recorder->descriptor = descriptor;
+    recorder->is_socket = S_ISSOCK(kind.st_mode);
+    line_text line = {.size = 0};
+    put_event(&line, "process", process, NULL, 0);
+    if (write_line(recorder, &line) != MONITOR_RECORDED) {
+        int reason = errno;
+        pthread_mutex_destroy(&recorder->lock);
+        free(recorder);
+        errno = reason;
+        return MONITOR_SYSTEM;
+    }
+    *made = recorder;
+    return MONITOR_RECORDED;
+}
+
+/* The same, and the descriptor is closed if it fails. */
+static monitor_status over_own_descriptor(const char *process, int descriptor, monitor_recorder **made)
+{
+    monitor_status status = monitor_to_descriptor(process, descriptor, made);
+    if (status != MONITOR_RECORDED) {
+        int reason = errno;
+        close(descriptor);
+        errno = reason;
+    }
+    return status;
+}
+
+monitor_status monitor_to_file(const char *process, const char *path, monitor_recorder **made)
+{
+    *made = NULL;
+    if (!is_name(process))
+        return MONITOR_PROCESS_NAME;
+    int descriptor = open(path, O_WRONLY | O_CREAT | O_EXCL | O_CLOEXEC, 0666);
+    return descriptor < 0 ? MONITOR_SYSTEM : over_own_descriptor(process, descriptor, made);
+}
+
+/* Whether both ends are one: so a connection can come to be to a port that nobody has bound. */
+static bool is_with_itself(int connection)
+{
+    struct sockaddr_in here = {0}, there = {0};
+    socklen_t here_size = sizeof here, there_size = sizeof there;
+    return getsockname(connection, (struct sockaddr *)&here, &here_size) == 0 &&
+           getpeername(connection, (struct sockaddr *)&there, &there_size) == 0 && here.sin_port == there.sin_port;
+}
+
+/* A connection to a port of this machine; -1 with errno if there is none. */
+static int connection_to(uint16_t port)
+{
+    struct sockaddr_in address = {.sin_family = AF_INET, .sin_port = htons(port)};
+    address.sin_addr.s_addr = htonl(INADDR_LOOPBACK);
+    int connection = socket(AF_INET, SOCK_STREAM, 0);
+    if (connection < 0)
+        return -1;
+    fcntl(connection, F_SETFD, FD_CLOEXEC);
+    bool is_made = connect(connection, (struct sockaddr *)&address, sizeof address) == 0;
+    if (is_made && !is_with_itself(connection)) {
+        int at_once = 1;
+        setsockopt(connection, IPPROTO_TCP, TCP_NODELAY, &at_once, sizeof at_once);
+        return connection;
+    }
+    int reason = is_made ? ECONNREFUSED : errno;
+    close(connection);
+    errno = reason;
+    return -1;
+}
+
+static double seconds_now(void)
+{
+    struct timespec now;
+    clock_gettime(CLOCK_MONOTONIC, &now);
+    return (double)now.tv_sec + (double)now.tv_nsec / 1e9;
+}
+
+monitor_status monitor_to_port(const char *process, uint16_t port, double seconds, monitor_recorder **made)
+{
+    const struct timespec pause = {.tv_nsec = 50000000};
+    double deadline = seconds_now() + seconds;
+    *made = NULL;
+    if (!is_name(process))
+        return MONITOR_PROCESS_NAME;
+    for (;;) {
+        int connection = connection_to(port);
+        if (connection >= 0)
+            return over_own_descriptor(process, connection, made);
+        if ((errno != ECONNREFUSED && errno != EINTR) || seconds_now() >= deadline)
+            return MONITOR_SYSTEM;
+        nanosleep(&pause, NULL);
+    }
+}
+
+/* Checks an event and writes its line; the lock is held. */
+static monitor_status record(monitor_recorder *recorder, const char *field, const char *id,
+                             const monitor_setting *settings, size_t count)
+{
+    if (recorder->is_broken)
+        return MONITOR_BROKEN;
+    if (recorder->events == MONITOR_EVENT_LIMIT)
+        return MONITOR_EVENTS;
+    if (id != NULL && !is_id(id))
+        return MONITOR_ID;
+    if (id != NULL && *slot_of(recorder, id) != 0)
+        return MONITOR_ID_TWICE;
+    monitor_status status = check_settings(recorder, settings, count);
+    if (status != MONITOR_RECORDED)
+        return status;
+    line_text line = {.size = 0};
+    put_event(&line, field, id, settings, count);
+    status = write_line(recorder, &line);
+    if (status != MONITOR_RECORDED)
+        return status;
+    recorder->events++;
+    keep_variables(recorder, settings, count);
+    if (id != NULL)
+        keep_id(recorder, id);
+    return MONITOR_RECORDED;
+}
+
+static monitor_status record_locked(monitor_recorder *recorder, const char *field, const char *id,
+                                    const monitor_setting *settings, size_t count)
+{
+    if (getpid() != recorder->owner)
+        return MONITOR_FORK;
+    monitor_lock(recorder);
+    monitor_status status = record(recorder, field, id, settings, count);
+    monitor_unlock(recorder);
+    return status;
+}
+
+monitor_status monitor_event(monitor_recorder *recorder, const monitor_setting *settings, size_t count)
+{
+    return record_locked(recorder, NULL, NULL, settings, count);
+}
+
+monitor_status monitor_send(monitor_recorder *recorder, char id[MONITOR_ID_ROOM], const monitor_setting *settings,
+                            size_t count)
+{
+    id[0] = '\0';
+    if (getpid() != recorder->owner)
+        return MONITOR_FORK;
+    monitor_lock(recorder);
+    char made[MONITOR_ID_ROOM];
+    size_t number = recorder->sends;
+    do {
+        snprintf(made, sizeof made, "%s-%zu", recorder->process, ++number);
+    } while (*slot_of(recorder, made) != 0);
+    monitor_status status = record(recorder, "send", made, settings, count);
+    if (status == MONITOR_RECORDED) {
+        recorder->sends = number;
+        strcpy(id, made);
+    }
+    monitor_unlock(recorder);
+    return status;
+}
+
+monitor_status monitor_send_as(monitor_recorder *recorder, const char *id, const monitor_setting *settings,
+                               size_t count)
+{
+    return record_locked(recorder, "send", id == NULL ? "" : id, settings, count);
+}
+
+monitor_status monitor_receive(monitor_recorder *recorder, const char *id, const monitor_setting *settings,
+                               size_t count)
+{
+    return record_locked(recorder, "recv", id == NULL ? "" : id, settings, count);
+}
+
+void monitor_lock(monitor_recorder *recorder)
+{
+    pthread_mutex_lock(&recorder->lock);
+}
+
+void monitor_unlock(monitor_recorder *recorder)
+{
+    pthread_mutex_unlock(&recorder->lock);
+}
+
+size_t monitor_events(monitor_recorder *recorder)
+{
+    monitor_lock(recorder);
+    size_t events = recorder->events;
+    monitor_unlock(recorder);
+    return events;
+}
+
+/* Closes the descriptor and gives the memory back; the status if that succeeds. */
+static monitor_status release(monitor_recorder *recorder, monitor_status status)
+{
+    int reason = errno;
+    if (close(recorder->descriptor) != 0 && status == MONITOR_RECORDED) {
+        reason = errno;
+        status = MONITOR_SYSTEM;
+    }
+    if (status != MONITOR_FORK) /* in a fork, a thread that isn't there may hold it */
+        pthread_mutex_destroy(&recorder->lock);
+    free(recorder);
+    errno = reason;
+    return status;
+}
+
+monitor_status monitor_close(monitor_recorder *recorder)
+{
+    if (getpid() != recorder->owner)
+        return release(recorder, MONITOR_FORK);
+    if (recorder->is_broken)
+        return release(recorder, MONITOR_BROKEN);
+    line_text line = {.size = 0};
+    put(&line, "{\"end\":true}\n");
+    return release(recorder, write_line(recorder, &line));
+}
+
+void monitor_abandon(monitor_recorder *recorder)
+{
+    release(recorder, getpid() == recorder->owner ? MONITOR_RECORDED : MONITOR_FORK);
+}
+
+const char *monitor_text(monitor_status status)
+{
+    switch (status) {
+    case MONITOR_RECORDED: return "recorded";
+    case MONITOR_PROCESS_NAME: return "not a name of a process";
+    case MONITOR_VARIABLE_NAME: return "not a name of a variable, or one that stands twice";
+    case MONITOR_VARIABLES: return "a process has at most 16 variables";
+    case MONITOR_EVENTS: return "a process has at most 10,000 events";
+    case MONITOR_ID: return "the id of a message has 1 to 64 bytes, which are UTF-8";
+    case MONITOR_ID_TWICE: return "the process has sent or received a message with this id before";
+    case MONITOR_FORK: return "the recorder belongs to the process of which this one is a fork";
+    case MONITOR_BROKEN: return "an earlier line could not be written";
+    case MONITOR_SYSTEM: return "the system could not open or write the recording";
+    }
+    return "not a status";
+}

@@ -1,0 +1,110 @@
+/* Records one process of a distributed program for `monitor`: its events in their order, one line each.
+ *
+ *     monitor_recorder *recorder;
+ *     char id[MONITOR_ID_ROOM];
+ *     if (monitor_to_file("left", "left.stream", &recorder) != MONITOR_RECORDED) ..
+ *     monitor_event(recorder, MONITOR_SET({"inside", 1}, {"waiting", 0}));  // these are their values from now on
+ *     monitor_send(recorder, id, MONITOR_SET({"money", 70}));  // BEFORE the message leaves; the id travels with it
+ *     monitor_receive(recorder, other_id, MONITOR_NOTHING);    // AFTER a message has come, with the id that came too
+ *     monitor_close(recorder);
+ *
+ * Each line is handed to the operating system before the call returns, so that nothing that was recorded is lost if
+ * the process crashes. Several threads may use one recorder, but no signal handler. What `monitor` would refuse is
+ * refused at once, and the recorder goes on as if the call hadn't been made. The formats and limits are those of
+ * docs/SPECIFICATION.md.
+ *
+ * It is C11 with POSIX threads: compile monitor_recorder.c with the program, and link with -pthread. */
+#ifndef MONITOR_RECORDER_H
+#define MONITOR_RECORDER_H
+
+#include <stddef.h>
+#include <stdint.h>
+
+#ifdef __cplusplus
+extern "C" {
+#endif
+
+#define MONITOR_EVENT_LIMIT 10000
+#define MONITOR_VARIABLE_LIMIT 16
+#define MONITOR_NAME_BYTE_LIMIT 32
+#define MONITOR_ID_BYTE_LIMIT 64
+/* The room that an id takes with the NUL after it. */
+#define MONITOR_ID_ROOM (MONITOR_ID_BYTE_LIMIT + 1)
+
+typedef struct monitor_recorder monitor_recorder;
+
+/* A variable and the value that it has from now on. */
+typedef struct {
+    const char *name;
+    int64_t value;
+} monitor_setting;
+
+/* The last two arguments of a call: the settings and how many they are. */
+#define MONITOR_SET(...)                       \
+    ((const monitor_setting[]){__VA_ARGS__}),  \
+    (sizeof((const monitor_setting[]){__VA_ARGS__}) / sizeof(monitor_setting))
+#define MONITOR_NOTHING NULL, 0
+
+/* How a call ended. Only with MONITOR_RECORDED is its line written; with all but MONITOR_SYSTEM nothing is. */
+typedef enum {
+    MONITOR_RECORDED,
+    MONITOR_PROCESS_NAME,  /* no name: letters, digits and _, at most 32, no digit first, no word of predicates */
+    MONITOR_VARIABLE_NAME, /* no name of a variable, or one that stands twice */
+    MONITOR_VARIABLES,     /* a process has at most 16 variables */
+    MONITOR_EVENTS,        /* a process has at most 10,000 events */
+    MONITOR_ID,            /* an id has 1 to 64 bytes, which are UTF-8 */
+    MONITOR_ID_TWICE,      /* the process has sent or received this id before */
+    MONITOR_FORK,          /* the recorder belongs to the process of which this one is a fork */
+    MONITOR_BROKEN,        /* an earlier line could not be written, so none is any more */
+    MONITOR_SYSTEM         /* the system refused: see errno; a part of the line may have been written */
+} monitor_status;
+
+/* Records to a new file. One that is there already is MONITOR_SYSTEM with EEXIST. */
+monitor_status monitor_to_file(const char *process, const char *path, monitor_recorder **made);
+
+/* Records to `monitor serve` on a port of this machine. If nobody listens there yet, it is tried again until these
+ * seconds have passed. A later call waits while the monitor doesn't read. */
+monitor_status monitor_to_port(const char *process, uint16_t port, double seconds, monitor_recorder **made);
+
+/* Records to a file, a pipe or a connection that is open for writing, and waits if it can't write. If this succeeds,
+ * the descriptor is closed with the recorder. A pipe that nobody reads any more raises SIGPIPE. */
+monitor_status monitor_to_descriptor(const char *process, int descriptor, monitor_recorder **made);
+
+/* Something happened in this process; these variables have these values from now on. */
+monitor_status monitor_event(monitor_recorder *recorder, const monitor_setting *settings, size_t count);
+
+/* This process sends a message to one other: call it BEFORE the message leaves. The id that it makes, the process's
+ * name and a counter as in left-1, has to travel with the message. */
+monitor_status monitor_send(monitor_recorder *recorder, char id[MONITOR_ID_ROOM], const monitor_setting *settings,
+                            size_t count);
+
+/* The same, with an id that no other send of the session has. */
+monitor_status monitor_send_as(monitor_recorder *recorder, const char *id, const monitor_setting *settings,
+                               size_t count);
+
+/* A message has come, with this id: call it AFTER that. A second copy of a message is MONITOR_ID_TWICE. */
+monitor_status monitor_receive(monitor_recorder *recorder, const char *id, const monitor_setting *settings,
+                               size_t count);
+
+/* Keeps other threads from recording, so that an event and its line stay together. One thread may lock it again. */
+void monitor_lock(monitor_recorder *recorder);
+void monitor_unlock(monitor_recorder *recorder);
+
+/* How many events are recorded. */
+size_t monitor_events(monitor_recorder *recorder);
+
+/* Nothing more happens in this process: writes the end line. However it ends, the recorder is gone; no other thread may
+ * use it meanwhile or afterwards. */
+monitor_status monitor_close(monitor_recorder *recorder);
+
+/* The same without an end line, so that `monitor` refuses the stream as `unended`. */
+void monitor_abandon(monitor_recorder *recorder);
+
+/* What a status says, as a text. */
+const char *monitor_text(monitor_status status);
+
+#ifdef __cplusplus
+}
+#endif
+
+#endif
