@@ -331,7 +331,7 @@ def happened(host_events):
 
 
 def answers(host_events, states):
-    """Possibly and Definitely of the predicate that holds in these states, by all cuts."""
+    """Possibly and Definitely of the predicate that holds in these states, by all cuts; and the states of all cuts."""
     cuts, state = happened(host_events)
     possibly = any(state(cut) in states for cut in cuts)
     full = tuple(len(events) for events in host_events)
@@ -344,7 +344,7 @@ def answers(host_events, states):
             if following in cuts and following not in reached and state(following) not in states:
                 reached.add(following)
                 todo.append(following)
-    return possibly, full not in reached
+    return possibly, full not in reached, {state(cut) for cut in cuts}
 
 
 def random_run(generator):
@@ -402,14 +402,14 @@ class Answers(Case):
 
     def test_splitting_changes_no_answer(self):
         split = yes = 0
-        for hosts, streams, original, states in self.runs(300):
+        for hosts, streams, original, states in self.runs(200):
             lines = [streams[host] for host in hosts]
             expected = answers(original, states)
             self.assertEqual(answers(with_clocks(lines), states), expected)
             split += sum(map(len, lines)) > sum(map(len, original))
-            yes += sum(expected)
-        self.assertGreater(split, 100)
-        self.assertGreater(yes, 100)
+            yes += sum(expected[:2])
+        self.assertGreater(split, 70)
+        self.assertGreater(yes, 70)
 
     @needs_program
     def test_reports_of_what_is_imported(self):
@@ -421,7 +421,7 @@ class Answers(Case):
                         "predicates": [{"name": "state", "text": any_of}]}
             lines = report_of(document, streams).splitlines()
             found = tuple(line.split()[2] == "yes" for line in lines[1:])
-            self.assertEqual(found, answers(original, states))
+            self.assertEqual(found, answers(original, states)[:2])
 
 
 class Example(Case):
