@@ -14,7 +14,8 @@ ROW = re.compile(r"^(\| \[[^]]*\]\(([^)]+)\) \| )(\d+)( \|)", re.M)
 COUNTED = "docs/READING.md"
 wrong = 0
 
-for page in ["README.md", *sorted(glob.glob("docs/*.md")), *sorted(glob.glob("examples/**/*.md", recursive=True))]:
+PAGES = ["README.md", "docs/*.md", "examples/**/*.md", "recorders/**/*.md"]
+for page in sorted(path for pattern in PAGES for path in glob.glob(pattern, recursive=True)):
     with open(page, encoding="utf-8") as file:
         text = file.read()
     prose = re.sub(r"^    .*$", "", text, flags=re.M)
