@@ -282,7 +282,7 @@ class Crashes(Case):
             os._exit(refused)
         _, status = os.waitpid(child, 0)
         holding.join()
-        self.assertEqual(os.waitstatus_to_exitcode(status), 3)
+        self.assertEqual((os.WIFEXITED(status), os.WEXITSTATUS(status)), (True, 3))
         recorder.event()
         recorder.close()
         self.assertEqual(self.lines(), [{"process": "left"}, {}, {"end": True}])
