@@ -1,4 +1,5 @@
 /* See monitor_recorder.h. */
+#undef _POSIX_C_SOURCE
 #define _POSIX_C_SOURCE 200809L
 
 #include "monitor_recorder.h"
@@ -22,6 +23,10 @@
 /* A line with 16 settings and an id of 64 control characters has 1,301 bytes. So 10,000 of them stay below the
  * 16,777,216 bytes that monitor takes of a stream, and each below the 65,536 of a line. */
 #define LINE_ROOM 1400
+
+_Static_assert(9 + 6 * MONITOR_ID_BYTE_LIMIT + 9 + MONITOR_VARIABLE_LIMIT * (MONITOR_NAME_BYTE_LIMIT + 24) + 3
+                   <= LINE_ROOM,
+               "each line has room: the id and what is around it, each setting, and the end");
 
 /* A power of two, over twice the number of ids. */
 #define SLOTS 32768

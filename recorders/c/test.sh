@@ -1,8 +1,8 @@
 #!/usr/bin/env bash
-# test.sh [--sanitizers] [PROGRAM]: compiles the recorder with its tests, runs them, and has two of the recordings judged
-# by the program, if it is built. PROGRAM is any that judges a bundle on its standard input, and
-# crates/monitor/out/monitor if it isn't given. With --sanitizers the tests are run again under those of the compiler. The
-# status is 1 if anything is wrong.
+# test.sh [--sanitizers] [PROGRAM]: compiles the recorder with its tests, runs them, and has two of the recordings
+# judged by the program, if it is built. PROGRAM is any that judges a bundle on its standard input, and
+# crates/monitor/out/monitor if it isn't given. With --sanitizers the tests are run again under those of the compiler.
+# The status is 1 if anything is wrong.
 set -u
 sanitized=
 [ "${1:-}" = --sanitizers ] && sanitized=yes && shift

@@ -127,6 +127,14 @@ class Sessions(Case):
         _, streams = self.imported([text], "--pattern", pattern, "--variables", r"n is (?P<n>\d+)")
         self.assertEqual(streams, {"a": [{}, {"set": {"n": 7}}]})
 
+    def test_a_pattern_with_times(self):
+        pattern = r"(?<timestamp>\d*) (?<host>\S*) (?<clock>{.*})\n(?<event>.*)"
+        text = '1546300800000000000 a {"a":1}\nINFO begins\n1546300800000000001 a {"a":2}\nINFO n=7\n'
+        _, streams = self.imported([text], "--pattern", pattern, "--variables", "n=(?<n>.*)")
+        self.assertEqual(streams, {"a": [{}, {"set": {"n": 7}}]})
+        self.out = "other"
+        self.refused("1.log line 1: by the pattern this belongs to no event: '1546300800000000000'", [text])
+
     def test_other_lines_can_be_skipped(self):
         text = '== run 1 ==\na {"a":1}\nbegins\n  at main.go:7\na {"a":2}\nends\nbye\n'
         _, streams = self.imported([text], "--skip-other-lines")
@@ -402,14 +410,14 @@ class Answers(Case):
 
     def test_splitting_changes_no_answer(self):
         split = yes = 0
-        for hosts, streams, original, states in self.runs(200):
+        for hosts, streams, original, states in self.runs(120):
             lines = [streams[host] for host in hosts]
             expected = answers(original, states)
             self.assertEqual(answers(with_clocks(lines), states), expected)
             split += sum(map(len, lines)) > sum(map(len, original))
             yes += sum(expected[:2])
-        self.assertGreater(split, 70)
-        self.assertGreater(yes, 70)
+        self.assertGreater(split, 40)
+        self.assertGreater(yes, 40)
 
     @needs_program
     def test_reports_of_what_is_imported(self):

@@ -4,6 +4,7 @@ import io
 import json
 import os
 import random
+import re
 import signal
 import socket
 import subprocess
@@ -13,6 +14,8 @@ import threading
 import time
 import unittest
 
+import import_vector_clocks
+import monitor_recorder
 from judging import FOLDER, needs_program, report_of
 from monitor_recorder import EVENT_LIMIT, NotRecorded, Recorder
 
@@ -412,6 +415,33 @@ class Ports(Case):
         with theirs:
             Recorder("left", ours).close()
             self.assertEqual(theirs.makefile("rb").read(), b'{"process":"left"}\n{"end":true}\n')
+
+
+class Limits(unittest.TestCase):
+    """The limits of both recorders and of the importer are those of the definitions."""
+
+    def setUp(self):
+        with open(os.path.join(FOLDER, "..", "..", "crates", "pd_format", "specs", "Limits.antt"),
+                  encoding="utf-8") as file:
+            self.limits = {name: int(number) for name, number in re.findall(r"^(\w+) = (\d+)$", file.read(), re.M)}
+
+    def test_of_python(self):
+        for module, name, limit in (
+                (monitor_recorder, "EVENT_LIMIT", "event_limit"), (monitor_recorder, "VARIABLE_LIMIT", "var_limit"),
+                (monitor_recorder, "NAME_BYTE_LIMIT", "name_byte_limit"),
+                (monitor_recorder, "ID_BYTE_LIMIT", "id_byte_limit"),
+                (import_vector_clocks, "PROCESS_LIMIT", "process_limit"),
+                (import_vector_clocks, "PREDICATE_LIMIT", "predicate_limit"),
+                (import_vector_clocks, "WIDTH_LIMIT", "width_limit")):
+            self.assertEqual(getattr(module, name), self.limits[limit], name)
+
+    def test_of_c(self):
+        with open(os.path.join(FOLDER, "..", "c", "monitor_recorder.h"), encoding="utf-8") as file:
+            found = dict(re.findall(r"^#define MONITOR_(\w+_LIMIT) (\d+)$", file.read(), re.M))
+        self.assertEqual(found, {"EVENT_LIMIT": str(self.limits["event_limit"]),
+                                 "VARIABLE_LIMIT": str(self.limits["var_limit"]),
+                                 "NAME_BYTE_LIMIT": str(self.limits["name_byte_limit"]),
+                                 "ID_BYTE_LIMIT": str(self.limits["id_byte_limit"])})
 
 
 @needs_program
