@@ -1,15 +1,21 @@
 #!/usr/bin/env python3
-"""damage.py PROGRAM [--other PROGRAM] [--count N] [--seed S]: random sessions, most of them damaged, judged as a bundle and
-from files.
+"""damage.py PROGRAM [--other PROGRAM] [--count N] [--seed S] [--jobs N]: random sessions, most of them damaged, judged
+as a bundle and from files, and their reports checked.
 
-A session is drawn, its lines are written in every way that JSON has (order and repetition of keys, white space, escapes,
-numbers at their limits), and then bytes are flipped, lines are dropped, doubled, swapped and cut, streams are swapped,
-and strange bytes are put in. Each run has to end with status 0 and a report, or with status 1 and one line that says
-`refused`, and with nothing on standard error; the bundle and the files have to give the same report, and so has the
-other program, if one is named, which reads bundles from standard input. A session that breaks this is written to
-standard output with its seed. The status is 1 if there is one."""
+A session is drawn, its lines are written in every way that JSON has (order and repetition of keys, white space,
+escapes, numbers at their limits), and then bytes are flipped, lines are dropped, doubled, swapped and cut, streams are
+swapped, and strange bytes are put in. The bundle is written in pieces of every size. Each run has to end within a
+minute, with status 0 and a report, or with status 1 and one line that says `refused`, and with nothing on standard
+error. The bundle and the files have to give the same report, and so has the other program, if one is named, which reads
+bundles from standard input. A check of the report against the files must find nothing bad, and a check of the report
+damaged has to end with status 0 or 1 and with text, or with status 3 and without.
+
+A session that breaks this is written to standard output with its seed. After all of them comes how many reports there
+were of each kind. The status is 1 if a session broke it. With `--jobs`, several are at work at once."""
 import argparse
+import collections
 import json
+import multiprocessing
 import os
 import random
 import subprocess
@@ -151,6 +157,22 @@ def run(words, given, cwd):
     return ended.returncode, ended.stdout, ended.stderr
 
 
+def run_in_pieces(rng, words, given, cwd):
+    """The same, where standard input comes in pieces."""
+    pipe = subprocess.PIPE
+    with subprocess.Popen(words, stdin=pipe, stdout=pipe, stderr=pipe, cwd=cwd, bufsize=0) as running:
+        most = rng.choice([1, 2, 7, 30, 200])
+        while given and running.poll() is None:
+            size = rng.randrange(1, most + 1)
+            try:
+                running.stdin.write(given[:size])
+            except BrokenPipeError:
+                break
+            given = given[size:]
+        report, errors = running.communicate(timeout=60)
+        return running.returncode, report, errors
+
+
 def is_plain(part):
     """Whether a part of a bundle can be given as a file: it holds no separator, and its last line ends."""
     return part.endswith(b"\n") and not any(line.rstrip(b"\r") == b"---" for line in part.split(b"\n"))
@@ -163,24 +185,69 @@ def is_wrong(ended):
     return (status == 1) != report.startswith(b"refused ") or (status == 1 and report.count(b"\n") != 1)
 
 
-def judge(program, other, document, streams, folder):
-    """Why the session is judged wrong, or None."""
+def judge_files(rng, program, parts, ended, folder):
+    """Why the session is judged or checked wrong from files, or None. `ended` is how the bundle was judged."""
+    names = [f"part{k}" for k in range(len(parts))]
+    for name, part in zip(names, parts):
+        with open(os.path.join(folder, name), "wb") as file:
+            file.write(part)
+    from_files = run([program, "judge", *names], b"", folder)
+    if from_files != ended:
+        return f"bundle: {ended}, files: {from_files}"
+    report = os.path.join(folder, "report")
+    with open(report, "wb") as file:
+        file.write(ended[1])
+    check = [program, "check", names[0], "report", *names[1:]]
+    found = run(check, b"", folder)
+    if found[0] != 0 or b"bad" in found[1] or found[2] or not found[1].endswith(b"\n"):
+        return f"report: {ended}, checked: {found}"
+    with open(report, "wb") as file:
+        file.write(damage_bytes(rng, ended[1]))
+    status, text, errors = run(check, b"", folder)
+    if (status, text, errors) != (3, b"", b"monitor: read\n") and (status not in (0, 1) or errors or not text):
+        return f"damaged report checked: {(status, text, errors)}"
+    return None
+
+
+def judge(rng, program, other, folder):
+    """Draws a session. Its report's kind, and why it is judged wrong, or None."""
+    document, streams = drawn(rng)
     parts = [document + b"\n", *streams]
     bundle = b"---\n".join(part if part.endswith(b"\n") else part + b"\n" for part in parts)
-    ended = run([program], bundle, folder)
+    ended = run_in_pieces(rng, [program], bundle, folder)
+    why = None
     if is_wrong(ended):
-        return f"bundle: {ended}"
-    if streams and all(is_plain(part) for part in parts):
-        names = [f"part{k}" for k in range(len(parts))]
-        for name, part in zip(names, parts):
-            with open(os.path.join(folder, name), "wb") as file:
-                file.write(part)
-        from_files = run([program, "judge", *names], b"", folder)
-        if from_files != ended:
-            return f"bundle: {ended}, files: {from_files}"
-    if other and run([other], bundle, folder)[1] != ended[1]:
-        return f"bundle: {ended}, other program: {run([other], bundle, folder)}"
-    return None
+        why = f"bundle: {ended}"
+    elif streams and all(is_plain(part) for part in parts):
+        why = judge_files(rng, program, parts, ended, folder)
+    if not why and other:
+        of_other = run([other], bundle, folder)
+        why = f"bundle: {ended}, other program: {of_other}" if of_other[1] != ended[1] else None
+    if why:
+        why = "\n".join([why, repr(document), *map(repr, streams)])
+    return kind_of(ended[1]), why
+
+
+def kind_of(report):
+    """The first words of a report, without its numbers and names."""
+    words = report.decode(errors="replace").split("\n")[0].split(" ")
+    kept = [word for word in words if word.isalpha() and word != "line"]
+    return " ".join(kept[:3] if words[0] == "refused" else words[:1])
+
+
+def judge_some(program, other, seeds):
+    """How many reports of each kind these sessions have, and the seed and reason of each that is judged wrong."""
+    kinds, wrong = collections.Counter(), []
+    with tempfile.TemporaryDirectory() as folder:
+        for seed in seeds:
+            try:
+                kind, why = judge(random.Random(seed), program, other, folder)
+            except subprocess.TimeoutExpired as late:
+                kind, why = "no end", f"no end: {late.cmd}"
+            kinds[kind] += 1
+            if why:
+                wrong.append(f"seed {seed}: {why}")
+    return kinds, wrong
 
 
 def main():
@@ -189,16 +256,20 @@ def main():
     parser.add_argument("--other")
     parser.add_argument("--count", type=int, default=1000)
     parser.add_argument("--seed", type=int, default=1)
+    parser.add_argument("--jobs", type=int, default=1)
     words = parser.parse_args()
-    program = os.path.abspath(words.program)
-    wrong = 0
-    with tempfile.TemporaryDirectory() as folder:
-        for seed in range(words.seed, words.seed + words.count):
-            document, streams = drawn(random.Random(seed))
-            why = judge(program, words.other, document, streams, folder)
-            if why:
-                wrong += 1
-                print(f"seed {seed}: {why}\n{document!r}\n" + "\n".join(repr(stream) for stream in streams), flush=True)
+    seeds = range(words.seed, words.seed + words.count)
+    program, other = (os.path.abspath(name) if name else None for name in (words.program, words.other))
+    tasks = [(program, other, seeds[at:at + 100]) for at in range(0, words.count, 100)]
+    kinds, wrong = collections.Counter(), 0
+    with multiprocessing.Pool(words.jobs) as pool:
+        for some, why in pool.starmap(judge_some, tasks, chunksize=1):
+            kinds += some
+            wrong += len(why)
+            for text in why:
+                print(text, flush=True)
+    for kind, count in sorted(kinds.items()):
+        print(f"{count:8} {kind}")
     print(f"{words.count} sessions from seed {words.seed}: {wrong} judged wrong")
     sys.exit(1 if wrong else 0)
 
