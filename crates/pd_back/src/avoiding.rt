@@ -1,6 +1,7 @@
 //! The avoiding cuts of a level.
 ghost use Rattle.pd_back.specs.Ways.{IsAvoidingLevel};
-ghost use Rattle.pd_model.specs.Cuts.{IsConsistent};
+ghost use Rattle.pd_model.specs.Answers.{IsListOf};
+ghost use Rattle.pd_model.specs.Cuts.{IsConsistent, IsNextOf};
 ghost use Rattle.pd_model.specs.Predicates.{test_of};
 ghost use Rattle.pd_pred.specs.Views.{predicate_view};
 ghost use Rattle.std.specs.Prelude.{◌≡◌, ◌+◌, ◌<◌, ◌≤◌, All, IfOk, filter, length, map, not};
@@ -50,16 +51,32 @@ pub fn next_avoiding(
 {
     // the laws that the proof uses
     pd_model::avoiding_levels();
+    let whole = next_of_any(alloc, computation, level)?;
+    let next = without_satisfying(alloc, computation, pred, whole)?;
+    Ok(next)
+}
+
+/// The cuts that have one event more than one of the level's, however many they are.
+///
+/// # Errors
+/// An allocation was refused, or there might be more cuts than a `u64` counts.
+pub fn next_of_any(
+    alloc: Global,
+    computation: &Computation<'_>,
+    level: &Level,
+) -> Result<Level, AllocError>
+    requires cuts { All (IsConsistent computation.now.events) level.now.cuts }
+    requires low { level.now.number < 18446744073709551615 }
+    ensures list { IfOk result (λ next. IsListOf (IsNextOf computation.now.events level.now.cuts) next.cuts) }
+    ensures number { IfOk result (λ next. next.number ≡ level.now.number + 1) }
+{
     computation.limits();
     let cuts = (level.len() as u64).max(1);
     let Some(most) = cuts.checked_mul(computation.processes() as u64) else {
         return Err(AllocError);
     };
     match Level::next(alloc, computation, level, most) {
-        Ok(whole) => {
-            let next = without_satisfying(alloc, computation, pred, whole)?;
-            Ok(next)
-        }
+        Ok(whole) => Ok(whole),
         Err(LevelFault::Memory) => Err(AllocError),
         Err(LevelFault::Wide) => unreachable!(),
     }

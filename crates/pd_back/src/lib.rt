@@ -23,6 +23,6 @@ mod free;
 mod held;
 mod undo;
 
-pub use avoiding::{first_avoiding, next_avoiding};
+pub use avoiding::{first_avoiding, next_avoiding, next_of_any};
 pub use back::way_back;
 pub use held::Held;

@@ -3,10 +3,10 @@ ghost use Rattle.pd_model.specs.Cuts.{FitsProcesses};
 ghost use Rattle.pd_model.specs.Predicates.{test_of};
 ghost use Rattle.pd_pred.specs.Views.{predicate_view};
 ghost use Rattle.pd_runs.specs.Runs.{cut_at};
-ghost use Rattle.std.specs.Prelude.{◌≡◌, ℕ, ◌+◌, ◌-◌, ◌<◌, ◌≤◌, IfOk, false, length};
+ghost use Rattle.std.specs.Prelude.{◌≡◌, ℕ, ◌+◌, ◌-◌, ◌<◌, ◌≤◌, IfNone, IfOk, IfSome, false, length};
 
 use super::compile::{Rest, compile};
-use super::node::{Node, mask, may};
+use super::node::{Node, holds, mask, may};
 use pd_clock::Computation;
 use pd_pred::Pred;
 use pd_runs::RunTest;
@@ -67,6 +67,18 @@ impl<'a, 'b> Compiled<'a, 'b> {
         })
     }
 
+    /// Whether the predicate holds at the cut of these counts, one for each process. It takes no memory.
+    pub fn holds(&self, counts: &[u64]) -> bool
+        requires two { 2 ≤ length counts.now }
+        requires fits { FitsProcesses self.now.recorded.events counts.now }
+        ensures { result ≡ test_of self.now.recorded self.now.predicate counts.now }
+    {
+        let Some((prefix, x, y)) = last_two(counts) else {
+            return false;
+        };
+        holds(&self.node, self.computation, prefix, x, y)
+    }
+
     /// Whether the predicate may hold at some cut with these counts of the first processes. False is certain. It takes
     /// no memory.
     pub fn may(&self, prefix: &[u64]) -> bool
@@ -75,6 +87,16 @@ impl<'a, 'b> Compiled<'a, 'b> {
     {
         may(&self.node, prefix)
     }
+}
+
+/// The counts but for the last two, and these two; nothing if there are fewer.
+fn last_two(counts: &[u64]) -> Option<(&[u64], u64, u64)>
+    ensures found { IfSome result (λ parts. cut_at parts.0.now parts.1 parts.2 ≡ counts.now) }
+    ensures none { IfNone result (length counts.now < 2) }
+{
+    let (y, rest) = counts.split_last()?;
+    let (x, prefix) = rest.split_last()?;
+    Some((prefix, *x, *y))
 }
 
 impl RunTest for Compiled<'_, '_> {

@@ -59,6 +59,13 @@ impl Linear {
         holds_at_zero(self.comparison, value)
     }
 
+    /// Whether the comparison holds at the cut with this prefix and these counts of the last two processes.
+    pub(crate) fn holds_at(&self, prefix: &[u64], x: u64, y: u64) -> bool
+        ensures { result ≡ linear_holds self.now prefix.now x y }
+    {
+        self.holds(self.base(prefix), x, y)
+    }
+
     /// Of which of `n` neighboring cuts the comparison holds: bit `j` is that of the cut with `x + j` and `y - j`.
     pub(crate) fn mask(&self, prefix: &[u64], x: u64, y: u64, n: u64) -> u64
         requires few { n ≤ 64 }

@@ -142,6 +142,47 @@ fn direct_mask(
     mask
 }
 
+/// Whether the predicate holds at the cut with this prefix and these counts of the last two processes.
+pub(crate) fn holds(
+    node: &Node<'_>,
+    computation: &Computation<'_>,
+    prefix: &[u64],
+    x: u64,
+    y: u64,
+) -> bool
+    requires { FitsProcesses computation.now.events (cut_at prefix.now x y) }
+    ensures { result ≡ node_holds computation.now node.now prefix.now x y }
+{
+    match node {
+        Node::Constant(truth) => *truth,
+        Node::Compare(linear) => linear.holds_at(prefix, x, y),
+        Node::Conjunction(clauses) => conjunction_holds(clauses, computation, prefix, x, y),
+        Node::Direct { tree, negated } => tree.holds(&RunState::new(computation, prefix, x, y))
+            != *negated,
+        Node::And(left, right) => {
+            holds(left, computation, prefix, x, y) && holds(right, computation, prefix, x, y)
+        }
+        Node::Or(left, right) => {
+            holds(left, computation, prefix, x, y) || holds(right, computation, prefix, x, y)
+        }
+    }
+}
+
+/// `holds` of clauses.
+fn conjunction_holds(
+    clauses: &Clauses,
+    computation: &Computation<'_>,
+    prefix: &[u64],
+    x: u64,
+    y: u64,
+) -> bool
+    requires { FitsProcesses computation.now.events (cut_at prefix.now x y) }
+    ensures { result ≡ clauses_hold clauses.now prefix.now x y }
+{
+    let mask = conjunction_mask(clauses, computation, prefix, x, y, 1);
+    pd_bits::has(mask, 0)
+}
+
 /// Whether the predicate may hold at some cut with this prefix.
 pub(crate) fn may(node: &Node<'_>, prefix: &[u64]) -> bool
     ensures { result ≡ false → (r : Recorded) (x y : ℕ) → node_holds r node.now prefix.now x y ≡ false }

@@ -48,6 +48,8 @@ fn a_run_goes_across_and_down(rt: HostRuntime) -> Result<(), Fail> {
     assert_eq!(rt; linear.mask(&[1], 0, 2, 3), 0);
     assert_eq!(rt; linear.mask(&[1], 0, 0, 1), 0b1);
     assert_eq!(rt; linear.mask(&[0], 1, 1, 2), 0b01);
+    assert!(rt; linear.holds_at(&[0], 1, 1));
+    assert!(rt; !linear.holds_at(&[1], 1, 1));
     Ok(())
 }
 

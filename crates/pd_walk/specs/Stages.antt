@@ -5,7 +5,7 @@ use Rattle.std.specs.Prelude.{◌≡◌, ℕ, All, ◌+◌, ◌*◌, ◌<◌, �
 use Rattle.pd_model.specs.Answers.{IsPossiblyAnswer}
 use Rattle.pd_model.specs.Cuts.{total}
 use Rattle.pd_model.specs.Events.{Computation}
-use Rattle.pd_model.specs.Predicates.{Recorded, test_of}
+use Rattle.pd_model.specs.Predicates.{Predicate, Recorded, test_of}
 use Rattle.pd_model.specs.Walks.{IsAvoidedBelow, IsNarrowBelow, IsNarrowlyAvoidedBelow, NoneBelow}
 use Rattle.pd_back.specs.Ways.{AreAvoidingLevels, IsAvoidingLevel, IsWithinGap, last_number}
 use Rattle.pd_level.specs.Levels.{Levelled}
@@ -27,6 +27,11 @@ events_of compiled = compiled.recorded.events
 
 abbrev pub meaning_of : CompiledView → List ℕ → Bool
 meaning_of compiled = test_of compiled.recorded compiled.predicate
+
+-- the predicate compiled for a computation of at least two processes
+pub record IsTestOf (recorded : Recorded) (predicate : Predicate) (test : Bor CompiledView) : Type 0 where
+  pub two : 2 ≤ length recorded.events
+  pub same : test.now ≡ record { recorded = recorded; predicate = predicate }
 
 -- no cut below level k satisfies, and no level there is too wide
 pub record IsOpenBelow (c : Computation) (test : List ℕ → Bool) (width k : ℕ) : Type 0 where

@@ -52,6 +52,7 @@ pub(crate) fn answers_by_lists(
             alloc,
             computation,
             pred,
+            None,
             width,
             gap,
             on,

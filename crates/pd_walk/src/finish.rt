@@ -6,15 +6,17 @@ ghost use Rattle.pd_runs.specs.Levels.{IsWholeLevel};
 ghost use Rattle.pd_walk.specs.Answers.{AreAnswers};
 ghost use Rattle.pd_walk.specs.Stages.{AllAnswered, AreBeside, HasEnded, IsOpenBelow, Stands};
 ghost use Rattle.pd_walk.specs.declared.stage.Stage.TheVariants.{Open};
-ghost use Rattle.std.specs.Prelude.{◌≡◌, ◌+◌, ◌*◌, ◌<◌, ◌≤◌, IfOk};
+ghost use Rattle.std.specs.Prelude.{◌≡◌, ◌+◌, ◌*◌, ◌<◌, ◌≤◌, IfOk, length};
 
 use super::listed::walk_listed;
 use super::stage::Stage;
+use super::walk::TABLE_BYTES;
 use super::{Answers, DefinitelyAnswer, PossiblyAnswer};
 use pd_back::{Held, way_back};
 use pd_clock::Computation;
 use pd_pred::Pred;
 use pd_runs::Whole;
+use pd_tables::Compiled;
 use std::alloc::{AllocError, Global};
 use std::mem;
 
@@ -28,6 +30,7 @@ pub(crate) fn finish_all(
     wholes: &Held<Whole>,
     stages: &mut Vec<Stage>,
 ) -> Result<Vec<Answers>, AllocError>
+    requires two { 2 ≤ length computation.now.events }
     requires root { total computation.now.events < gap * gap }
     requires ended { HasEnded computation.now preds.now width gap wholes.now.most wholes.now.levels.items
         stages.old.items }
@@ -62,6 +65,7 @@ fn finish(
     most: u64,
     stage: Stage,
 ) -> Result<Answers, AllocError>
+    requires two { 2 ≤ length computation.now.events }
     requires level { IsWholeLevel computation.now.events level.now }
     requires within { level.now.number ≤ total computation.now.events }
     requires last { stage ≡ Open → level.now.number ≡ total computation.now.events }
@@ -76,8 +80,21 @@ fn finish(
     match stage {
         Stage::Open => answer_none(alloc, computation, pred, width, gap, most),
         Stage::Marked { split, marks } => {
+            let mut room = TABLE_BYTES;
+            let test = Compiled::compile(alloc, computation, pred, &mut room)?;
             let listed = marks.to_level(alloc, level)?;
-            walk_listed(alloc, computation, pred, width, gap, split, listed, 1, most)
+            walk_listed(
+                alloc,
+                computation,
+                pred,
+                Some(&test),
+                width,
+                gap,
+                split,
+                listed,
+                1,
+                most,
+            )
         }
         Stage::Answered(answers) => Ok(answers),
     }

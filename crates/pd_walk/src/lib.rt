@@ -7,6 +7,7 @@
 //! - `walk`: the walk up the whole levels, for all predicates
 //! - `finish`: the answers after the last whole level
 //! - `listed`: the walk by lists of avoiding cuts, if the whole levels are too wide
+//! - `by_tables`: the avoiding cuts of the next level, by the tables of a compiled predicate
 //! - `by_lists`: the answers for one predicate by lists of cuts alone, which serve any computation
 //! - `root`: how many levels from one that is kept to the next
 //! - `all`: the answers for all predicates
@@ -16,6 +17,7 @@
 mod all;
 mod answers;
 mod by_lists;
+mod by_tables;
 mod definitely_answer;
 mod finish;
 mod listed;

@@ -4,16 +4,18 @@ ghost use Rattle.pd_model.specs.Cuts.{total};
 ghost use Rattle.pd_model.specs.Predicates.{test_of};
 ghost use Rattle.pd_pred.specs.Views.{predicate_view};
 ghost use Rattle.pd_walk.specs.Answers.{AreAnswers};
-ghost use Rattle.pd_walk.specs.Stages.{AreBeside, AreKeptBelow, IsAt, IsSplitBelow};
-ghost use Rattle.std.specs.Prelude.{◌≡◌, ◌+◌, ◌*◌, ◌<◌, ◌≤◌, IfErr, IfOk, max};
+ghost use Rattle.pd_walk.specs.Stages.{AreBeside, AreKeptBelow, IsAt, IsSplitBelow, IsTestOf};
+ghost use Rattle.std.specs.Prelude.{◌≡◌, ◌+◌, ◌*◌, ◌<◌, ◌≤◌, IfErr, IfOk, IfSome, max};
 
+use super::by_tables::next_listed;
 use super::settle::{end_at, is_due};
 use super::split::Split;
 use super::{Answers, DefinitelyAnswer};
-use pd_back::{Held, next_avoiding, way_back};
+use pd_back::{Held, way_back};
 use pd_clock::Computation;
 use pd_level::Level;
 use pd_pred::Pred;
+use pd_tables::Compiled;
 use std::alloc::{AllocError, Global};
 
 /// Both answers, from the avoiding cuts of a level on. Beside the levels that are kept, `most` were held at once so
@@ -22,6 +24,7 @@ pub(crate) fn walk_listed(
     alloc: Global,
     computation: &Computation<'_>,
     pred: &Pred,
+    compiled: Option<&Compiled<'_, '_>>,
     width: u64,
     gap: u64,
     split: Split,
@@ -29,6 +32,7 @@ pub(crate) fn walk_listed(
     whole: u64,
     most: u64,
 ) -> Result<Answers, AllocError>
+    requires compiled { IfSome compiled (IsTestOf computation.now (predicate_view pred.now)) }
     requires list { IsAvoidingLevel computation.now.events (test_of computation.now (predicate_view pred.now)) level }
     requires within { level.number ≤ total computation.now.events }
     requires root { total computation.now.events < gap * gap }
@@ -50,7 +54,7 @@ pub(crate) fn walk_listed(
     walked.push(level)?;
     let mut beside = most.max(walked.most() + whole);
     while k < total {
-        go_up(alloc, computation, pred, k, &mut walked)?;
+        go_up(alloc, computation, pred, compiled, k, &mut walked)?;
         k += 1;
         beside = beside.max(walked.most() + whole);
         match settle_listed(
@@ -76,9 +80,11 @@ fn go_up(
     alloc: Global,
     computation: &Computation<'_>,
     pred: &Pred,
+    compiled: Option<&Compiled<'_, '_>>,
     k: u64,
     walked: &mut Held<Level>,
 ) -> Result<(), AllocError>
+    requires compiled { IfSome compiled (IsTestOf computation.now (predicate_view pred.now)) }
     requires low { k < 18446744073709551615 }
     requires at { IsAt computation.now.events (test_of computation.now (predicate_view pred.now)) k
         walked.old.levels.items }
@@ -86,7 +92,7 @@ fn go_up(
         (k + 1) walked.new.levels.items) }
     ensures most { IfOk result (λ _. walked.new.most ≡ max walked.old.most 2) }
 {
-    let next = next_avoiding(alloc, computation, pred, walked.last())?;
+    let next = next_listed(alloc, computation, pred, compiled, walked.last())?;
     walked.push(next)?;
     walked.drop_last_but_one();
     Ok(())

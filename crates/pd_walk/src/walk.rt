@@ -24,7 +24,7 @@ use std::alloc::{AllocError, Global};
 use std::mem;
 
 /// How many bytes the tables of all predicates may take together.
-const TABLE_BYTES: usize = 67_108_864;
+pub(crate) const TABLE_BYTES: usize = 67_108_864;
 
 /// What is known of each predicate after the next level.
 fn look_all(

@@ -5,13 +5,13 @@ use Rattle.pd_pred.specs.Views.{predicate_view}
 use Rattle.pd_walk.proofs.Going.{level_at, next_at}
 use Rattle.pd_walk.proofs.listed.go_up.Goals as goal
 
-pub next_avoiding-requires-clause-list : goal.next_avoiding-requires-clause-list
-next_avoiding-requires-clause-list c =
+pub next_listed-requires-clause-list : goal.next_listed-requires-clause-list
+next_listed-requires-clause-list c =
     (level_at c.args.computation.now.events (test_of c.args.computation.now (predicate_view c.args.pred.now)) c.args.k
     c.args.walked.now.levels.items c.last.result.now c.requires.at c.last.ensures).0
 
-pub next_avoiding-requires-clause-low : goal.next_avoiding-requires-clause-low
-next_avoiding-requires-clause-low c =
+pub next_listed-requires-clause-low : goal.next_listed-requires-clause-low
+next_listed-requires-clause-low c =
     omega (
       arith,
       c.requires.low,

@@ -1,0 +1,38 @@
+//! Shapes and texts as an SVG picture.
+//!
+//! A drawing is a list of lines, arrows, circles, polylines and texts, with a title and a description for readers that
+//! don't see it. Its text is exactly the one that the definitions give. Each text that is put in is escaped: no byte of
+//! it can be read as mark-up. The text reaches a writer whole, or a prefix of it does and the call fails.
+//!
+//! - `point`: where something stands
+//! - `class`: what a shape is drawn as
+//! - `anchor`: which part of a text stands at its point
+//! - `shape`: one shape
+//! - `drawing`: the whole
+//! - `escape`: texts without mark-up
+//! - `tags`: attributes of elements
+//! - `shape_text`: the element of a shape
+//! - `style`: the rules by which classes are drawn
+//! - `drawing_text`: a drawing's text, also written
+#![tactic(auto)]
+
+mod anchor;
+mod class;
+mod drawing;
+mod drawing_text;
+mod escape;
+mod point;
+mod shape;
+mod shape_text;
+mod style;
+mod tags;
+#[cfg(test)]
+mod tests;
+
+pub use anchor::Anchor;
+pub use class::Class;
+pub use drawing::Drawing;
+pub use drawing_text::{text, write};
+pub use escape::escaped;
+pub use point::Point;
+pub use shape::Shape;
