@@ -49,8 +49,8 @@ listed_none texts P count lacks bytes parts cut none vs h e =
     go (w ∷ ws) n l e = pieces_of_joined 44 bytes w ws l e
 
 -- one part more is read
-pub read_more : {V : Type 0} (text : V → List ℕ) (parts left after : List (List ℕ)) (part : List ℕ) (vs : List V) (v : V)
-    → parts ≡ map text vs ++ left → left ≡ part ∷ after → part ≡ text v
+pub read_more : {V : Type 0} (text : V → List ℕ) (parts left after : List (List ℕ)) (part : List ℕ) (vs : List V)
+    (v : V) → parts ≡ map text vs ++ left → left ≡ part ∷ after → part ≡ text v
     → parts ≡ map text (vs ++ v ∷ []) ++ after
 read_more text parts left after part vs v so_far next e =
     so_far

@@ -11,7 +11,8 @@ use Rattle.pd_report.proofs.answer_line.second_line.Goals as goal
 
 pub returns-in_default : goal.returns-in_default
 returns-in_default c = λ v h e.
-    c.in_default.ensures (codes "definitely" ∷ definitely_words v) (c.new-words.ensures ∙ second_words c.args.line.now c.args.name.now c.requires v h e)
+    c.in_default.ensures (codes "definitely" ∷ definitely_words v) (c.new-words.ensures
+    ∙ second_words c.args.line.now c.args.name.now c.requires v h e)
 
 pub returns-in_default-after : goal.returns-in_default-after
 returns-in_default-after c = λ v h e.

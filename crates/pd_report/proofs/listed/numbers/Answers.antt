@@ -13,4 +13,5 @@ use Rattle.pd_report.proofs.listed.numbers.Goals as goal
 pub returns : goal.returns
 returns c =
     IfOk-weaker c.all_numbers.result _ _ (found_listed (λ found. found.items) (map decimal) (AllByRecursion Fits)
-    (λ ns. length-map ns decimal) decimals_lack c.args.word.now (words_left c.new.result) c.new.ensures) c.all_numbers.ensures
+    (λ ns. length-map ns decimal) decimals_lack c.args.word.now (words_left c.new.result) c.new.ensures)
+    c.all_numbers.ensures

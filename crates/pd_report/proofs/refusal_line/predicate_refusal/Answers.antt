@@ -18,4 +18,8 @@ returns-in_err-k c =
     let there = c.in_err-k.ensures in
     let rest = words_left c.args.rest in
     refused_there refusal_view refusal_words (IsOfKind PredicateKind) (codes "predicate" ∷ rest) c.from_residual.result
-    c.from_residual.ensures.0 (Predicate there.0.0 there.0.1 there.0.2, (there.1, refl), ap (λ words. codes "predicate" ∷ words) there.2)
+    c.from_residual.ensures.0 (
+      Predicate there.0.0 there.0.1 there.0.2,
+      (there.1, refl),
+      ap (λ words. codes "predicate" ∷ words) there.2,
+    )

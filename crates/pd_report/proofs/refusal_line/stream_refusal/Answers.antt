@@ -18,4 +18,8 @@ returns-in_err-stream c =
     let there = c.in_err-stream.ensures in
     let rest = words_left c.args.rest in
     refused_there refusal_view refusal_words (IsOfKind StreamKind) (codes "stream" ∷ rest) c.from_residual.result
-    c.from_residual.ensures.0 (Stream there.0.0 there.0.1 there.0.2, (there.1, refl), ap (λ words. codes "stream" ∷ words) there.2)
+    c.from_residual.ensures.0 (
+      Stream there.0.0 there.0.1 there.0.2,
+      (there.1, refl),
+      ap (λ words. codes "stream" ∷ words) there.2,
+    )
