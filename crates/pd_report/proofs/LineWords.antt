@@ -1,11 +1,11 @@
 -- The words of a report's lines.
-use Rattle.std.proofs.Common.{◌≡◌, ℕ, List, [], ◌∷◌, ◌++◌, None, Some, Option, refl, sym, ap, ◌∙◌}
+use Rattle.std.proofs.Common.{◌≡◌, ℕ, List, [], ◌∷◌, ◌++◌, None, Some, Option, Ok, Err, Result, refl, sym, ap, ◌∙◌}
 use Rattle.std.specs.Prelude.{codes, decimal}
 use Rattle.std.specs.List.{AllByRecursion}
 use Rattle.pd_format.specs.Reports as reports
 use Rattle.pd_format.specs.Reports.{Definitely, Refusal, RefusalIsLawful, DefinitelyIsLawful, Fits, IsName, definitely_words, possibly_words, refusal_words, spaced}
 use Rattle.pd_format.proofs.OneReport.{Lacks, Plain, plain_lacks, name_plain, possibly_plain, definitely_plain, refused_line, session_line}
-use Rattle.pd_report.specs.Reading.{first_text, pieces, second_text, FirstIsLawful, IsFoundAs}
+use Rattle.pd_report.specs.Reading.{first_text, pieces, second_text, FirstIsLawful, IsFoundAs, IsReadAs}
 use Rattle.pd_report.proofs.Pieces.{pieces_of_joined, joined_of_pieces}
 
 plain_words : (words : List (List ℕ)) → AllByRecursion Plain words → AllByRecursion (Lacks 32) words
@@ -37,6 +37,21 @@ found_line view words P prefix line rest cut taken following None h =
     λ v l e. h v l (following v (sym cut ∙ taken v l e))
 found_line view words P prefix line rest cut taken following (Some x) h =
     (h.0, joined_of_pieces 32 line (prefix ++ words (view x)) (cut ∙ ap (λ ws. prefix ++ ws) h.1))
+
+-- and what is read of the words of a line is read of the line
+pub read_line : {X V E : Type 0} (view : X → V) (words : V → List (List ℕ)) (P : V → Type 0) (prefix : List (List ℕ))
+    (line : List ℕ) (rest : List (List ℕ)) → pieces 32 line ≡ prefix ++ rest
+    → ((v : V) → P v → line ≡ spaced (prefix ++ words v) → pieces 32 line ≡ prefix ++ words v)
+    → ((v : V) → prefix ++ rest ≡ prefix ++ words v → rest ≡ words v)
+    → (result : Result (Option X) E) → IsReadAs view words P rest result
+    → IsReadAs view (λ v. spaced (prefix ++ words v)) P line result
+read_line view words P prefix line rest cut taken following (Ok found) read =
+    found_line view words P prefix line rest cut taken following found read
+read_line view words P prefix line rest cut taken following (Err e) there = (
+  there.0,
+  there.1,
+  joined_of_pieces 32 line (prefix ++ words there.0) (cut ∙ ap (λ ws. prefix ++ ws) there.2),
+)
 
 pub refused_words : (line : List ℕ) (r : Refusal) → RefusalIsLawful r
     → line ≡ spaced (codes "refused" ∷ refusal_words r) → pieces 32 line ≡ codes "refused" ∷ refusal_words r

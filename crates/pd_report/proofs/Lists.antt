@@ -1,12 +1,12 @@
 -- Lists of texts with a comma between each two.
-use Rattle.std.proofs.Common.{◌≡◌, ℕ, zero, suc, ◌<◌, List, [], ◌∷◌, ◌++◌, map, length, get_or, take, ◌+◌, None, Some, Option, refl, sym, ap, ◌∙◌, arith}
-use Rattle.std.specs.Prelude.{◌==◌}
+use Rattle.std.proofs.Common.{◌≡◌, ℕ, ◌<◌, List, [], ◌∷◌, ◌++◌, map, length, None, Some, Option, Ok, Err, Result, refl, sym, ap, ◌∙◌, append_assoc, arith}
+use Rattle.std.specs.Prelude.{◌==◌, IfOk, IsErr}
 use Rattle.std.specs.List.{AllByRecursion}
-use Rattle.std.proofs.lemmas.List.{get_or-map, length-map, map-append, take_more}
+use Rattle.std.proofs.lemmas.List.{length-map, map-append}
 use Rattle.std.proofs.lemmas.List.Splits.{length-slice_split}
 use Rattle.pd_format.specs.Reports.{with_commas}
 use Rattle.pd_format.proofs.OneReport.{Lacks}
-use Rattle.pd_report.specs.Reading.{pieces, IsFoundAs}
+use Rattle.pd_report.specs.Reading.{pieces, IsFoundAs, IsReadAs, IsTextOf}
 use Rattle.pd_report.proofs.Pieces.{pieces_of_joined, joined_of_pieces}
 
 pub map_same : {A : Type 0} (xs : List A) → map (λ x. x) xs ≡ xs
@@ -19,14 +19,14 @@ all_push P [] v h k = (k, tt)
 all_push P (w ∷ vs) v h k = (h.0, all_push P vs v h.1 k)
 
 -- if one part is no text of a lawful value, the parts are no texts of such values
-pub one_is_none : {V : Type 0} (text : V → List ℕ) (P : V → Type 0) (parts : List (List ℕ)) (i : ℕ) (part : List ℕ)
-    → i < length parts → get_or parts i [] ≡ part → ((v : V) → P v → ¬ (part ≡ text v))
-    → (vs : List V) → AllByRecursion P vs → ¬ (parts ≡ map text vs)
-one_is_none text P [] i part below here none vs h e = omega arith
-one_is_none text P (x ∷ parts) i part below here none [] h e = cc
-one_is_none text P (x ∷ parts) zero part below here none (v ∷ vs) h e = none v h.0 (let first : x ≡ text v = cc in cc)
-one_is_none text P (x ∷ parts) (suc i) part below here none (v ∷ vs) h e =
-    one_is_none text P parts i part (omega arith) here none vs h.1 (cc)
+pub one_is_none : {V : Type 0} (text : V → List ℕ) (P : V → Type 0) (before : List (List ℕ)) (part : List ℕ)
+    (after : List (List ℕ)) → ((v : V) → P v → ¬ (part ≡ text v))
+    → (vs : List V) → AllByRecursion P vs → ¬ (before ++ part ∷ after ≡ map text vs)
+one_is_none text P [] part after none [] h e = cc
+one_is_none text P [] part after none (v ∷ vs) h e = none v h.0 (let first : part ≡ text v = cc in cc)
+one_is_none text P (x ∷ before) part after none [] h e = cc
+one_is_none text P (x ∷ before) part after none (v ∷ vs) h e =
+    one_is_none text P before part after none vs h.1 (cc)
 
 pub listed_some : {V : Type 0} (texts : List V → List (List ℕ)) (P : List V → Type 0) (count : (vs : List V)
     → length (texts vs) ≡ length vs) (bytes : List ℕ) (parts : List (List ℕ)) → parts ≡ pieces 44 bytes
@@ -49,14 +49,18 @@ listed_none texts P count lacks bytes parts cut none vs h e =
     go (w ∷ ws) n l e = pieces_of_joined 44 bytes w ws l e
 
 -- one part more is read
-pub read_more : {A V : Type 0} (now : A → List ℕ) (text : V → List ℕ) (xs : List A) (i : ℕ) (d : A) (vs : List V)
-    (v : V) → i < length xs → map text vs ≡ take i (map now xs) → now (get_or xs i d) ≡ text v
-    → map text (vs ++ v ∷ []) ≡ take (i + 1) (map now xs)
-read_more now text xs i d vs v below so_far e =
-    map-append text vs (v ∷ [])
-    ∙ ap (λ ws. ws ++ text v ∷ []) so_far
-    ∙ ap (λ w. take i (map now xs) ++ w ∷ []) (sym e ∙ sym (get_or-map now xs i d [] below))
-    ∙ sym (take_more (map now xs) i [] (omega (arith, length-map xs now)))
+pub read_more : {V : Type 0} (text : V → List ℕ) (parts left after : List (List ℕ)) (part : List ℕ) (vs : List V)
+    (v : V) → parts ≡ map text vs ++ left → left ≡ part ∷ after → part ≡ text v
+    → parts ≡ map text (vs ++ v ∷ []) ++ after
+read_more text parts left after part vs v so_far next e =
+    so_far
+    ∙ ap (λ ws. map text vs ++ ws) (next ∙ ap (λ w. w ∷ after) e)
+    ∙ sym (append_assoc (map text vs) (text v ∷ []) after)
+    ∙ ap (λ ws. ws ++ after) (sym (map-append text vs (v ∷ [])))
+
+-- some lawful values have the parts before those that are left for their texts
+abbrev pub AreTexts : {V : Type 0} → (V → List ℕ) → (V → Type 0) → (parts left : List (List ℕ)) → Type 0
+AreTexts {V = V} text P parts left = (vs : List V) × AllByRecursion P vs × (parts ≡ map text vs ++ left)
 
 pub found_listed : {X V : Type 0} (view : X → List V) (texts : List V → List (List ℕ)) (P : List V
     → Type 0) (count : (vs : List V) → length (texts vs) ≡ length vs) (lacks : (vs : List V) → P vs
@@ -66,3 +70,25 @@ pub found_listed : {X V : Type 0} (view : X → List V) (texts : List V → List
 found_listed view texts P count lacks bytes parts cut None h = listed_none texts P count lacks bytes parts cut h
 found_listed view texts P count lacks bytes parts cut (Some x) h =
     listed_some texts P count bytes parts cut (view x) h.0 h.1
+
+-- what is found of a value that is there is read
+pub read_there : {X V T E : Type 0} (view : X → V) (text : V → T) (P : V → Type 0) (reported : T)
+    (result : Result (Option X) E) → IfOk result (IsFoundAs view text P reported) → IsTextOf text P reported
+    → IsReadAs view text P reported result
+read_there view text P reported (Ok found) is_found there = is_found
+read_there view text P reported (Err e) is_found there = there
+
+-- an allocation may be refused for a value that is there
+pub refused_there : {X V T E : Type 0} (view : X → V) (text : V → T) (P : V → Type 0) (reported : T)
+    (result : Result (Option X) E) → IsErr result → IsTextOf text P reported → IsReadAs view text P reported result
+refused_there view text P reported (Ok found) refused there = absurd (cc)
+refused_there view text P reported (Err e) refused there = there
+
+-- values, of the words between commas
+pub texts_listed : {V : Type 0} (text : V → List ℕ) (P : V → Type 0) (bytes : List ℕ) (parts : List (List ℕ))
+    → parts ≡ pieces 44 bytes → IsTextOf (map text) (AllByRecursion P) parts
+    → IsTextOf (λ vs. with_commas (map text vs)) (λ vs. (0 < length vs) × AllByRecursion P vs) bytes
+texts_listed text P bytes parts cut there =
+    let listed = listed_some (map text) (AllByRecursion P) (λ vs. length-map vs text) bytes parts cut there.0 there.1
+    there.2 in
+    (there.0, listed.0, listed.1)

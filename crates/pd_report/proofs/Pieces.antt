@@ -22,6 +22,11 @@ word_first c (x ∷ w) rest h =
     slice_split-cons_no (λ b. b == c) x (w ++ c ∷ rest) (not-true (x == c) parts.0)
     ∙ ap (onto_first x) (word_first c w rest parts.1)
 
+-- bytes that are cut have a word before the cut
+pub cut_words : (c : ℕ) (bytes w rest : List ℕ) → Lacks c w → bytes ≡ w ++ c ∷ rest
+    → pieces c bytes ≡ w ∷ pieces c rest
+cut_words c bytes w rest h e = ap (pieces c) e ∙ word_first c w rest h
+
 pub word_last : (c : ℕ) (w : List ℕ) → Lacks c w → pieces c w ≡ w ∷ []
 word_last c [] h = refl
 word_last c (x ∷ w) h =

@@ -28,7 +28,7 @@ following (x ∷ xs) (y ∷ ys) tail h e =
     let next = following xs ys tail h.1 (tail_is _ _ _ _ (tail_is _ _ _ _ e)) in
     record { zs = next.zs; lawful = next.lawful; count = omega (arith, next.count); same = next.same }
 
-two_each : (xs : List Answer) → length (flat_map answer_lines xs) ≡ 2 * length xs
+pub two_each : (xs : List Answer) → length (flat_map answer_lines xs) ≡ 2 * length xs
 two_each [] = refl
 two_each (x ∷ xs) = omega (arith, two_each xs)
 
@@ -107,7 +107,7 @@ with_one counts fit xs x h k few prefix rest e = record {
       ∙ sym (append_assoc (flat_map answer_lines xs) prefix rest));
 }
 
-whole_answers : (counts : ℕ × ℕ × ℕ) → CountsFit counts → (xs : List Answer) → AllByRecursion AnswerIsLawful xs
+pub whole_answers : (counts : ℕ × ℕ × ℕ) → CountsFit counts → (xs : List Answer) → AllByRecursion AnswerIsLawful xs
     → length xs ≤ predicate_limit → Begins (counts_text counts ∷ flat_map answer_lines xs)
 whole_answers counts fit [] h few =
     with_one counts fit [] some_answer tt some_lawful (omega arith) [] (answer_lines some_answer) refl
@@ -268,16 +268,14 @@ line_stops line more counts refused = stops_in [] line more 0 refl no_line (λ b
     go (Judged p e m xs) l rest q = counts (p, e, m) (l.0, l.1, l.2) (sym (head_is _ _ _ _ q))
     go (Refused r) l rest q = refused r l (sym (head_is _ _ _ _ q))
 
+pub refused_begins : (r : Refusal) → RefusalIsLawful r → Begins (refused_text r ∷ [])
+refused_begins r l = record { report = Refused r; lawful = l; rest = []; begins = refl }
+
 pub refused_stops : (line next : List ℕ) (more : Lines) (r : Refusal) → RefusalIsLawful r → line ≡ refused_text r
     → StopsAfter (line ∷ next ∷ more) 1
 refused_stops line next more r l e =
-    stops_in (line ∷ []) next more 1 refl (record {
-      report = Refused r;
-      lawful = l;
-      rest = [];
-      begins =
-          ap (λ z. z ∷ []) (sym e);
-    }) (λ b. go b.report b.lawful b.rest b.begins)
+    stops_in (line ∷ []) next more 1 refl (subst (λ z. Begins (z ∷ [])) (sym e) (refused_begins r l))
+    (λ b. go b.report b.lawful b.rest b.begins)
   where
     go : (s : Report) → IsLawful s → (rest : Lines) → ¬ (report_lines s ≡ line ∷ next ∷ rest)
     go (Judged p n m xs) k rest q = no_refusal (p, n, m) r (head_is _ _ _ _ q ∙ e)

@@ -1,3 +1,5 @@
 pub mod Views
 pub mod Reading
 pub mod Pairs
+pub mod Cuts
+pub mod Remaining

@@ -1,5 +1,5 @@
 -- What reading gives.
-use Rattle.std.specs.Prelude.{◌≡◌, ◌==◌, ℕ, ◌+◌, ◌<◌, ◌≤◌, List, [], ◌∷◌, ◌++◌, codes, decimal, length, map, take, string_bytes, IsTrue, Option}
+use Rattle.std.specs.Prelude.{◌≡◌, ◌==◌, ℕ, ◌+◌, ◌<◌, ◌≤◌, List, [], ◌∷◌, ◌++◌, codes, decimal, length, map, take, string_bytes, IsTrue, Option, None, Some, Result, MatchResult}
 use Rattle.std.specs.List.{slice_split}
 use Rattle.std.specs.Option.{MatchOption}
 use Rattle.std.specs.declared.alloc.Global.{Global}
@@ -20,10 +20,24 @@ pieces at bytes = slice_split (λ b. b == at) bytes
 abbrev pub slices_view : List (Bor (List ℕ)) → List (List ℕ)
 slices_view slices = map (λ slice. slice.now) slices
 
+-- the words of what remains of bytes, if something does
+abbrev pub pieces_if : ℕ → Option (Bor (List ℕ)) → List (List ℕ)
+pieces_if at None = []
+pieces_if at (Some rest) = pieces at rest.now
+
 -- The value is found that is lawful and has this text. If none has, nothing is found.
 abbrev pub IsFoundAs : {X V T : Type 0} → (X → V) → (V → T) → (V → Type 0) → T → Option X → Type 0
 IsFoundAs {V = V} view text Lawful reported found =
     MatchOption found ((v : V) → Lawful v → ¬ (reported ≡ text v)) (λ x. Lawful (view x) × (reported ≡ text (view x)))
+
+-- some lawful value has this text
+abbrev pub IsTextOf : {V T : Type 0} → (V → T) → (V → Type 0) → T → Type 0
+IsTextOf {V = V} text Lawful reported = (v : V) × Lawful v × (reported ≡ text v)
+
+-- What is read is what is found. An allocation is refused only for a value that is there.
+abbrev pub IsReadAs : {X V T E : Type 0} → (X → V) → (V → T) → (V → Type 0) → T → Result (Option X) E → Type 0
+IsReadAs view text Lawful reported result =
+    MatchResult result (IsFoundAs view text Lawful reported) (λ _. IsTextOf text Lawful reported)
 
 -- an answer's first line: the name, and whether the predicate possibly holds
 abbrev pub first_part_view : String Global × Possibly → List ℕ × reports.Possibly

@@ -14,6 +14,7 @@ use Rattle.pd_report.specs.declared.report.Report.{Report}
 use Rattle.pd_report.specs.declared.report.Report.TheVariants.{Judged, Refused}
 use Rattle.std.specs.declared.alloc.Global.{Global}
 use Rattle.std.specs.declared.string.String.{String}
+use denote.Ref.{Bor}
 
 abbrev pub names_view : List (String Global) → List (List ℕ)
 names_view names = map string_bytes names
@@ -38,6 +39,10 @@ answer_view answer = record {
 
 abbrev pub named_place_view : String Global × ℕ → NamedPlace
 named_place_view place = record { name = string_bytes place.0; number = place.1 }
+
+-- an event where it stands in bytes
+abbrev pub place_view : Bor (List ℕ) × ℕ → NamedPlace
+place_view place = record { name = place.0.now; number = place.1 }
 
 abbrev pub named_places_view : List (String Global × ℕ) → List NamedPlace
 named_places_view places = map named_place_view places

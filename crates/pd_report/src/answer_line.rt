@@ -1,6 +1,7 @@
 //! Reads the lines of an answer.
 ghost use Rattle.pd_format.specs.Reports.{definitely_words, path_text, possibly_words, with_commas, DefinitelyIsLawful, Fits, IsName, PossiblyIsLawful};
-ghost use Rattle.pd_report.specs.Reading.{first_part_view, first_text, second_text, slices_view, FirstIsLawful, IsFoundAs};
+ghost use Rattle.pd_report.specs.Reading.{first_part_view, first_text, second_text, FirstIsLawful, IsFoundAs};
+ghost use Rattle.pd_report.specs.Remaining.{words_left};
 ghost use Rattle.pd_report.specs.Views.{definitely_view, names_view, possibly_view};
 ghost use Rattle.std.specs.List.{AllByRecursion};
 ghost use Rattle.std.specs.Prelude.{◌≡◌, ◌<◌, ◌∷◌, [], decimal, length, map, IfOk};
@@ -8,58 +9,59 @@ ghost use Rattle.std.specs.Prelude.{◌≡◌, ◌<◌, ◌∷◌, [], decimal, 
 use super::definitely::Definitely;
 use super::listed::{numbers, path};
 use super::possibly::Possibly;
-use super::words::{after, is, name, number, pieces, single};
+use super::remaining::Words;
+use super::words::{is, name, number};
 use std::alloc::{AllocError, Global};
 
 /// A level, in the only word.
-fn level(words: &[&[u8]]) -> Option<u64>
-    ensures { IsFoundAs (λ level. level) (λ level. decimal level ∷ []) Fits (slices_view words.now) result }
+fn level(words: Words<'_>) -> Option<u64>
+    ensures { IsFoundAs (λ level. level) (λ level. decimal level ∷ []) Fits (words_left words.entry) result }
 {
-    let Some(word) = single(words) else {
+    let Some(word) = words.single() else {
         return None;
     };
     number(word)
 }
 
 /// The counts of a cut, in the only word.
-fn counts(alloc: Global, words: &[&[u8]]) -> Result<Option<Vec<u64>>, AllocError>
+fn counts(alloc: Global, words: Words<'_>) -> Result<Option<Vec<u64>>, AllocError>
     ensures { IfOk result (IsFoundAs (λ found. found.items) (λ ns. with_commas (map decimal ns) ∷ [])
-        (λ ns. (0 < length ns) × AllByRecursion Fits ns) (slices_view words.now)) }
+        (λ ns. (0 < length ns) × AllByRecursion Fits ns) (words_left words.entry)) }
 {
-    let Some(word) = single(words) else {
+    let Some(word) = words.single() else {
         return Ok(None);
     };
     numbers(alloc, word)
 }
 
 /// A path, in the only word.
-fn only_path(alloc: Global, words: &[&[u8]]) -> Result<Option<Vec<String>>, AllocError>
+fn only_path(alloc: Global, words: Words<'_>) -> Result<Option<Vec<String>>, AllocError>
     ensures { IfOk result (IsFoundAs (λ found. names_view found.items) (λ ns. path_text ns ∷ [])
-        (λ ns. AllByRecursion IsName ns) (slices_view words.now)) }
+        (λ ns. AllByRecursion IsName ns) (words_left words.entry)) }
 {
-    let Some(word) = single(words) else {
+    let Some(word) = words.single() else {
         return Ok(None);
     };
     path(alloc, word)
 }
 
 /// Whether a predicate possibly holds.
-fn possibly(alloc: Global, words: &[&[u8]]) -> Result<Option<Possibly>, AllocError>
-    ensures { IfOk result (IsFoundAs possibly_view possibly_words PossiblyIsLawful (slices_view words.now)) }
+fn possibly(alloc: Global, words: Words<'_>) -> Result<Option<Possibly>, AllocError>
+    ensures { IfOk result (IsFoundAs possibly_view possibly_words PossiblyIsLawful (words_left words.entry)) }
 {
-    if let Some(rest) = after(words, "yes") {
+    if let Some(rest) = words.after("yes") {
         let Some(counts) = counts(alloc, rest)? else {
             return Ok(None);
         };
         return Ok(Some(Possibly::Yes(counts)));
     }
-    if let Some(rest) = after(words, "unknown") {
+    if let Some(rest) = words.after("unknown") {
         let Some(level) = level(rest) else {
             return Ok(None);
         };
         return Ok(Some(Possibly::Unknown(level)));
     }
-    let Some(word) = single(words) else {
+    let Some(word) = words.single() else {
         return Ok(None);
     };
     if is(word, "no") {
@@ -70,22 +72,22 @@ fn possibly(alloc: Global, words: &[&[u8]]) -> Result<Option<Possibly>, AllocErr
 }
 
 /// Whether a predicate definitely holds.
-fn definitely(alloc: Global, words: &[&[u8]]) -> Result<Option<Definitely>, AllocError>
-    ensures { IfOk result (IsFoundAs definitely_view definitely_words DefinitelyIsLawful (slices_view words.now)) }
+fn definitely(alloc: Global, words: Words<'_>) -> Result<Option<Definitely>, AllocError>
+    ensures { IfOk result (IsFoundAs definitely_view definitely_words DefinitelyIsLawful (words_left words.entry)) }
 {
-    if let Some(rest) = after(words, "yes") {
+    if let Some(rest) = words.after("yes") {
         let Some(level) = level(rest) else {
             return Ok(None);
         };
         return Ok(Some(Definitely::Yes(level)));
     }
-    if let Some(rest) = after(words, "unknown") {
+    if let Some(rest) = words.after("unknown") {
         let Some(level) = level(rest) else {
             return Ok(None);
         };
         return Ok(Some(Definitely::Unknown(level)));
     }
-    let Some(rest) = after(words, "no") else {
+    let Some(rest) = words.after("no") else {
         return Ok(None);
     };
     let Some(path) = only_path(alloc, rest)? else {
@@ -101,11 +103,11 @@ pub(crate) fn first_line(
 ) -> Result<Option<(String, Possibly)>, AllocError>
     ensures { IfOk result (IsFoundAs first_part_view first_text FirstIsLawful line.now) }
 {
-    let words = pieces(alloc, line, b' ')?;
+    let words = Words::new(line, b' ');
     let Some((first, rest)) = words.split_first() else {
         return Ok(None);
     };
-    let Some(rest) = after(rest, "possibly") else {
+    let Some(rest) = rest.after("possibly") else {
         return Ok(None);
     };
     let Some(possibly) = possibly(alloc, rest)? else {
@@ -126,11 +128,11 @@ pub(crate) fn second_line(
     requires { IsName name.now }
     ensures { IfOk result (IsFoundAs definitely_view (second_text name.now) DefinitelyIsLawful line.now) }
 {
-    let words = pieces(alloc, line, b' ')?;
-    let Some(rest) = after(&words, name) else {
+    let words = Words::new(line, b' ');
+    let Some(rest) = words.after(name) else {
         return Ok(None);
     };
-    let Some(rest) = after(rest, "definitely") else {
+    let Some(rest) = rest.after("definitely") else {
         return Ok(None);
     };
     definitely(alloc, rest)

@@ -18,6 +18,7 @@
 //! - `fault`: why a report is not written
 //! - `fault_words`: the words for faults that the reader accepts
 //! - `words`: words, and what stands between others
+//! - `remaining`: the words that remain of bytes, taken one after another
 //! - `listed`: words with a comma between each two
 //! - `session_line`: reads the line that counts what a session has
 //! - `answer_line`: reads the lines of an answer
@@ -41,6 +42,7 @@ mod reader;
 mod refusal;
 mod refusal_line;
 mod refusal_text;
+mod remaining;
 mod report;
 mod report_text;
 mod same;
@@ -53,7 +55,7 @@ pub use answer::Answer;
 pub use definitely::Definitely;
 pub use fault::WriteFault;
 pub use fields::{push_bytes, push_number};
-pub use output::{write, write_all};
+pub use output::{write, write_all, write_all_counted};
 pub use possibly::Possibly;
 pub use read_fault::ReportFault;
 pub use reader::read;

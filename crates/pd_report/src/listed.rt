@@ -1,24 +1,29 @@
 //! Words with a comma between each two.
 ghost use Rattle.pd_format.specs.Reports.{path_text, place_text, with_commas, Fits, IsName, PlaceIsLawful};
-ghost use Rattle.pd_report.specs.Reading.{slices_view, IsFoundAs};
-ghost use Rattle.pd_report.specs.Views.{names_view, named_place_view, named_places_view};
+ghost use Rattle.pd_report.specs.Reading.{IsFoundAs, IsReadAs, IsTextOf};
+ghost use Rattle.pd_report.specs.Remaining.{words_left};
+ghost use Rattle.pd_report.specs.Views.{names_view, named_place_view, named_places_view, place_view};
 ghost use Rattle.std.specs.List.{AllByRecursion};
-ghost use Rattle.std.specs.Prelude.{◌≡◌, ◌<◌, decimal, length, map, IfOk};
+ghost use Rattle.std.specs.Prelude.{◌≡◌, ◌<◌, decimal, length, map, IfOk, MatchBool};
 
-use super::words::{is, name, number, pieces, single};
+use super::remaining::Words;
+use super::words::{is, name, number, word_text};
+use pd_pred::is_name;
 use std::alloc::{AllocError, Global};
 
-/// Numbers, one in each piece.
-fn all_numbers(alloc: Global, pieces: &[&[u8]]) -> Result<Option<Vec<u64>>, AllocError>
+/// Numbers, as the words.
+fn all_numbers(alloc: Global, words: Words<'_>) -> Result<Option<Vec<u64>>, AllocError>
     ensures { IfOk result (IsFoundAs (λ found. found.items) (map decimal) (AllByRecursion Fits)
-        (slices_view pieces.now)) }
+        (words_left words.entry)) }
 {
     let mut numbers = Vec::new(alloc);
-    for piece in pieces {
-        let Some(number) = number(piece) else {
+    let mut left = words;
+    while let Some((word, rest)) = left.split_first() {
+        let Some(number) = number(word) else {
             return Ok(None);
         };
         numbers.push(number)?;
+        left = rest;
     }
     Ok(Some(numbers))
 }
@@ -28,21 +33,22 @@ pub(crate) fn numbers(alloc: Global, word: &[u8]) -> Result<Option<Vec<u64>>, Al
     ensures { IfOk result (IsFoundAs (λ found. found.items) (λ ns. with_commas (map decimal ns)) (λ ns. (0 < length ns)
         × AllByRecursion Fits ns) word.now) }
 {
-    let pieces = pieces(alloc, word, b',')?;
-    all_numbers(alloc, &pieces)
+    all_numbers(alloc, Words::new(word, b','))
 }
 
-/// Names, one in each piece.
-fn all_names(alloc: Global, pieces: &[&[u8]]) -> Result<Option<Vec<String>>, AllocError>
+/// Names, as the words.
+fn all_names(alloc: Global, words: Words<'_>) -> Result<Option<Vec<String>>, AllocError>
     ensures { IfOk result (IsFoundAs (λ found. names_view found.items) (map (λ name. name)) (AllByRecursion IsName)
-        (slices_view pieces.now)) }
+        (words_left words.entry)) }
 {
     let mut names = Vec::new(alloc);
-    for piece in pieces {
-        let Some(name) = name(alloc, piece)? else {
+    let mut left = words;
+    while let Some((word, rest)) = left.split_first() {
+        let Some(name) = name(alloc, word)? else {
             return Ok(None);
         };
         names.push(name)?;
+        left = rest;
     }
     Ok(Some(names))
 }
@@ -52,8 +58,7 @@ pub(crate) fn names(alloc: Global, word: &[u8]) -> Result<Option<Vec<String>>, A
     ensures { IfOk result (IsFoundAs (λ found. names_view found.items) (λ ns. with_commas (map (λ name. name) ns))
         (λ ns. (0 < length ns) × AllByRecursion IsName ns) word.now) }
 {
-    let pieces = pieces(alloc, word, b',')?;
-    all_names(alloc, &pieces)
+    all_names(alloc, Words::new(word, b','))
 }
 
 /// A path: names, or `-` if there is none.
@@ -67,46 +72,76 @@ pub(crate) fn path(alloc: Global, word: &[u8]) -> Result<Option<Vec<String>>, Al
     names(alloc, word)
 }
 
-/// An event: the name of its process, and its number.
-pub(crate) fn place(alloc: Global, word: &[u8]) -> Result<Option<(String, u64)>, AllocError>
-    ensures { IfOk result (IsFoundAs named_place_view place_text PlaceIsLawful word.now) }
+/// An event, where it stands in the word: the name of its process, and its number.
+pub(crate) fn place_words(word: &[u8]) -> Option<(&[u8], u64)>
+    ensures { IsFoundAs place_view place_text PlaceIsLawful word.now result }
 {
-    let pieces = pieces(alloc, word, b'#')?;
-    let Some((first, rest)) = pieces.split_first() else {
-        return Ok(None);
+    let Some((name, rest)) = Words::new(word, b'#').split_first() else {
+        return None;
     };
-    let Some(last) = single(rest) else {
-        return Ok(None);
+    let Some(last) = rest.single() else {
+        return None;
     };
     let Some(number) = number(last) else {
-        return Ok(None);
+        return None;
     };
-    let Some(name) = name(alloc, first)? else {
-        return Ok(None);
-    };
-    Ok(Some((name, number)))
+    if is_name(name) {
+        Some((name, number))
+    } else {
+        None
+    }
 }
 
-/// Events, one in each piece.
-fn all_places(alloc: Global, pieces: &[&[u8]]) -> Result<Option<Vec<(String, u64)>>, AllocError>
+/// An event: the name of its process, and its number.
+fn place(alloc: Global, word: &[u8]) -> Result<Option<(String, u64)>, AllocError>
+    ensures { IsReadAs named_place_view place_text PlaceIsLawful word.now result }
+{
+    let Some((name, number)) = place_words(word) else {
+        return Ok(None);
+    };
+    Ok(Some((word_text(alloc, name)?, number)))
+}
+
+/// Whether the words are events.
+fn are_places(words: Words<'_>) -> bool
+    ensures { MatchBool result (IsTextOf (map place_text) (AllByRecursion PlaceIsLawful) (words_left words.entry))
+        (¬ (IsTextOf (map place_text) (AllByRecursion PlaceIsLawful) (words_left words.entry))) }
+{
+    let mut left = words;
+    while let Some((word, rest)) = left.split_first() {
+        let Some(_place) = place_words(word) else {
+            return false;
+        };
+        left = rest;
+    }
+    true
+}
+
+/// Events, as the words.
+fn all_places(alloc: Global, words: Words<'_>) -> Result<Option<Vec<(String, u64)>>, AllocError>
     ensures { IfOk result (IsFoundAs (λ found. named_places_view found.items) (map place_text)
-        (AllByRecursion PlaceIsLawful) (slices_view pieces.now)) }
+        (AllByRecursion PlaceIsLawful) (words_left words.entry)) }
 {
     let mut places = Vec::new(alloc);
-    for piece in pieces {
-        let Some(place) = place(alloc, piece)? else {
+    let mut left = words;
+    while let Some((word, rest)) = left.split_first() {
+        let Some(place) = place(alloc, word)? else {
             return Ok(None);
         };
         places.push(place)?;
+        left = rest;
     }
     Ok(Some(places))
 }
 
-/// Events, at least one.
+/// Events, at least one. They are looked through before memory is taken for them.
 pub(crate) fn places(alloc: Global, word: &[u8]) -> Result<Option<Vec<(String, u64)>>, AllocError>
-    ensures { IfOk result (IsFoundAs (λ found. named_places_view found.items) (λ ps. with_commas (map place_text ps))
-        (λ ps. (0 < length ps) × AllByRecursion PlaceIsLawful ps) word.now) }
+    ensures { IsReadAs (λ found. named_places_view found.items) (λ ps. with_commas (map place_text ps))
+        (λ ps. (0 < length ps) × AllByRecursion PlaceIsLawful ps) word.now result }
 {
-    let pieces = pieces(alloc, word, b',')?;
-    all_places(alloc, &pieces)
+    let words = Words::new(word, b',');
+    if !are_places(words) {
+        return Ok(None);
+    }
+    all_places(alloc, words)
 }

@@ -2,7 +2,7 @@
 ghost use Rattle.pd_format.specs.Reports.{report_text};
 ghost use Rattle.pd_report.specs.Views.{report_view};
 ghost use Rattle.std.specs.Io.KnownBytes.{Appends, Keeps};
-ghost use Rattle.std.specs.Prelude.{◌≡◌, ◌<◌, ℕ, length, take, Err, OnErr, OnOk, IsOkUnless};
+ghost use Rattle.std.specs.Prelude.{◌≡◌, ◌<◌, ℕ, length, take, Err, IfErr, OnErr, OnOk, IsOkUnless};
 
 use super::fault::WriteFault;
 use super::report::Report;
@@ -10,7 +10,28 @@ use super::report_text::text;
 use std::alloc::Global;
 use std::io::Write;
 
-/// Writes the whole text. It doesn't flush the writer.
+/// Writes the whole text, in as many calls of the writer as it asks for, and takes no memory. It doesn't flush the
+/// writer.
+///
+/// # Errors
+/// The number of bytes that the writer had taken when it failed, in whatever way, or took nothing. They are a prefix
+/// of the text, and not all of it.
+pub fn write_all_counted<W: Write>(text: &[u8], writer: &mut W) -> Result<(), u64>
+    ensures written { OnOk result (Appends (W.contents writer.old) (W.contents writer.new) text.now) }
+    ensures part { IfErr result (λ taken. (taken < length text.now)
+        × Appends (W.contents writer.old) (W.contents writer.new) (take taken text.now)) }
+{
+    let mut taken = 0;
+    while taken < text.len() {
+        match writer.write(&text[taken..]) {
+            Ok(0) | Err(_) => return Err(taken as u64),
+            Ok(count) => taken += count,
+        }
+    }
+    Ok(())
+}
+
+/// Writes the whole text, as [`write_all_counted`] does. It doesn't flush the writer.
 ///
 /// # Errors
 /// `Write`, if the writer fails, in whatever way, or takes nothing. A prefix of the text was written then, and not
@@ -21,14 +42,10 @@ pub fn write_all<W: Write>(text: &[u8], writer: &mut W) -> Result<(), WriteFault
         × Appends (W.contents writer.old) (W.contents writer.new) (take taken text.now)) }
     ensures err { IsOkUnless result WriteFault.Write }
 {
-    let mut taken = 0;
-    while taken < text.len() {
-        match writer.write(&text[taken..]) {
-            Ok(0) | Err(_) => return Err(WriteFault::Write),
-            Ok(count) => taken += count,
-        }
+    match write_all_counted(text, writer) {
+        Ok(()) => Ok(()),
+        Err(_) => Err(WriteFault::Write),
     }
-    Ok(())
 }
 
 /// Writes a report's text. It doesn't flush the writer.

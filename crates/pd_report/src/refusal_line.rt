@@ -2,23 +2,25 @@
 ghost use Rattle.pd_format.specs.Lists.{is_one_of};
 ghost use Rattle.pd_format.specs.RefusalKinds.{AbsentKind, CycleKind, MatchKind, PredicateKind, SpecKind, StreamKind, StreamsKind};
 ghost use Rattle.pd_format.specs.Reports.{match_words, place_text, predicate_words, refusal_words, spec_words, stream_words, with_commas, Fits, IsName, PlaceIsLawful, RefusalIsLawful};
-ghost use Rattle.pd_report.specs.Reading.{at_fault_view, at_fault_words, refused_text, slices_view, stream_fault_view, stream_fault_words, AtFaultIsLawful, IsOfKind, StreamFaultIsLawful, IsFoundAs};
+ghost use Rattle.pd_report.specs.Reading.{at_fault_view, at_fault_words, refused_text, stream_fault_view, stream_fault_words, AtFaultIsLawful, IsOfKind, StreamFaultIsLawful, IsFoundAs, IsReadAs};
+ghost use Rattle.pd_report.specs.Remaining.{words_left};
 ghost use Rattle.pd_report.specs.Views.{named_places_view, refusal_view};
 ghost use Rattle.std.specs.List.{AllByRecursion};
-ghost use Rattle.std.specs.Prelude.{◌≡◌, ◌<◌, ◌∷◌, [], codes, length, map, string_bytes, IfOk, IsTrue};
+ghost use Rattle.std.specs.Prelude.{◌≡◌, ◌<◌, ◌∷◌, [], codes, length, map, string_bytes, IsTrue};
 
 use super::fault_words::{is_match_word, is_predicate_word, is_spec_word, is_stream_word};
-use super::listed::{place, places};
+use super::listed::{place_words, places};
 use super::refusal::Refusal;
-use super::words::{after, leading_number, name, number, pieces, single, word_text};
+use super::remaining::Words;
+use super::words::{name, number, word_text};
 use std::alloc::{AllocError, Global};
 
 /// The word of a document's fault, as the only word.
-fn spec_fault(alloc: Global, words: &[&[u8]]) -> Result<Option<String>, AllocError>
-    ensures { IfOk result (IsFoundAs string_bytes (λ word. word ∷ []) (λ word. IsTrue (is_one_of spec_words word))
-        (slices_view words.now)) }
+fn spec_fault(alloc: Global, words: Words<'_>) -> Result<Option<String>, AllocError>
+    ensures { IsReadAs string_bytes (λ word. word ∷ []) (λ word. IsTrue (is_one_of spec_words word))
+        (words_left words.entry) result }
 {
-    let Some(word) = single(words) else {
+    let Some(word) = words.single() else {
         return Ok(None);
     };
     if !is_spec_word(word) {
@@ -28,10 +30,13 @@ fn spec_fault(alloc: Global, words: &[&[u8]]) -> Result<Option<String>, AllocErr
 }
 
 /// A predicate's number, counted from 1, the word of its fault, and the byte at fault.
-fn predicate_fault(alloc: Global, words: &[&[u8]]) -> Result<Option<(u64, String, u64)>, AllocError>
-    ensures { IfOk result (IsFoundAs at_fault_view at_fault_words AtFaultIsLawful (slices_view words.now)) }
+fn predicate_fault(
+    alloc: Global,
+    words: Words<'_>,
+) -> Result<Option<(u64, String, u64)>, AllocError>
+    ensures { IsReadAs at_fault_view at_fault_words AtFaultIsLawful (words_left words.entry) result }
 {
-    let Some((k, rest)) = leading_number(words) else {
+    let Some((k, rest)) = words.leading_number() else {
         return Ok(None);
     };
     if k == 0 {
@@ -43,10 +48,10 @@ fn predicate_fault(alloc: Global, words: &[&[u8]]) -> Result<Option<(u64, String
     if !is_predicate_word(word) {
         return Ok(None);
     }
-    let Some(rest) = after(rest, "at") else {
+    let Some(rest) = rest.after("at") else {
         return Ok(None);
     };
-    let Some(last) = single(rest) else {
+    let Some(last) = rest.single() else {
         return Ok(None);
     };
     let Some(at) = number(last) else {
@@ -56,19 +61,19 @@ fn predicate_fault(alloc: Global, words: &[&[u8]]) -> Result<Option<(u64, String
 }
 
 /// A stream's number, the number of its line at fault, and the word of its fault.
-fn stream_fault(alloc: Global, words: &[&[u8]]) -> Result<Option<(u64, u64, String)>, AllocError>
-    ensures { IfOk result (IsFoundAs stream_fault_view stream_fault_words StreamFaultIsLawful (slices_view words.now)) }
+fn stream_fault(alloc: Global, words: Words<'_>) -> Result<Option<(u64, u64, String)>, AllocError>
+    ensures { IsReadAs stream_fault_view stream_fault_words StreamFaultIsLawful (words_left words.entry) result }
 {
-    let Some((stream, rest)) = leading_number(words) else {
+    let Some((stream, rest)) = words.leading_number() else {
         return Ok(None);
     };
-    let Some(rest) = after(rest, "line") else {
+    let Some(rest) = rest.after("line") else {
         return Ok(None);
     };
-    let Some((line, rest)) = leading_number(rest) else {
+    let Some((line, rest)) = rest.leading_number() else {
         return Ok(None);
     };
-    let Some(word) = single(rest) else {
+    let Some(word) = rest.single() else {
         return Ok(None);
     };
     if !is_stream_word(word) {
@@ -78,31 +83,31 @@ fn stream_fault(alloc: Global, words: &[&[u8]]) -> Result<Option<(u64, u64, Stri
 }
 
 /// A name, as the only word.
-fn only_name(alloc: Global, words: &[&[u8]]) -> Result<Option<String>, AllocError>
-    ensures { IfOk result (IsFoundAs string_bytes (λ name. name ∷ []) IsName (slices_view words.now)) }
+fn only_name(alloc: Global, words: Words<'_>) -> Result<Option<String>, AllocError>
+    ensures { IsReadAs string_bytes (λ name. name ∷ []) IsName (words_left words.entry) result }
 {
-    let Some(word) = single(words) else {
+    let Some(word) = words.single() else {
         return Ok(None);
     };
     name(alloc, word)
 }
 
 /// Events, at least one, as the only word.
-fn only_places(alloc: Global, words: &[&[u8]]) -> Result<Option<Vec<(String, u64)>>, AllocError>
-    ensures { IfOk result (IsFoundAs (λ found. named_places_view found.items)
+fn only_places(alloc: Global, words: Words<'_>) -> Result<Option<Vec<(String, u64)>>, AllocError>
+    ensures { IsReadAs (λ found. named_places_view found.items)
         (λ ps. with_commas (map place_text ps) ∷ []) (λ ps. (0 < length ps) × AllByRecursion PlaceIsLawful ps)
-        (slices_view words.now)) }
+        (words_left words.entry) result }
 {
-    let Some(word) = single(words) else {
+    let Some(word) = words.single() else {
         return Ok(None);
     };
     places(alloc, word)
 }
 
 /// A refused document, of the words after `spec`.
-fn spec_refusal(alloc: Global, rest: &[&[u8]]) -> Result<Option<Refusal>, AllocError>
-    ensures { IfOk result (IsFoundAs refusal_view refusal_words (IsOfKind SpecKind)
-        (codes "spec" ∷ slices_view rest.now)) }
+fn spec_refusal(alloc: Global, rest: Words<'_>) -> Result<Option<Refusal>, AllocError>
+    ensures { IsReadAs refusal_view refusal_words (IsOfKind SpecKind)
+        (codes "spec" ∷ words_left rest.entry) result }
 {
     let Some(word) = spec_fault(alloc, rest)? else {
         return Ok(None);
@@ -111,9 +116,9 @@ fn spec_refusal(alloc: Global, rest: &[&[u8]]) -> Result<Option<Refusal>, AllocE
 }
 
 /// A refused predicate, of the words after `predicate`.
-fn predicate_refusal(alloc: Global, rest: &[&[u8]]) -> Result<Option<Refusal>, AllocError>
-    ensures { IfOk result (IsFoundAs refusal_view refusal_words (IsOfKind PredicateKind)
-        (codes "predicate" ∷ slices_view rest.now)) }
+fn predicate_refusal(alloc: Global, rest: Words<'_>) -> Result<Option<Refusal>, AllocError>
+    ensures { IsReadAs refusal_view refusal_words (IsOfKind PredicateKind)
+        (codes "predicate" ∷ words_left rest.entry) result }
 {
     let Some((k, word, at)) = predicate_fault(alloc, rest)? else {
         return Ok(None);
@@ -122,9 +127,9 @@ fn predicate_refusal(alloc: Global, rest: &[&[u8]]) -> Result<Option<Refusal>, A
 }
 
 /// Too many streams, of the words after `streams`.
-fn streams_refusal(rest: &[&[u8]]) -> Option<Refusal>
+fn streams_refusal(rest: Words<'_>) -> Option<Refusal>
     ensures { IsFoundAs refusal_view refusal_words (IsOfKind StreamsKind)
-        (codes "streams" ∷ slices_view rest.now) result }
+        (codes "streams" ∷ words_left rest.entry) result }
 {
     if rest.is_empty() {
         Some(Refusal::Streams)
@@ -134,9 +139,9 @@ fn streams_refusal(rest: &[&[u8]]) -> Option<Refusal>
 }
 
 /// A refused stream, of the words after `stream`.
-fn stream_refusal(alloc: Global, rest: &[&[u8]]) -> Result<Option<Refusal>, AllocError>
-    ensures { IfOk result (IsFoundAs refusal_view refusal_words (IsOfKind StreamKind)
-        (codes "stream" ∷ slices_view rest.now)) }
+fn stream_refusal(alloc: Global, rest: Words<'_>) -> Result<Option<Refusal>, AllocError>
+    ensures { IsReadAs refusal_view refusal_words (IsOfKind StreamKind)
+        (codes "stream" ∷ words_left rest.entry) result }
 {
     let Some((stream, line, word)) = stream_fault(alloc, rest)? else {
         return Ok(None);
@@ -145,9 +150,9 @@ fn stream_refusal(alloc: Global, rest: &[&[u8]]) -> Result<Option<Refusal>, Allo
 }
 
 /// A process without a stream, of the words after `absent`.
-fn absent_refusal(alloc: Global, rest: &[&[u8]]) -> Result<Option<Refusal>, AllocError>
-    ensures { IfOk result (IsFoundAs refusal_view refusal_words (IsOfKind AbsentKind)
-        (codes "absent" ∷ slices_view rest.now)) }
+fn absent_refusal(alloc: Global, rest: Words<'_>) -> Result<Option<Refusal>, AllocError>
+    ensures { IsReadAs refusal_view refusal_words (IsOfKind AbsentKind)
+        (codes "absent" ∷ words_left rest.entry) result }
 {
     let Some(name) = only_name(alloc, rest)? else {
         return Ok(None);
@@ -156,9 +161,9 @@ fn absent_refusal(alloc: Global, rest: &[&[u8]]) -> Result<Option<Refusal>, Allo
 }
 
 /// A causal cycle, of the words after `cycle`.
-fn cycle_refusal(alloc: Global, rest: &[&[u8]]) -> Result<Option<Refusal>, AllocError>
-    ensures { IfOk result (IsFoundAs refusal_view refusal_words (IsOfKind CycleKind)
-        (codes "cycle" ∷ slices_view rest.now)) }
+fn cycle_refusal(alloc: Global, rest: Words<'_>) -> Result<Option<Refusal>, AllocError>
+    ensures { IsReadAs refusal_view refusal_words (IsOfKind CycleKind)
+        (codes "cycle" ∷ words_left rest.entry) result }
 {
     let Some(places) = only_places(alloc, rest)? else {
         return Ok(None);
@@ -167,8 +172,8 @@ fn cycle_refusal(alloc: Global, rest: &[&[u8]]) -> Result<Option<Refusal>, Alloc
 }
 
 /// A send or a receive that matches none.
-fn match_refusal(alloc: Global, words: &[&[u8]]) -> Result<Option<Refusal>, AllocError>
-    ensures { IfOk result (IsFoundAs refusal_view refusal_words (IsOfKind MatchKind) (slices_view words.now)) }
+fn match_refusal(alloc: Global, words: Words<'_>) -> Result<Option<Refusal>, AllocError>
+    ensures { IsReadAs refusal_view refusal_words (IsOfKind MatchKind) (words_left words.entry) result }
 {
     let Some((word, rest)) = words.split_first() else {
         return Ok(None);
@@ -176,36 +181,37 @@ fn match_refusal(alloc: Global, words: &[&[u8]]) -> Result<Option<Refusal>, Allo
     if !is_match_word(word) {
         return Ok(None);
     }
-    let Some(last) = single(rest) else {
+    let Some(last) = rest.single() else {
         return Ok(None);
     };
-    let Some((name, number)) = place(alloc, last)? else {
+    let Some((name, number)) = place_words(last) else {
         return Ok(None);
     };
     let word = word_text(alloc, word)?;
+    let name = word_text(alloc, name)?;
     Ok(Some(Refusal::Match { word, name, number }))
 }
 
 /// A refusal's words.
-fn refusal(alloc: Global, words: &[&[u8]]) -> Result<Option<Refusal>, AllocError>
-    ensures { IfOk result (IsFoundAs refusal_view refusal_words RefusalIsLawful (slices_view words.now)) }
+fn refusal(alloc: Global, words: Words<'_>) -> Result<Option<Refusal>, AllocError>
+    ensures { IsReadAs refusal_view refusal_words RefusalIsLawful (words_left words.entry) result }
 {
-    if let Some(rest) = after(words, "spec") {
+    if let Some(rest) = words.after("spec") {
         return spec_refusal(alloc, rest);
     }
-    if let Some(rest) = after(words, "predicate") {
+    if let Some(rest) = words.after("predicate") {
         return predicate_refusal(alloc, rest);
     }
-    if let Some(rest) = after(words, "streams") {
+    if let Some(rest) = words.after("streams") {
         return Ok(streams_refusal(rest));
     }
-    if let Some(rest) = after(words, "stream") {
+    if let Some(rest) = words.after("stream") {
         return stream_refusal(alloc, rest);
     }
-    if let Some(rest) = after(words, "absent") {
+    if let Some(rest) = words.after("absent") {
         return absent_refusal(alloc, rest);
     }
-    if let Some(rest) = after(words, "cycle") {
+    if let Some(rest) = words.after("cycle") {
         return cycle_refusal(alloc, rest);
     }
     match_refusal(alloc, words)
@@ -213,10 +219,9 @@ fn refusal(alloc: Global, words: &[&[u8]]) -> Result<Option<Refusal>, AllocError
 
 /// The refusal, if the line is one.
 pub(crate) fn refused_line(alloc: Global, line: &[u8]) -> Result<Option<Refusal>, AllocError>
-    ensures { IfOk result (IsFoundAs refusal_view refused_text RefusalIsLawful line.now) }
+    ensures { IsReadAs refusal_view refused_text RefusalIsLawful line.now result }
 {
-    let words = pieces(alloc, line, b' ')?;
-    let Some(rest) = after(&words, "refused") else {
+    let Some(rest) = Words::new(line, b' ').after("refused") else {
         return Ok(None);
     };
     refusal(alloc, rest)

@@ -1,31 +1,31 @@
 //! Reads the line that counts what a session has.
 ghost use Rattle.pd_format.specs.Reports.{Fits};
-ghost use Rattle.pd_report.specs.Reading.{counts_text, counts_words, slices_view, CountsFit, IsFoundAs};
-ghost use Rattle.std.specs.Prelude.{◌≡◌, ◌∷◌, ℕ, List, MatchOption, decimal, IfOk};
+ghost use Rattle.pd_report.specs.Reading.{counts_text, counts_words, CountsFit, IsFoundAs};
+ghost use Rattle.pd_report.specs.Remaining.{words_left};
+ghost use Rattle.std.specs.Prelude.{◌≡◌, ◌∷◌, ℕ, List, MatchOption, decimal};
 
-use super::words::{after, leading_number, pieces};
-use std::alloc::{AllocError, Global};
+use super::remaining::Words;
 
 /// The number that the words begin with and that this word follows, and the words after both.
-fn number_before<'w, 'a>(words: &'w [&'a [u8]], label: &str) -> Option<(u64, &'w [&'a [u8]])>
+fn number_before<'a>(words: Words<'a>, label: &str) -> Option<(u64, Words<'a>)>
     ensures { MatchOption result ((n : ℕ) (rest : List (List ℕ)) → Fits n
-        → ¬ (slices_view words.now ≡ decimal n ∷ label.now ∷ rest))
-        (λ found. Fits found.0 × (slices_view words.now ≡ decimal found.0 ∷ label.now ∷ slices_view found.1.now)) }
+        → ¬ (words_left words.entry ≡ decimal n ∷ label.now ∷ rest))
+        (λ found. Fits found.0 × (words_left words.entry ≡ decimal found.0 ∷ label.now ∷ words_left found.1)) }
 {
-    let Some((number, rest)) = leading_number(words) else {
+    let Some((number, rest)) = words.leading_number() else {
         return None;
     };
-    let Some(rest) = after(rest, label) else {
+    let Some(rest) = rest.after(label) else {
         return None;
     };
     Some((number, rest))
 }
 
 /// The counts of processes, events and messages.
-fn session_counts(words: &[&[u8]]) -> Option<(u64, u64, u64)>
-    ensures { IsFoundAs (λ counts. counts) counts_words CountsFit (slices_view words.now) result }
+fn session_counts(words: Words<'_>) -> Option<(u64, u64, u64)>
+    ensures { IsFoundAs (λ counts. counts) counts_words CountsFit (words_left words.entry) result }
 {
-    let Some(rest) = after(words, "session") else {
+    let Some(rest) = words.after("session") else {
         return None;
     };
     let Some((processes, rest)) = number_before(rest, "processes") else {
@@ -45,12 +45,8 @@ fn session_counts(words: &[&[u8]]) -> Option<(u64, u64, u64)>
 }
 
 /// The counts of processes, events and messages, if the line has them.
-pub(crate) fn session_line(
-    alloc: Global,
-    line: &[u8],
-) -> Result<Option<(u64, u64, u64)>, AllocError>
-    ensures { IfOk result (IsFoundAs (λ counts. counts) counts_text CountsFit line.now) }
+pub(crate) fn session_line(line: &[u8]) -> Option<(u64, u64, u64)>
+    ensures { IsFoundAs (λ counts. counts) counts_text CountsFit line.now result }
 {
-    let words = pieces(alloc, line, b' ')?;
-    Ok(session_counts(&words))
+    session_counts(Words::new(line, b' '))
 }

@@ -1,7 +1,7 @@
 //! Texts that are known.
 use super::{
     Answer, Definitely, Possibly, Refusal, Report, ReportFault, WriteFault, push_bytes,
-    push_number, read, same_refusal, text, write, write_all,
+    push_number, read, same_refusal, text, write, write_all, write_all_counted,
 };
 use std::alloc::{AllocError, Global};
 use std::io;
@@ -104,18 +104,20 @@ fn refused_reports_have_texts(rt: HostRuntime) -> Result<(), Fail> {
     Ok(())
 }
 
-/// A writer that takes at most 7 bytes at a time, and fails once it has this many.
+/// A writer that takes at most this many bytes at once, and once it has as many as it may, fails or takes nothing.
 #[derive(Drop)]
 struct Limited {
     left: usize,
+    at_once: usize,
+    fails: bool,
 }
 
 impl Write for Limited {
     fn write(&mut self, buf: &[u8]) -> io::Result<usize> {
-        if self.left == 0 {
+        if self.left == 0 && self.fails {
             return Err(Error::from(ErrorKind::Other));
         }
-        let count = buf.len().min(self.left).min(7);
+        let count = buf.len().min(self.left).min(self.at_once);
         self.left -= count;
         Ok(count)
     }
@@ -132,8 +134,31 @@ fn reports_are_written(rt: HostRuntime) -> Result<(), Fail> {
     let mut out = Vec::new(alloc);
     assert!(rt; write(alloc, &report, &mut out).is_ok());
     assert_eq!(rt; out.as_slice(), JUDGED.as_bytes());
-    let mut short = Limited { left: 40 };
+    let mut short = Limited {
+        left: 40,
+        at_once: 7,
+        fails: true,
+    };
     assert!(rt; matches!(&write(alloc, &report, &mut short), Err(WriteFault::Write)));
+    Ok(())
+}
+
+#[test]
+fn bytes_are_counted_until_a_writer_stops(rt: HostRuntime) -> Result<(), Fail> {
+    for left in 0..=JUDGED.len() {
+        for at_once in 1..=2 {
+            for fails in [true, false] {
+                let mut writer = Limited {
+                    left,
+                    at_once,
+                    fails,
+                };
+                let written = write_all_counted(JUDGED.as_bytes(), &mut writer);
+                let stopped = written.err().unwrap_or(JUDGED.len() as u64);
+                assert_eq!(rt; stopped, left as u64);
+            }
+        }
+    }
     Ok(())
 }
 
@@ -177,6 +202,8 @@ fn fault_line(alloc: Global, bytes: &str) -> Result<u64, AllocError> {
 fn faults_have_lines(rt: HostRuntime) -> Result<(), Fail> {
     let cases = [
         ("no byte", "", 1),
+        ("an empty line", "\n\n", 1),
+        ("an event of no number", "refused cycle a#1,b#\n", 1),
         ("no LF", "refused streams", 1),
         ("two spaces", "refused  streams\n", 1),
         ("a CR before the LF", "refused streams\r\n", 1),

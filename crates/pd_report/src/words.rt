@@ -1,20 +1,25 @@
 //! Words, and what stands between others.
-ghost use Rattle.pd_format.specs.Lines.{line_feed};
 ghost use Rattle.pd_format.specs.Names.{is_in_word};
 ghost use Rattle.pd_format.specs.Reports.{Fits, IsName};
-ghost use Rattle.pd_report.specs.Reading.{pieces as pieces_of, slices_view, IsFoundAs};
+ghost use Rattle.pd_report.specs.Cuts.{IsCut, Lacks};
+ghost use Rattle.pd_report.specs.Reading.{IsFoundAs, IsReadAs};
 ghost use Rattle.std.specs.List.{list_all};
-ghost use Rattle.std.specs.Prelude.{◌≡◌, ◌==◌, not, ◌∷◌, [], ℕ, List, MatchOption, true, decimal, string_bytes, IfOk, ◌↔◌, IsTrue, false};
+ghost use Rattle.std.specs.Prelude.{◌≡◌, ◌↔◌, false, true, MatchOption, decimal, string_bytes, IfOk, IsTrue};
 
 use itoa::Buffer;
 use pd_pred::is_name;
 use std::alloc::{AllocError, Global};
 
-/// The pieces between these bytes.
-pub(crate) fn pieces(alloc: Global, bytes: &[u8], at: u8) -> Result<Vec<&[u8]>, AllocError>
-    ensures { IfOk result (λ found. slices_view found.items ≡ pieces_of at bytes.now) }
+/// What stands before the first such byte, and what stands after it.
+pub(crate) fn cut_at(bytes: &[u8], at: u8) -> Option<(&[u8], &[u8])>
+    ensures { MatchOption result (Lacks at bytes.now) (λ cut. IsCut at bytes.now cut.0.now cut.1.now) }
 {
-    bytes.split(|byte| *byte == at).collect(alloc)
+    for (end, byte) in bytes.iter().enumerate() {
+        if *byte == at {
+            return Some((&bytes[..end], &bytes[end + 1..]));
+        }
+    }
+    None
 }
 
 /// Whether the bytes are this text.
@@ -23,13 +28,6 @@ pub(crate) fn is(word: &[u8], text: &str) -> bool
     ensures no { result ≡ false → ¬ (word.now ≡ text.now) }
 {
     word == text.as_bytes()
-}
-
-/// Whether no byte is an LF.
-pub(crate) fn has_no_line_feed(bytes: &[u8]) -> bool
-    ensures { result ≡ list_all (λ byte. not (byte == line_feed)) bytes.now }
-{
-    bytes.iter().all(|byte| *byte != b'\n')
 }
 
 /// The text of letters and digits.
@@ -45,7 +43,7 @@ pub(crate) fn word_text(alloc: Global, word: &[u8]) -> Result<String, AllocError
 
 /// The name, if it is one.
 pub(crate) fn name(alloc: Global, word: &[u8]) -> Result<Option<String>, AllocError>
-    ensures { IfOk result (IsFoundAs string_bytes (λ name. name) IsName word.now) }
+    ensures { IsReadAs string_bytes (λ name. name) IsName word.now result }
 {
     if !is_name(word) {
         return Ok(None);
@@ -76,41 +74,4 @@ fn is_decimal(word: &[u8], number: u64) -> bool
 {
     let mut buffer = Buffer::new();
     word == buffer.format(number).as_bytes()
-}
-
-/// The words after this one.
-pub(crate) fn after<'w, 'a>(words: &'w [&'a [u8]], text: &str) -> Option<&'w [&'a [u8]]>
-    ensures { MatchOption result ((rest : List (List ℕ)) → ¬ (slices_view words.now ≡ text.now ∷ rest)) (λ rest.
-        slices_view words.now ≡ text.now ∷ slices_view rest.now) }
-{
-    let Some((first, rest)) = words.split_first() else {
-        return None;
-    };
-    if is(first, text) { Some(rest) } else { None }
-}
-
-/// The word, if it is the only one.
-pub(crate) fn single<'a>(words: &[&'a [u8]]) -> Option<&'a [u8]>
-    ensures { MatchOption result ((word : List ℕ) → ¬ (slices_view words.now ≡ word ∷ [])) (λ word.
-        slices_view words.now ≡ word.now ∷ []) }
-{
-    let Some((first, rest)) = words.split_first() else {
-        return None;
-    };
-    if rest.is_empty() { Some(*first) } else { None }
-}
-
-/// The number that the words begin with, and the words after it.
-pub(crate) fn leading_number<'w, 'a>(words: &'w [&'a [u8]]) -> Option<(u64, &'w [&'a [u8]])>
-    ensures { MatchOption result ((n : ℕ) (rest : List (List ℕ)) → Fits n
-        → ¬ (slices_view words.now ≡ decimal n ∷ rest)) (λ found. Fits found.0
-        × (slices_view words.now ≡ decimal found.0 ∷ slices_view found.1.now)) }
-{
-    let Some((first, rest)) = words.split_first() else {
-        return None;
-    };
-    let Some(number) = number(first) else {
-        return None;
-    };
-    Some((number, rest))
 }

@@ -1,13 +1,16 @@
--- What the loops of `all_names` keep.
-use Rattle.std.proofs.Common.{◌≡◌, take}
+-- What the loop of `all_names` keeps.
+use Rattle.std.proofs.Common.{◌≡◌, ◌++◌, length, map}
 use Rattle.std.specs.List.{AllByRecursion}
 use Rattle.pd_format.specs.Reports.{IsName}
-use Rattle.pd_report.specs.Reading.{slices_view}
+use Rattle.pd_report.specs.Remaining.{words_left}
 use Rattle.pd_report.specs.Views.{names_view}
 use Rattle.pd_report.proofs.listed.all_names.Given as goal
 
-abbrev pub invariant-loop-piece : goal.invariant-loop-piece
-invariant-loop-piece l = record {
+abbrev pub invariant-loop-word : goal.invariant-loop-word
+invariant-loop-word l = record {
   lawful : AllByRecursion IsName (names_view l.names.items);
-  read : names_view l.names.items ≡ take l.piece-index (slices_view l.pieces);
+  read : words_left l.words ≡ map (λ name. name) (names_view l.names.items) ++ words_left l.left;
 }
+
+abbrev pub decreases-loop-word : goal.decreases-loop-word
+decreases-loop-word l = length (words_left l.left)

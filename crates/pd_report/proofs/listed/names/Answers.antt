@@ -1,11 +1,11 @@
 -- Names, at least one.
-use Rattle.std.proofs.Common.{◌∙◌, ap, map}
+use Rattle.std.proofs.Common.{map}
 use Rattle.std.specs.List.{AllByRecursion}
 use Rattle.std.proofs.lemmas.List.{length-map}
 use Rattle.std.proofs.lemmas.Result.{IfOk-weaker}
 use Rattle.pd_format.specs.Reports.{IsName}
 use Rattle.pd_format.proofs.OneReport.{names_lack}
-use Rattle.pd_report.specs.Reading.{slices_view}
+use Rattle.pd_report.specs.Remaining.{words_left}
 use Rattle.pd_report.specs.Views.{names_view}
 use Rattle.pd_report.proofs.Lists.{map_same, found_listed}
 use Rattle.pd_report.proofs.listed.names.Goals as goal
@@ -14,5 +14,5 @@ pub returns : goal.returns
 returns c =
     IfOk-weaker c.all_names.result _ _ (found_listed (λ found. (names_view found.items)) (map (λ name. name))
     (AllByRecursion IsName) (λ ns. length-map ns (λ name. name)) (λ ns h. rw (map_same ns) (names_lack ns h))
-    c.args.word.now (slices_view c.deref.result.now) (ap slices_view c.deref.ensures.value ∙ c.in_ok-pieces.ensures))
+    c.args.word.now (words_left c.new.result) c.new.ensures)
     c.all_names.ensures

@@ -1,22 +1,18 @@
--- What the loops of `answers` keep.
-use Rattle.std.proofs.Common.{◌≡◌, ◌*◌, ◌-◌, ◌≤◌, ◌++◌, length, drop, map}
+-- What the loop of `answers` keeps.
+use Rattle.std.proofs.Common.{◌≡◌, ◌≤◌, ◌++◌, length, map}
 use Rattle.std.specs.Prelude.{flat_map}
 use Rattle.std.specs.List.{AllByRecursion}
 use Rattle.pd_format.specs.Limits.{predicate_limit}
-use Rattle.pd_format.specs.Reports.{answer_lines, AnswerIsLawful}
-use Rattle.pd_report.specs.Reading.{slices_view}
+use Rattle.pd_format.specs.Reports.{answer_lines, text_of_lines, AnswerIsLawful}
 use Rattle.pd_report.specs.Views.{answer_view}
 use Rattle.pd_report.proofs.reader.answers.Given as goal
 
-abbrev pub invariant-loop-at : goal.invariant-loop-at
-invariant-loop-at l = record {
-  within : l.at ≤ length l.lines;
-  count : l.at ≡ 2 * length l.answers.items;
+abbrev pub invariant-loop-rest : goal.invariant-loop-rest
+invariant-loop-rest l = record {
   few : length l.answers.items ≤ predicate_limit;
   lawful : AllByRecursion AnswerIsLawful (map answer_view l.answers.items);
-  reported : slices_view l.lines ≡ flat_map answer_lines (map answer_view l.answers.items)
-      ++ slices_view (drop l.at l.lines);
+  whole : l.bytes ≡ text_of_lines (flat_map answer_lines (map answer_view l.answers.items)) ++ l.rest;
 }
 
-abbrev pub decreases-loop-at : goal.decreases-loop-at
-decreases-loop-at l = length l.lines - l.at
+abbrev pub decreases-loop-rest : goal.decreases-loop-rest
+decreases-loop-rest l = length l.rest

@@ -1,64 +1,67 @@
--- The bytes as lines, and what is found of the lines is found of the bytes.
-use Rattle.std.proofs.Common.{rules, ◌≡◌, ℕ, ◌+◌, ◌<◌, ◌∙◌, ◌∷◌, [], length, sym, ap, arith}
+-- What is found of the first line and of what follows it is found of the bytes.
+use Rattle.std.proofs.Common.{◌≡◌, ◌<◌, ℕ, List, length, arith}
 use Rattle.std.proofs.lemmas.Bool.Decides.{nat_tests}
-use Rattle.std.proofs.lemmas.List.{length-map, map-append}
-use Rattle.pd_report.specs.Reading.{pieces, slices_view}
-use Rattle.pd_report.specs.Views.{report_view}
-use Rattle.pd_format.proofs.OneReport.{Lacks}
-use Rattle.pd_report.proofs.Pieces.{word_last}
-use Rattle.pd_report.proofs.Stops.{nothing_stops}
-use Rattle.pd_report.proofs.Whole.{at_number, empty_is, stops, stops_at, unended, whole_report}
-use Rattle.std.proofs.lemmas.List.Splits.{length-slice_split}
-use Rattle.std.specs.Prelude.{◌==◌}
+use Rattle.pd_report.specs.Cuts.{IsCut}
+use Rattle.pd_report.specs.Views.{refusal_view}
+use Rattle.pd_report.proofs.Exits.{counts_agree, first_stops_it, refused_agrees, refused_goes_on, Cut}
+use Rattle.pd_report.proofs.Whole.{at_number, nothing_ended}
 use Rattle.pd_report.proofs.reader.read.Goals as goal
 
-pub returns-then-has_no_line_feed-clause-line : goal.returns-then-has_no_line_feed-clause-line
-returns-then-has_no_line_feed-clause-line c = λ k e.
-    let same : ◌≡◌ {A = ℕ} 1 k = cc in
-    let bytes = c.args.bytes.now in
-    let lacks : Lacks 10 bytes = sym c.has_no_line_feed.ensures ∙ c.if-has_no_line_feed.true in
-    at_number bytes 1 k (stops bytes [] bytes (word_last 10 bytes lacks) 0 nothing_stops) same
+cut_of : (bytes first rest : List ℕ) → IsCut 10 bytes first rest → Cut bytes first rest
+cut_of bytes first rest cut = record { lacks = cut.0; whole = cut.1 }
 
 pub returns-in_default-clause-line : goal.returns-in_default-clause-line
 returns-in_default-clause-line c = λ k e.
-    let cut : slices_view c.deref.result.now ≡ pieces 10 c.args.bytes.now = ap slices_view c.deref.ensures.value
-    ∙ c.in_ok-pieces.ensures in
-    absurd (omega (
-      arith,
-      ap length cut,
-      length-map c.deref.result.now (λ slice. slice.now),
-      length-slice_split (λ b. b == 10) c.args.bytes.now,
-      c.in_default.ensures.cases,
-    ))
+    let same : ◌≡◌ {A = ℕ} 1 k = cc in
+    at_number c.args.bytes.now 1 k (nothing_ended c.args.bytes.now c.in_default.ensures) same
 
-pub returns-in_err-report-clause-line : goal.returns-in_err-report-clause-line
-returns-in_err-report-clause-line c = λ k e.
-    let cut = sym (ap slices_view c.deref.ensures.value ∙ c.in_ok-pieces.ensures)
-    ∙ ap slices_view c.in-Some.ensures.cases.0
-    ∙ map-append (λ slice. slice.now) c.in-Some.lines.now (c.in-Some.last.now ∷ []) in
-    stops_at c.args.bytes.now (slices_view c.in-Some.lines.now) c.in-Some.last.now.now cut k
-    (c.in_err-report.ensures.line k (search rules))
+pub returns-in_err-answers-clause-early : goal.returns-in_err-answers-clause-early
+returns-in_err-answers-clause-early c = λ none.
+    let cut = cut_of c.args.bytes.now c.in-Some.first.now c.in-Some.rest.now c.in-Some.ensures in
+    let counts = c.in-Some-session_line.ensures in
+    absurd (none (counts_agree c.args.bytes.now c.in-Some.first.now c.in-Some.rest.now cut c.in-Some-session_line.counts
+    counts.0 counts.1))
 
-pub returns-then-is_empty-clause-reported : goal.returns-then-is_empty-clause-reported
-returns-then-is_empty-clause-reported c =
-    let cut = sym (ap slices_view c.deref.ensures.value ∙ c.in_ok-pieces.ensures)
-    ∙ ap slices_view c.in-Some.ensures.cases.0
-    ∙ map-append (λ slice. slice.now) c.in-Some.lines.now (c.in-Some.last.now ∷ []) in
-    let last = c.in-Some.last.now.now in
-    let none : length last ≡ 0 = grind (arith, nat_tests) in
-    whole_report c.args.bytes.now (slices_view c.in-Some.lines.now) last cut (empty_is last none)
-    (report_view c.in_ok-report.report) c.in_ok-report.ensures.reported.0 c.in_ok-report.ensures.reported.1
+pub returns-in-Some-session_line-clause-early : goal.returns-in-Some-session_line-clause-early
+returns-in-Some-session_line-clause-early c = λ none.
+    let cut = cut_of c.args.bytes.now c.in-Some.first.now c.in-Some.rest.now c.in-Some.ensures in
+    let counts = c.in-Some-session_line.ensures in
+    absurd (none (counts_agree c.args.bytes.now c.in-Some.first.now c.in-Some.rest.now cut c.in-Some-session_line.counts
+    counts.0 counts.1))
 
-pub returns-clause-line : goal.returns-clause-line
-returns-clause-line c = λ k e.
-    let cut = sym (ap slices_view c.deref.ensures.value ∙ c.in_ok-pieces.ensures)
-    ∙ ap slices_view c.in-Some.ensures.cases.0
-    ∙ map-append (λ slice. slice.now) c.in-Some.lines.now (c.in-Some.last.now ∷ []) in
-    let lines = c.in-Some.lines.now in
-    let last = c.in-Some.last.now.now in
-    let some : 0 < length last = grind (arith, nat_tests) in
-    let same : length lines + 1 ≡ k = cc in
-    let count = length-map lines (λ slice. slice.now) in
-    at_number c.args.bytes.now (length (slices_view lines) + 1) k
-    (unended c.args.bytes.now (slices_view lines) last cut some (report_view c.in_ok-report.report)
-    c.in_ok-report.ensures.reported.0 c.in_ok-report.ensures.reported.1) (omega (arith, count, same))
+pub returns-in_default-2-clause-line : goal.returns-in_default-2-clause-line
+returns-in_default-2-clause-line c = λ k e.
+    let same : ◌≡◌ {A = ℕ} 1 k = cc in
+    let cut = cut_of c.args.bytes.now c.in-Some.first.now c.in-Some.rest.now c.in-Some.ensures in
+    let no_refusal = rw c.in_default-2.is at c.in_ok-refusal.ensures in
+    at_number c.args.bytes.now 1 k (first_stops_it c.args.bytes.now c.in-Some.first.now c.in-Some.rest.now cut
+    c.in_default-session_line.ensures no_refusal) same
+
+pub returns-in_err-refusal-clause-early : goal.returns-in_err-refusal-clause-early
+returns-in_err-refusal-clause-early c = λ none.
+    let cut = cut_of c.args.bytes.now c.in-Some.first.now c.in-Some.rest.now c.in-Some.ensures in
+    let there = c.in_err-refusal.ensures in
+    absurd (none (refused_agrees c.args.bytes.now c.in-Some.first.now c.in-Some.rest.now cut there.0 there.1 there.2))
+
+pub returns-then-is_empty-clause-early : goal.returns-then-is_empty-clause-early
+returns-then-is_empty-clause-early c = λ none.
+    let cut = cut_of c.args.bytes.now c.in-Some.first.now c.in-Some.rest.now c.in-Some.ensures in
+    let reported = rw c.in-Some-2.is at c.in_ok-refusal.ensures in
+    absurd (none (refused_agrees c.args.bytes.now c.in-Some.first.now c.in-Some.rest.now cut
+    (refusal_view c.in-Some-2.refusal) reported.0 reported.1))
+
+pub returns-else-is_empty-clause-early : goal.returns-else-is_empty-clause-early
+returns-else-is_empty-clause-early c = λ none.
+    let cut = cut_of c.args.bytes.now c.in-Some.first.now c.in-Some.rest.now c.in-Some.ensures in
+    let reported = rw c.in-Some-2.is at c.in_ok-refusal.ensures in
+    absurd (none (refused_agrees c.args.bytes.now c.in-Some.first.now c.in-Some.rest.now cut
+    (refusal_view c.in-Some-2.refusal) reported.0 reported.1))
+
+pub returns-else-is_empty-clause-line : goal.returns-else-is_empty-clause-line
+returns-else-is_empty-clause-line c = λ k e.
+    let same : ◌≡◌ {A = ℕ} 2 k = cc in
+    let cut = cut_of c.args.bytes.now c.in-Some.first.now c.in-Some.rest.now c.in-Some.ensures in
+    let reported = rw c.in-Some-2.is at c.in_ok-refusal.ensures in
+    let some : 0 < length c.in-Some.rest.now = grind (arith, nat_tests) in
+    at_number c.args.bytes.now 2 k (refused_goes_on c.args.bytes.now c.in-Some.first.now c.in-Some.rest.now cut
+    (refusal_view c.in-Some-2.refusal) reported.0 reported.1 some) same
