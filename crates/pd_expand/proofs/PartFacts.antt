@@ -10,7 +10,8 @@ use Rattle.std.proofs.lemmas.List.Elements.{All-append, All-contains, All-nil, A
 use Rattle.std.proofs.lemmas.List.Sums.{sum_by-append, sum_by-cons}
 use Rattle.std.proofs.lemmas.List.Sorted.{All-permutation, IsPermutation-map, sum_by-IsPermutation}
 use Rattle.std.specs.List.Sorted.{IsPermutation}
-use Rattle.pd_model.specs.Events.{Computation}
+use Rattle.pd_model.specs.Events.{Computation, Linked}
+use Rattle.pd_model.proofs.OneAnswer.{ascending_rest, below_rest, lex_transitive}
 use Rattle.pd_model.specs.Cuts.{IsConsistent, IsNextOf}
 use Rattle.pd_model.specs.Answers.{IsListOf, LexBelow}
 use Rattle.pd_level.specs.Levels.{IsBetween, IsInEither, Levelled}
@@ -356,6 +357,61 @@ into_block (suc last) cuts cut are some = down last (omega arith) (λ lt. absurd
             rest (λ inside. subst (λ (k : ℕ). LexBelow cut (slice_index_or cuts k [])) same before)
         by (inr none) rest = (suc block, lt, (λ positive. none, up))
 
+-- each cut of an ascending list is below the later ones
+later_above : (cuts : List (List ℕ)) (i j : ℕ) → Linked LexBelow cuts → i < j → j < length cuts
+    → LexBelow (get_or cuts i []) (get_or cuts j [])
+later_above [] i j links lt within = absurd (omega arith)
+later_above (x ∷ xs) zero zero links lt within = absurd (omega arith)
+later_above (x ∷ xs) zero (suc j) links lt within =
+    below_rest x (get_or xs j []) xs links (Contains-get_or xs j [] (omega arith))
+later_above (x ∷ xs) (suc i) zero links lt within = absurd (omega arith)
+later_above (x ∷ xs) (suc i) (suc j) links lt within =
+    later_above xs i j (ascending_rest x xs links) (omega arith) (omega arith)
+
+-- a cut in a block lies in no later one
+not_later : (cuts : List (List ℕ)) (blocks : ℕ) (cut : List ℕ) (a b : ℕ) → Linked LexBelow cuts
+    → AreBlocksOf blocks (length cuts) → b < blocks → a < b → IsInBlock a cuts cut → ¬ IsInBlock b cuts cut
+not_later cuts blocks cut a b links sized within less in_a in_b =
+    go (cases_order end start)
+  where
+    end : ℕ
+    end = block_length * a + block_length
+
+    start : ℕ
+    start = block_length * b
+
+    inside : start < length cuts
+    inside = omega (arith, sized.1)
+
+    early : LexBelow cut (get_or cuts end [])
+    early = in_a.1 (omega (arith, inside))
+
+    late : ¬ LexBelow cut (get_or cuts start [])
+    late = in_b.0 (omega arith)
+
+    go : (end ≡ start) ⊎ ((end < start) ⊎ (start < end)) → ⊥
+    go (inl same) = late (subst (λ (k : ℕ). LexBelow cut (get_or cuts k [])) same early)
+    go (inr (inl before)) =
+        late (lex_transitive cut (get_or cuts end []) (get_or cuts start []) early
+        (later_above cuts end start links before inside))
+    go (inr (inr after)) = absurd (omega arith)
+
+pub in_one_block : (cuts : List (List ℕ)) (blocks : ℕ) (cut : List ℕ) (a b : ℕ) → Linked LexBelow cuts
+    → AreBlocksOf blocks (length cuts) → a < blocks → b < blocks → IsInBlock a cuts cut → IsInBlock b cuts cut → a ≡ b
+in_one_block cuts blocks cut a b links sized in_ within here there = go (cases_order a b)
+  where
+    go : (a ≡ b) ⊎ ((a < b) ⊎ (b < a)) → a ≡ b
+    go (inl same) = same
+    go (inr (inl less)) = absurd (not_later cuts blocks cut a b links sized within less here there)
+    go (inr (inr more)) = absurd (not_later cuts blocks cut b a links sized in_ more there here)
+
+pub in_some_block : (c : Computation) (cuts : List (List ℕ)) (blocks : ℕ) (cut : List ℕ)
+    → AreBlocksOf blocks (length cuts) → IsNextOf c cuts cut
+    → (block : ℕ) × (block < blocks) × IsInBlock block cuts cut
+in_some_block c cuts blocks cut sized is =
+    let some : 0 < length cuts = let w = is.1.1 in omega (arith, w.1) in
+    into_block blocks cuts cut sized some
+
 -- if each block has one part, the cuts of all parts are those of the next level
 pub whole_list : (c : Computation) (level next : Levelled) (blocks : ℕ) (parts : List Part)
     → AreBlocksOf blocks (length level.cuts) → ArePartsOf c level blocks (λ x. 1) parts
@@ -372,9 +428,8 @@ whole_list c level next blocks parts sized are union = record {
 
     from : (cut : List ℕ) → IsNextOf c level.cuts cut → IsInPart parts cut
     from cut is_next =
-        let some : 0 < length level.cuts = let w = is_next.1.1 in omega (arith, w.1) in
         let b : (block : ℕ) × (block < blocks) × IsInBlock block level.cuts cut =
-        into_block blocks level.cuts cut sized some in
+        in_some_block c level.cuts blocks cut sized is_next in
         let p : (part : Part) × Contains parts part × (part.block ≡ b.0) =
         part_with b.0 parts (omega (arith, are.each b.0 b.1)) in
         let is : IsPartOf c level p.0 = All-contains (IsPartOf c level) parts p.0 are.are p.1 in
