@@ -1,44 +1,69 @@
 -- Blocks of a level, the parts that workers keep, and what all parts come to.
-use Rattle.std.proofs.Common.{◌≡◌, ◌≢◌, ℕ, zero, suc, ◌+◌, ◌-◌, ◌*◌, ◌/◌, ◌<◌, ◌≤◌, Bool, true, false, eqb, cond, List, [], ◌∷◌, ◌++◌, length, map, get_or, set, take, drop, Contains, IfOk, refl, sym, ap, ◌∙◌, subst, inl, inr, ◌⊎◌, arith}
-use Rattle.std.specs.Prelude.{All, IsOk, Result, Ok, Err, Vec, min}
+use Rattle.std.proofs.Common.{◌≡◌, ◌≢◌, ℕ, zero, suc, ◌+◌, ◌-◌, ◌*◌, ◌<◌, ◌≤◌, Bool, true, false, eqb, cond, List, [], ◌∷◌, ◌++◌, length, map, get_or, set, take, Contains, IfOk, refl, sym, ap, ◌∙◌, subst, inl, inr, ◌⊎◌, ◌↔◌, arith}
+use Rattle.std.specs.Prelude.{All, IsOk, Result, Ok, Err, Vec, min, slice_index_or}
 use Rattle.std.specs.Global.{Global}
 use Rattle.std.specs.declared.alloc.AllocError.{AllocError}
+use Rattle.std.proofs.lemmas.Bool.{cases_lt, cases_order}
 use Rattle.std.proofs.lemmas.Bool.Decides.{eqb_tells, nat_tests}
-use Rattle.std.proofs.lemmas.List.{get_or-drop, get_or-take, length-drop, length-take, map-append, take-append-drop, take_min}
-use Rattle.std.proofs.lemmas.List.Elements.{All-append, All-contains, All-drop, All-nil, All-push, All-take, Contains-append_left, Contains-append_right, Contains-append_cases, Contains-get_or}
+use Rattle.std.proofs.lemmas.List.{map-append, take_more}
+use Rattle.std.proofs.lemmas.List.Elements.{All-append, All-contains, All-nil, All-push, Contains-append_left, Contains-get_or, Contains-push, Contains-push_cases}
 use Rattle.std.proofs.lemmas.List.Sums.{sum_by-append, sum_by-cons}
-use Rattle.pd_model.specs.Events.{Computation}
+use Rattle.std.proofs.lemmas.List.Sorted.{All-permutation, IsPermutation-map, sum_by-IsPermutation}
+use Rattle.std.specs.List.Sorted.{IsPermutation}
+use Rattle.pd_model.specs.Events.{Computation, Linked}
+use Rattle.pd_model.proofs.OneAnswer.{ascending_rest, below_rest, lex_transitive}
 use Rattle.pd_model.specs.Cuts.{IsConsistent, IsNextOf}
-use Rattle.pd_model.specs.Answers.{IsListOf}
-use Rattle.pd_level.specs.Levels.{IsInEither, Levelled}
+use Rattle.pd_model.specs.Answers.{IsListOf, LexBelow}
+use Rattle.pd_level.specs.Levels.{IsBetween, IsInEither, Levelled}
 use Rattle.pd_expand.specs.ClaimRule.{times}
 use Rattle.pd_expand.specs.Claims.{AreWhole, drawn, times_in_all}
 use Rattle.pd_expand.specs.Limits.{block_length}
-use Rattle.pd_expand.specs.Parts.{AreBlocksOf, ArePartsOf, IsInPart, IsPartOf, IsUnionOf, block_cuts, next_number}
+use Rattle.pd_expand.specs.Parts.{AreBlocksOf, ArePartsOf, IsInPart, IsInBlock, IsPartOf, IsUnionOf, next_number}
 use Rattle.pd_expand.specs.declared.claim_seat.ClaimSeat.{ClaimSeat}
 use Rattle.pd_expand.specs.declared.part.Part.{Part}
 use Rattle.pd_expand.proofs.RuleSteps.{counted}
 
 -- ---- one block
 
--- as many as are left, if they are fewer than a block's
-pub as_block : (from : ℕ) (cuts : List (List ℕ))
-    → take (min block_length (length cuts - from)) (drop from cuts) ≡ take block_length (drop from cuts)
-as_block from cuts =
-    ap (λ (n : ℕ). take (min block_length n) (drop from cuts)) (sym (length-drop from cuts))
-    ∙ take_min block_length (drop from cuts)
+-- a last block ends with the level
+pub as_block : (block from to : ℕ) (cuts : List (List ℕ)) (cut : List ℕ) → from ≡ block_length * block
+    → to ≡ from + min block_length (length cuts - from) → from < length cuts
+    → IsBetween cuts from to cut ↔ IsInBlock block cuts cut
+as_block block from to cuts cut start end within = go (cases_lt (from + block_length) (length cuts))
+  where
+    go : (from + block_length < length cuts) ⊎ (length cuts ≤ from + block_length)
+        → IsBetween cuts from to cut ↔ IsInBlock block cuts cut
+    go (inl inner) =
+        let last : to ≡ block_length * block + block_length = omega (arith, end) in (
+          λ b. subst (λ (m : ℕ). IsBetween cuts (block_length * block) m cut) last
+              (subst (λ (k : ℕ). IsBetween cuts k to cut) start b),
+          λ b. subst (λ (k : ℕ). IsBetween cuts k to cut) (sym start)
+              (subst (λ (m : ℕ). IsBetween cuts (block_length * block) m cut) (sym last) b),
+        )
+    go (inr outer) =
+        let last : length cuts ≤ to = omega (arith, end) in (
+          λ b. (
+            subst (λ (k : ℕ). 0 < k → ¬ LexBelow cut (slice_index_or cuts k [])) start b.0,
+            λ lt. absurd (omega arith),
+          ),
+          λ b. (
+            subst (λ (k : ℕ). 0 < k → ¬ LexBelow cut (slice_index_or cuts k [])) (sym start) b.0,
+            λ lt. absurd (omega arith),
+          ),
+        )
 
-pub is_block : (block from to : ℕ) (cuts held : List (List ℕ)) → held ≡ take (to - from) (drop from cuts)
-    → from ≡ block_length * block → to ≡ from + min block_length (length cuts - from) → held ≡ block_cuts block cuts
-is_block block from to cuts held e start end =
-    let count : to - from ≡ min block_length (length cuts - from) = omega (arith, end) in
-    e ∙ (ap (λ (n : ℕ). take n (drop from cuts)) count ∙ (as_block from cuts
-    ∙ ap (λ (n : ℕ). take block_length (drop n cuts)) start))
-
-pub block_consistent : (c : Computation) (count from : ℕ) (cuts : List (List ℕ)) → All (IsConsistent c) cuts
-    → All (IsConsistent c) (take count (drop from cuts))
-block_consistent c count from cuts all =
-    All-take (IsConsistent c) count (drop from cuts) (All-drop (IsConsistent c) from cuts all)
+-- the cuts between are those in the block
+pub in_block : (c : Computation) (block from to : ℕ) (cuts next : List (List ℕ)) → from ≡ block_length * block
+    → to ≡ from + min block_length (length cuts - from) → from < length cuts
+    → IsListOf (λ cut. IsNextOf c cuts cut × IsBetween cuts from to cut) next
+    → IsListOf (λ cut. IsNextOf c cuts cut × IsInBlock block cuts cut) next
+in_block c block from to cuts next start end within list = record {
+  ascending = list.ascending;
+  just = λ cut. (
+    λ has. let w = (list.just cut).0 has in (w.0, (as_block block from to cuts cut start end within).0 w.1),
+    λ is. (list.just cut).1 (is.0, (as_block block from to cuts cut start end within).1 is.1),
+  );
+}
 
 -- ---- the parts that one worker keeps
 
@@ -203,91 +228,60 @@ whole_kept c level blocks (Err error) seats closed are e whole = tt
 
 -- ---- the cuts of all parts
 
-listed_consistent : (c : Computation) (cuts next : List (List ℕ)) → IsListOf (IsNextOf c cuts) next
-    → All (IsConsistent c) next
-listed_consistent c cuts next list k d lt = ((list.just (get_or next k d)).0 (Contains-get_or next k d lt)).0
+pub part_consistent : (c : Computation) (level : Levelled) (part : Part) → IsPartOf c level part
+    → All (IsConsistent c) part.next.cuts
+part_consistent c level part is k d lt =
+    ((is.list.just (get_or part.next.cuts k d)).0 (Contains-get_or part.next.cuts k d lt)).0.0
 
-pub no_part : (c : Computation) (level next : Levelled) (parts : List Part) → length parts ≡ 0 → next.cuts ≡ []
-    → next.number ≡ next_number level → IsUnionOf c level parts next
-no_part c level next [] none e number = record {
-  list = subst (IsListOf (IsInPart [])) (sym e) (record {
+pub no_part : (c : Computation) (level next : Levelled) (parts : List Part) → next.cuts ≡ []
+    → next.number ≡ next_number level → IsUnionOf c level (take 0 parts) next
+no_part c level next parts none number = record {
+  list = subst (IsListOf (IsInPart [])) (sym none) (record {
     ascending = tt;
     just = λ cut. (λ has. absurd (omega (arith, has.1)), λ is. absurd (omega (arith, is.1.1)));
   });
-  consistent = subst (All (IsConsistent c)) (sym e) (All-nil (IsConsistent c));
+  consistent = subst (All (IsConsistent c)) (sym none) (All-nil (IsConsistent c));
   number = number;
 }
-no_part c level next (p ∷ parts) none e number = absurd (omega arith)
 
--- one part alone
-pub one_part : (c : Computation) (level next : Levelled) (parts : List Part) (part : Part) → length parts ≡ 1
-    → next ≡ (get_or parts 0 part).next → All (IsPartOf c level) parts → IsUnionOf c level parts next
-one_part c level next [] part one same are = absurd (omega arith)
-one_part c level next (p ∷ q ∷ parts) part one same are = absurd (omega arith)
-one_part c level next (p ∷ []) part one same are =
-    subst (λ (l : Levelled). IsUnionOf c level (p ∷ []) l) (sym same) (record {
-      list = record {
-        ascending = is.list.ascending;
-        just = λ cut. (λ has. (p, (0, omega arith, refl), has), λ in_. there cut in_.0 in_.1 in_.2);
-      };
-      consistent = listed_consistent c (block_cuts p.block level.cuts) p.next.cuts is.list;
-      number = is.number;
-    })
-  where
-    is : IsPartOf c level p
-    is = are 0 p (omega arith)
-
-    there : (cut : List ℕ) (q : Part) → Contains (p ∷ []) q → Contains q.next.cuts cut → Contains p.next.cuts cut
-    there cut q (zero, lt, e) has = subst (λ (r : Part). Contains r.next.cuts cut) (sym e) has
-    there cut q (suc k, lt, e) has = absurd (omega arith)
-
-pub two_unions : (c : Computation) (level a b both : Levelled) (first last parts : List Part) → parts ≡ first ++ last
-    → IsUnionOf c level first a → IsUnionOf c level last b → IsListOf (IsInEither a.cuts b.cuts) both.cuts
-    → both.number ≡ a.number → IsUnionOf c level parts both
-two_unions c level a b both first last parts e p q list number =
-    subst (λ (l : List Part). IsUnionOf c level l both) (sym e) (record {
+-- one part more
+pub part_more : (c : Computation) (level old new : Levelled) (parts : List Part) (i : ℕ) (d part : Part)
+    → i < length parts → get_or parts i d ≡ part → All (IsPartOf c level) parts
+    → IsUnionOf c level (take i parts) old → IsListOf (IsInEither old.cuts part.next.cuts) new.cuts
+    → new.number ≡ old.number → IsUnionOf c level (take (i + 1) parts) new
+part_more c level old new parts i d part lt at are union list number =
+    subst (λ (l : List Part). IsUnionOf c level l new) (sym more) (record {
       list = record {
         ascending = list.ascending;
         just = λ cut. (λ has. to cut ((list.just cut).0 has), λ in_. (list.just cut).1 (from cut in_));
       };
-      consistent = λ k d lt. fit (get_or both.cuts k d)
-          ((list.just (get_or both.cuts k d)).0 (Contains-get_or both.cuts k d lt));
-      number = number ∙ p.number;
+      consistent = λ k d in_. fit (get_or new.cuts k d)
+          ((list.just (get_or new.cuts k d)).0 (Contains-get_or new.cuts k d in_));
+      number = number ∙ union.number;
     })
   where
-    fit : (cut : List ℕ) → IsInEither a.cuts b.cuts cut → IsConsistent c cut
-    fit cut (inl has) = All-contains (IsConsistent c) a.cuts cut p.consistent has
-    fit cut (inr has) = All-contains (IsConsistent c) b.cuts cut q.consistent has
+    more : take (i + 1) parts ≡ take i parts ++ part ∷ []
+    more = take_more parts i d lt ∙ ap (λ (p : Part). take i parts ++ p ∷ []) at
 
-    to : (cut : List ℕ) → IsInEither a.cuts b.cuts cut → IsInPart (first ++ last) cut
+    is : IsPartOf c level part
+    is = subst (IsPartOf c level) at (are i d lt)
+
+    fit : (cut : List ℕ) → IsInEither old.cuts part.next.cuts cut → IsConsistent c cut
+    fit cut (inl has) = All-contains (IsConsistent c) old.cuts cut union.consistent has
+    fit cut (inr has) = All-contains (IsConsistent c) part.next.cuts cut (part_consistent c level part is) has
+
+    to : (cut : List ℕ) → IsInEither old.cuts part.next.cuts cut → IsInPart (take i parts ++ part ∷ []) cut
     to cut (inl has) =
-        let w : IsInPart first cut = (p.list.just cut).0 has in
-        (w.0, Contains-append_left first last w.0 w.1, w.2)
-    to cut (inr has) =
-        let w : IsInPart last cut = (q.list.just cut).0 has in
-        (w.0, Contains-append_right first last w.0 w.1, w.2)
+        let w : IsInPart (take i parts) cut = (union.list.just cut).0 has in
+        (w.0, Contains-append_left (take i parts) (part ∷ []) w.0 w.1, w.2)
+    to cut (inr has) = (part, Contains-push (take i parts) part, has)
 
-    from : (cut : List ℕ) → IsInPart (first ++ last) cut → IsInEither a.cuts b.cuts cut
-    from cut (part, in_, has) = side (Contains-append_cases first last part in_)
+    from : (cut : List ℕ) → IsInPart (take i parts ++ part ∷ []) cut → IsInEither old.cuts part.next.cuts cut
+    from cut (p, in_, has) = side (Contains-push_cases (take i parts) part p in_)
       where
-        side : Contains first part ⊎ Contains last part → IsInEither a.cuts b.cuts cut
-        side (inl here) = inl ((p.list.just cut).1 (part, here, has))
-        side (inr there) = inr ((q.list.just cut).1 (part, there, has))
-
-pub one_copy : (c : Computation) (level : Levelled) (parts : List Part) (part : Part)
-    (copy : Result Levelled AllocError) → length parts ≡ 1
-    → IfOk copy (λ next. next ≡ (get_or parts 0 part).next) → All (IsPartOf c level) parts
-    → IfOk copy (IsUnionOf c level parts)
-one_copy c level parts part (Ok next) one same are = one_part c level next parts part one same are
-one_copy c level parts part (Err error) one same are = tt
-
-pub two_results : (c : Computation) (level a b : Levelled) (first last parts : List Part)
-    (both : Result Levelled AllocError) → parts ≡ first ++ last → IsUnionOf c level first a → IsUnionOf c level last b
-    → IfOk both (λ next. IsListOf (IsInEither a.cuts b.cuts) next.cuts) → IfOk both (λ next. next.number ≡ a.number)
-    → IfOk both (IsUnionOf c level parts)
-two_results c level a b first last parts (Ok next) e p q list number =
-    two_unions c level a b next first last parts e p q list number
-two_results c level a b first last parts (Err error) e p q list number = tt
+        side : Contains (take i parts) p ⊎ (part ≡ p) → IsInEither old.cuts part.next.cuts cut
+        side (inl here) = inl ((union.list.just cut).1 (p, here, has))
+        side (inr same) = inr (subst (λ (q : Part). Contains q.next.cuts cut) (sym same) has)
 
 -- ---- each block once: the next level
 
@@ -315,46 +309,108 @@ part_with block (p ∷ parts) some = by (part_with block parts) (eqb_tells p.blo
     by found (inl same) = (p, (0, omega arith, refl), same.1)
     by found (inr other) = later (found (rest other.0))
 
--- a cut of a block is one of the level's
-out_of_block : (count from : ℕ) (cuts : List (List ℕ)) (cut : List ℕ) → Contains (take count (drop from cuts)) cut
-    → Contains cuts cut
-out_of_block count from cuts cut has =
-    subst (λ (l : List (List ℕ)). Contains l cut) (take-append-drop from cuts)
-    (Contains-append_right (take from cuts) (drop from cuts) cut
-    (subst (λ (l : List (List ℕ)). Contains l cut) (take-append-drop count (drop from cuts))
-    (Contains-append_left (take count (drop from cuts)) (drop count (drop from cuts)) cut has)))
-
--- and a cut of the level is one of a block
-into_block : (blocks : ℕ) (cuts : List (List ℕ)) (cut : List ℕ) → AreBlocksOf blocks (length cuts) → Contains cuts cut
-    → (block : ℕ) × (block < blocks) × Contains (block_cuts block cuts) cut
-into_block blocks cuts cut are (i, lt, at) =
-    (block, omega (arith, low, are.0), (i - block_length * block, inside, placed))
+-- which of two lists of numbers is before the other can be found out
+lex_cases : (xs ys : List ℕ) → LexBelow xs ys ⊎ (¬ LexBelow xs ys)
+lex_cases [] ys = inr (λ lex. lex)
+lex_cases (x ∷ xs) [] = inr (λ lex. lex)
+lex_cases (x ∷ xs) (y ∷ ys) = go (cases_order x y) (lex_cases xs ys)
   where
-    block : ℕ
-    block = i / block_length
+    go : (x ≡ y) ⊎ ((x < y) ⊎ (y < x)) → LexBelow xs ys ⊎ (¬ LexBelow xs ys)
+        → LexBelow (x ∷ xs) (y ∷ ys) ⊎ (¬ LexBelow (x ∷ xs) (y ∷ ys))
+    go (inl same) (inl rest) = inl (inr (same, rest))
+    go (inl same) (inr none) = inr (no_rest same none)
+      where
+        no_rest : x ≡ y → (¬ LexBelow xs ys) → ¬ LexBelow (x ∷ xs) (y ∷ ys)
+        no_rest e never (inl less) = absurd (omega arith)
+        no_rest e never (inr (f, rest)) = never rest
+    go (inr (inl less)) rest = inl (inl less)
+    go (inr (inr more)) rest = inr (later more)
+      where
+        later : y < x → ¬ LexBelow (x ∷ xs) (y ∷ ys)
+        later gt (inl less) = absurd (omega arith)
+        later gt (inr (e, rest)) = absurd (omega arith)
 
-    low : block_length * block ≤ i
-    low = omega arith
+-- each cut lies in a block
+into_block : (blocks : ℕ) (cuts : List (List ℕ)) (cut : List ℕ) → AreBlocksOf blocks (length cuts) → 0 < length cuts
+    → (block : ℕ) × (block < blocks) × IsInBlock block cuts cut
+into_block zero cuts cut are some = absurd (omega (arith, are.0))
+into_block (suc last) cuts cut are some = down last (omega arith) (λ lt. absurd (omega (arith, are.0)))
+  where
+    down : (block : ℕ) → block < suc last
+        → (block_length * block + block_length < length cuts
+        → LexBelow cut (slice_index_or cuts (block_length * block + block_length) []))
+        → (b : ℕ) × (b < suc last) × IsInBlock b cuts cut
+    down zero lt up = (0, lt, (λ positive. absurd (omega arith), up))
+    down (suc block) lt up =
+        by (lex_cases cut (slice_index_or cuts (block_length * suc block) [])) (down block (omega arith))
+      where
+        same : block_length * suc block ≡ block_length * block + block_length
+        same = omega arith
 
-    high : i < block_length * block + block_length
-    high = omega arith
+        by : LexBelow cut (slice_index_or cuts (block_length * suc block) [])
+            ⊎ (¬ LexBelow cut (slice_index_or cuts (block_length * suc block) []))
+            → ((block_length * block + block_length < length cuts
+            → LexBelow cut (slice_index_or cuts (block_length * block + block_length) []))
+            → (b : ℕ) × (b < suc last) × IsInBlock b cuts cut)
+            → (b : ℕ) × (b < suc last) × IsInBlock b cuts cut
+        by (inl before) rest =
+            rest (λ inside. subst (λ (k : ℕ). LexBelow cut (slice_index_or cuts k [])) same before)
+        by (inr none) rest = (suc block, lt, (λ positive. none, up))
 
-    inside : i - block_length * block < length (block_cuts block cuts)
-    inside =
-        omega (
-          arith,
-          low,
-          high,
-          length-take block_length (drop (block_length * block) cuts),
-          length-drop (block_length * block) cuts,
-        )
+-- each cut of an ascending list is below the later ones
+later_above : (cuts : List (List ℕ)) (i j : ℕ) → Linked LexBelow cuts → i < j → j < length cuts
+    → LexBelow (get_or cuts i []) (get_or cuts j [])
+later_above [] i j links lt within = absurd (omega arith)
+later_above (x ∷ xs) zero zero links lt within = absurd (omega arith)
+later_above (x ∷ xs) zero (suc j) links lt within =
+    below_rest x (get_or xs j []) xs links (Contains-get_or xs j [] (omega arith))
+later_above (x ∷ xs) (suc i) zero links lt within = absurd (omega arith)
+later_above (x ∷ xs) (suc i) (suc j) links lt within =
+    later_above xs i j (ascending_rest x xs links) (omega arith) (omega arith)
 
-    placed : get_or (block_cuts block cuts) (i - block_length * block) cut ≡ cut
-    placed =
-        let back : block_length * block + (i - block_length * block) ≡ i = omega (arith, low) in
-        get_or-take block_length (drop (block_length * block) cuts) (i - block_length * block) cut (omega (arith, high))
-        ∙ (get_or-drop (block_length * block) cuts (i - block_length * block) cut
-        ∙ (ap (λ (k : ℕ). get_or cuts k cut) back ∙ at))
+-- a cut in a block lies in no later one
+not_later : (cuts : List (List ℕ)) (blocks : ℕ) (cut : List ℕ) (a b : ℕ) → Linked LexBelow cuts
+    → AreBlocksOf blocks (length cuts) → b < blocks → a < b → IsInBlock a cuts cut → ¬ IsInBlock b cuts cut
+not_later cuts blocks cut a b links sized within less in_a in_b =
+    go (cases_order end start)
+  where
+    end : ℕ
+    end = block_length * a + block_length
+
+    start : ℕ
+    start = block_length * b
+
+    inside : start < length cuts
+    inside = omega (arith, sized.1)
+
+    early : LexBelow cut (get_or cuts end [])
+    early = in_a.1 (omega (arith, inside))
+
+    late : ¬ LexBelow cut (get_or cuts start [])
+    late = in_b.0 (omega arith)
+
+    go : (end ≡ start) ⊎ ((end < start) ⊎ (start < end)) → ⊥
+    go (inl same) = late (subst (λ (k : ℕ). LexBelow cut (get_or cuts k [])) same early)
+    go (inr (inl before)) =
+        late (lex_transitive cut (get_or cuts end []) (get_or cuts start []) early
+        (later_above cuts end start links before inside))
+    go (inr (inr after)) = absurd (omega arith)
+
+pub in_one_block : (cuts : List (List ℕ)) (blocks : ℕ) (cut : List ℕ) (a b : ℕ) → Linked LexBelow cuts
+    → AreBlocksOf blocks (length cuts) → a < blocks → b < blocks → IsInBlock a cuts cut → IsInBlock b cuts cut → a ≡ b
+in_one_block cuts blocks cut a b links sized in_ within here there = go (cases_order a b)
+  where
+    go : (a ≡ b) ⊎ ((a < b) ⊎ (b < a)) → a ≡ b
+    go (inl same) = same
+    go (inr (inl less)) = absurd (not_later cuts blocks cut a b links sized within less here there)
+    go (inr (inr more)) = absurd (not_later cuts blocks cut b a links sized in_ more there here)
+
+pub in_some_block : (c : Computation) (cuts : List (List ℕ)) (blocks : ℕ) (cut : List ℕ)
+    → AreBlocksOf blocks (length cuts) → IsNextOf c cuts cut
+    → (block : ℕ) × (block < blocks) × IsInBlock block cuts cut
+in_some_block c cuts blocks cut sized is =
+    let some : 0 < length cuts = let w = is.1.1 in omega (arith, w.1) in
+    into_block blocks cuts cut sized some
 
 -- if each block has one part, the cuts of all parts are those of the next level
 pub whole_list : (c : Computation) (level next : Levelled) (blocks : ℕ) (parts : List Part)
@@ -368,25 +424,35 @@ whole_list c level next blocks parts sized are union = record {
     to : (cut : List ℕ) → IsInPart parts cut → IsNextOf c level.cuts cut
     to cut (part, in_, has) =
         let is : IsPartOf c level part = All-contains (IsPartOf c level) parts part are.are in_ in
-        let w : IsNextOf c (block_cuts part.block level.cuts) cut = (is.list.just cut).0 has in
-        (w.0, (w.1.0, out_of_block block_length (block_length * part.block) level.cuts w.1.0 w.1.1, w.1.2))
+        ((is.list.just cut).0 has).0
 
     from : (cut : List ℕ) → IsNextOf c level.cuts cut → IsInPart parts cut
-    from cut (ok, (old, has, adds)) =
-        let b : (block : ℕ) × (block < blocks) × Contains (block_cuts block level.cuts) old =
-        into_block blocks level.cuts old sized has in
+    from cut is_next =
+        let b : (block : ℕ) × (block < blocks) × IsInBlock block level.cuts cut =
+        in_some_block c level.cuts blocks cut sized is_next in
         let p : (part : Part) × Contains parts part × (part.block ≡ b.0) =
         part_with b.0 parts (omega (arith, are.each b.0 b.1)) in
         let is : IsPartOf c level p.0 = All-contains (IsPartOf c level) parts p.0 are.are p.1 in
-        let here : Contains (block_cuts p.0.block level.cuts) old =
-        subst (λ (x : ℕ). Contains (block_cuts x level.cuts) old) (sym p.2) b.2 in
-        (p.0, p.1, (is.list.just cut).1 (ok, (old, here, adds)))
+        let here : IsInBlock p.0.block level.cuts cut =
+        subst (λ (x : ℕ). IsInBlock x level.cuts cut) (sym p.2) b.2 in
+        (p.0, p.1, (is.list.just cut).1 (is_next, here))
 
-pub next_result : (c : Computation) (level : Levelled) (blocks total count : ℕ) (parts lent : List Part)
-    (next : Levelled) → AreBlocksOf total count → count ≡ length level.cuts → blocks ≡ total
-    → ArePartsOf c level blocks (λ x. 1) parts → lent ≡ parts → IsUnionOf c level lent next
-    → IsListOf (IsNextOf c level.cuts) next.cuts
-next_result c level blocks total count parts lent next sized all same are e union =
-    whole_list c level next blocks parts
-    (subst (λ (n : ℕ). AreBlocksOf blocks n) all (subst (λ (n : ℕ). AreBlocksOf n count) (sym same) sized)) are
-    (subst (λ (l : List Part). IsUnionOf c level l next) e union)
+-- the same parts in another order
+pub parts_moved : (c : Computation) (level : Levelled) (blocks : ℕ) (drawn : ℕ → ℕ) (parts moved : List Part)
+    → IsPermutation parts moved → ArePartsOf c level blocks drawn parts → ArePartsOf c level blocks drawn moved
+parts_moved c level blocks drawn parts moved order are = record {
+  are = All-permutation (IsPartOf c level) parts moved order are.are;
+  each = λ x lt.
+      sum_by-IsPermutation (λ (y : ℕ). cond (eqb y x) 1 0) (map number_of parts) (map number_of moved)
+      (IsPermutation-map number_of parts moved order) ∙ are.each x lt;
+}
+
+-- all parts in some order are the next level
+pub next_made : (c : Computation) (level : Levelled) (blocks : ℕ) (parts moved lent : List Part)
+    (made : Result Levelled AllocError) → AreBlocksOf blocks (length level.cuts)
+    → ArePartsOf c level blocks (λ x. 1) parts → IsPermutation parts moved → lent ≡ moved
+    → IfOk made (IsUnionOf c level lent) → IfOk made (λ next. IsListOf (IsNextOf c level.cuts) next.cuts)
+next_made c level blocks parts moved lent (Ok next) sized are order same union =
+    whole_list c level next blocks moved sized (parts_moved c level blocks (λ x. 1) parts moved order are)
+    (subst (λ (l : List Part). IsUnionOf c level l next) same union)
+next_made c level blocks parts moved lent (Err error) sized are order same union = tt

@@ -1,9 +1,9 @@
 -- Blocks of a level, and the parts of the next level that come of them.
-use Rattle.std.specs.Prelude.{◌≡◌, ℕ, ◌+◌, ◌*◌, ◌<◌, ◌≤◌, List, All, Contains, map, min, take, drop}
+use Rattle.std.specs.Prelude.{◌≡◌, ℕ, ◌+◌, ◌*◌, ◌<◌, ◌≤◌, List, All, Contains, map, min}
 use Rattle.pd_model.specs.Answers.{IsListOf}
 use Rattle.pd_model.specs.Cuts.{IsConsistent, IsNextOf}
 use Rattle.pd_model.specs.Events.{Computation}
-use Rattle.pd_level.specs.Levels.{Levelled}
+use Rattle.pd_level.specs.Levels.{IsBetween, Levelled}
 use Rattle.pd_expand.specs.ClaimRule.{times}
 use Rattle.pd_expand.specs.Limits.{block_length}
 use Rattle.pd_expand.specs.declared.part.Part.{Part}
@@ -12,17 +12,17 @@ use Rattle.pd_expand.specs.declared.part.Part.{Part}
 abbrev pub AreBlocksOf : ℕ → ℕ → Type 0
 AreBlocksOf blocks cuts = (cuts ≤ block_length * blocks) × (block_length * blocks < cuts + block_length)
 
--- the cuts of a block
-abbrev pub block_cuts : ℕ → List (List ℕ) → List (List ℕ)
-block_cuts block cuts = take block_length (drop (block_length * block) cuts)
+-- the cut lies from the first cut of a block on and before that of the next one
+abbrev pub IsInBlock : ℕ → List (List ℕ) → List ℕ → Type 0
+IsInBlock block cuts cut = IsBetween cuts (block_length * block) (block_length * block + block_length) cut
 
 -- the number of the next level, which stays at the greatest of 64 bits
 abbrev pub next_number : Levelled → ℕ
 next_number level = min (level.number + 1) 18446744073709551615
 
--- the cuts that have one event more than one of the block's
+-- the cuts of the next level that lie in the block
 pub record IsPartOf (c : Computation) (level : Levelled) (part : Part) : Type 0 where
-  pub list : IsListOf (IsNextOf c (block_cuts part.block level.cuts)) part.next.cuts
+  pub list : IsListOf (λ cut. IsNextOf c level.cuts cut × IsInBlock part.block level.cuts cut) part.next.cuts
   pub number : part.next.number ≡ next_number level
 
 -- Parts of the next level: each block has as many as its number was drawn times.

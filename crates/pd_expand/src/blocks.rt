@@ -42,7 +42,6 @@ pub fn expand_block(
     let cuts = level.len();
     let from = block as usize * BLOCK_LENGTH;
     let count = BLOCK_LENGTH.min(cuts - from);
-    let held = level.part(alloc, from, from + count)?;
-    let next = Level::successors(alloc, computation, &held)?;
+    let next = Level::successors_between(alloc, computation, level, from, from + count)?;
     Ok(Part { block, next })
 }

@@ -6,7 +6,7 @@ ghost use Rattle.std.specs.Prelude.{◌≡◌, ◌+◌, ◌<◌, ◌≤◌, All,
 
 use crate::blocks::block_count;
 use crate::claims::Claims;
-use crate::union::union_of;
+use crate::union::next_of_parts;
 use crate::workers::expand_all;
 use pd_clock::Computation;
 use pd_level::{Gate, Level, LevelFault};
@@ -41,6 +41,6 @@ pub fn next_level<T: Threads + Wait + Sync, G: Gate + Sync>(
     let blocks = block_count(level.len());
     let (claims, seats) = Claims::new(alloc, blocks, workers)?;
     let parts = expand_all(rt, alloc, computation, level, claims, seats, gate)?;
-    let next = union_of(alloc, computation, level, &parts)?;
+    let next = next_of_parts(alloc, computation, level, blocks, parts)?;
     next.within(width)
 }

@@ -17,6 +17,7 @@
 //! - `blocks`: how many blocks there are, and the expansion of one
 //! - `workers`: several workers that expand the blocks of a level
 //! - `union`: the parts of a level put together
+//! - `laws`: each cut of the next level lies in one block
 //! - `expanding`: the next level, by several workers
 //! - `marking`: which cuts of a level satisfy a predicate
 #![tactic(auto)]
@@ -25,6 +26,7 @@ mod blocks;
 mod claim_seat;
 mod claims;
 mod expanding;
+mod laws;
 mod marking;
 mod part;
 mod rule;
@@ -37,5 +39,6 @@ mod workers;
 pub use claim_seat::ClaimSeat;
 pub use claims::Claims;
 pub use expanding::next_level;
+pub use laws::blocks_cover_the_next_level;
 pub use marking::marks;
 pub use pd_level::{Gate, NoGate};

@@ -4,7 +4,7 @@ use Rattle.std.specs.Prelude.{All, IsTrue, MatchResult, slice_get}
 use Rattle.std.specs.Result.{is_ok}
 use Rattle.std.specs.Ordering.{nat_cmp}
 use Rattle.std.specs.List.Sorted.{IsBinarySearchResult}
-use Rattle.std.proofs.lemmas.Bool.{cases_lt, false≢true}
+use Rattle.std.proofs.lemmas.Bool.{cases_lt, cases_order, false≢true}
 use Rattle.std.proofs.lemmas.List.Sorted.{searched}
 use Rattle.std.proofs.lemmas.List.{length-map, get_or-map}
 use Rattle.pd_format.specs.Limits.{event_limit}
@@ -12,10 +12,12 @@ use Rattle.pd_model.specs.Events.{Computation, Linked, event_count}
 use Rattle.pd_model.specs.Cuts.{IsConsistent, IsNextOf, one_more}
 use Rattle.pd_model.specs.Answers.{LexBelow, IsListOf}
 use Rattle.pd_keys.specs.Keys.{count_base, key_of, digits, AreDigits, Ascending, AreKeys}
-use Rattle.pd_level.specs.MoreCuts.{AreCuts, IsMoreBy}
-use Rattle.pd_level.specs.Levels.{cuts_of, IsKept}
+use Rattle.pd_level.specs.MoreCuts.{AreCuts, IsInRange, IsMoreBy, IsMoreBySome}
+use Rattle.pd_level.specs.Levels.{IsBetween, IsKept, cuts_of}
+use Rattle.pd_model.proofs.OneAnswer.{lex_asymmetric, lex_irreflexive}
 use Rattle.pd_keys.proofs.Keys.{get_or_same, digits-key, key-digits, digits_are, length-digits, lex-digits, weight_pos}
 use Rattle.pd_level.proofs.Merges.{contains_at}
+use Rattle.pd_level.proofs.Ranges.{rising}
 use Rattle.pd_level.proofs.Steps.{cut_digits, cut_below}
 
 pub contains_cuts : (n : ℕ) (keys cut : List ℕ) → Contains (cuts_of n keys) cut → (key : ℕ) × Contains keys key
@@ -99,16 +101,16 @@ are_cuts c n keys are all = record {
 }
 
 -- the next keys
-pub next_keys : (c : Computation) (keys next : List ℕ) → ((q : ℕ) → event_count c q ≤ event_limit) → Ascending next
-    → ((x : ℕ) → Contains next x ↔ ((p : ℕ) × (p < length c) × IsMoreBy c keys p x)) → AreKeys (length c) next
-next_keys c keys next small asc just = record {
+pub next_keys : (c : Computation) (keys next : List ℕ) (from to : ℕ) → ((q : ℕ) → event_count c q ≤ event_limit)
+    → IsMoreBySome c keys from to 0 (length c) next → AreKeys (length c) next
+next_keys c keys next from to small more = record {
   below = λ i lt.
-      let w : (p : ℕ) × (p < length c) × IsMoreBy c keys p (get_or next i 0) =
-      (just (get_or next i 0)).0 (i, lt, got next i (get_or next i 0) lt) in
-      let below : key_of (one_more (digits (length c) w.2.0) w.0) < count_base ^ length c =
-      cut_below c (one_more (digits (length c) w.2.0) w.0) small w.2.2 in
-      subst (λ (x : ℕ). x < count_base ^ length c) (sym w.2.3) below;
-  ascending = asc;
+      let w = (more.just (get_or next i 0)).0 (i, lt, got next i (get_or next i 0) lt) in
+      let made : IsMoreBy c keys w.0.0 (get_or next i 0) = w.0.3 in
+      let below : key_of (one_more (digits (length c) made.0) w.0.0) < count_base ^ length c =
+      cut_below c (one_more (digits (length c) made.0) w.0.0) small made.2 in
+      subst (λ (x : ℕ). x < count_base ^ length c) (sym made.3) below;
+  ascending = more.ascending;
 }
   where
     got : (xs : List ℕ) (i d : ℕ) → i < length xs → get_or xs i d ≡ get_or xs i 0
@@ -116,53 +118,137 @@ next_keys c keys next small asc just = record {
     got (x ∷ xs) zero d lt = refl
     got (x ∷ xs) (suc i) d lt = got xs i d (omega arith)
 
+-- numbers are below one another as their digits are
+pub lex_below : (n j k : ℕ) → j < count_base ^ n → LexBelow (digits n j) (digits n k) → j < k
+lex_below n j k below lex = go (cases_order j k)
+  where
+    go : (j ≡ k) ⊎ ((j < k) ⊎ (k < j)) → j < k
+    go (inl same) =
+        absurd (lex_irreflexive (digits n k) (subst (λ (i : ℕ). LexBelow (digits n i) (digits n k)) same lex))
+    go (inr (inl less)) = less
+    go (inr (inr more)) = absurd (lex_asymmetric (digits n j) (digits n k) lex (lex-digits n k j below more))
+
+-- a number in range is that of a cut between
+pub between : (n : ℕ) (keys : List ℕ) (from to x : ℕ) → AreKeys n keys → (0 < from → from < length keys)
+    → x < count_base ^ n → IsInRange keys from to x ↔ IsBetween (cuts_of n keys) from to (digits n x)
+between n keys from to x are bound small = (there, back)
+  where
+    there : IsInRange keys from to x → IsBetween (cuts_of n keys) from to (digits n x)
+    there range = (
+      λ some lex.
+          let least : get_or keys from 0 ≤ x = range.0 some in
+          let less : x < get_or keys from 0 =
+          lex_below n x (get_or keys from 0) small (subst (λ (cut : List ℕ). LexBelow (digits n x) cut)
+          (cut_at n keys from [] (bound some)) lex) in omega arith,
+      λ some.
+          let lt : to < length keys = omega (arith, length-cuts n keys) in
+          subst (λ (cut : List ℕ). LexBelow (digits n x) cut) (sym (cut_at n keys to [] lt))
+          (lex-digits n x (get_or keys to 0) (are.below to lt) (range.1 lt)),
+    )
+
+    back : IsBetween (cuts_of n keys) from to (digits n x) → IsInRange keys from to x
+    back range = (
+      λ some. least some (cases_lt x (get_or keys from 0)),
+      λ lt. lex_below n x (get_or keys to 0) small (subst (λ (cut : List ℕ). LexBelow (digits n x) cut)
+          (cut_at n keys to [] lt) (range.1 (omega (arith, length-cuts n keys)))),
+    )
+      where
+        least : 0 < from → (x < get_or keys from 0) ⊎ (get_or keys from 0 ≤ x) → get_or keys from 0 ≤ x
+        least some (inl less) =
+            absurd (range.0 some (subst (λ (cut : List ℕ). LexBelow (digits n x) cut)
+            (sym (cut_at n keys from [] (bound some)))
+            (lex-digits n x (get_or keys from 0) (are.below from (bound some)) less)))
+        least some (inr le) = le
+
+-- the cuts of the next level that lie between two of this one
+abbrev pub IsNextBetween : Computation → List (List ℕ) → ℕ → ℕ → List ℕ → Type 0
+IsNextBetween c cuts from to cut = IsNextOf c cuts cut × IsBetween cuts from to cut
+
 -- and their cuts are those of the next level
-pub next_list : (c : Computation) (n : ℕ) (keys next : List ℕ) → ((q : ℕ) → event_count c q ≤ event_limit)
-    → All (IsConsistent c) (cuts_of n keys) → AreKeys (length c) next
-    → ((x : ℕ) → Contains next x ↔ ((p : ℕ) × (p < length c) × IsMoreBy c keys p x))
-    → IsListOf (IsNextOf c (cuts_of n keys)) (cuts_of (length c) next)
-next_list c n keys next small all are just = record {
+pub next_list : (c : Computation) (n : ℕ) (keys next : List ℕ) (from to : ℕ)
+    → ((q : ℕ) → event_count c q ≤ event_limit) → All (IsConsistent c) (cuts_of n keys) → AreKeys n keys
+    → (0 < from → from < length keys) → IsMoreBySome c keys from to 0 (length c) next
+    → IsListOf (IsNextBetween c (cuts_of n keys) from to) (cuts_of (length c) next)
+next_list c n keys next from to small all own bound more = record {
   ascending = cuts_ascend (length c) next are;
   just = λ cut. subst (λ (cuts : List (List ℕ)). Contains (cuts_of (length c) next) cut
-      ↔ IsNextOf c cuts cut) (sym (cuts_same c n keys all)) (to cut, from cut);
+      ↔ IsNextBetween c cuts from to cut) (sym (cuts_same c n keys all)) (to_cut cut, from_cut cut);
 }
   where
+    are : AreKeys (length c) next
+    are = next_keys c keys next from to small more
+
+    olds : AreKeys (length c) keys
+    olds = (are_cuts c n keys own all).are_keys
+
     back : (cut : List ℕ) → IsConsistent c cut → digits (length c) (key_of cut) ≡ cut
     back cut ok =
         subst (λ (m : ℕ). digits m (key_of cut) ≡ cut) ok.fits.one_each (digits-key cut (cut_digits c cut small ok))
 
-    to : (cut : List ℕ) → Contains (cuts_of (length c) next) cut → IsNextOf c (cuts_of (length c) keys) cut
-    to cut has =
+    under : (x : ℕ) → Contains next x → x < count_base ^ length c
+    under x has =
+        let at : (i : ℕ) × (i < length next) × (get_or next i 0 ≡ x) = contains_at next x has in
+        subst (λ (y : ℕ). y < count_base ^ length c) at.2 (are.below at.0 at.1)
+
+    to_cut : (cut : List ℕ) → Contains (cuts_of (length c) next) cut
+        → IsNextBetween c (cuts_of (length c) keys) from to cut
+    to_cut cut has =
         let w : (key : ℕ) × Contains next key × (digits (length c) key ≡ cut) = contains_cuts (length c) next cut has in
-        let v : (p : ℕ) × (p < length c) × IsMoreBy c keys p w.0 = (just w.0).0 w.1 in
-        let is : cut ≡ one_more (digits (length c) v.2.0) v.0 =
-        sym w.2 ∙ (ap (digits (length c)) v.2.3 ∙ back (one_more (digits (length c) v.2.0) v.0) v.2.2) in (
-          subst (λ (x : List ℕ). IsConsistent c x) (sym is) v.2.2,
+        let v = (more.just w.0).0 w.1 in
+        let p : ℕ = v.0.0 in
+        let made : IsMoreBy c keys p w.0 = v.0.3 in
+        let is : cut ≡ one_more (digits (length c) made.0) p =
+        sym w.2 ∙ (ap (digits (length c)) made.3 ∙ back (one_more (digits (length c) made.0) p) made.2) in (
           (
-            digits (length c) v.2.0,
-            cuts_contain (length c) keys v.2.0 v.2.1,
-            (v.0, omega (arith, v.1, length-digits (length c) v.2.0), is),
+            subst (λ (x : List ℕ). IsConsistent c x) (sym is) made.2,
+            (
+              digits (length c) made.0,
+              cuts_contain (length c) keys made.0 made.1,
+              (p, (let lt : p < length c = v.0.2 in omega (arith, length-digits (length c) made.0)), is),
+            ),
           ),
+          subst (λ (x : List ℕ). IsBetween (cuts_of (length c) keys) from to x) w.2
+              ((between (length c) keys from to w.0 olds bound (under w.0 w.1)).0 v.1),
         )
 
-    from : (cut : List ℕ) → IsNextOf c (cuts_of (length c) keys) cut → Contains (cuts_of (length c) next) cut
-    from cut (ok, (old, has, (p, lt, is))) =
+    from_cut : (cut : List ℕ) → IsNextBetween c (cuts_of (length c) keys) from to cut
+        → Contains (cuts_of (length c) next) cut
+    from_cut cut ((ok, (old, has, (p, lt, is))), range) =
         let w : (key : ℕ) × Contains keys key × (digits (length c) key ≡ old) = contains_cuts (length c) keys old has in
         let made : cut ≡ one_more (digits (length c) w.0) p = is ∙ ap (λ (x : List ℕ). one_more x p) (sym w.2) in
         let within : p < length c = omega (arith, ap length w.2, length-digits (length c) w.0) in
+        let below : key_of cut < count_base ^ length c = cut_below c cut small ok in
+        let in_range : IsInRange keys from to (key_of cut) =
+        (between (length c) keys from to (key_of cut) olds bound below).1
+        (subst (λ (x : List ℕ). IsBetween (cuts_of (length c) keys) from to x) (sym (back cut ok)) range) in
         let in_ : Contains next (key_of cut) =
-        (just (key_of cut)).1 (
-          p,
-          within,
+        (more.just (key_of cut)).1 (
           (
-            w.0,
-            w.1,
-            subst (λ (x : List ℕ). IsConsistent c x) made ok,
-            ap key_of made,
+            p,
+            omega arith,
+            within,
+            (
+              w.0,
+              w.1,
+              subst (λ (x : List ℕ). IsConsistent c x) made ok,
+              ap key_of made,
+            ),
           ),
+          in_range,
         ) in
         subst (λ (x : List ℕ). Contains (cuts_of (length c) next) x) (back cut ok)
         (cuts_contain (length c) next (key_of cut) in_)
+
+-- all cuts of the next level lie between the level's ends
+pub whole_list : (c : Computation) (cuts next : List (List ℕ)) (to : ℕ) → to ≡ length cuts
+    → IsListOf (IsNextBetween c cuts 0 to) next → IsListOf (IsNextOf c cuts) next
+whole_list c cuts next to end list = record {
+  ascending = list.ascending;
+  just = λ cut. (λ has. ((list.just cut).0 has).0, λ is. (list.just cut).1 (is, none cut));
+}
+  where
+    none : (cut : List ℕ) → IsBetween cuts 0 to cut
+    none cut = (λ some. absurd (omega arith), λ some. absurd (omega arith))
 
 -- level 0
 pub first_kept : (n : ℕ) → n ≤ 8 → IsKept n (0 ∷ [])
@@ -209,16 +295,8 @@ contains_small n keys counts are has =
 -- what a search among ascending keys answers
 pub found : (keys : List ℕ) (key : ℕ) (r : Result ℕ ℕ) → IsBinarySearchResult (λ y. nat_cmp y key) keys r
     → Ascending keys → IsTrue (is_ok r) ↔ Contains keys key
-found keys key r search_is asc = go r (searched keys key r search_is rising)
+found keys key r search_is asc = go r (searched keys key r search_is (rising keys asc))
   where
-    rising : (i j : ℕ) → i ≤ j → j < length keys → get_or keys i 0 ≤ get_or keys j 0
-    rising i j le lt = by (cases_lt i j)
-      where
-        by : (i < j) ⊎ (j ≤ i) → get_or keys i 0 ≤ get_or keys j 0
-        by (inl less) = let h : get_or keys i 0 < get_or keys j 0 = asc i j less lt in omega arith
-        by (inr same) = let e : i ≡ j = omega arith in let f : get_or keys i 0 ≡ get_or keys j 0 =
-            ap (λ (k : ℕ). get_or keys k 0) e in omega arith
-
     go : (s : Result ℕ ℕ) → MatchResult s (λ i. (i < length keys) × (get_or keys i 0 ≡ key)) (λ i. (i ≤ length keys)
         × ((k : ℕ) → k < i → get_or keys k 0 < key) × ((k : ℕ) → i ≤ k → k < length keys → key < get_or keys k 0))
         → IsTrue (is_ok s) ↔ Contains keys key

@@ -255,3 +255,39 @@ rest_left left i right j both m asc (inr done) = record {
         go (inl prefix) = Contains-append_left both (drop i left) x ((m.just x).1 (inl prefix))
         go (inr rest) = Contains-append_right both (drop i left) x rest
     from x (inr r) = Contains-append_left both (drop i left) x ((m.just x).1 (inr r))
+
+-- two lists of which the last of the first one is below the first of the last one
+pub below_all : (left right : List ℕ) (x y : ℕ) → Ascending left → Ascending right
+    → get_or left (length left - 1) 0 < get_or right 0 0 → Contains left x → Contains right y → x < y
+below_all left right x y asc_left asc_right less has later = go (contains_at left x has) (contains_at right y later)
+  where
+    low : (i : ℕ) → i < length left → (i < length left - 1) ⊎ (length left - 1 ≤ i)
+        → get_or left i 0 ≤ get_or left (length left - 1) 0
+    low i lt (inl before) =
+        let h : get_or left i 0 < get_or left (length left - 1) 0 = asc_left i (length left - 1) before (omega arith) in
+        omega arith
+    low i lt (inr last) =
+        let e : i ≡ length left - 1 = omega arith in
+        let f : get_or left i 0 ≡ get_or left (length left - 1) 0 = ap (λ (k : ℕ). get_or left k 0) e in
+        omega arith
+
+    high : (j : ℕ) → j < length right → get_or right 0 0 ≤ get_or right j 0
+    high zero lt = omega arith
+    high (suc j) lt =
+        let h : get_or right 0 0 < get_or right (suc j) 0 = asc_right 0 (suc j) (omega arith) lt in omega arith
+
+    go : (i : ℕ) × (i < length left) × (get_or left i 0 ≡ x) → (j : ℕ) × (j < length right) × (get_or right j 0 ≡ y)
+        → x < y
+    go (i, lt, at) (j, in_, there) =
+        let a : get_or left i 0 ≤ get_or left (length left - 1) 0 = low i lt (cases_lt i (length left - 1)) in
+        let b : get_or right 0 0 ≤ get_or right j 0 = high j in_ in
+        omega arith
+
+-- one list after the other
+pub both_just : (left right both : List ℕ) → both ≡ left ++ right → (x : ℕ)
+    → Contains both x ↔ (Contains left x ⊎ Contains right x)
+both_just left right both e x = rw e (Contains-append_cases left right x, from)
+  where
+    from : Contains left x ⊎ Contains right x → Contains (left ++ right) x
+    from (inl has) = Contains-append_left left right x has
+    from (inr has) = Contains-append_right left right x has

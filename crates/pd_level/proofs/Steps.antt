@@ -1,6 +1,5 @@
 -- The cuts that one more event makes.
 use Rattle.std.proofs.Common.{◌≡◌, ℕ, ◌+◌, ◌-◌, ◌^◌, ◌<◌, ◌≤◌, List, [], ◌∷◌, ◌++◌, length, get_or, take, Contains, refl, sym, ap, ◌∙◌, subst, inl, inr, ◌⊎◌, ◌↔◌, arith}
-use Rattle.std.proofs.lemmas.Bool.{cases_lt}
 use Rattle.pd_format.specs.Limits.{event_limit}
 use Rattle.pd_model.specs.Events.{Computation, event_count}
 use Rattle.pd_model.specs.Cuts.{IsConsistent, one_more}
@@ -108,43 +107,3 @@ step_yes c keys p i more cuts within lt makes m = record {
             ⊎ (get_or keys i 0 + count_base ^ (length c - 1 - p) ≡ x)
         go (inl old) = inl ((m.just x).1 (w.0, old, w.2, w.3))
         go (inr e) = inr (sym made ∙ (ap (λ (key : ℕ). key_of (one_more (digits (length c) key) p)) e ∙ sym w.3))
-
--- so far: the cuts that the first p processes make
-pub record IsMoreUpTo (c : Computation) (keys : List ℕ) (p : ℕ) (more : List ℕ) : Type 0 where
-  pub ascending : Ascending more
-  pub just : (x : ℕ) → Contains more x ↔ ((q : ℕ) × (q < p) × IsMoreBy c keys q x)
-
--- process 0 alone
-pub first_one : (c : Computation) (keys more : List ℕ) → Ascending more
-    → ((x : ℕ) → Contains more x ↔ IsMoreBy c keys 0 x) → IsMoreUpTo c keys 1 more
-first_one c keys more asc just = record {
-  ascending = asc;
-  just = λ x. (
-    λ has. (0, omega arith, (just x).0 has),
-    λ w. (just x).1 (subst (λ (q : ℕ). IsMoreBy c keys q x) (zero_is w.0 w.1) w.2),
-  );
-}
-  where
-    zero_is : (q : ℕ) → q < 1 → q ≡ 0
-    zero_is q lt = omega arith
-
-pub up_to_more : (c : Computation) (keys : List ℕ) (p : ℕ) (more by_one both : List ℕ) → IsMoreUpTo c keys p more
-    → ((x : ℕ) → Contains by_one x ↔ IsMoreBy c keys p x) → Ascending both
-    → ((x : ℕ) → Contains both x ↔ (Contains more x ⊎ Contains by_one x)) → IsMoreUpTo c keys (p + 1) both
-up_to_more c keys p more by_one both old one asc just = record {
-  ascending = asc;
-  just = λ x. (λ has. to x ((just x).0 has), λ w. (just x).1 (from x w));
-}
-  where
-    to : (x : ℕ) → Contains more x ⊎ Contains by_one x → (q : ℕ) × (q < p + 1) × IsMoreBy c keys q x
-    to x (inl has) =
-        let w : (q : ℕ) × (q < p) × IsMoreBy c keys q x = (old.just x).0 has in
-        (w.0, omega (arith, w.1), w.2)
-    to x (inr has) = (p, omega arith, (one x).0 has)
-
-    from : (x : ℕ) → (q : ℕ) × (q < p + 1) × IsMoreBy c keys q x → Contains more x ⊎ Contains by_one x
-    from x (q, lt, w) = go (cases_lt q p)
-      where
-        go : (q < p) ⊎ (p ≤ q) → Contains more x ⊎ Contains by_one x
-        go (inl less) = inl ((old.just x).1 (q, less, w))
-        go (inr le) = let e : q ≡ p = omega arith in inr ((one x).1 (subst (λ (r : ℕ). IsMoreBy c keys r x) e w))

@@ -1,41 +1,13 @@
--- Parts of levels, and two levels as one.
-use Rattle.std.proofs.Common.{◌≡◌, ℕ, ◌+◌, ◌-◌, ◌^◌, ◌<◌, ◌≤◌, List, length, get_or, map, take, drop, Contains, sym, ap, ◌∙◌, subst, inl, inr, ◌⊎◌, ◌↔◌, arith}
+-- Two levels as one.
+use Rattle.std.proofs.Common.{◌≡◌, ℕ, ◌^◌, ◌<◌, List, length, get_or, Contains, subst, inl, inr, ◌⊎◌, ◌↔◌}
 use Rattle.std.specs.Prelude.{All}
-use Rattle.std.proofs.lemmas.List.{drop-map, get_or-drop, get_or-take, length-drop, length-take-le, take-map}
 use Rattle.pd_model.specs.Events.{Computation}
 use Rattle.pd_model.specs.Cuts.{IsConsistent}
 use Rattle.pd_model.specs.Answers.{IsListOf}
 use Rattle.pd_keys.specs.Keys.{count_base, digits, Ascending, AreKeys}
-use Rattle.pd_level.specs.Levels.{IsInEither, IsKept, cuts_of}
+use Rattle.pd_level.specs.Levels.{IsInEither, cuts_of}
 use Rattle.pd_level.proofs.Levels.{contains_cuts, cuts_ascend, cuts_contain, cuts_same}
 use Rattle.pd_level.proofs.Merges.{contains_at, contains_get}
-
--- the keys from one place to another
-pub part_kept : (n from to : ℕ) (keys : List ℕ) → from ≤ to → to ≤ length keys → IsKept n keys
-    → IsKept n (take (to - from) (drop from keys))
-part_kept n from to keys le within kept = record {
-  few = kept.few;
-  are_keys = record {
-    below = λ i lt. rw (there i (inside i lt)) (kept.are_keys.below (from + i) (let h = inside i lt in omega arith));
-    ascending = λ i j lt in_.
-        rw (there i (let h = inside j in_ in omega arith), there j (inside j in_))
-        (kept.are_keys.ascending (from + i) (from + j) (omega arith) (let h = inside j in_ in omega arith));
-  };
-}
-  where
-    inside : (i : ℕ) → i < length (take (to - from) (drop from keys)) → i < to - from
-    inside i lt =
-        let room : to - from ≤ length (drop from keys) = omega (arith, length-drop from keys) in
-        omega (arith, length-take-le (to - from) (drop from keys) room)
-
-    there : (i : ℕ) → i < to - from
-        → get_or (take (to - from) (drop from keys)) i 0 ≡ get_or keys (from + i) 0
-    there i lt = get_or-take (to - from) (drop from keys) i 0 lt ∙ get_or-drop from keys i 0
-
-pub part_cuts : (n count from : ℕ) (keys : List ℕ)
-    → cuts_of n (take count (drop from keys)) ≡ take count (drop from (cuts_of n keys))
-part_cuts n count from keys =
-    sym (ap (take count) (drop-map (digits n) from keys) ∙ take-map (digits n) count (drop from keys))
 
 -- both lists and no more
 abbrev pub AreBoth : List ℕ → List ℕ → List ℕ → Type 0

@@ -1,8 +1,9 @@
 -- What a level stands for.
-use Rattle.std.specs.Prelude.{ℕ, ◌≤◌, ◌⊎◌, Bool, List, [], ◌∷◌, Contains, map, cond}
+use Rattle.std.specs.Prelude.{ℕ, ◌<◌, ◌≤◌, ◌⊎◌, Bool, List, [], ◌∷◌, Contains, cond, length, map, slice_index_or}
 use Rattle.std.specs.Bool.{beq}
 use Rattle.pd_format.specs.Limits.{process_limit}
 use Rattle.pd_keys.specs.Keys.{AreKeys, digits}
+use Rattle.pd_model.specs.Answers.{LexBelow}
 
 -- the number of a level, from 0, and its cuts as counts
 pub record Levelled : Type 0 where
@@ -28,3 +29,10 @@ kept_by wanted [] xs = []
 kept_by wanted (mark ∷ marks) [] = []
 kept_by wanted (mark ∷ marks) (x ∷ xs) =
     cond (beq mark wanted) (x ∷ kept_by wanted marks xs) (kept_by wanted marks xs)
+
+-- The cut lies between two of the list, each given by its index: not before the first one, and before the last one. The
+-- first one of index 0 is no bound, and neither is a last one past the end.
+abbrev pub IsBetween : List (List ℕ) → ℕ → ℕ → List ℕ → Type 0
+IsBetween cuts from to cut =
+    (0 < from → ¬ LexBelow cut (slice_index_or cuts from []))
+    × (to < length cuts → LexBelow cut (slice_index_or cuts to []))

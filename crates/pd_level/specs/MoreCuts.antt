@@ -1,6 +1,6 @@
 -- Ascending numbers whose digits are cuts, and the cuts that one more event makes of those.
-use Rattle.std.specs.Prelude.{◌≡◌, ℕ, ◌<◌, List, length, slice_index, Contains}
-use Rattle.pd_keys.specs.Keys.{AreKeys, digits, key_of}
+use Rattle.std.specs.Prelude.{◌≡◌, ℕ, ◌<◌, ◌≤◌, ◌↔◌, List, length, slice_index, Contains}
+use Rattle.pd_keys.specs.Keys.{AreKeys, Ascending, digits, key_of}
 use Rattle.pd_model.specs.Events.{Computation}
 use Rattle.pd_model.specs.Cuts.{IsConsistent, one_more}
 
@@ -14,3 +14,14 @@ abbrev pub IsMoreBy : Computation → List ℕ → ℕ → ℕ → Type 0
 IsMoreBy c keys p x =
     (key : ℕ) × Contains keys key × IsConsistent c (one_more (digits (length c) key) p)
     × (x ≡ key_of (one_more (digits (length c) key) p))
+
+-- The number lies between two of those, each given by its index: not below the first one, and below the last one. The
+-- first one of index 0 is no bound, and neither is a last one past the end.
+abbrev pub IsInRange : List ℕ → ℕ → ℕ → ℕ → Type 0
+IsInRange keys from to x = (0 < from → slice_index keys from ≤ x) × (to < length keys → x < slice_index keys to)
+
+-- the cuts that one more event of the processes from first on and before last makes, those that lie in range
+pub record IsMoreBySome (c : Computation) (keys : List ℕ) (from to first last : ℕ) (more : List ℕ) : Type 0 where
+  pub ascending : Ascending more
+  pub just : (x : ℕ) → Contains more x
+      ↔ (((p : ℕ) × (first ≤ p) × (p < last) × IsMoreBy c keys p x) × IsInRange keys from to x)

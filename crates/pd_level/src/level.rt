@@ -2,13 +2,13 @@
 ghost use Rattle.pd_model.specs.Answers.{IsListOf, MoreThan};
 ghost use Rattle.pd_model.specs.Cuts.{IsConsistent, IsNextOf, empty_cut};
 ghost use Rattle.pd_model.specs.Predicates.{test_of};
-ghost use Rattle.pd_level.specs.Levels.{IsInEither, IsKept, cuts_of, kept_by};
+ghost use Rattle.pd_level.specs.Levels.{IsBetween, IsInEither, IsKept, cuts_of, kept_by};
 ghost use Rattle.pd_pred.specs.Views.{predicate_view};
-ghost use Rattle.std.specs.Prelude.{◌≡◌, ◌+◌, ◌-◌, ◌<◌, ◌≤◌, ◌==◌, ◌↔◌, All, Contains, IfErr, IfOk, IfSome, IsTrue, List, [], ◌∷◌, Some, drop, length, min, slice_get, take};
+ghost use Rattle.std.specs.Prelude.{◌≡◌, ◌+◌, ◌<◌, ◌≤◌, ◌==◌, ◌↔◌, All, Contains, IfErr, IfOk, IfSome, IsTrue, List, [], ◌∷◌, Some, length, min, slice_get};
 
 use super::LevelFault;
 use super::keep::keep_marked;
-use super::merge::merge;
+use super::merge::joined;
 use super::state::KeyState;
 use super::step::more_by_any;
 use pd_clock::{Computation, Cut};
@@ -33,19 +33,6 @@ impl Model for Level {
     ghost view = { λ l. record { number = l.number; cuts = cuts_of l.processes l.keys.items } };
 
     ghost invariant = { λ l. IsKept l.processes l.keys.items };
-}
-
-/// Those of the numbers that stand from one place to another.
-fn numbers_between(
-    alloc: Global,
-    keys: &[u128],
-    from: usize,
-    to: usize,
-) -> Result<Vec<u128>, AllocError>
-    requires { (from ≤ to) × (to ≤ length keys.now) }
-    ensures { IfOk result (λ part. part.items ≡ take (to - from) (drop from keys.now)) }
-{
-    keys[from..to].to_vec(alloc)
 }
 
 impl Level {
@@ -102,8 +89,31 @@ impl Level {
         ensures list { IfOk result (λ next. IsListOf (IsNextOf computation.now.events level.now.cuts) next.cuts) }
         ensures number { IfOk result (λ next. next.number ≡ min (level.now.number + 1) 18446744073709551615) }
     {
+        Level::successors_between(alloc, computation, level, 0, level.len())
+    }
+
+    /// Those of the cuts that have one event more than one of the level's that lie between two of the level's: not before
+    /// the cut with the index `from`, and before the one with the index `to`, both from 0. If `from` is 0 there is no
+    /// first bound, and no last one if `to` is the number of cuts or more. They are in lexicographic order, however many
+    /// they are. The number stays at the greatest `u64` once it is there.
+    ///
+    /// # Errors
+    /// An allocation was refused.
+    pub fn successors_between(
+        alloc: Global,
+        computation: &Computation<'_>,
+        level: &Level,
+        from: usize,
+        to: usize,
+    ) -> Result<Level, AllocError>
+        requires cuts { All (IsConsistent computation.now.events) level.now.cuts }
+        requires from { 0 < from → from < length level.now.cuts }
+        ensures list { IfOk result (λ next. IsListOf (λ cut. IsNextOf computation.now.events level.now.cuts cut
+            × IsBetween level.now.cuts from to cut) next.cuts) }
+        ensures number { IfOk result (λ next. next.number ≡ min (level.now.number + 1) 18446744073709551615) }
+    {
         computation.limits();
-        let keys = more_by_any(alloc, computation, &level.keys)?;
+        let keys = more_by_any(alloc, computation, &level.keys, from, to)?;
         Ok(Level {
             number: level.number.saturating_add(1),
             processes: computation.processes(),
@@ -123,58 +133,48 @@ impl Level {
         Ok(self)
     }
 
-    /// Those of the level's cuts that stand from one index to another, the last of them left out, as a level of the
-    /// same number.
-    ///
-    /// # Errors
-    /// An allocation was refused.
-    pub fn part(&self, alloc: Global, from: usize, to: usize) -> Result<Level, AllocError>
-        requires { (from ≤ to) × (to ≤ length self.now.cuts) }
-        ensures cuts { IfOk result (λ part. part.cuts ≡ take (to - from) (drop from self.now.cuts)) }
-        ensures number { IfOk result (λ part. part.number ≡ self.now.number) }
-    {
-        let keys = numbers_between(alloc, &self.keys, from, to)?;
-        Ok(Level {
-            number: self.number,
-            processes: self.processes,
-            keys,
-        })
-    }
-
     /// The cuts that stand in one of two levels or in both, each once and in lexicographic order. The number is that of
-    /// the first level.
+    /// the first level. If all cuts of the last level come after those of the first one, they are written at their end.
     ///
     /// # Errors
     /// An allocation was refused.
-    pub fn union(
+    pub fn with_cuts_of(
+        self,
         alloc: Global,
         computation: &Computation<'_>,
-        first: &Level,
         last: &Level,
     ) -> Result<Level, AllocError>
-        requires first { All (IsConsistent computation.now.events) first.now.cuts }
+        requires first { All (IsConsistent computation.now.events) self.cuts }
         requires last { All (IsConsistent computation.now.events) last.now.cuts }
-        ensures list { IfOk result (λ both. IsListOf (IsInEither first.now.cuts last.now.cuts) both.cuts) }
-        ensures number { IfOk result (λ both. both.number ≡ first.now.number) }
+        ensures list { IfOk result (λ both. IsListOf (IsInEither self.cuts last.now.cuts) both.cuts) }
+        ensures number { IfOk result (λ both. both.number ≡ self.number) }
     {
         computation.limits();
-        let keys = merge(alloc, &first.keys, &last.keys)?;
+        let Level {
+            number,
+            processes: _,
+            keys: first,
+        } = self;
+        let keys = joined(alloc, first, &last.keys)?;
         Ok(Level {
-            number: first.number,
+            number,
             processes: computation.processes(),
             keys,
         })
     }
 
-    /// A level of this number without a cut. It takes no memory.
-    pub fn empty(alloc: Global, number: u64) -> Level
-        ensures { result ≡ record { number = number; cuts = [] } }
+    /// A level of this number without a cut, and with room for this many.
+    ///
+    /// # Errors
+    /// An allocation was refused.
+    pub fn with_room(alloc: Global, number: u64, room: usize) -> Result<Level, AllocError>
+        ensures { IfOk result (λ level. level ≡ record { number = number; cuts = [] }) }
     {
-        Level {
+        Ok(Level {
             number,
             processes: 0,
-            keys: Vec::new(alloc),
-        }
+            keys: Vec::with_capacity(alloc, room)?,
+        })
     }
 
     /// The level of this number with the cuts of these keys, each of which has as many digits as there are processes.

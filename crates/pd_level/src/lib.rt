@@ -12,6 +12,7 @@
 //! - `gate`: what a worker passes before it expands a block of cuts
 //! - `can`: whether one more event leaves a cut
 //! - `step`: the cuts that have one event more
+//! - `range`: which numbers come to lie between two others once something is added
 //! - `merge`: two ascending lists as one
 //! - `keep`: some of the cuts, by their marks
 //! - `state`: the state at a cut that is one number
@@ -23,6 +24,7 @@ mod gate;
 mod keep;
 mod level;
 mod merge;
+mod range;
 mod state;
 mod step;
 

@@ -1,9 +1,4 @@
 -- The successors are the next level, if they are no more than the width.
-use Rattle.std.proofs.Common.{List, ap, sym, subst}
-use Rattle.std.proofs.lemmas.Result.{IfOk-weaker}
-use Rattle.pd_model.specs.Answers.{IsListOf}
-use Rattle.pd_model.specs.Cuts.{IsNextOf}
-use Rattle.pd_level.specs.Levels.{Levelled}
 use Rattle.pd_level.proofs.level.Level.next.Goals as goal
 
 pub returns-clause-wide : goal.returns-clause-wide

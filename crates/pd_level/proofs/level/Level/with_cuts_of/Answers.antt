@@ -7,7 +7,7 @@ use Rattle.pd_keys.specs.Keys.{AreKeys, Ascending}
 use Rattle.pd_level.specs.Levels.{IsInEither, IsKept, Levelled, cuts_of}
 use Rattle.pd_level.proofs.Levels.{are_cuts}
 use Rattle.pd_level.proofs.Unions.{AreBoth, union_keys, union_list}
-use Rattle.pd_level.proofs.level.Level.union.Goals as goal
+use Rattle.pd_level.proofs.level.Level.with_cuts_of.Goals as goal
 
 both_keys : (c : Computation) (n m k : ℕ) (first last both : List ℕ) → IsKept n first → IsKept m last
     → All (IsConsistent c) (cuts_of n first) → All (IsConsistent c) (cuts_of m last) → Ascending both
@@ -32,28 +32,28 @@ both_cuts c n m k first last both a b kept kept_last same same_last all all_last
 pub invariant_of-result : goal.invariant_of-result
 invariant_of-result c =
     let events = c.args.computation.now.events in
-    let first : All (IsConsistent events) (cuts_of c.first.inside.processes c.first.inside.keys.items) =
-    subst (λ (l : Levelled). All (IsConsistent events) l.cuts) (sym c.first.view_is) c.requires.first in
+    let first : All (IsConsistent events) (cuts_of c.self.inside.processes c.self.inside.keys.items) =
+    subst (λ (l : Levelled). All (IsConsistent events) l.cuts) (sym c.self.view_is) c.requires.first in
     let last : All (IsConsistent events) (cuts_of c.last.inside.processes c.last.inside.keys.items) =
     subst (λ (l : Levelled). All (IsConsistent events) l.cuts) (sym c.last.view_is) c.requires.last in
     record {
       few = omega (arith, c.limits.ensures.few, c.processes.ensures);
       are_keys =
-          both_keys events c.first.inside.processes c.last.inside.processes c.processes.result
-          c.first.inside.keys.items c.last.inside.keys.items c.in_ok-keys.keys.items c.first.invariant
+          both_keys events c.self.inside.processes c.last.inside.processes c.processes.result
+          c.self.inside.keys.items c.last.inside.keys.items c.in_ok-keys.keys.items c.self.invariant
           c.last.invariant first last c.in_ok-keys.ensures.ascending
-          (rw (← c.deref.ensures.value, ← c.deref-2.ensures.value) c.in_ok-keys.ensures.just) c.processes.ensures;
+          (rw (← c.deref.ensures.value) c.in_ok-keys.ensures.just) c.processes.ensures;
     }
 
 pub returns-clause-list : goal.returns-clause-list
 returns-clause-list c =
     let events = c.args.computation.now.events in
-    let first : All (IsConsistent events) (cuts_of c.first.inside.processes c.first.inside.keys.items) =
-    subst (λ (l : Levelled). All (IsConsistent events) l.cuts) (sym c.first.view_is) c.requires.first in
+    let first : All (IsConsistent events) (cuts_of c.self.inside.processes c.self.inside.keys.items) =
+    subst (λ (l : Levelled). All (IsConsistent events) l.cuts) (sym c.self.view_is) c.requires.first in
     let last : All (IsConsistent events) (cuts_of c.last.inside.processes c.last.inside.keys.items) =
     subst (λ (l : Levelled). All (IsConsistent events) l.cuts) (sym c.last.view_is) c.requires.last in
-    both_cuts events c.first.inside.processes c.last.inside.processes c.processes.result c.first.inside.keys.items
-    c.last.inside.keys.items c.in_ok-keys.keys.items c.args.first.now c.args.last.now c.first.invariant
-    c.last.invariant (ap (λ (l : Levelled). l.cuts) c.first.view_is) (ap (λ (l : Levelled). l.cuts) c.last.view_is)
+    both_cuts events c.self.inside.processes c.last.inside.processes c.processes.result c.self.inside.keys.items
+    c.last.inside.keys.items c.in_ok-keys.keys.items c.args.self c.args.last.now c.self.invariant
+    c.last.invariant (ap (λ (l : Levelled). l.cuts) c.self.view_is) (ap (λ (l : Levelled). l.cuts) c.last.view_is)
     first last c.in_ok-keys.ensures.ascending
-    (rw (← c.deref.ensures.value, ← c.deref-2.ensures.value) c.in_ok-keys.ensures.just) c.processes.ensures
+    (rw (← c.deref.ensures.value) c.in_ok-keys.ensures.just) c.processes.ensures
