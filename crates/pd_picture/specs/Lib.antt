@@ -1,2 +1,5 @@
 pub mod Columns
+pub mod Layout
+pub mod Shapes
 pub mod Tables
+pub mod Pictures

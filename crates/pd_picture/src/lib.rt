@@ -2,5 +2,9 @@
 #![tactic(auto)]
 
 mod columns;
+mod evidence;
+mod shapes;
+mod window;
 
 pub use columns::columns_stand_right;
+pub use evidence::Evidence;
