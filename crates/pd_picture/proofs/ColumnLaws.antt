@@ -1,11 +1,11 @@
 -- What stands next to the event before it or to its send, and right of both, has the column of its longest chain.
-use Rattle.std.proofs.Common.{◌≡◌, ℕ, zero, suc, ◌+◌, ◌-◌, ◌<◌, ◌≤◌, List, [], ◌∷◌, ◌++◌, length, refl, sym, ap, ◌∙◌, subst, inl, inr, ◌⊎◌, arith, length-append}
-use Rattle.std.proofs.lemmas.Bool.{cases_lt, cases_eq}
+use Rattle.std.proofs.Common.{◌≡◌, ℕ, zero, suc, ◌+◌, ◌-◌, ◌<◌, ◌≤◌, List, [], ◌∷◌, ◌++◌, length, refl, sym, subst, inl, inr, ◌⊎◌, arith, length-append}
+use Rattle.std.proofs.lemmas.Bool.{cases_lt}
 use Rattle.pd_model.specs.Events.{Computation, Place, place, IsEvent, Linked}
 use Rattle.pd_model.specs.Messages.{IsMessage}
-use Rattle.pd_model.specs.Order.{HappenedBefore, LeadsTo, IsLater}
+use Rattle.pd_model.specs.Order.{LeadsTo}
 use Rattle.pd_model.proofs.Chains.{same_place, events_of_step, happens_elim}
-use Rattle.pd_picture.specs.Columns.{IsChainTo, IsColumn, AreColumns, StandRight, ColumnsStandRight}
+use Rattle.pd_picture.specs.Columns.{IsChainTo, IsColumn, AreColumns, ColumnsStandRight}
 use Rattle.pd_picture.specs.Tables.{IsNextTo, place_before}
 
 -- a chain goes on by a step

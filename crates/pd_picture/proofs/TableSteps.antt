@@ -1,21 +1,21 @@
 -- One column more in a table.
-use Rattle.std.proofs.Common.{◌≡◌, ◌≢◌, ℕ, zero, suc, ◌+◌, ◌-◌, ◌<◌, ◌≤◌, max, List, [], ◌∷◌, ◌++◌, length, get_or, sum, replicate, refl, sym, ap, ◌∙◌, subst, inl, inr, ◌⊎◌, ◌↔◌, arith, length-append}
-use Rattle.std.specs.Prelude.{Option, Some, None, Vec, slice_get, option_map, IfSome}
+use Rattle.std.proofs.Common.{◌≡◌, ◌≢◌, ℕ, ◌+◌, ◌-◌, ◌<◌, ◌≤◌, max, List, [], ◌∷◌, ◌++◌, length, get_or, sum, replicate, refl, sym, ap, ◌∙◌, subst, inl, inr, ◌⊎◌, ◌↔◌, arith, length-append}
+use Rattle.std.specs.Prelude.{Option, Some, None, Vec, option_map, IfSome}
 use Rattle.std.specs.Global.{Global}
 use Rattle.std.proofs.lemmas.Bool.{cases_lt, cases_eq}
-use Rattle.std.proofs.lemmas.List.{get_or_append_left, get_or-append-add, get_or_past}
+use Rattle.std.proofs.lemmas.List.{get_or_append_left, get_or-append-add}
 use Rattle.std.proofs.lemmas.Option.{slice_get_past, same_Some, none-some}
 use Rattle.pd_match.specs.Views.{place_view}
 use Rattle.pd_match.specs.declared.place.Place.{Place as MatchedPlace}
 use Rattle.pd_model.specs.Events.{Computation, Place, place, IsEvent, event_count}
 use Rattle.pd_model.specs.Messages.{IsMessage}
-use Rattle.pd_model.specs.Order.{HasNoCycle, IsStuck}
+use Rattle.pd_model.specs.Order.{HasNoCycle}
 use Rattle.pd_model.specs.Cuts.{one_more, full_cut, total}
 use Rattle.pd_model.proofs.Consistency.{process_in_range}
 use Rattle.pd_model.proofs.Counts.{more_other, sum_more, sum_le, length_full, full_at}
 use Rattle.pd_model.proofs.Stuck.{none_stuck}
 use Rattle.pd_clock.specs.Orders.{IsDone, IsOrdered, CanGo, LeavesStuck, clocks_in, next_of}
-use Rattle.pd_clock.proofs.OrderSteps.{IsSendOf, send_event, next_event, go_within, in_list, more_here, old_or_next, zeros_at}
+use Rattle.pd_clock.proofs.OrderSteps.{IsSendOf, send_event, go_within, in_list, more_here, old_or_next, zeros_at}
 use Rattle.pd_picture.specs.Columns.{AreColumns}
 use Rattle.pd_picture.specs.Tables.{HasColumns, IsNextColumn, IsNextTo, IsTable, column_at, column_of, place_before, row_of}
 use Rattle.pd_picture.proofs.ColumnLaws.{are_columns}

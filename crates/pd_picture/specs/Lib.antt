@@ -1,4 +1,5 @@
 pub mod Columns
+pub mod Flights
 pub mod Layout
 pub mod Shapes
 pub mod Tables

@@ -1,5 +1,5 @@
 -- The columns of events, as a table keeps them: a row for each process, which begins with a 0 before its first event.
-use Rattle.std.specs.Prelude.{◌≡◌, ℕ, ◌+◌, ◌-◌, ◌<◌, ◌≤◌, ◌⊎◌, max, zero, suc, List, length, sum, slice_index, Option, Some, None, Vec}
+use Rattle.std.specs.Prelude.{◌≡◌, ℕ, ◌+◌, ◌-◌, ◌<◌, ◌≤◌, ◌⊎◌, List, length, map, sum, slice_index, Option, Some, None, Vec}
 use Rattle.std.specs.Global.{Global}
 use Rattle.pd_model.specs.Events.{Computation, Place, place, IsEvent, event_count}
 use Rattle.pd_model.specs.Messages.{IsMessage}
@@ -53,3 +53,6 @@ pub record IsTable (c : Computation) (rows : List (Vec ℕ Global)) : Type 0 whe
   pub lengths : (p : ℕ) → p < length c → length (row_of rows p) ≡ event_count c p + 1
   pub zero_first : (p : ℕ) → column_at rows (place p 0) ≡ 0
   pub small : (e : Place) → IsEvent c e → column_at rows e ≤ total c
+
+abbrev pub places_view : List MatchedPlace → List Place
+places_view places = map place_view places

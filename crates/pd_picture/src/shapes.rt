@@ -14,7 +14,9 @@ pub(crate) fn push_line(
 ) -> Result<(), AllocError>
     ensures { OnOk result (all_seen shapes.new.items ≡ all_seen shapes.old.items ++ SeenLine class from to ∷ []) }
 {
-    shapes.push(Shape::Line { class, from, to }).map_err(AllocError::from)
+    shapes
+        .push(Shape::Line { class, from, to })
+        .map_err(AllocError::from)
 }
 
 /// Adds a straight line whose end has a head.
@@ -26,7 +28,9 @@ pub(crate) fn push_arrow(
 ) -> Result<(), AllocError>
     ensures { OnOk result (all_seen shapes.new.items ≡ all_seen shapes.old.items ++ SeenArrow class from to ∷ []) }
 {
-    shapes.push(Shape::Arrow { class, from, to }).map_err(AllocError::from)
+    shapes
+        .push(Shape::Arrow { class, from, to })
+        .map_err(AllocError::from)
 }
 
 /// Adds a circle.
@@ -56,7 +60,9 @@ pub(crate) fn push_polyline(
     ensures { OnOk result (all_seen shapes.new.items
         ≡ all_seen shapes.old.items ++ SeenPolyline class points.items ∷ []) }
 {
-    shapes.push(Shape::Polyline { class, points }).map_err(AllocError::from)
+    shapes
+        .push(Shape::Polyline { class, points })
+        .map_err(AllocError::from)
 }
 
 /// Adds a text.

@@ -46,7 +46,9 @@ impl Window {
         ensures { result ≡ column_x self column }
     {
         let shown = u64::from(column) + 1;
-        let within = shown.saturating_sub(u64::from(self.first)).min(u64::from(self.shown) + 1);
+        let within = shown
+            .saturating_sub(u64::from(self.first))
+            .min(u64::from(self.shown) + 1);
         220 + 48 * (within as u32)
     }
 

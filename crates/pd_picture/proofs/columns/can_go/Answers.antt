@@ -1,6 +1,5 @@
 -- The next event of a process, and the send that it waits for.
-use Rattle.std.proofs.Common.{rules, ◌≡◌, ◌<◌, ◌≤◌, ℕ, length, get_or, refl, sym, subst, inr, ◌↔◌, arith}
-use Rattle.std.specs.Prelude.{Option, Some, None, option_map}
+use Rattle.std.proofs.Common.{rules, ◌≡◌, ◌<◌, ◌≤◌, length, get_or, refl, subst, inr, arith}
 use Rattle.std.proofs.lemmas.Bool.{leb-true, leb-false}
 use Rattle.std.proofs.lemmas.Option.{same_Some, none-some}
 use Rattle.pd_clock.specs.Orders.{IsDone, next_of}
@@ -8,7 +7,7 @@ use Rattle.pd_match.specs.Views.{place_view}
 use Rattle.pd_model.specs.Events.{Place}
 use Rattle.pd_model.specs.Messages.{IsMessage}
 use Rattle.pd_model.proofs.Consistency.{process_in_range}
-use Rattle.pd_clock.proofs.OrderSteps.{IsSendOf, send_event}
+use Rattle.pd_clock.proofs.OrderSteps.{send_event}
 use Rattle.pd_picture.proofs.columns.can_go.Goals as goal
 
 pub bounds-done-send : goal.bounds-done-send

@@ -1,6 +1,6 @@
 -- Event after event gets its column, until every process waits.
-use Rattle.std.proofs.Common.{◌≡◌, ℕ, ◌<◌, List, length, sym, subst, refl, arith}
-use Rattle.pd_clock.specs.Orders.{CanGo, LeavesStuck, Waits}
+use Rattle.std.proofs.Common.{ℕ, ◌<◌, List, length, subst, arith}
+use Rattle.pd_clock.specs.Orders.{CanGo, Waits}
 use Rattle.pd_clock.proofs.OrderSteps.{none_ordered, order_more, fewer_left, go_within, leaves_stuck}
 use Rattle.pd_picture.proofs.TableSteps.{columns_none, columns_are, table_is}
 use Rattle.pd_picture.proofs.columns.columns.Goals as goal

@@ -1,11 +1,10 @@
 -- The column of the next event, by the column before it and that of its send.
 use Rattle.std.proofs.Common.{◌≡◌, ◌∙◌, ◌+◌, ap, ◌<◌, ◌≤◌, ℕ, List, length, get_or, max, sym, subst, arith}
-use Rattle.std.specs.Prelude.{Vec, IfSome, Option}
+use Rattle.std.specs.Prelude.{Vec, IfSome}
 use Rattle.std.specs.Global.{Global}
 use Rattle.std.proofs.lemmas.List.{get_or_read}
 use Rattle.pd_model.specs.Cuts.{total}
 use Rattle.pd_model.specs.Events.{place}
-use Rattle.pd_match.specs.declared.place.Place.{Place}
 use Rattle.pd_picture.specs.Tables.{IsNextColumn, column_at, column_of, row_of}
 use Rattle.pd_clock.proofs.OrderSteps.{in_list}
 use Rattle.pd_picture.proofs.TableSteps.{sent_there, next_is, columns_below}
