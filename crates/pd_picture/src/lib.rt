@@ -33,6 +33,8 @@ mod messages;
 mod pictures;
 mod shapes;
 mod steps;
+#[cfg(test)]
+mod tests;
 mod texts;
 mod window;
 
