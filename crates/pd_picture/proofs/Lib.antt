@@ -1,0 +1,8 @@
+-- The modules of lemmas of this crate.
+pub mod ColumnLaws
+pub mod TableSteps
+pub mod Listed
+pub mod Cuts
+pub mod StepFacts
+pub mod FlightFacts
+pub mod PictureFacts

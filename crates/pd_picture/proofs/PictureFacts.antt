@@ -1,0 +1,58 @@
+-- A drawing of these shapes, of this size, is the picture.
+use Rattle.std.proofs.Common.{◌≡◌, ℕ, ◌-◌, List, ◌++◌, length, ap, ◌∙◌}
+use Rattle.std.specs.String.{string_bytes}
+use Rattle.pd_model.specs.Events.{Computation, Place}
+use Rattle.pd_model.specs.Messages.{IsMessageList}
+use Rattle.pd_match.specs.Views.{pairs_view}
+use Rattle.pd_match.specs.declared.place.Place.{Place as MatchedPlace}
+use Rattle.pd_svg.specs.declared.drawing.Drawing.{Drawing}
+use Rattle.pd_picture.specs.Columns.{AreColumns}
+use Rattle.pd_picture.specs.Flights.{is_flight}
+use Rattle.pd_picture.specs.Layout.{lane_y, window_around}
+use Rattle.pd_picture.specs.Pictures.{IsPicture, description, evidence_shapes, focus, heading_shapes, page_width, run_shapes, widest, window}
+use Rattle.pd_picture.specs.Shapes.{all_seen}
+use Rattle.pd_picture.specs.declared.evidence.Evidence.{Evidence}
+use Rattle.pd_picture.specs.declared.window.Window.{Window}
+use Rattle.pd_picture.proofs.FlightFacts.{flights_are}
+
+module _ (c recorded : Computation) (columns : Place → ℕ) (messages : List (MatchedPlace × MatchedPlace))
+    (names : List (List ℕ)) (title : List ℕ) (evidence : Evidence) (most last : ℕ) (shown : Window)
+    (same : recorded ≡ c) (most_is : most ≡ widest columns c) (last_is : last ≡ focus columns c evidence)
+    (shown_is : shown ≡ window_around most last) where
+  window_is : shown ≡ window columns c evidence
+  window_is =
+      shown_is ∙ (ap (λ (n : ℕ). window_around n last) most_is
+      ∙ ap (λ (n : ℕ). window_around (widest columns c) n) last_is)
+
+  pub is_picture : IsMessageList c (pairs_view messages) → AreColumns c columns → (drawing : Drawing)
+      → all_seen drawing.shapes.items ≡ heading_shapes shown most title evidence
+      ++ run_shapes shown columns (is_flight recorded messages) c (pairs_view messages) names evidence
+      ++ evidence_shapes shown columns c evidence
+      → drawing.width ≡ page_width shown last → drawing.height ≡ lane_y (length c) - 30
+      → string_bytes drawing.title ≡ title
+      → string_bytes drawing.description ≡ description shown most c evidence
+      → IsPicture c (pairs_view messages) names title evidence drawing
+  is_picture lawful are drawing shapes wide high titled described = record {
+    columns = columns;
+    are_columns = are;
+    flights = is_flight c messages;
+    are_flights = λ e is. flights_are c messages lawful e;
+    shapes =
+        shapes ∙ (ap (λ (n : ℕ). heading_shapes shown n title evidence
+        ++ run_shapes shown columns (is_flight recorded messages) c (pairs_view messages) names evidence
+        ++ evidence_shapes shown columns c evidence) most_is
+        ∙ (ap (λ (r : Computation). heading_shapes shown (widest columns c) title evidence
+        ++ run_shapes shown columns (is_flight r messages) c (pairs_view messages) names evidence
+        ++ evidence_shapes shown columns c evidence) same
+        ∙ ap (λ (w : Window). heading_shapes w (widest columns c) title evidence
+        ++ run_shapes w columns (is_flight c messages) c (pairs_view messages) names evidence
+        ++ evidence_shapes w columns c evidence) window_is));
+    width =
+        wide ∙ (ap (λ (n : ℕ). page_width shown n) last_is
+        ∙ ap (λ (w : Window). page_width w (focus columns c evidence)) window_is);
+    height = high;
+    is_titled = titled;
+    is_described =
+        described ∙ (ap (λ (n : ℕ). description shown n c evidence) most_is
+        ∙ ap (λ (w : Window). description w (widest columns c) c evidence) window_is);
+  }

@@ -1,0 +1,6 @@
+pub mod Columns
+pub mod Flights
+pub mod Layout
+pub mod Shapes
+pub mod Tables
+pub mod Pictures

@@ -1,0 +1,230 @@
+-- What a picture shows, and where.
+use Rattle.std.specs.Prelude.{◌≡◌, ℕ, ◌+◌, ◌-◌, max, Bool, true, ◌||◌, nat_le, nat_lt, if◌then◌else◌, IsTrue, ◌↔◌, List, [], ◌∷◌, ◌++◌, length, flat_map, codes, decimal, string_bytes, slice_index, slice_get, replicate, Option, Some, None, String, map}
+use Rattle.std.specs.Global.{Global}
+use Rattle.std.specs.Fmt.Cut.{cut_to}
+use Rattle.pd_model.specs.Events.{Computation, Place, place, event_count, IsEvent}
+use Rattle.pd_model.specs.Messages.{IsMessage, Sends}
+use Rattle.pd_model.specs.Cuts.{one_more, total}
+use Rattle.pd_svg.specs.declared.anchor.Anchor.TheVariants as anchor
+use Rattle.pd_svg.specs.declared.class.Class.TheVariants as class
+use Rattle.pd_svg.specs.declared.drawing.Drawing.{Drawing}
+use Rattle.pd_svg.specs.declared.point.Point.{Point}
+use Rattle.pd_picture.specs.Columns.{AreColumns}
+use Rattle.pd_picture.specs.Layout.{upto, window_around, is_shown, greatest_column, left, right, column_x, lane_y, event_point}
+use Rattle.pd_picture.specs.Shapes.{Seen, SeenLine, SeenArrow, SeenCircle, SeenPolyline, SeenText, all_seen}
+use Rattle.pd_picture.specs.declared.evidence.Evidence.{Evidence}
+use Rattle.pd_picture.specs.declared.evidence.Evidence.TheVariants.{Absent, Cut, Observation}
+use Rattle.pd_picture.specs.declared.window.Window.{Window}
+
+abbrev pub point : (x y : ℕ) → Point
+point x y = record { x = x; y = y }
+
+-- ---- texts
+
+-- a text of more bytes than the limit is cut off between two characters, and ends in three dots
+abbrev pub shortened : (limit : ℕ) → List ℕ → List ℕ
+shortened limit text = cut_to limit text
+
+abbrev pub text_in : Option (List ℕ) → List ℕ
+text_in None = []
+text_in (Some text) = text
+
+-- the text with this number, and no text past the end
+abbrev pub text_at : List (List ℕ) → ℕ → List ℕ
+text_at texts p = text_in (slice_get texts p)
+
+abbrev pub texts_view : List (String Global) → List (List ℕ)
+texts_view texts = map string_bytes texts
+
+-- ---- the run
+
+-- the line of a process, and its name at the left of it
+abbrev pub lane_shapes : Window → List (List ℕ) → ℕ → List Seen
+lane_shapes window names p =
+    SeenLine class.Process (point left (lane_y p)) (point (right window) (lane_y p))
+    ∷ SeenText class.Name (point (left - 14) (lane_y p + 5)) anchor.End 15 (shortened 14 (text_at names p)) ∷ []
+
+abbrev pub lanes_shapes : Window → List (List ℕ) → List Seen
+lanes_shapes window names = upto (lane_shapes window names) (length names)
+
+-- where the head of an arrow stands that comes to this point from above or from below
+abbrev pub head_point : (from_above : Bool) → Point → Point
+head_point from_above at = point (at.x - 5) (if from_above then at.y - 8 else at.y + 8)
+
+-- the arrow of a message, if its send or its receipt is shown
+abbrev pub message_shapes : Window → (Place → ℕ) → Place × Place → List Seen
+message_shapes window columns (send, receipt) =
+    if is_shown window (columns send) || is_shown window (columns receipt) then (
+    SeenArrow class.Message (event_point window columns send)
+    (head_point (nat_lt send.process receipt.process) (event_point window columns receipt)) ∷ []
+    ) else []
+
+abbrev pub messages_shapes : Window → (Place → ℕ) → List (Place × Place) → List Seen
+messages_shapes window columns messages = flat_map (message_shapes window columns) messages
+
+-- the event, if it is shown
+abbrev pub shown_at : Window → (Place → ℕ) → Place → List Place
+shown_at window columns e = if is_shown window (columns e) then e ∷ [] else []
+
+abbrev pub shown_of : Window → (Place → ℕ) → (process count : ℕ) → List Place
+shown_of window columns p count = upto (λ n. shown_at window columns (place p (n + 1))) count
+
+-- The events that are shown: of all events, in the order of their places, those whose columns are.
+abbrev pub shown_events : Window → (Place → ℕ) → Computation → List Place
+shown_events window columns c = upto (λ p. shown_of window columns p (event_count c p)) (length c)
+
+-- the event sends a message that no event receives
+abbrev pub IsInFlight : Computation → Place → Type 0
+IsInFlight c e = ((id : List ℕ) × Sends c e id) × ((receipt : Place) → ¬ IsMessage c e receipt)
+
+-- the broken arrow of a message in flight, which ends at nothing
+abbrev pub flight_shapes : Window → (Place → ℕ) → (Place → Bool) → Place → List Seen
+flight_shapes window columns flights e =
+    if flights e then (
+    SeenArrow class.Flight (event_point window columns e)
+    (point (column_x window (columns e) + 28) (lane_y e.process + 40)) ∷ []
+    ) else []
+
+-- the evidence has no cut, or the event is in it
+abbrev pub is_past : Evidence → Place → Bool
+is_past Absent e = true
+is_past (Cut counts values) e = nat_le e.number (slice_index counts.items e.process)
+is_past (Observation path) e = true
+
+-- the dot of an event, and its number below it
+abbrev pub event_shapes : Window → (Place → ℕ) → Evidence → Place → List Seen
+event_shapes window columns evidence e =
+    SeenCircle (if is_past evidence e then class.Past else class.Next) (event_point window columns e) 7
+    ∷ SeenText class.Number (point (column_x window (columns e)) (lane_y e.process + 26)) anchor.Middle 12
+    (decimal e.number) ∷ []
+
+-- ---- the evidence
+
+-- where the cut crosses the lane of a process: right of its last event in the cut, and left of the next one
+abbrev pub cut_x : Window → (Place → ℕ) → List ℕ → ℕ → ℕ
+cut_x window columns counts p = column_x window (columns (place p (slice_index counts p))) + 24
+
+abbrev pub cut_points : Window → (Place → ℕ) → List ℕ → ℕ → List Point
+cut_points window columns counts p =
+    point (cut_x window columns counts p) (lane_y p - 34) ∷ point (cut_x window columns counts p) (lane_y p + 34) ∷ []
+
+-- the values of a process's variables at the cut, beside it
+abbrev pub value_shapes : Window → (Place → ℕ) → List ℕ → List (List ℕ) → ℕ → List Seen
+value_shapes window columns counts values p =
+    SeenText class.Value (point (cut_x window columns counts p + 8) (lane_y p - 14)) anchor.Start 13
+    (shortened 40 (text_at values p)) ∷ []
+
+abbrev pub cut_shapes : Window → (Place → ℕ) → (lanes : ℕ) → List ℕ → List (List ℕ) → List Seen
+cut_shapes window columns lanes counts values =
+    SeenPolyline class.Cut (upto (cut_points window columns counts) lanes)
+    ∷ upto (value_shapes window columns counts values) lanes
+
+-- the number of a step, above the event that it adds, if that is shown
+abbrev pub step_shapes : Window → (Place → ℕ) → (step : ℕ) → Place → List Seen
+step_shapes window columns step e =
+    if is_shown window (columns e) then (
+    SeenText class.Step (point (column_x window (columns e)) (lane_y e.process - 14)) anchor.Middle 13 (decimal step)
+    ∷ []
+    ) else []
+
+-- The steps of an observation from a cut on: each adds the next event of its process.
+abbrev pub steps_shapes : Window → (Place → ℕ) → (cut : List ℕ) → (step : ℕ) → List ℕ → List Seen
+steps_shapes window columns cut step [] = []
+steps_shapes window columns cut step (p ∷ path) =
+    step_shapes window columns step (place p (slice_index cut p + 1))
+    ++ steps_shapes window columns (one_more cut p) (step + 1) path
+
+-- what is shown of the evidence
+abbrev pub evidence_shapes : Window → (Place → ℕ) → Computation → Evidence → List Seen
+evidence_shapes window columns c Absent = []
+evidence_shapes window columns c (Cut counts values) =
+    cut_shapes window columns (length c) counts.items (texts_view values.items)
+evidence_shapes window columns c (Observation path) = steps_shapes window columns (replicate (length c) 0) 1 path.items
+
+-- ---- what is said
+
+-- what the shapes mean
+abbrev pub legend : Evidence → List ℕ
+legend Absent = codes "Dots are events, arrows are messages; a broken arrow is a message in flight."
+legend (Cut counts values) =
+    codes "The thick line is a cut: what is left of it has happened, and the open dots have not."
+legend (Observation path) =
+    codes "The numbers above the dots are the order of an observation in which no cut satisfies."
+
+-- which columns are shown, if not all are
+abbrev pub window_note : Window → (widest : ℕ) → List ℕ
+window_note window widest =
+    if nat_lt window.shown widest then (
+    codes "Columns " ++ decimal window.first ++ codes " to " ++ decimal (window.first + window.shown - 1)
+    ++ codes " of " ++ decimal widest ++ codes " are shown."
+    ) else codes "All events are shown."
+
+-- the title, what the shapes mean, and which columns are shown
+abbrev pub heading_shapes : Window → (widest : ℕ) → (title : List ℕ) → Evidence → List Seen
+heading_shapes window widest title evidence =
+    SeenText class.Name (point 24 38) anchor.Start 18 (shortened 60 title)
+    ∷ SeenText class.Note (point 24 64) anchor.Start 13 (legend evidence)
+    ∷ SeenText class.Note (point 24 84) anchor.Start 13 (window_note window widest) ∷ []
+
+-- how many processes and events there are
+abbrev pub counts_text : Computation → List ℕ
+counts_text c = decimal (length c) ++ codes " processes, " ++ decimal (total c) ++ codes " events. "
+
+-- what stands in the picture, for those who don't see it
+abbrev pub description : Window → (widest : ℕ) → Computation → Evidence → List ℕ
+description window widest c evidence =
+    counts_text c ++ legend evidence ++ codes " " ++ window_note window widest
+
+-- ---- the whole
+
+-- the column in which the evidence ends; 0 if it has no end
+abbrev pub focus : (Place → ℕ) → Computation → Evidence → ℕ
+focus columns c Absent = 0
+focus columns c (Cut counts values) = greatest_column columns (λ p. slice_index counts.items p) (length c)
+focus columns c (Observation path) = 0
+
+-- the greatest column of all
+abbrev pub widest : (Place → ℕ) → Computation → ℕ
+widest columns c = greatest_column columns (λ p. event_count c p) (length c)
+
+-- the columns that are shown
+abbrev pub window : (Place → ℕ) → Computation → Evidence → Window
+window columns c evidence = window_around (widest columns c) (focus columns c evidence)
+
+-- the width of the page: there is room for the headings, the lanes and the values at a cut
+abbrev pub page_width : Window → (focus : ℕ) → ℕ
+page_width window focus = max 800 (max (right window + 40) (column_x window focus + 400))
+
+abbrev pub page_height : Computation → ℕ
+page_height c = lane_y (length c) - 30
+
+-- the lines of the processes, the arrows of the messages, and the dots of the events
+abbrev pub run_shapes : Window → (Place → ℕ) → (Place → Bool) → Computation → List (Place × Place) → List (List ℕ)
+    → Evidence → List Seen
+run_shapes shown columns flights c messages names evidence =
+    lanes_shapes shown names ++ messages_shapes shown columns messages
+    ++ flat_map (flight_shapes shown columns flights) (shown_events shown columns c)
+    ++ flat_map (event_shapes shown columns evidence) (shown_events shown columns c)
+
+-- all shapes, each over those before it
+abbrev pub picture_shapes : (Place → ℕ) → (Place → Bool) → Computation → List (Place × Place) → (names : List (List ℕ))
+    → (title : List ℕ) → Evidence → Window → List Seen
+picture_shapes columns flights c messages names title evidence shown =
+    heading_shapes shown (widest columns c) title evidence
+    ++ run_shapes shown columns flights c messages names evidence ++ evidence_shapes shown columns c evidence
+
+-- The picture of a run with these messages. Its columns are the lengths of longest chains, and its broken arrows are
+-- those of the sends that no event receives.
+pub record IsPicture (c : Computation) (messages : List (Place × Place)) (names : List (List ℕ)) (title : List ℕ)
+    (evidence : Evidence) (drawing : Drawing) : Type 0 where
+  pub columns : Place → ℕ
+  pub are_columns : AreColumns c columns
+  pub flights : Place → Bool
+  pub are_flights : (e : Place) → IsEvent c e → IsTrue (flights e) ↔ IsInFlight c e
+  pub shapes : all_seen drawing.shapes.items
+      ≡ picture_shapes columns flights c messages names title evidence (window columns c evidence)
+  pub width : drawing.width ≡ page_width (window columns c evidence) (focus columns c evidence)
+  pub height : drawing.height ≡ page_height c
+  pub is_titled : string_bytes drawing.title ≡ title
+  pub is_described : string_bytes drawing.description
+      ≡ description (window columns c evidence) (widest columns c) c evidence

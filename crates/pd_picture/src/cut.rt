@@ -1,0 +1,119 @@
+//! A cut across the processes.
+ghost use Rattle.pd_picture.specs.Layout.{upto};
+ghost use Rattle.pd_picture.specs.Pictures.{cut_points, cut_shapes, cut_x, texts_view, value_shapes};
+ghost use Rattle.pd_picture.specs.Shapes.{all_seen};
+ghost use Rattle.pd_picture.specs.Tables.{column_at};
+ghost use Rattle.std.specs.Prelude.{◌≡◌, ◌≤◌, ◌++◌, IfOk, OnOk};
+
+use super::shapes::{push_polyline, push_text};
+use super::texts::{shortened, text_at};
+use super::window::{Window, column_at, count_at, lane_y};
+use pd_clock::Place;
+use pd_svg::{Anchor, Class, Point, Shape};
+use std::alloc::{AllocError, Global};
+
+/// Where the cut crosses the lane of a process: right of its last event in the cut, and left of the next one.
+fn cut_x(window: Window, rows: &[Vec<u32>], counts: &[u64], p: usize) -> u32
+    ensures at { result ≡ cut_x window (column_at rows.now) counts.now p }
+    ensures small { result ≤ 20000 }
+{
+    let last = Place {
+        process: p,
+        number: count_at(counts, p),
+    };
+    window.column_x(column_at(rows, last)) + 24
+}
+
+/// Adds the two points at which the cut comes to the lane of a process and leaves it.
+fn push_crossing(
+    points: &mut Vec<Point>,
+    window: Window,
+    rows: &[Vec<u32>],
+    counts: &[u64],
+    p: usize,
+) -> Result<(), AllocError>
+    ensures { OnOk result (points.new.items
+        ≡ points.old.items ++ cut_points window (column_at rows.now) counts.now p) }
+{
+    let x = cut_x(window, rows, counts, p);
+    let y = lane_y(p);
+    points.push(Point { x, y: y - 34 })?;
+    points.push(Point { x, y: y + 34 })?;
+    Ok(())
+}
+
+/// The points of a cut across these many lanes, from the first one down.
+fn crossings(
+    alloc: Global,
+    window: Window,
+    rows: &[Vec<u32>],
+    counts: &[u64],
+    lanes: usize,
+) -> Result<Vec<Point>, AllocError>
+    ensures { IfOk result (λ points. points.items
+        ≡ upto (cut_points window (column_at rows.now) counts.now) lanes) }
+{
+    let mut points = Vec::new(alloc);
+    for p in 0..lanes {
+        push_crossing(&mut points, window, rows, counts, p)?;
+    }
+    Ok(points)
+}
+
+/// Adds what the variables of a process are worth at the cut, beside it.
+fn push_value(
+    alloc: Global,
+    shapes: &mut Vec<Shape>,
+    window: Window,
+    rows: &[Vec<u32>],
+    counts: &[u64],
+    values: &[String],
+    p: usize,
+) -> Result<(), AllocError>
+    ensures { OnOk result (all_seen shapes.new.items ≡ all_seen shapes.old.items
+        ++ value_shapes window (column_at rows.now) counts.now (texts_view values.now) p) }
+{
+    let text = shortened(alloc, text_at(values, p), 40)?;
+    let at = Point {
+        x: cut_x(window, rows, counts, p) + 8,
+        y: lane_y(p) - 14,
+    };
+    push_text(shapes, Class::Value, at, Anchor::Start, 13, text)
+}
+
+/// Adds the line of a cut across these many lanes, and what the variables of each process are worth there.
+pub(crate) fn push_cut(
+    alloc: Global,
+    shapes: &mut Vec<Shape>,
+    window: Window,
+    rows: &[Vec<u32>],
+    counts: &[u64],
+    values: &[String],
+    lanes: usize,
+) -> Result<(), AllocError>
+    ensures { OnOk result (all_seen shapes.new.items ≡ all_seen shapes.old.items
+        ++ cut_shapes window (column_at rows.now) lanes counts.now (texts_view values.now)) }
+{
+    let points = crossings(alloc, window, rows, counts, lanes)?;
+    push_polyline(shapes, Class::Cut, points)?;
+    push_values(alloc, shapes, window, rows, counts, values, lanes)
+}
+
+/// Adds what the variables of each of these many processes are worth at the cut.
+fn push_values(
+    alloc: Global,
+    shapes: &mut Vec<Shape>,
+    window: Window,
+    rows: &[Vec<u32>],
+    counts: &[u64],
+    values: &[String],
+    lanes: usize,
+) -> Result<(), AllocError>
+    ensures { OnOk result (all_seen shapes.new.items ≡ all_seen shapes.old.items
+        ++ upto (value_shapes window (column_at rows.now) counts.now (texts_view values.now)) lanes) }
+{
+    for p in 0..lanes {
+        push_value(alloc, shapes, window, rows, counts, values, p)?;
+    }
+    Ok(())
+}

@@ -1,0 +1,43 @@
+//! The picture of a run: what is drawn where, as a drawing of shapes.
+//!
+//! A picture has a line for each process with its events in order as dots, an arrow for each message, and the evidence:
+//! a cut as a line across the processes with what the variables are worth there, or an observation as numbers at the
+//! events. An event's column is the length of the longest chain of events that ends in it, so it stands right of all
+//! that happened before it, and each arrow points forward. Each event and each message of the columns that are shown
+//! stands in it exactly once. If a run has more columns than fit a page, those around the evidence are shown, and the
+//! picture says which.
+//!
+//! - `columns`: the columns of events
+//! - `window`: the columns that are shown
+//! - `evidence`: what a picture shows of a run beside the run
+//! - `shapes`: adds shapes to those that are there
+//! - `texts`: texts of a length
+//! - `headings`: what a picture says in words
+//! - `lanes`: the lines of the processes
+//! - `messages`: the arrows of messages
+//! - `flights`: the arrows of messages in flight
+//! - `dots`: the events that are shown, and their dots
+//! - `cut`: a cut across the processes
+//! - `steps`: the numbers of the steps of an observation
+//! - `pictures`: the picture of a run
+#![tactic(auto)]
+
+mod columns;
+mod cut;
+mod dots;
+mod evidence;
+mod flights;
+mod headings;
+mod lanes;
+mod messages;
+mod pictures;
+mod shapes;
+mod steps;
+#[cfg(test)]
+mod tests;
+mod texts;
+mod window;
+
+pub use columns::columns_stand_right;
+pub use evidence::Evidence;
+pub use pictures::picture;

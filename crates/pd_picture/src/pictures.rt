@@ -1,0 +1,211 @@
+//! The picture of a run.
+ghost use Rattle.pd_events.specs.Views.{computation_view};
+ghost use Rattle.pd_match.specs.Views.{pairs_view};
+ghost use Rattle.pd_model.specs.Messages.{IsMessageList};
+ghost use Rattle.pd_picture.specs.Columns.{AreColumns};
+ghost use Rattle.pd_picture.specs.Flights.{is_flight};
+ghost use Rattle.pd_picture.specs.Pictures.{IsPicture, evidence_shapes, focus, heading_shapes, page_width, run_shapes, texts_view, widest};
+ghost use Rattle.pd_picture.specs.Shapes.{all_seen};
+ghost use Rattle.pd_picture.specs.Tables.{IsTable, column_at};
+ghost use Rattle.std.specs.Prelude.{◌≡◌, ◌++◌, IfOk, OnOk};
+
+use super::Evidence;
+use super::columns::columns;
+use super::cut::push_cut;
+use super::dots::{push_dots, shown_events};
+use super::flights::push_flights;
+use super::headings::{description, push_headings};
+use super::lanes::push_lanes;
+use super::messages::push_messages;
+use super::steps::push_steps;
+use super::window::{Window, greatest_column, lane_y, widest_column};
+use pd_clock::{Computation, Place};
+use pd_events::Trace;
+use pd_svg::{Drawing, Shape};
+use std::alloc::{AllocError, Global};
+
+/// The column in which the evidence ends, and 0 if it has no end.
+fn focus(rows: &[Vec<u32>], computation: &Computation<'_>, evidence: &Evidence) -> u32
+    requires { IsTable computation.now.events rows.now }
+    ensures { result ≡ focus (column_at rows.now) computation.now.events evidence.now }
+{
+    match evidence {
+        Evidence::Cut { counts, .. } => greatest_column(rows, counts),
+        Evidence::Absent | Evidence::Observation(_) => 0,
+    }
+}
+
+/// The greatest column of all events.
+fn widest(rows: &[Vec<u32>], computation: &Computation<'_>) -> u32
+    requires { IsTable computation.now.events rows.now }
+    ensures { result ≡ widest (column_at rows.now) computation.now.events }
+{
+    widest_column(rows)
+}
+
+/// Adds what is shown of the evidence.
+fn push_evidence(
+    alloc: Global,
+    shapes: &mut Vec<Shape>,
+    window: Window,
+    rows: &[Vec<u32>],
+    computation: &Computation<'_>,
+    evidence: &Evidence,
+) -> Result<(), AllocError>
+    ensures { OnOk result (all_seen shapes.new.items ≡ all_seen shapes.old.items
+        ++ evidence_shapes window (column_at rows.now) computation.now.events evidence.now) }
+{
+    let lanes = computation.processes();
+    match evidence {
+        Evidence::Absent => Ok(()),
+        Evidence::Cut { counts, values } => {
+            push_cut(alloc, shapes, window, rows, counts, values, lanes)
+        }
+        Evidence::Observation(path) => push_steps(alloc, shapes, window, rows, lanes, path),
+    }
+}
+
+/// The width of the page: there is room for the headings, the lanes and the values at a cut.
+fn page_width(window: Window, focus: u32) -> u32
+    ensures { result ≡ page_width window focus }
+{
+    let lanes = window.right() + 40;
+    let values = window.column_x(focus) + 400;
+    lanes.max(values).max(800)
+}
+
+/// Adds the lines of the processes, the arrows of the messages, and the dots of the events.
+fn push_run(
+    alloc: Global,
+    shapes: &mut Vec<Shape>,
+    window: Window,
+    rows: &[Vec<u32>],
+    computation: &Computation<'_>,
+    traces: &[Trace],
+    messages: &[(Place, Place)],
+    names: &[String],
+    evidence: &Evidence,
+) -> Result<(), AllocError>
+    ensures { OnOk result (all_seen shapes.new.items ≡ all_seen shapes.old.items
+        ++ run_shapes window (column_at rows.now) (is_flight (computation_view traces.now) messages.now)
+        computation.now.events (pairs_view messages.now) (texts_view names.now) evidence.now) }
+{
+    let places = shown_events(alloc, computation, window, rows)?;
+    push_lanes(alloc, shapes, window, names)?;
+    push_messages(shapes, window, rows, messages)?;
+    push_flights(shapes, window, rows, traces, messages, &places)?;
+    push_dots(alloc, shapes, window, rows, evidence, &places)
+}
+
+/// All shapes, each over those before it.
+fn all_shapes(
+    alloc: Global,
+    window: Window,
+    widest: u32,
+    rows: &[Vec<u32>],
+    computation: &Computation<'_>,
+    traces: &[Trace],
+    messages: &[(Place, Place)],
+    names: &[String],
+    title: &str,
+    evidence: &Evidence,
+) -> Result<Vec<Shape>, AllocError>
+    ensures { IfOk result (λ shapes. all_seen shapes.items ≡ heading_shapes window widest title.now evidence.now
+        ++ run_shapes window (column_at rows.now) (is_flight (computation_view traces.now) messages.now)
+        computation.now.events (pairs_view messages.now) (texts_view names.now) evidence.now
+        ++ evidence_shapes window (column_at rows.now) computation.now.events evidence.now) }
+{
+    let mut shapes = Vec::new(alloc);
+    push_headings(alloc, &mut shapes, window, widest, title, evidence)?;
+    push_run(
+        alloc,
+        &mut shapes,
+        window,
+        rows,
+        computation,
+        traces,
+        messages,
+        names,
+        evidence,
+    )?;
+    push_evidence(alloc, &mut shapes, window, rows, computation, evidence)?;
+    Ok(shapes)
+}
+
+/// The picture of a run whose events have these columns.
+fn drawn(
+    alloc: Global,
+    rows: &[Vec<u32>],
+    computation: &Computation<'_>,
+    traces: &[Trace],
+    messages: &[(Place, Place)],
+    names: &[String],
+    title: &str,
+    evidence: &Evidence,
+) -> Result<Drawing, AllocError>
+    requires columns { AreColumns computation.now.events (column_at rows.now) }
+    requires table { IsTable computation.now.events rows.now }
+    requires traces { computation_view traces.now ≡ computation.now.events }
+    requires messages { IsMessageList computation.now.events (pairs_view messages.now) }
+    ensures { IfOk result (IsPicture computation.now.events (pairs_view messages.now) (texts_view names.now) title.now
+        evidence.now) }
+{
+    let widest = widest(rows, computation);
+    let focus = focus(rows, computation, evidence);
+    let window = Window::around(widest, focus);
+    let shapes = all_shapes(
+        alloc,
+        window,
+        widest,
+        rows,
+        computation,
+        traces,
+        messages,
+        names,
+        title,
+        evidence,
+    )?;
+    let title = String::from_str(alloc, title)?;
+    let description = description(alloc, window, widest, computation, evidence)?;
+    Ok(Drawing {
+        width: page_width(window, focus),
+        height: lane_y(computation.processes()) - 30,
+        title,
+        description,
+        shapes,
+    })
+}
+
+/// The picture of a run: a line for each process with its events in order, an arrow for each message, and the evidence.
+/// The traces and the messages are those of the computation, and the names those of its processes. An event's column is
+/// the length of the longest chain that ends in it. If there are more columns than fit a page, those around the evidence
+/// are shown, and the picture says which.
+///
+/// # Errors
+/// Out of memory.
+pub fn picture(
+    alloc: Global,
+    computation: &Computation<'_>,
+    traces: &[Trace],
+    messages: &[(Place, Place)],
+    names: &[String],
+    title: &str,
+    evidence: &Evidence,
+) -> Result<Drawing, AllocError>
+    requires traces { computation_view traces.now ≡ computation.now.events }
+    requires messages { IsMessageList computation.now.events (pairs_view messages.now) }
+    ensures { IfOk result (IsPicture computation.now.events (pairs_view messages.now) (texts_view names.now) title.now
+        evidence.now) }
+{
+    let rows = columns(alloc, computation)?;
+    drawn(
+        alloc,
+        &rows,
+        computation,
+        traces,
+        messages,
+        names,
+        title,
+        evidence,
+    )
+}
