@@ -35,8 +35,10 @@ loop-k-init g c =
 pub first_satisfying-requires : goal.first_satisfying-requires
 first_satisfying-requires g c = (
   c.type_bounds.sync-T,
-  c.type_bounds.sync-G,
-  level_consistent c.args.computation.now.events c.loop-k.k c.loop-k.level.cuts c.loop-k.invariant.list,
+  (
+    c.type_bounds.sync-G,
+    level_consistent c.args.computation.now.events c.loop-k.k c.loop-k.level.cuts c.loop-k.invariant.list,
+  ),
 )
 
 pub next-requires-clause-cuts : goal.next-requires-clause-cuts
@@ -46,7 +48,7 @@ next-requires-clause-cuts g c _ _ =
 pub returns-in-Some : goal.returns-in-Some
 returns-in-Some g c =
     let w : IsFirstIn (test_of c.args.computation.now (predicate_view c.args.pred.now)) c.loop-k.level.cuts
-    c.in-Some.cut = rw c.in-Some.is at c.in_ok-first_satisfying.ensures.found in
+    c.in-Some.cut = rw c.in-Some.is at c.in_ok-cut.ensures.found in
     subst (λ (x : List ℕ). IsPossiblyAnswer c.args.computation.now.events
     (test_of c.args.computation.now (predicate_view c.args.pred.now)) c.args.width (PossiblyYes x)) w.2
     (c.possibly_walk.ensures.found c.args.computation.now.events
@@ -57,7 +59,7 @@ returns-in-Some g c =
 
 pub returns-in-None-2 : goal.returns-in-None-2
 returns-in-None-2 g c =
-    let fails = rw c.in-None.is at c.in_ok-first_satisfying.ensures.none in
+    let fails = rw c.in-None.is at c.in_ok-cut.ensures.none in
     let wide = rw c.in-None-2.is at c.in_ok-next.ensures.found in
     record {
       wide = c.possibly_walk.ensures.wide c.args.computation.now.events c.limits.ensures.acyclic c.args.width c.loop-k.k
@@ -72,7 +74,7 @@ returns-in-None-2 g c =
 
 pub loop-k-preserved : goal.loop-k-preserved
 loop-k-preserved g c =
-    let fails = rw c.in-None.is at c.in_ok-first_satisfying.ensures.none in
+    let fails = rw c.in-None.is at c.in_ok-cut.ensures.none in
     let made : c.next.result ≡ Ok c.in-Some-2.next = rw c.in-Some-2.is at c.in_ok-next.ensures.found in
     record {
       list = c.levels.ensures.next c.args.computation.now.events c.limits.ensures.acyclic c.loop-k.k c.loop-k.level.cuts

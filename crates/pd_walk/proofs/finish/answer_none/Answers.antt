@@ -7,6 +7,10 @@ use Rattle.pd_walk.proofs.Going.{full_avoids}
 use Rattle.pd_walk.proofs.Opening.{open_avoided, open_narrow}
 use Rattle.pd_walk.proofs.finish.answer_none.Goals as goal
 
+pub way_back-requires-clause-none_below : goal.way_back-requires-clause-none_below
+way_back-requires-clause-none_below g c _ _ = λ j cut lt level.
+    c.requires.opened.none j cut (omega (arith, c.total.ensures.sum)) level
+
 pub way_back-requires-clause-full : goal.way_back-requires-clause-full
 way_back-requires-clause-full g c _ _ =
     full_avoids c.avoiding_levels.ensures.level c.levels.ensures.full c.args.computation.now.events
