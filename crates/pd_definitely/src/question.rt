@@ -1,4 +1,5 @@
 //! The question and its answer.
+ghost use Rattle.pd_expand.specs.Limits.{worker_limit};
 ghost use Rattle.pd_format.specs.Limits.{width_limit};
 ghost use Rattle.pd_model.specs.Answers.{IsDefinitelyAnswer};
 ghost use Rattle.pd_model.specs.Cuts.{total};
@@ -8,16 +9,24 @@ ghost use Rattle.pd_walk.specs.Answers.{IsLeastRoot, IsPastFirst, definitely_ans
 ghost use Rattle.std.specs.Prelude.{◌≡◌, ◌+◌, ◌*◌, ◌≤◌, ℕ, IfOk};
 
 use pd_clock::Computation;
+use pd_expand::Crew;
 use pd_level::Gate;
 use pd_pred::Pred;
 use pd_walk::{DefinitelyAnswer, answer_one};
 use std::alloc::{AllocError, Global};
+use std::sync::Wait;
+use std::thread::Threads;
 
-/// The answer for a predicate over a computation, under a bound on the number of the avoiding cuts of a level.
-/// `workers` and the gate change nothing yet.
+/// The answer for a predicate over a computation, under a bound on the number of the avoiding cuts of a level. From 1
+/// to 16 workers share the work on a level that has enough cuts, each on a thread of its own. A worker calls the gate
+/// before it expands a block of the level. Neither the workers nor the gate change the answer.
 ///
 /// Source: Cooper and Marzullo, Consistent Detection of Global Predicates, 1991.
-pub fn definitely<G: Gate + Sync>(
+///
+/// # Errors
+/// An allocation was refused.
+pub fn definitely<T: Threads + Wait + Sync, G: Gate + Sync>(
+    rt: &T,
     alloc: Global,
     computation: &Computation<'_>,
     pred: &Pred,
@@ -27,28 +36,32 @@ pub fn definitely<G: Gate + Sync>(
 ) -> Result<DefinitelyAnswer, AllocError>
     requires wide { 1 ≤ width }
     requires narrow { width ≤ width_limit }
+    requires some_workers { 1 ≤ workers }
+    requires few_workers { workers ≤ worker_limit }
     ensures { IfOk result (λ answer. IsDefinitelyAnswer computation.now.events
         (test_of computation.now (predicate_view pred.now)) width (definitely_answer_view answer)) }
 {
-    let (answer, _most) = definitely_counted(alloc, computation, pred, width, workers, gate)?;
+    let (answer, _most) = definitely_counted(rt, alloc, computation, pred, width, workers, gate)?;
     Ok(answer)
 }
 
-/// The answer as `definitely` gives it, and how many levels were held at once, at most. `_workers` and the gate change
-/// nothing yet.
+/// The answer as `definitely` gives it, and how many levels were held at once, at most.
 ///
 /// # Errors
 /// An allocation was refused.
-pub fn definitely_counted<G: Gate + Sync>(
+pub fn definitely_counted<T: Threads + Wait + Sync, G: Gate + Sync>(
+    rt: &T,
     alloc: Global,
     computation: &Computation<'_>,
     pred: &Pred,
     width: u64,
-    _workers: u64,
-    _gate: &G,
+    workers: u64,
+    gate: &G,
 ) -> Result<(DefinitelyAnswer, u64), AllocError>
     requires wide { 1 ≤ width }
     requires narrow { width ≤ width_limit }
+    requires some_workers { 1 ≤ workers }
+    requires few_workers { workers ≤ worker_limit }
     ensures answer { IfOk result (λ found. IsDefinitelyAnswer computation.now.events
         (test_of computation.now (predicate_view pred.now)) width (definitely_answer_view found.0)) }
     ensures few { IfOk result (λ found. (s : ℕ) → IsLeastRoot s (total computation.now.events + 1)
@@ -57,6 +70,7 @@ pub fn definitely_counted<G: Gate + Sync>(
     ensures past_first { IfOk result (λ found. IsPastFirst computation.now.events (definitely_answer_view found.0)
         → 2 ≤ found.1) }
 {
-    let answers = answer_one(alloc, computation, pred, width)?;
+    let crew = Crew::new(rt, workers, gate);
+    let answers = answer_one(&crew, alloc, computation, pred, width)?;
     Ok((answers.definitely, answers.held))
 }

@@ -1,4 +1,5 @@
 //! The question and its answer.
+ghost use Rattle.pd_expand.specs.Limits.{worker_limit};
 ghost use Rattle.pd_model.specs.Answers.{IsPossiblyAnswer};
 ghost use Rattle.pd_model.specs.Predicates.{test_of};
 ghost use Rattle.pd_pred.specs.Views.{predicate_view};
@@ -6,30 +7,38 @@ ghost use Rattle.pd_walk.specs.Answers.{possibly_answer_view};
 ghost use Rattle.std.specs.Prelude.{◌≤◌, IfOk};
 
 use pd_clock::Computation;
+use pd_expand::Crew;
 use pd_level::Gate;
 use pd_pred::Pred;
 use pd_walk::{PossiblyAnswer, answer_possibly};
 use std::alloc::{AllocError, Global};
+use std::sync::Wait;
+use std::thread::Threads;
 
-/// The answer for a predicate over a computation, under a bound on the width of the levels, from 1 on. `_workers` and
-/// the gate change nothing yet.
+/// The answer for a predicate over a computation, under a bound on the width of the levels, from 1 on. From 1 to 16
+/// workers share the work on a level that has enough cuts, each on a thread of its own. A worker calls the gate before
+/// it expands a block of the level. Neither the workers nor the gate change the answer.
 ///
 /// Source: Cooper and Marzullo, Consistent Detection of Global Predicates, 1991.
 ///
 /// # Errors
 /// An allocation was refused.
-pub fn possibly<G: Gate + Sync>(
+pub fn possibly<T: Threads + Wait + Sync, G: Gate + Sync>(
+    rt: &T,
     alloc: Global,
     computation: &Computation<'_>,
     pred: &Pred,
     width: u64,
-    _workers: u64,
-    _gate: &G,
+    workers: u64,
+    gate: &G,
 ) -> Result<PossiblyAnswer, AllocError>
     requires wide { 1 ≤ width }
+    requires some_workers { 1 ≤ workers }
+    requires few_workers { workers ≤ worker_limit }
     ensures { IfOk result (λ answer. IsPossiblyAnswer computation.now.events
         (test_of computation.now (predicate_view pred.now)) width (possibly_answer_view answer)) }
 {
-    let answer = answer_possibly(alloc, computation, pred, width)?;
+    let crew = Crew::new(rt, workers, gate);
+    let answer = answer_possibly(&crew, alloc, computation, pred, width)?;
     Ok(answer)
 }
