@@ -11,7 +11,7 @@ session_view names = (names.spec.now, map (λ name. name.now) names.streams.item
 
 abbrev pub request_view : Request → asked.Request
 request_view Bundle = asked.JudgeInput
-request_view (Judge names) = asked.JudgeFiles (session_view names).0 (session_view names).1
+request_view (Judge names workers) = asked.JudgeFiles (session_view names).0 (session_view names).1
 request_view (Check report names) = asked.CheckFiles (session_view names).0 report.now (session_view names).1
 request_view (Serve service) = asked.ServeStreams service.spec.now service.port service.watchers
 

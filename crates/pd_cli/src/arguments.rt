@@ -4,11 +4,12 @@ ghost use Rattle.clap.specs.Simple.{app_of, subcommand_of, subcommand_rows_of};
 ghost use Rattle.clap.specs.Values.{kind_of};
 ghost use Rattle.clap.specs.Walk.{Text, rows_of, rule_of};
 ghost use Rattle.clap.specs.declared.builder.command.Command.TheViews.{out-Command};
-ghost use Rattle.pd_cli.specs.Arguments.{AreOf, AreTaken, AsksFor, FindsSession, IsErrorOf, IsNumberText, IsPort, NamesNumber, check_app, judge_app, monitor_app, number_rule, port_rule, required_rule, serve_app, stream_rule, watchers_rule};
+ghost use Rattle.pd_cli.specs.Arguments.{AreOf, AreTaken, AsksFor, FindsSession, IsErrorOf, IsNumberText, IsPort, NamesNumber, NamesWorkers, check_app, judge_app, monitor_app, number_rule, port_app, port_rule, required_rule, serve_app, stream_rule, watchers_rule, workers_rule};
 ghost use Rattle.pd_cli.specs.Views.{asked_view, request_view, session_view};
 ghost use Rattle.std.specs.Prelude.{◌≡◌, ◌≢◌, ℕ, IfErr, IfOk, IfSome, List, None, codes, false, map, option_map};
 
 use super::request::{Request, Service, SessionNames};
+use super::workers::{WORKER_LIMIT, Workers};
 use clap::builder::ValueParser;
 use clap::error::ErrorKind;
 use clap::{Arg, ArgMatches, Command, Error};
@@ -71,31 +72,6 @@ fn streams_argument<'a>(alloc: Global) -> Arg<'a>
     file_argument(alloc, "STREAM", "The streams of events, one file for each").num_args(1..)
 }
 
-/// The command line of a judgement.
-fn judge_command<'a>(alloc: Global) -> Result<Command<'a>, AllocError>
-    ensures app { IfOk result (λ command. app_of command ≡ judge_app) }
-    ensures local { IfOk result (λ command. (out-Command command).has_globals ≡ false) }
-{
-    Command::new(alloc, "judge")
-        .about(JUDGE_ABOUT)
-        .after_help(JUDGE_AFTER)
-        .arg(file_argument(alloc, "SPEC", "The session document"))?
-        .arg(streams_argument(alloc))
-}
-
-/// The command line of a check.
-fn check_command<'a>(alloc: Global) -> Result<Command<'a>, AllocError>
-    ensures app { IfOk result (λ command. app_of command ≡ check_app) }
-    ensures local { IfOk result (λ command. (out-Command command).has_globals ≡ false) }
-{
-    Command::new(alloc, "check")
-        .about(CHECK_ABOUT)
-        .after_help(CHECK_AFTER)
-        .arg(file_argument(alloc, "SPEC", "The session document"))?
-        .arg(file_argument(alloc, "REPORT", "The report"))?
-        .arg(streams_argument(alloc))
-}
-
 /// An option with a number in this range.
 fn number_option<'a>(alloc: Global, id: &'a str, name: &'a str, least: u64, most: u64) -> Arg<'a>
     ensures rule { rule_of result ≡ number_rule id.now name.now least most }
@@ -128,17 +104,64 @@ fn watchers_option<'a>(alloc: Global) -> Arg<'a>
         )
 }
 
-/// The command line of a server.
-fn serve_command<'a>(alloc: Global) -> Result<Command<'a>, AllocError>
-    ensures app { IfOk result (λ command. app_of command ≡ serve_app) }
+/// The option that says how many workers there are.
+fn workers_option<'a>(alloc: Global) -> Arg<'a>
+    ensures rule { rule_of result ≡ workers_rule }
+    ensures local { result.global ≡ false }
+{
+    number_option(alloc, "WORKERS", "workers", 1, WORKER_LIMIT)
+        .default_value("1")
+        .help(
+            "How many threads, at most 16, share the work on levels with many cuts; they change no byte of the report",
+        )
+}
+
+/// The command line of a judgement.
+fn judge_command<'a>(alloc: Global) -> Result<Command<'a>, AllocError>
+    ensures app { IfOk result (λ command. app_of command ≡ judge_app) }
+    ensures local { IfOk result (λ command. (out-Command command).has_globals ≡ false) }
+{
+    Command::new(alloc, "judge")
+        .about(JUDGE_ABOUT)
+        .after_help(JUDGE_AFTER)
+        .arg(file_argument(alloc, "SPEC", "The session document"))?
+        .arg(streams_argument(alloc))?
+        .arg(workers_option(alloc))
+}
+
+/// The command line of a check.
+fn check_command<'a>(alloc: Global) -> Result<Command<'a>, AllocError>
+    ensures app { IfOk result (λ command. app_of command ≡ check_app) }
+    ensures local { IfOk result (λ command. (out-Command command).has_globals ≡ false) }
+{
+    Command::new(alloc, "check")
+        .about(CHECK_ABOUT)
+        .after_help(CHECK_AFTER)
+        .arg(file_argument(alloc, "SPEC", "The session document"))?
+        .arg(file_argument(alloc, "REPORT", "The report"))?
+        .arg(streams_argument(alloc))
+}
+
+/// The command line of a server with what must be given.
+fn port_command<'a>(alloc: Global) -> Result<Command<'a>, AllocError>
+    ensures app { IfOk result (λ command. app_of command ≡ port_app) }
     ensures local { IfOk result (λ command. (out-Command command).has_globals ≡ false) }
 {
     Command::new(alloc, "serve")
         .about(SERVE_ABOUT)
         .after_help(SERVE_AFTER)
         .arg(file_argument(alloc, "SPEC", "The session document"))?
-        .arg(port_option(alloc))?
-        .arg(watchers_option(alloc))
+        .arg(port_option(alloc))
+}
+
+/// The command line of a server.
+fn serve_command<'a>(alloc: Global) -> Result<Command<'a>, AllocError>
+    ensures app { IfOk result (λ command. app_of command ≡ serve_app) }
+    ensures local { IfOk result (λ command. (out-Command command).has_globals ≡ false) }
+{
+    port_command(alloc)?
+        .arg(watchers_option(alloc))?
+        .arg(workers_option(alloc))
 }
 
 /// The program's command line.
@@ -180,10 +203,13 @@ fn judge_request<'a>(
         → AreOf (codes "judge") arguments (rows_of (found_of matches.now))
         → AsksFor arguments (asked_view request)) }
 {
+    let Some(workers) = workers_of(matches) else {
+        return Ok(None);
+    };
     let Some(names) = session_names(alloc, matches)? else {
         return Ok(None);
     };
-    Ok(Some(Request::Judge(names)))
+    Ok(Some(Request::Judge(names, workers)))
 }
 
 /// What the arguments of `check` ask for, if all names are there.
@@ -226,6 +252,17 @@ fn number_of(matches: &ArgMatches<'_>, id: &str) -> Option<u64>
     number_in(text)
 }
 
+/// The number of workers, if it is one from 1 to 16.
+fn workers_of(matches: &ArgMatches<'_>) -> Option<Workers>
+    ensures some { IfSome result (λ workers. NamesWorkers (rows_of (found_of matches.now)) workers.number) }
+    ensures none { result ≡ None → (n : ℕ) → ¬ NamesWorkers (rows_of (found_of matches.now)) n }
+{
+    let Some(number) = number_of(matches, "WORKERS") else {
+        return None;
+    };
+    Workers::of(number)
+}
+
 /// The port of this number, unless it is 0 or the last one.
 fn port_of(number: u64) -> Option<u16>
     ensures same { IfSome result (λ port. port ≡ number) }
@@ -259,10 +296,14 @@ fn serve_request<'a>(matches: &ArgMatches<'a>) -> Option<Request<'a>>
     if watchers > WATCHER_LIMIT {
         return None;
     }
+    let Some(workers) = workers_of(matches) else {
+        return None;
+    };
     Some(Request::Serve(Service {
         spec,
         port,
         watchers,
+        workers,
     }))
 }
 

@@ -17,11 +17,12 @@
 //! - `check_files`: checks a report against the session in files
 //! - `server`: judges a session whose streams come by connections
 //! - `watchers`: shows watchers how far the streams are read
+//! - `workers`: how many workers share the work on a session
 //! - `network`: where connections come from
 //! - `service_fault`: why a server gives no report
 //! - `session_files`: opens and reads the files of a session
 //! - `file_source`: where files are read
-//! - `outcomes`: how the program judges, and which outcome is a success
+//! - `outcomes`: which outcome is a success
 //! - `status`: exit statuses, and the lines that report faults
 //! - `line`: writes a line to the errors
 #![tactic(auto)]
@@ -44,6 +45,7 @@ mod status;
 #[cfg(test)]
 mod tests;
 mod watchers;
+mod workers;
 
 pub use file_source::FileSource;
 pub use network::Network;

@@ -14,6 +14,7 @@ use super::parser_error::report_parser_error;
 use super::request::{Request, Service, SessionNames};
 use super::server::serve;
 use super::status::{report_end, report_service_end};
+use super::workers::Workers;
 use pd_engine::ByteSource;
 use std::alloc::Global;
 use std::io::Write;
@@ -70,6 +71,7 @@ fn run_files<S: RandomSource + Threads + Wait + Sync, F: FileSource, O: Write, E
     files: &F,
     alloc: Global,
     names: &SessionNames<'_>,
+    workers: &Workers,
     output: &mut O,
     errors: &mut E,
 ) -> u8
@@ -77,7 +79,7 @@ fn run_files<S: RandomSource + Threads + Wait + Sync, F: FileSource, O: Write, E
         (map (λ name. F.bytes_of files.now name.now) names.now.streams.items) ending
         (O.contents output.old) (O.contents output.new)) result (E.contents errors.old) (E.contents errors.new) }
 {
-    let end = judge_files(rt, files, alloc, names, output);
+    let end = judge_files(rt, files, alloc, names, workers, output);
     report_end(&end, errors)
 }
 
@@ -123,7 +125,9 @@ fn run_arguments<
 {
     match parse(alloc, arguments) {
         Ok(Request::Bundle) => run_bundle(rt, alloc, input, output, errors),
-        Ok(Request::Judge(names)) => run_files(rt, files, alloc, &names, output, errors),
+        Ok(Request::Judge(names, workers)) => {
+            run_files(rt, files, alloc, &names, &workers, output, errors)
+        }
         Ok(Request::Check(report, names)) => {
             run_check(rt, files, alloc, report, &names, output, errors)
         }
