@@ -162,3 +162,8 @@ kept_filter {A} test (x ∷ xs) = go (kept_filter test xs) (test x)
         ≡ cond (not b) (x ∷ filter (λ y. not (test y)) xs) (filter (λ y. not (test y)) xs)
     go rest true = rest
     go rest false = ap (λ (ys : List A). x ∷ ys) rest
+
+-- the same of one element and its mark
+pub one_kept : {A : Type 0} (test : A → Bool) (x : A) (mark : Bool) → mark ≡ test x
+    → kept_by false (mark ∷ []) (x ∷ []) ≡ filter (λ y. not (test y)) (x ∷ [])
+one_kept test x mark e = ap (λ (b : Bool). kept_by false (b ∷ []) (x ∷ [])) e ∙ kept_filter test (x ∷ [])

@@ -4,12 +4,15 @@ ghost use Rattle.pd_model.specs.Answers.{IsListOf};
 ghost use Rattle.pd_model.specs.Cuts.{IsConsistent, IsNextOf};
 ghost use Rattle.pd_model.specs.Predicates.{test_of};
 ghost use Rattle.pd_pred.specs.Views.{predicate_view};
-ghost use Rattle.std.specs.Prelude.{◌≡◌, ◌+◌, ◌<◌, ◌≤◌, All, IfOk, filter, length, map, not};
+ghost use Rattle.std.specs.Prelude.{◌≡◌, ◌+◌, ◌<◌, All, IfOk, filter, not};
 
 use pd_clock::Computation;
-use pd_level::{Level, LevelFault};
+use pd_expand::Crew;
+use pd_level::{Gate, Level, LevelFault};
 use pd_pred::Pred;
 use std::alloc::{AllocError, Global};
+use std::sync::Wait;
+use std::thread::Threads;
 
 /// The avoiding cuts of level 0.
 ///
@@ -27,16 +30,18 @@ pub fn first_avoiding(
     // the laws that the proof uses
     pd_model::levels();
     pd_model::avoiding_levels();
-    let whole = Level::first(alloc, computation)?;
-    let level = without_satisfying(alloc, computation, pred, whole)?;
+    let mut level = Level::first(alloc, computation)?;
+    let mark = level.holds(computation, pred, 0);
+    level.keep(&[mark], false);
     Ok(level)
 }
 
-/// The avoiding cuts of the next level, from those of a level.
+/// The avoiding cuts of the next level, from those of a level. The crew shares the work.
 ///
 /// # Errors
 /// An allocation was refused, or there might be more cuts than a `u64` counts.
-pub fn next_avoiding(
+pub fn next_avoiding<T: Threads + Wait + Sync, G: Gate + Sync>(
+    crew: &Crew<'_, '_, T, G>,
     alloc: Global,
     computation: &Computation<'_>,
     pred: &Pred,
@@ -51,16 +56,17 @@ pub fn next_avoiding(
 {
     // the laws that the proof uses
     pd_model::avoiding_levels();
-    let whole = next_of_any(alloc, computation, level)?;
-    let next = without_satisfying(alloc, computation, pred, whole)?;
+    let whole = next_of_any(crew, alloc, computation, level)?;
+    let next = without_satisfying(crew, alloc, computation, pred, whole)?;
     Ok(next)
 }
 
-/// The cuts that have one event more than one of the level's, however many they are.
+/// The cuts that have one event more than one of the level's, however many they are. The crew shares the work.
 ///
 /// # Errors
 /// An allocation was refused, or there might be more cuts than a `u64` counts.
-pub fn next_of_any(
+pub fn next_of_any<T: Threads + Wait + Sync, G: Gate + Sync>(
+    crew: &Crew<'_, '_, T, G>,
     alloc: Global,
     computation: &Computation<'_>,
     level: &Level,
@@ -75,7 +81,7 @@ pub fn next_of_any(
     let Some(most) = cuts.checked_mul(computation.processes() as u64) else {
         return Err(AllocError);
     };
-    match Level::next(alloc, computation, level, most) {
+    match crew.next(alloc, computation, level, most) {
         Ok(whole) => Ok(whole),
         Err(LevelFault::Memory) => Err(AllocError),
         Err(LevelFault::Wide) => unreachable!(),
@@ -83,7 +89,8 @@ pub fn next_of_any(
 }
 
 /// The level without the cuts that satisfy.
-fn without_satisfying(
+fn without_satisfying<T: Threads + Wait + Sync, G: Gate + Sync>(
+    crew: &Crew<'_, '_, T, G>,
     alloc: Global,
     computation: &Computation<'_>,
     pred: &Pred,
@@ -94,25 +101,7 @@ fn without_satisfying(
         ≡ filter (λ cut. not (test_of computation.now (predicate_view pred.now) cut)) level.cuts) }
     ensures number { IfOk result (λ left. left.number ≡ level.number) }
 {
-    let marks = marks(alloc, computation, pred, &level)?;
+    let marks = crew.marks(alloc, computation, pred, &level)?;
     level.keep(&marks, false);
     Ok(level)
-}
-
-/// Of each cut of the level whether it satisfies.
-fn marks(
-    alloc: Global,
-    computation: &Computation<'_>,
-    pred: &Pred,
-    level: &Level,
-) -> Result<Vec<bool>, AllocError>
-    requires { All (IsConsistent computation.now.events) level.now.cuts }
-    ensures { IfOk result (λ marks. marks.items
-        ≡ map (test_of computation.now (predicate_view pred.now)) level.now.cuts) }
-{
-    let mut marks = Vec::with_capacity(alloc, level.len())?;
-    for i in 0..level.len() {
-        marks.push(level.holds(computation, pred, i))?;
-    }
-    Ok(marks)
 }

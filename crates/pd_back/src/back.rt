@@ -13,20 +13,24 @@ use super::descent::descend;
 use super::free::free_way;
 use super::undo::whole_cut;
 use pd_clock::Computation;
-use pd_level::Level;
+use pd_expand::Crew;
+use pd_level::{Gate, Level};
 use pd_pred::Pred;
 use std::alloc::{AllocError, Global};
+use std::sync::Wait;
+use std::thread::Threads;
 
 /// The processes, counted from 0, in the order in which their events happen in an avoiding observation. From the full
 /// cut backward each step undoes the event of the least process that leaves an avoiding cut.
 ///
 /// Levels of avoiding cuts are held from level `_split` on, none more than `_gap` above the one before it; no cut of a
 /// lower level satisfies. They are let go of on the way, and at most `_gap` more are held at once than at the
-/// beginning.
+/// beginning. The crew shares the work on levels that are made again.
 ///
 /// # Errors
 /// An allocation was refused.
-pub fn way_back(
+pub fn way_back<T: Threads + Wait + Sync, G: Gate + Sync>(
+    crew: &Crew<'_, '_, T, G>,
     alloc: Global,
     computation: &Computation<'_>,
     pred: &Pred,
@@ -51,7 +55,7 @@ pub fn way_back(
     let mut cut = whole_cut(alloc, computation);
     let mut k = computation.total();
     while held.len() > 0 {
-        cut = descend(alloc, computation, pred, k, cut, held, &mut path)?;
+        cut = descend(crew, alloc, computation, pred, k, cut, held, &mut path)?;
         k = held.last().number();
         held.drop_last();
     }

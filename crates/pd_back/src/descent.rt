@@ -9,13 +9,17 @@ use super::avoiding::next_avoiding;
 use super::depth::search_down;
 use super::undo::least_undone;
 use pd_clock::{Computation, Cut};
-use pd_level::Level;
+use pd_expand::Crew;
+use pd_level::{Gate, Level};
 use pd_pred::Pred;
 use std::alloc::{AllocError, Global};
+use std::sync::Wait;
+use std::thread::Threads;
 
 /// The way from a cut of level `k` down to the level that is held last, searched depth first. Where the search gives
 /// up, the levels in between are made again, and held no longer than the way leads through them.
-pub(crate) fn descend(
+pub(crate) fn descend<T: Threads + Wait + Sync, G: Gate + Sync>(
+    crew: &Crew<'_, '_, T, G>,
     alloc: Global,
     computation: &Computation<'_>,
     pred: &Pred,
@@ -46,12 +50,13 @@ pub(crate) fn descend(
         return Ok(low);
     }
     let kept = held.len();
-    expand(alloc, computation, pred, k, held)?;
+    expand(crew, alloc, computation, pred, k, held)?;
     step_down(alloc, computation, pred, kept, cut, held, path)
 }
 
 /// Holds the levels between the last one held and level `k`.
-fn expand(
+fn expand<T: Threads + Wait + Sync, G: Gate + Sync>(
+    crew: &Crew<'_, '_, T, G>,
     alloc: Global,
     computation: &Computation<'_>,
     pred: &Pred,
@@ -74,7 +79,7 @@ fn expand(
     ensures most { IfOk result (λ _. held.new.most ≤ max held.old.most (length held.new.levels.items)) }
 {
     for _ in held.last().number() + 1..k {
-        let next = next_avoiding(alloc, computation, pred, held.last())?;
+        let next = next_avoiding(crew, alloc, computation, pred, held.last())?;
         held.push(next)?;
     }
     Ok(())

@@ -21,6 +21,7 @@ const SHARED_CUTS: usize = 4096;
 
 /// From 1 to 16 workers, which share the work on a level if it has enough cuts, and the gate that each passes before
 /// it expands a block.
+#[derive(Drop)]
 pub struct Crew<'a, 'b, T, G> {
     rt: &'a T,
     workers: u64,

@@ -12,8 +12,12 @@ use super::root::least_root;
 use super::walk::walk_up;
 use pd_back::Held;
 use pd_clock::Computation;
+use pd_expand::Crew;
+use pd_level::Gate;
 use pd_pred::Pred;
 use std::alloc::{AllocError, Global};
+use std::sync::Wait;
+use std::thread::Threads;
 
 /// How many cuts a whole level may have, beside four times the width, before the walk goes on with the avoiding cuts
 /// alone.
@@ -26,7 +30,8 @@ const WIDE_ENOUGH: u64 = 100_000;
 ///
 /// # Errors
 /// An allocation was refused.
-pub fn answer_all(
+pub fn answer_all<T: Threads + Wait + Sync, G: Gate + Sync>(
+    crew: &Crew<'_, '_, T, G>,
     alloc: Global,
     computation: &Computation<'_>,
     preds: &[&Pred],
@@ -40,7 +45,14 @@ pub fn answer_all(
     ensures few { IfOk result (λ answers. (s : ℕ) → IsLeastRoot s (total computation.now.events + 1)
         → AllAnswered computation.now preds.now width (2 * s + 2) answers.items) }
 {
-    let answers = answer_within(alloc, computation, preds, width, 4 * width + WIDE_ENOUGH)?;
+    let answers = answer_within(
+        crew,
+        alloc,
+        computation,
+        preds,
+        width,
+        4 * width + WIDE_ENOUGH,
+    )?;
     Ok(answers)
 }
 
@@ -50,7 +62,8 @@ pub fn answer_all(
 ///
 /// # Errors
 /// An allocation was refused.
-pub fn answer_within(
+pub fn answer_within<T: Threads + Wait + Sync, G: Gate + Sync>(
+    crew: &Crew<'_, '_, T, G>,
     alloc: Global,
     computation: &Computation<'_>,
     preds: &[&Pred],
@@ -67,17 +80,36 @@ pub fn answer_within(
     computation.limits();
     let gap = least_root(computation.total() + 1);
     if computation.processes() < 2 {
-        let answers = answer_each(alloc, computation, preds, width, gap)?;
+        let answers = answer_each(crew, alloc, computation, preds, width, gap)?;
         return Ok(answers);
     }
     let mut wholes = Held::new(alloc);
-    let mut stages = walk_up(alloc, computation, preds, width, gap, limit, &mut wholes)?;
-    let answers = finish_all(alloc, computation, preds, width, gap, &wholes, &mut stages)?;
+    let mut stages = walk_up(
+        crew,
+        alloc,
+        computation,
+        preds,
+        width,
+        gap,
+        limit,
+        &mut wholes,
+    )?;
+    let answers = finish_all(
+        crew,
+        alloc,
+        computation,
+        preds,
+        width,
+        gap,
+        &wholes,
+        &mut stages,
+    )?;
     Ok(answers)
 }
 
 /// The same for each predicate by itself, by lists of cuts.
-fn answer_each(
+fn answer_each<T: Threads + Wait + Sync, G: Gate + Sync>(
+    crew: &Crew<'_, '_, T, G>,
     alloc: Global,
     computation: &Computation<'_>,
     preds: &[&Pred],
@@ -90,7 +122,7 @@ fn answer_each(
 {
     let mut answers = Vec::with_capacity(alloc, preds.len())?;
     for i in 0..preds.len() {
-        answers.push(answers_by_lists(alloc, computation, preds[i], width, gap)?)?;
+        answers.push(answers_by_lists(crew, alloc, computation, preds[i], width, gap)?)?;
     }
     Ok(answers)
 }

@@ -4,22 +4,26 @@ ghost use Rattle.pd_model.specs.Cuts.{IsConsistent, total};
 ghost use Rattle.pd_model.specs.Predicates.{test_of};
 ghost use Rattle.pd_pred.specs.Views.{predicate_view};
 ghost use Rattle.pd_walk.specs.Answers.{AreAnswers, IsFirstIn, possibly_answer_view};
-ghost use Rattle.std.specs.Prelude.{◌≡◌, ◌+◌, ◌*◌, ◌<◌, ◌≤◌, false, All, Err, IfErr, IfOk, IfNone, IfSome, length, MatchOption, Ok};
+ghost use Rattle.std.specs.Prelude.{◌≡◌, ◌+◌, ◌*◌, ◌<◌, ◌≤◌, false, All, Err, IfErr, IfOk, IfNone, IfSome, length, map, MatchOption, Ok};
 
 use super::listed::{settle_listed, walk_listed};
 use super::split::Split;
 use super::{Answers, PossiblyAnswer};
 use pd_back::{Held, first_avoiding};
 use pd_clock::{Computation, Cut};
-use pd_level::{Level, LevelFault};
+use pd_expand::Crew;
+use pd_level::{Gate, Level, LevelFault};
 use pd_pred::Pred;
 use std::alloc::{AllocError, Global};
+use std::sync::Wait;
+use std::thread::Threads;
 
 /// How many levels the walk for Possibly holds at once, at most.
 const POSSIBLY_LEVELS: u64 = 2;
 
 /// Both answers for one predicate.
-pub(crate) fn answers_by_lists(
+pub(crate) fn answers_by_lists<T: Threads + Wait + Sync, G: Gate + Sync>(
+    crew: &Crew<'_, '_, T, G>,
     alloc: Global,
     computation: &Computation<'_>,
     pred: &Pred,
@@ -31,7 +35,7 @@ pub(crate) fn answers_by_lists(
     ensures { IfOk result (AreAnswers computation.now.events (test_of computation.now (predicate_view pred.now)) width
         (2 * gap + 2)) }
 {
-    let possibly = possibly_by_lists(alloc, computation, pred, width)?;
+    let possibly = possibly_by_lists(crew, alloc, computation, pred, width)?;
     let level = first_avoiding(alloc, computation, pred)?;
     let split = Split {
         possibly,
@@ -49,6 +53,7 @@ pub(crate) fn answers_by_lists(
         POSSIBLY_LEVELS,
     )? {
         Ok(on) => walk_listed(
+            crew,
             alloc,
             computation,
             pred,
@@ -65,7 +70,8 @@ pub(crate) fn answers_by_lists(
 }
 
 /// Whether some consistent cut satisfies.
-pub(crate) fn possibly_by_lists(
+pub(crate) fn possibly_by_lists<T: Threads + Wait + Sync, G: Gate + Sync>(
+    crew: &Crew<'_, '_, T, G>,
     alloc: Global,
     computation: &Computation<'_>,
     pred: &Pred,
@@ -82,11 +88,11 @@ pub(crate) fn possibly_by_lists(
     let total = computation.total();
     let mut level = Level::first(alloc, computation)?;
     for k in 0..total + 1 {
-        match first_satisfying(alloc, computation, pred, &level) {
+        match first_satisfying(crew, alloc, computation, pred, &level)? {
             Some(cut) => return Ok(PossiblyAnswer::Yes(cut)),
             None => {}
         }
-        match unless_wide(Level::next(alloc, computation, &level, width))? {
+        match unless_wide(crew.next(alloc, computation, &level, width))? {
             Some(next) => level = next,
             None => return Ok(PossiblyAnswer::Unknown(k + 1)),
         }
@@ -107,8 +113,50 @@ fn unless_wide(next: Result<Level, LevelFault>) -> Result<Option<Level>, AllocEr
     }
 }
 
-/// The first cut of the level that satisfies.
-fn first_satisfying(
+/// The first cut of the level that satisfies. If the level has enough cuts for several workers, all of them are tested.
+fn first_satisfying<T: Threads + Wait + Sync, G: Gate + Sync>(
+    crew: &Crew<'_, '_, T, G>,
+    alloc: Global,
+    computation: &Computation<'_>,
+    pred: &Pred,
+    level: &Level,
+) -> Result<Option<Cut>, AllocError>
+    requires { All (IsConsistent computation.now.events) level.now.cuts }
+    ensures found { IfOk result (λ found. IfSome found
+        (IsFirstIn (test_of computation.now (predicate_view pred.now)) level.now.cuts)) }
+    ensures none { IfOk result (λ found. IfNone found
+        (All (λ cut. test_of computation.now (predicate_view pred.now) cut ≡ false) level.now.cuts)) }
+{
+    if crew.shares(level.len()) {
+        let marks = crew.marks(alloc, computation, pred, level)?;
+        return Ok(first_marked(alloc, computation, pred, level, &marks));
+    }
+    Ok(first_in_turn(alloc, computation, pred, level))
+}
+
+/// The same, by the marks of all cuts. It takes no memory.
+fn first_marked(
+    alloc: Global,
+    _computation: &Computation<'_>,
+    _pred: &Pred,
+    level: &Level,
+    marks: &[bool],
+) -> Option<Cut>
+    requires { marks.now ≡ map (test_of _computation.now (predicate_view _pred.now)) level.now.cuts }
+    ensures found { IfSome result (IsFirstIn (test_of _computation.now (predicate_view _pred.now)) level.now.cuts) }
+    ensures none { IfNone result (All (λ cut. test_of _computation.now (predicate_view _pred.now) cut ≡ false)
+        level.now.cuts) }
+{
+    for i in 0..marks.len() {
+        if marks[i] {
+            return Some(level.cut(alloc, i));
+        }
+    }
+    None
+}
+
+/// The same, one cut after the other as far as the first one. It takes no memory.
+fn first_in_turn(
     alloc: Global,
     computation: &Computation<'_>,
     pred: &Pred,

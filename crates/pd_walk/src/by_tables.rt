@@ -8,17 +8,22 @@ ghost use Rattle.std.specs.Prelude.{◌≡◌, ◌+◌, ◌<◌, ◌≤◌, All,
 
 use pd_back::{next_avoiding, next_of_any};
 use pd_clock::Computation;
-use pd_level::Level;
+use pd_expand::Crew;
+use pd_level::{Gate, Level};
 use pd_pred::Pred;
 use pd_tables::Compiled;
+use rayon::prelude::*;
 use std::alloc::{AllocError, Global};
+use std::sync::Wait;
+use std::thread::Threads;
 
 /// The avoiding cuts of the next level, from those of a level. If the predicate is compiled its tables are asked, and
 /// else it is evaluated as its text spells it.
 ///
 /// # Errors
 /// An allocation was refused, or there might be more cuts than a `u64` counts.
-pub(crate) fn next_listed(
+pub(crate) fn next_listed<T: Threads + Wait + Sync, G: Gate + Sync>(
+    crew: &Crew<'_, '_, T, G>,
     alloc: Global,
     computation: &Computation<'_>,
     pred: &Pred,
@@ -36,16 +41,57 @@ pub(crate) fn next_listed(
     // the laws that the proof uses
     pd_model::avoiding_levels();
     let Some(test) = compiled else {
-        return next_avoiding(alloc, computation, pred, level);
+        return next_avoiding(crew, alloc, computation, pred, level);
     };
-    let mut next = next_of_any(alloc, computation, level)?;
-    let marks = table_marks(alloc, test, &next)?;
+    let mut next = next_of_any(crew, alloc, computation, level)?;
+    let marks = table_marks(crew, alloc, test, &next)?;
     next.keep(&marks, false);
     Ok(next)
 }
 
-/// Of each cut of the level whether the predicate is true there.
-fn table_marks(
+/// Of each cut of the level whether the predicate is true there. If the level has enough cuts it is shared.
+fn table_marks<T: Threads + Wait + Sync, G: Gate + Sync>(
+    crew: &Crew<'_, '_, T, G>,
+    alloc: Global,
+    test: &Compiled<'_, '_>,
+    level: &Level,
+) -> Result<Vec<bool>, AllocError>
+    requires two { 2 ≤ length (events_of test.now) }
+    requires cuts { All (IsConsistent (events_of test.now)) level.now.cuts }
+    ensures { IfOk result (λ marks. marks.items ≡ map (meaning_of test.now) level.now.cuts) }
+{
+    if crew.shares(level.len()) {
+        return marks_shared(crew.runtime(), alloc, test, level);
+    }
+    marks_in_turn(alloc, test, level)
+}
+
+/// The same, by as many threads as there are processors.
+fn marks_shared<T: Threads + Sync>(
+    rt: &T,
+    alloc: Global,
+    test: &Compiled<'_, '_>,
+    level: &Level,
+) -> Result<Vec<bool>, AllocError>
+    requires two { 2 ≤ length (events_of test.now) }
+    requires cuts { All (IsConsistent (events_of test.now)) level.now.cuts }
+    ensures { IfOk result (λ marks. marks.items ≡ map (meaning_of test.now) level.now.cuts) }
+{
+    (0..level.len())
+        .into_par_iter()
+        .map(
+            |i: usize| -> bool
+                requires { (i < length level.now.cuts) × (2 ≤ length (events_of test.now))
+                    × All (IsConsistent (events_of test.now)) level.now.cuts }
+                ensures { IfSome (slice_get level.entry.now.cuts i) (λ cut. result
+                    ≡ meaning_of test.entry.now cut) }
+            { holds_there(alloc, test, level, i) },
+        )
+        .collect(rt, alloc)
+}
+
+/// The same, one cut after the other.
+fn marks_in_turn(
     alloc: Global,
     test: &Compiled<'_, '_>,
     level: &Level,

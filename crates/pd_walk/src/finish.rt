@@ -14,14 +14,19 @@ use super::walk::TABLE_BYTES;
 use super::{Answers, DefinitelyAnswer, PossiblyAnswer};
 use pd_back::{Held, way_back};
 use pd_clock::Computation;
+use pd_expand::Crew;
+use pd_level::Gate;
 use pd_pred::Pred;
 use pd_runs::Whole;
 use pd_tables::Compiled;
 use std::alloc::{AllocError, Global};
 use std::mem;
+use std::sync::Wait;
+use std::thread::Threads;
 
 /// The answers for all predicates after the last whole level.
-pub(crate) fn finish_all(
+pub(crate) fn finish_all<T: Threads + Wait + Sync, G: Gate + Sync>(
+    crew: &Crew<'_, '_, T, G>,
     alloc: Global,
     computation: &Computation<'_>,
     preds: &[&Pred],
@@ -40,6 +45,7 @@ pub(crate) fn finish_all(
     for i in 0..preds.len() {
         let stage = mem::replace(&mut stages[i], Stage::Open);
         answers.push(finish(
+            crew,
             alloc,
             computation,
             preds[i],
@@ -55,7 +61,8 @@ pub(crate) fn finish_all(
 
 /// Both answers for a predicate of which this is known after a level, which stays. `most` whole levels were held at
 /// once. If no cut so far satisfies, it is the last level.
-fn finish(
+fn finish<T: Threads + Wait + Sync, G: Gate + Sync>(
+    crew: &Crew<'_, '_, T, G>,
     alloc: Global,
     computation: &Computation<'_>,
     pred: &Pred,
@@ -78,12 +85,13 @@ fn finish(
 {
     computation.limits();
     match stage {
-        Stage::Open => answer_none(alloc, computation, pred, width, gap, most),
+        Stage::Open => answer_none(crew, alloc, computation, pred, width, gap, most),
         Stage::Marked { split, marks } => {
             let mut room = TABLE_BYTES;
             let test = Compiled::compile(alloc, computation, pred, &mut room)?;
             let listed = marks.to_level(alloc, level)?;
             walk_listed(
+                crew,
                 alloc,
                 computation,
                 pred,
@@ -101,7 +109,8 @@ fn finish(
 }
 
 /// Both answers, if no cut satisfies. A whole level stays, and `most` were held at once.
-fn answer_none(
+fn answer_none<T: Threads + Wait + Sync, G: Gate + Sync>(
+    crew: &Crew<'_, '_, T, G>,
     alloc: Global,
     computation: &Computation<'_>,
     pred: &Pred,
@@ -125,6 +134,7 @@ fn answer_none(
     computation.limits();
     let mut held = Held::new(alloc);
     let path = way_back(
+        crew,
         alloc,
         computation,
         pred,

@@ -13,14 +13,18 @@ use super::split::Split;
 use super::{Answers, DefinitelyAnswer};
 use pd_back::{Held, way_back};
 use pd_clock::Computation;
-use pd_level::Level;
+use pd_expand::Crew;
+use pd_level::{Gate, Level};
 use pd_pred::Pred;
 use pd_tables::Compiled;
 use std::alloc::{AllocError, Global};
+use std::sync::Wait;
+use std::thread::Threads;
 
 /// Both answers, from the avoiding cuts of a level on. Beside the levels that are kept, `most` were held at once so
 /// far, and `whole` whole levels stay.
-pub(crate) fn walk_listed(
+pub(crate) fn walk_listed<T: Threads + Wait + Sync, G: Gate + Sync>(
+    crew: &Crew<'_, '_, T, G>,
     alloc: Global,
     computation: &Computation<'_>,
     pred: &Pred,
@@ -54,7 +58,7 @@ pub(crate) fn walk_listed(
     walked.push(level)?;
     let mut beside = most.max(walked.most() + whole);
     while k < total {
-        go_up(alloc, computation, pred, compiled, k, &mut walked)?;
+        go_up(crew, alloc, computation, pred, compiled, k, &mut walked)?;
         k += 1;
         beside = beside.max(walked.most() + whole);
         match settle_listed(
@@ -72,11 +76,22 @@ pub(crate) fn walk_listed(
         }
     }
     walked.drop_last();
-    answer_no(alloc, computation, pred, width, gap, split, whole, beside)
+    answer_no(
+        crew,
+        alloc,
+        computation,
+        pred,
+        width,
+        gap,
+        split,
+        whole,
+        beside,
+    )
 }
 
 /// Holds the avoiding cuts of the next level in place of those of level `k`.
-fn go_up(
+fn go_up<T: Threads + Wait + Sync, G: Gate + Sync>(
+    crew: &Crew<'_, '_, T, G>,
     alloc: Global,
     computation: &Computation<'_>,
     pred: &Pred,
@@ -92,7 +107,7 @@ fn go_up(
         (k + 1) walked.new.levels.items) }
     ensures most { IfOk result (λ _. walked.new.most ≡ max walked.old.most 2) }
 {
-    let next = next_listed(alloc, computation, pred, compiled, walked.last())?;
+    let next = next_listed(crew, alloc, computation, pred, compiled, walked.last())?;
     walked.push(next)?;
     walked.drop_last_but_one();
     Ok(())
@@ -166,7 +181,8 @@ fn keep_listed(
 
 /// Both answers, if the full cut avoids. Beside the levels that are kept, `most` were held at once so far, and `whole`
 /// whole levels stay.
-pub(crate) fn answer_no(
+pub(crate) fn answer_no<T: Threads + Wait + Sync, G: Gate + Sync>(
+    crew: &Crew<'_, '_, T, G>,
     alloc: Global,
     computation: &Computation<'_>,
     pred: &Pred,
@@ -190,7 +206,15 @@ pub(crate) fn answer_no(
     pd_model::definitely_walk();
     let mut split = split;
     let before = split.held.most().saturating_add(most);
-    let path = way_back(alloc, computation, pred, split.first, gap, &mut split.held)?;
+    let path = way_back(
+        crew,
+        alloc,
+        computation,
+        pred,
+        split.first,
+        gap,
+        &mut split.held,
+    )?;
     let held = before.max(split.held.most().saturating_add(whole));
     Ok(split.answered(DefinitelyAnswer::No(path), held))
 }

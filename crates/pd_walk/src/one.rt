@@ -17,15 +17,20 @@ use super::walk::walk_up;
 use super::{Answers, PossiblyAnswer};
 use pd_back::Held;
 use pd_clock::Computation;
+use pd_expand::Crew;
+use pd_level::Gate;
 use pd_pred::Pred;
 use pd_runs::Whole;
 use std::alloc::{AllocError, Global};
+use std::sync::Wait;
+use std::thread::Threads;
 
 /// Both answers for a predicate over a computation, by one walk up the levels, under a width from 1 to its limit.
 ///
 /// # Errors
 /// An allocation was refused.
-pub fn answer_one(
+pub fn answer_one<T: Threads + Wait + Sync, G: Gate + Sync>(
+    crew: &Crew<'_, '_, T, G>,
     alloc: Global,
     computation: &Computation<'_>,
     pred: &Pred,
@@ -38,7 +43,7 @@ pub fn answer_one(
     ensures few { IfOk result (λ answers. (s : ℕ) → IsLeastRoot s (total computation.now.events + 1)
         → answers.held ≤ 2 * s + 2) }
 {
-    let mut answers = answer_all(alloc, computation, &[pred], width)?;
+    let mut answers = answer_all(crew, alloc, computation, &[pred], width)?;
     Ok(answers.remove(0))
 }
 
@@ -47,7 +52,8 @@ pub fn answer_one(
 ///
 /// # Errors
 /// An allocation was refused.
-pub fn answer_possibly(
+pub fn answer_possibly<T: Threads + Wait + Sync, G: Gate + Sync>(
+    crew: &Crew<'_, '_, T, G>,
     alloc: Global,
     computation: &Computation<'_>,
     pred: &Pred,
@@ -59,14 +65,23 @@ pub fn answer_possibly(
 {
     computation.limits();
     if computation.processes() < 2 {
-        return possibly_by_lists(alloc, computation, pred, width);
+        return possibly_by_lists(crew, alloc, computation, pred, width);
     }
     if width == u64::MAX {
-        return possibly_by_lists(alloc, computation, pred, width);
+        return possibly_by_lists(crew, alloc, computation, pred, width);
     }
     let gap = least_root(computation.total() + 1);
     let mut wholes = Held::new(alloc);
-    let mut stages = walk_up(alloc, computation, &[pred], width, gap, 0, &mut wholes)?;
+    let mut stages = walk_up(
+        crew,
+        alloc,
+        computation,
+        &[pred],
+        width,
+        gap,
+        0,
+        &mut wholes,
+    )?;
     Ok(possibly_after(
         computation,
         pred,

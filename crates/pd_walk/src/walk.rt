@@ -15,6 +15,8 @@ use super::look::{look_marked, look_open};
 use super::stage::Stage;
 use pd_back::Held;
 use pd_clock::Computation;
+use pd_expand::Crew;
+use pd_level::Gate;
 use pd_marks::Skips;
 use pd_pred::Pred;
 use pd_refusals::Refusals;
@@ -22,12 +24,15 @@ use pd_runs::{Steps, Whole};
 use pd_tables::Compiled;
 use std::alloc::{AllocError, Global};
 use std::mem;
+use std::sync::Wait;
+use std::thread::Threads;
 
 /// How many bytes the tables of all predicates may take together.
 pub(crate) const TABLE_BYTES: usize = 67_108_864;
 
 /// What is known of each predicate after the next level.
-fn look_all(
+fn look_all<T: Threads + Wait + Sync, G: Gate + Sync>(
+    _crew: &Crew<'_, '_, T, G>,
     alloc: Global,
     computation: &Computation<'_>,
     tests: &[Compiled<'_, '_>],
@@ -178,7 +183,8 @@ fn goes_on(stages: &[Stage], level: &Whole, k: u64, total: u64, limit: u64) -> b
 }
 
 /// Holds the next whole level in place of level `_k`, once each predicate was looked at there.
-fn step_up(
+fn step_up<T: Threads + Wait + Sync, G: Gate + Sync>(
+    crew: &Crew<'_, '_, T, G>,
     alloc: Global,
     computation: &Computation<'_>,
     steps: &Steps<'_, '_>,
@@ -207,6 +213,7 @@ fn step_up(
     let level = wholes.last();
     let after = Refusals::next(alloc, tests, before, refusals, level)?;
     look_all(
+        crew,
         alloc,
         computation,
         tests,
@@ -225,7 +232,8 @@ fn step_up(
 
 /// The walk up the whole levels: what is known of each predicate after its last level, which stays. A level with more
 /// cuts than `limit` ends it once no predicate is open.
-pub(crate) fn walk_up(
+pub(crate) fn walk_up<T: Threads + Wait + Sync, G: Gate + Sync>(
+    crew: &Crew<'_, '_, T, G>,
     alloc: Global,
     computation: &Computation<'_>,
     preds: &[&Pred],
@@ -261,6 +269,7 @@ pub(crate) fn walk_up(
     let mut k = 0;
     while goes_on(&stages, wholes.last(), k, total, limit) {
         step_up(
+            crew,
             alloc,
             computation,
             &steps,

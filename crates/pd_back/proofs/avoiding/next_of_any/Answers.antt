@@ -6,7 +6,7 @@ use Rattle.pd_model.proofs.Successors.{not_wide}
 use Rattle.pd_back.proofs.avoiding.next_of_any.Goals as goal
 
 pub unreachable-requires : goal.unreachable-requires
-unreachable-requires c =
+unreachable-requires g c =
     let more : MoreThan c.in-Some.most (IsNextOf c.args.computation.now.events c.args.level.now.cuts) =
     c.in-Err-Wide.ensures.wide (ap Err c.in-Err-Wide.field-0-is) in
     let short : length c.args.level.now.cuts ≤ c.max-cuts.result =

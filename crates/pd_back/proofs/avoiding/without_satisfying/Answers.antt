@@ -7,7 +7,7 @@ use Rattle.pd_back.proofs.LevelLists.{kept_filter}
 use Rattle.pd_back.proofs.avoiding.without_satisfying.Goals as goal
 
 pub returns-clause-cuts : goal.returns-clause-cuts
-returns-clause-cuts c =
+returns-clause-cuts g c =
     c.keep.ensures.cuts ∙ (ap (λ (marks : List Bool). kept_by false marks c.args.level.cuts) (c.deref.ensures.value
     ∙ c.in_ok-marks.ensures) ∙ kept_filter (test_of c.args.computation.now (predicate_view c.args.pred.now))
     c.args.level.cuts)

@@ -6,7 +6,7 @@ use Rattle.pd_pred.specs.Views.{predicate_view}
 use Rattle.pd_back.proofs.back.way_back.Given as goal
 
 abbrev pub invariant-loop-alloc : goal.invariant-loop-alloc
-invariant-loop-alloc l = record {
+invariant-loop-alloc g l = record {
   number : sum l.cut ≡ l.k;
   kept : AreKept l.computation.events (test_of l.computation (predicate_view l.pred)) l._split l._gap l.k
       l.held.levels.items;
@@ -17,4 +17,4 @@ invariant-loop-alloc l = record {
 }
 
 abbrev pub decreases-loop-alloc : goal.decreases-loop-alloc
-decreases-loop-alloc l = length l.held.levels.items
+decreases-loop-alloc g l = length l.held.levels.items

@@ -9,7 +9,7 @@ use Rattle.pd_back.proofs.LevelLists.{in_turn_push, last_number_push, last_numbe
 use Rattle.pd_back.proofs.descent.expand.Goals as goal
 
 pub loop-preserved : goal.loop-preserved
-loop-preserved c =
+loop-preserved g c =
     let first : ℕ = length c.args.held.now.levels.items in
     let pushed : c.push.new.self.levels.items ≡ c.loop.held.levels.items ++ c.in_ok-next.next ∷ [] =
     c.in_ok-push.ensures.levels in

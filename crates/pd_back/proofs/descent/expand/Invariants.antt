@@ -6,7 +6,7 @@ use Rattle.pd_pred.specs.Views.{predicate_view}
 use Rattle.pd_back.proofs.descent.expand.Given as goal
 
 abbrev pub invariant-loop : goal.invariant-loop
-invariant-loop l = record {
+invariant-loop g l = record {
   some : 0 < length l.held.levels.items;
   lists : AreAvoidingLevels l.computation.events (test_of l.computation (predicate_view l.pred)) l.held.levels.items;
   within : length l.fn.held.levels.items ≤ length l.held.levels.items;

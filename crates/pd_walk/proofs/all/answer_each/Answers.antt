@@ -10,7 +10,7 @@ use Rattle.pd_walk.proofs.Standing.{each_more}
 use Rattle.pd_walk.proofs.all.answer_each.Goals as goal
 
 pub loop-i-preserved : goal.loop-i-preserved
-loop-i-preserved c =
+loop-i-preserved g c =
     let pushed : c.push.new.self.items ≡ c.loop-i.answers.items ++ c.in_ok-answers_by_lists.field-0 ∷ [] =
     c.in_ok-push.ensures.items in
     record {

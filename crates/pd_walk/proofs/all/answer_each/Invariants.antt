@@ -8,7 +8,7 @@ use Rattle.pd_walk.specs.declared.answers.Answers.{Answers}
 use Rattle.pd_walk.proofs.all.answer_each.Given as goal
 
 abbrev pub invariant-loop-i : goal.invariant-loop-i
-invariant-loop-i l = record {
+invariant-loop-i g l = record {
   one_each : length l.answers.items ≡ l.i;
   each : (j : ℕ) (pred : Bor Pred) (answer : Answers) → j < l.i → AreAnswers l.computation.events
       (test_of l.computation (predicate_view (get_or l.preds j pred).now)) l.width (2 * l.gap + 2)

@@ -7,7 +7,7 @@ use Rattle.pd_walk.proofs.Roots.{one_root}
 use Rattle.pd_walk.proofs.all.answer_within.Goals as goal
 
 pub returns-then-processes-lt2-clause-few : goal.returns-then-processes-lt2-clause-few
-returns-then-processes-lt2-clause-few c s root =
+returns-then-processes-lt2-clause-few g c s root =
     subst (λ (r : ℕ). AllAnswered c.args.computation.now c.args.preds.now c.args.width (2 * r + 2)
     c.in_ok-answers.answers.items)
     (one_root c.least_root-gap.result s (total c.args.computation.now.events + 1)
@@ -15,7 +15,7 @@ returns-then-processes-lt2-clause-few c s root =
     root) c.in_ok-answers.ensures
 
 pub returns-clause-few : goal.returns-clause-few
-returns-clause-few c s root =
+returns-clause-few g c s root =
     subst (λ (r : ℕ). AllAnswered c.args.computation.now c.args.preds.now c.args.width (2 * r + 2)
     c.in_ok-answers-2.answers.items)
     (one_root c.least_root-gap.result s (total c.args.computation.now.events + 1)

@@ -20,7 +20,7 @@ none_more c test k cuts list none fails j cut lt level =
     (λ at. All-contains (λ x. test x ≡ false) cuts cut fails ((list.just cut).1 at)) j lt level
 
 pub loop-k-init : goal.loop-k-init
-loop-k-init c =
+loop-k-init g c =
     let e : c.in_ok-level.level.cuts ≡ empty_cut c.args.computation.now.events ∷ [] =
     ap (λ (l : Levelled). l.cuts) c.in_ok-level.ensures in
     let one : length c.in_ok-level.level.cuts ≡ 1 = ap length e in
@@ -33,17 +33,22 @@ loop-k-init c =
     }
 
 pub first_satisfying-requires : goal.first_satisfying-requires
-first_satisfying-requires c =
-    level_consistent c.args.computation.now.events c.loop-k.k c.loop-k.level.cuts c.loop-k.invariant.list
+first_satisfying-requires g c = (
+  c.type_bounds.sync-T,
+  (
+    c.type_bounds.sync-G,
+    level_consistent c.args.computation.now.events c.loop-k.k c.loop-k.level.cuts c.loop-k.invariant.list,
+  ),
+)
 
 pub next-requires-clause-cuts : goal.next-requires-clause-cuts
-next-requires-clause-cuts c =
+next-requires-clause-cuts g c _ _ =
     level_consistent c.args.computation.now.events c.loop-k.k c.loop-k.level.cuts c.loop-k.invariant.list
 
 pub returns-in-Some : goal.returns-in-Some
-returns-in-Some c =
+returns-in-Some g c =
     let w : IsFirstIn (test_of c.args.computation.now (predicate_view c.args.pred.now)) c.loop-k.level.cuts
-    c.in-Some.cut = rw c.in-Some.is at c.first_satisfying.ensures.found in
+    c.in-Some.cut = rw c.in-Some.is at c.in_ok-cut.ensures.found in
     subst (λ (x : List ℕ). IsPossiblyAnswer c.args.computation.now.events
     (test_of c.args.computation.now (predicate_view c.args.pred.now)) c.args.width (PossiblyYes x)) w.2
     (c.possibly_walk.ensures.found c.args.computation.now.events
@@ -53,8 +58,8 @@ returns-in-Some c =
     ∙ w.3) w.4)
 
 pub returns-in-None-2 : goal.returns-in-None-2
-returns-in-None-2 c =
-    let fails = rw c.in-None.is at c.first_satisfying.ensures.none in
+returns-in-None-2 g c =
+    let fails = rw c.in-None.is at c.in_ok-cut.ensures.none in
     let wide = rw c.in-None-2.is at c.in_ok-next.ensures.found in
     record {
       wide = c.possibly_walk.ensures.wide c.args.computation.now.events c.limits.ensures.acyclic c.args.width c.loop-k.k
@@ -68,8 +73,8 @@ returns-in-None-2 c =
     }
 
 pub loop-k-preserved : goal.loop-k-preserved
-loop-k-preserved c =
-    let fails = rw c.in-None.is at c.first_satisfying.ensures.none in
+loop-k-preserved g c =
+    let fails = rw c.in-None.is at c.in_ok-cut.ensures.none in
     let made : c.next.result ≡ Ok c.in-Some-2.next = rw c.in-Some-2.is at c.in_ok-next.ensures.found in
     record {
       list = c.levels.ensures.next c.args.computation.now.events c.limits.ensures.acyclic c.loop-k.k c.loop-k.level.cuts
@@ -83,7 +88,7 @@ loop-k-preserved c =
     }
 
 pub returns : goal.returns
-returns c =
+returns g c =
     c.possibly_walk.ensures.none c.args.computation.now.events
     (test_of c.args.computation.now (predicate_view c.args.pred.now)) c.args.width c.loop-k.k
     c.loop-k.invariant.below c.loop-k.invariant.none (omega (arith, c.total-total.ensures.sum))

@@ -8,7 +8,7 @@ use Rattle.pd_pred.specs.Views.{predicate_view}
 use Rattle.pd_walk.proofs.by_lists.possibly_by_lists.Given as goal
 
 abbrev pub invariant-loop-k : goal.invariant-loop-k
-invariant-loop-k l = record {
+invariant-loop-k g l = record {
   list : IsListOf (IsOfLevel l.computation.events l.k) l.level.cuts;
   narrow : length l.level.cuts ≤ l.width;
   below : IsNarrowBelow l.computation.events l.width l.k;

@@ -12,13 +12,13 @@ use Rattle.pd_walk.specs.Stages.{IsTestOf, events_of, meaning_of}
 use Rattle.pd_walk.proofs.by_tables.next_listed.Goals as goal
 
 pub next_of_any-requires-clause-cuts : goal.next_of_any-requires-clause-cuts
-next_of_any-requires-clause-cuts c =
+next_of_any-requires-clause-cuts g c _ _ =
     avoiding_consistent c.avoiding_levels.ensures.level c.args.computation.now.events
     (test_of c.args.computation.now (predicate_view c.args.pred.now)) c.args.level.now.number c.args.level.now.cuts
     c.requires.list
 
 pub table_marks-requires-clause-cuts : goal.table_marks-requires-clause-cuts
-table_marks-requires-clause-cuts c =
+table_marks-requires-clause-cuts g c _ _ =
     let is : IsTestOf c.args.computation.now (predicate_view c.args.pred.now) c.in-Some.test =
     rw c.in-Some.is at c.requires.compiled in
     subst (λ (events : Computation). All (IsConsistent events) c.in_ok-next.next.cuts) (sym (ap events_of is.same))
@@ -26,7 +26,7 @@ table_marks-requires-clause-cuts c =
     c.in_ok-next.ensures.list)
 
 pub returns-clause-list : goal.returns-clause-list
-returns-clause-list c =
+returns-clause-list g c =
     let is : IsTestOf c.args.computation.now (predicate_view c.args.pred.now) c.in-Some.test =
     rw c.in-Some.is at c.requires.compiled in
     list_at c.args.computation.now.events (test_of c.args.computation.now (predicate_view c.args.pred.now))

@@ -7,8 +7,12 @@ use Rattle.pd_walk.proofs.Going.{full_avoids}
 use Rattle.pd_walk.proofs.Opening.{open_avoided, open_narrow}
 use Rattle.pd_walk.proofs.finish.answer_none.Goals as goal
 
+pub way_back-requires-clause-none_below : goal.way_back-requires-clause-none_below
+way_back-requires-clause-none_below g c _ _ = λ j cut lt level.
+    c.requires.opened.none j cut (omega (arith, c.total.ensures.sum)) level
+
 pub way_back-requires-clause-full : goal.way_back-requires-clause-full
-way_back-requires-clause-full c =
+way_back-requires-clause-full g c _ _ =
     full_avoids c.avoiding_levels.ensures.level c.levels.ensures.full c.args.computation.now.events
     (test_of c.args.computation.now (predicate_view c.args.pred.now))
     (open_avoided c.avoidance.ensures.all c.args.computation.now.events c.limits.ensures.acyclic
@@ -16,7 +20,7 @@ way_back-requires-clause-full c =
     (total c.args.computation.now.events + 1) c.requires.opened (omega arith))
 
 pub returns : goal.returns
-returns c =
+returns g c =
     record {
       possibly_right =
           c.possibly_walk.ensures.none c.args.computation.now.events

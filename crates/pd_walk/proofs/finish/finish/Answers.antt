@@ -7,7 +7,7 @@ use Rattle.pd_pred.specs.Views.{predicate_view}
 use Rattle.pd_walk.proofs.finish.finish.Goals as goal
 
 pub to_level-requires : goal.to_level-requires
-to_level-requires c = record {
+to_level-requires g c = record {
   c = c.args.computation.now.events;
   test = test_of c.args.computation.now (predicate_view c.args.pred.now);
   short = c.limits.ensures.short;
@@ -16,7 +16,7 @@ to_level-requires c = record {
 }
 
 pub walk_listed-requires-clause-list : goal.walk_listed-requires-clause-list
-walk_listed-requires-clause-list c =
+walk_listed-requires-clause-list g c _ _ =
     subst (λ (n : ℕ). IsListOf (IsAvoiding c.args.computation.now.events
     (test_of c.args.computation.now (predicate_view c.args.pred.now)) n) c.in_ok-listed-in-Marked.listed.cuts)
     (sym c.in_ok-listed-in-Marked.ensures.number)

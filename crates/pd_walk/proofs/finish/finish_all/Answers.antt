@@ -15,7 +15,7 @@ use Rattle.pd_walk.proofs.Standing.{HaveFinished, none_finished, one_finished, o
 use Rattle.pd_walk.proofs.finish.finish_all.Goals as goal
 
 pub loop-i-init : goal.loop-i-init
-loop-i-init c =
+loop-i-init g c =
     subst (λ (answers : List Answers).
     HaveFinished c.args.computation.now c.args.preds.now c.args.width c.args.gap c.args.wholes.now.most
     c.args.wholes.now.levels.items 0 c.args.stages.now.items answers) (sym c.in_ok-answers.ensures.items)
@@ -23,19 +23,19 @@ loop-i-init c =
     c.args.wholes.now.levels.items c.args.stages.now.items c.requires.ended)
 
 pub finish-requires-clause-level : goal.finish-requires-clause-level
-finish-requires-clause-level c =
+finish-requires-clause-level g c _ _ =
     subst (λ (l : WholeLevel). IsWholeLevel c.args.computation.now.events l)
     (sym (only_whole c.args.wholes.now.levels.items c.loop-i.invariant.level c.last.result.now
     c.loop-i.invariant.only c.last.ensures)) c.loop-i.invariant.whole
 
 pub finish-requires-clause-within : goal.finish-requires-clause-within
-finish-requires-clause-within c =
+finish-requires-clause-within g c _ _ =
     subst (λ (l : WholeLevel). l.number ≤ total c.args.computation.now.events)
     (sym (only_whole c.args.wholes.now.levels.items c.loop-i.invariant.level c.last.result.now
     c.loop-i.invariant.only c.last.ensures)) c.loop-i.invariant.within
 
 pub finish-requires-clause-last : goal.finish-requires-clause-last
-finish-requires-clause-last c = λ is.
+finish-requires-clause-last g c _ _ = λ is.
     ap (λ (l : WholeLevel). l.number) (only_whole c.args.wholes.now.levels.items c.loop-i.invariant.level
     c.last.result.now c.loop-i.invariant.only c.last.ensures)
     ∙ c.loop-i.invariant.last c.loop-i.i c.index_mut.result.now (omega arith)
@@ -43,7 +43,7 @@ finish-requires-clause-last c = λ is.
     (sym (c.replace-stage.ensures.value ∙ c.index_mut.ensures.value) ∙ is)
 
 pub finish-requires-clause-stands : goal.finish-requires-clause-stands
-finish-requires-clause-stands c =
+finish-requires-clause-stands g c _ _ =
     subst (λ (l : WholeLevel).
     Stands c.args.computation.now.events (test_of c.args.computation.now (predicate_view c.index-preds-i.result.now))
     c.args.width c.args.gap l c.replace-stage.result)
@@ -61,14 +61,14 @@ finish-requires-clause-stands c =
     c.loop-i-test.true)))
 
 pub finish-requires-clause-most : goal.finish-requires-clause-most
-finish-requires-clause-most c =
+finish-requires-clause-most g c _ _ =
     subst (λ (n : ℕ). AreBeside c.args.gap c.last.result.now.number n) (sym c.most.ensures)
     (subst (λ (l : WholeLevel). AreBeside c.args.gap l.number c.args.wholes.now.most)
     (sym (only_whole c.args.wholes.now.levels.items c.loop-i.invariant.level c.last.result.now
     c.loop-i.invariant.only c.last.ensures)) c.loop-i.invariant.beside)
 
 pub loop-i-preserved : goal.loop-i-preserved
-loop-i-preserved c =
+loop-i-preserved g c =
     subst (λ (answers : List Answers).
     HaveFinished c.args.computation.now c.args.preds.now c.args.width c.args.gap c.args.wholes.now.most
     c.args.wholes.now.levels.items (c.loop-i.i + 1) (slice_set c.loop-i.stages.items c.loop-i.i

@@ -3,6 +3,6 @@ use Rattle.pd_walk.proofs.Standing.{HaveFinished}
 use Rattle.pd_walk.proofs.finish.finish_all.Given as goal
 
 abbrev pub invariant-loop-i : goal.invariant-loop-i
-invariant-loop-i l =
+invariant-loop-i g l =
     HaveFinished l.computation l.preds l.width l.gap l.wholes.most l.wholes.levels.items l.i l.stages.items
     l.answers.items

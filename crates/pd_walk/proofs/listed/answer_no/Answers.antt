@@ -12,12 +12,12 @@ use Rattle.pd_walk.proofs.Going.{full_avoids}
 use Rattle.pd_walk.proofs.listed.answer_no.Goals as goal
 
 pub way_back-requires-clause-full : goal.way_back-requires-clause-full
-way_back-requires-clause-full c =
+way_back-requires-clause-full g c _ _ =
     full_avoids c.avoiding_levels.ensures.level c.levels.ensures.full c.args.computation.now.events
     (test_of c.args.computation.now (predicate_view c.args.pred.now)) c.requires.split.avoided
 
 pub returns : goal.returns
-returns c =
+returns g c =
     record {
       possibly_right = subst (λ (a : PossiblyAnswer). IsPossiblyAnswer c.args.computation.now.events
           (test_of c.args.computation.now (predicate_view c.args.pred.now)) c.args._width (possibly_answer_view a))

@@ -6,12 +6,12 @@ use Rattle.pd_walk.proofs.Going.{level_at, next_at}
 use Rattle.pd_walk.proofs.listed.go_up.Goals as goal
 
 pub next_listed-requires-clause-list : goal.next_listed-requires-clause-list
-next_listed-requires-clause-list c =
+next_listed-requires-clause-list g c _ _ =
     (level_at c.args.computation.now.events (test_of c.args.computation.now (predicate_view c.args.pred.now)) c.args.k
     c.args.walked.now.levels.items c.last.result.now c.requires.at c.last.ensures).0
 
 pub next_listed-requires-clause-low : goal.next_listed-requires-clause-low
-next_listed-requires-clause-low c =
+next_listed-requires-clause-low g c _ _ =
     omega (
       arith,
       c.requires.low,
@@ -21,7 +21,7 @@ next_listed-requires-clause-low c =
     )
 
 pub returns-clause-at : goal.returns-clause-at
-returns-clause-at c =
+returns-clause-at g c =
     next_at c.args.computation.now.events (test_of c.args.computation.now (predicate_view c.args.pred.now)) c.args.k
     c.args.walked.now.levels.items c.push.new.self.levels.items c.drop_last_but_one.new.self.levels.items
     c.in_ok-next.next c.requires.at c.in_ok-push.ensures.levels c.drop_last_but_one.ensures.levels

@@ -9,12 +9,12 @@ use Rattle.pd_walk.proofs.Keeping.{some_gap}
 use Rattle.pd_walk.proofs.listed.walk_listed.Goals as goal
 
 pub settle_listed-requires-clause-list : goal.settle_listed-requires-clause-list
-settle_listed-requires-clause-list c =
+settle_listed-requires-clause-list g c =
     (level_at c.args.computation.now.events (test_of c.args.computation.now (predicate_view c.args.pred.now))
     (c.loop-k.k + 1) c.go_up.new.walked.levels.items c.last.result.now c.in_ok-go_up.ensures.at c.last.ensures).0
 
 pub settle_listed-requires-clause-within : goal.settle_listed-requires-clause-within
-settle_listed-requires-clause-within c =
+settle_listed-requires-clause-within g c =
     omega (
       arith,
       c.loop-k-test.true,
@@ -26,7 +26,7 @@ settle_listed-requires-clause-within c =
     )
 
 pub settle_listed-requires-clause-split : goal.settle_listed-requires-clause-split
-settle_listed-requires-clause-split c =
+settle_listed-requires-clause-split g c =
     subst (λ (k : ℕ).
     IsSplitBelow c.args.computation.now.events (test_of c.args.computation.now (predicate_view c.args.pred.now))
     c.args.width c.args.gap k c.loop-k.split)
@@ -35,7 +35,7 @@ settle_listed-requires-clause-split c =
     c.loop-k.invariant.split
 
 pub loop-k-preserved : goal.loop-k-preserved
-loop-k-preserved c =
+loop-k-preserved g c =
     record {
       within = omega (arith, c.loop-k-test.true, c.total-total.ensures.sum);
       at = c.in_ok-go_up.ensures.at;
@@ -64,7 +64,7 @@ loop-k-preserved c =
     }
 
 pub answer_no-requires-clause-split : goal.answer_no-requires-clause-split
-answer_no-requires-clause-split c =
+answer_no-requires-clause-split g c _ _ =
     subst (λ (k : ℕ).
     IsSplitBelow c.args.computation.now.events (test_of c.args.computation.now (predicate_view c.args.pred.now))
     c.args.width c.args.gap (k + 1) c.loop-k.split)

@@ -7,7 +7,7 @@ use Rattle.pd_walk.specs.Stages.{AreBeside, IsAt, IsSplitBelow}
 use Rattle.pd_walk.proofs.listed.walk_listed.Given as goal
 
 abbrev pub invariant-loop-k : goal.invariant-loop-k
-invariant-loop-k l = record {
+invariant-loop-k g l = record {
   within : l.k ≤ total l.computation.events;
   at : IsAt l.computation.events (test_of l.computation (predicate_view l.pred)) l.k l.walked.levels.items;
   split : IsSplitBelow l.computation.events (test_of l.computation (predicate_view l.pred)) l.width l.gap (l.k + 1)
@@ -17,4 +17,4 @@ invariant-loop-k l = record {
 }
 
 abbrev pub decreases-loop-k : goal.decreases-loop-k
-decreases-loop-k l = l.total - l.k
+decreases-loop-k g l = l.total - l.k

@@ -7,7 +7,7 @@ use Rattle.pd_walk.specs.declared.answers.Answers.{Answers}
 use Rattle.pd_walk.proofs.one.answer_one.Goals as goal
 
 pub returns-clause-right : goal.returns-clause-right
-returns-clause-right c = (
+returns-clause-right g c = (
   c.in_ok-answers.ensures.right.0,
   subst (λ (answers : Answers).
       AreAnswers c.args.computation.now.events (test_of c.args.computation.now (predicate_view c.args.pred.now))

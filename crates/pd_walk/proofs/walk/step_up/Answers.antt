@@ -8,14 +8,14 @@ use Rattle.pd_walk.proofs.Standing.{beside_two, come_next, lower_whole, only_who
 use Rattle.pd_walk.proofs.walk.step_up.Goals as goal
 
 pub next-requires-clause-room : goal.next-requires-clause-room
-next-requires-clause-room c =
+next-requires-clause-room g c =
     let same : c.last.result.now ≡ c.requires.come.level =
     only_whole c.args.wholes.now.levels.items c.requires.come.level c.last.result.now c.requires.come.only
     c.last.ensures in
     omega (arith, ap (λ (l : WholeLevel). l.number) same, c.requires.come.number, c.requires.below, c.requires.small)
 
 pub next-requires-clause-level : goal.next-requires-clause-level
-next-requires-clause-level c =
+next-requires-clause-level g c =
     let same : c.last.result.now ≡ c.requires.come.level =
     only_whole c.args.wholes.now.levels.items c.requires.come.level c.last.result.now c.requires.come.only
     c.last.ensures in
@@ -23,7 +23,7 @@ next-requires-clause-level c =
     (subst (λ (l : WholeLevel). IsWholeLevel c.args.computation.now.events l) (sym same) c.requires.come.whole)
 
 pub next-requires-2-clause-before : goal.next-requires-2-clause-before
-next-requires-2-clause-before c = record {
+next-requires-2-clause-before g c = record {
   c = c.args.computation.now.events;
   whole =
       subst (λ (l : WholeLevel). IsWholeLevel c.args.computation.now.events l)
@@ -33,7 +33,7 @@ next-requires-2-clause-before c = record {
 }
 
 pub next-requires-2-clause-level : goal.next-requires-2-clause-level
-next-requires-2-clause-level c = record {
+next-requires-2-clause-level g c = record {
   c = c.args.computation.now.events;
   whole =
       subst (λ (l : WholeLevel). IsWholeLevel c.args.computation.now.events l)
@@ -43,7 +43,7 @@ next-requires-2-clause-level c = record {
 }
 
 pub next-requires-2-clause-processes : goal.next-requires-2-clause-processes
-next-requires-2-clause-processes c =
+next-requires-2-clause-processes g c =
     let lower : c.last_but_one-before.result.now ≡ c.requires.come.level =
     lower_whole c.args.wholes.now.levels.items c.push.new.self.levels.items c.requires.come.level c.in_ok-next.next
     c.last_but_one-before.result.now c.requires.come.only c.in_ok-push.ensures.levels c.last_but_one-before.ensures in
@@ -55,28 +55,28 @@ next-requires-2-clause-processes c =
     ∙ ap (λ (l : WholeLevel). l.processes) (sym upper)
 
 pub next-requires-2-clause-refusals : goal.next-requires-2-clause-refusals
-next-requires-2-clause-refusals c =
+next-requires-2-clause-refusals g c =
     subst (λ (l : WholeLevel). AreRefusals c.args.tests.now l c.args.refusals.now)
     (sym (lower_whole c.args.wholes.now.levels.items c.push.new.self.levels.items c.requires.come.level
     c.in_ok-next.next c.last_but_one-before.result.now c.requires.come.only c.in_ok-push.ensures.levels
     c.last_but_one-before.ensures)) c.requires.come.refused
 
 pub look_all-requires-clause-before : goal.look_all-requires-clause-before
-look_all-requires-clause-before c =
+look_all-requires-clause-before g c _ _ =
     subst (λ (l : WholeLevel). IsWholeLevel c.args.computation.now.events l)
     (sym (lower_whole c.args.wholes.now.levels.items c.push.new.self.levels.items c.requires.come.level
     c.in_ok-next.next c.last_but_one-before.result.now c.requires.come.only c.in_ok-push.ensures.levels
     c.last_but_one-before.ensures)) c.requires.come.whole
 
 pub look_all-requires-clause-level : goal.look_all-requires-clause-level
-look_all-requires-clause-level c =
+look_all-requires-clause-level g c _ _ =
     subst (λ (l : WholeLevel). IsWholeLevel c.args.computation.now.events l)
     (sym (upper_whole c.args.wholes.now.levels.items c.push.new.self.levels.items c.requires.come.level
     c.in_ok-next.next c.last-level.result.now c.requires.come.only c.in_ok-push.ensures.levels c.last-level.ensures))
     (subst (λ (e : Computation). IsWholeLevel e c.in_ok-next.next) c.requires.steps c.in_ok-next.ensures.level)
 
 pub look_all-requires-clause-number : goal.look_all-requires-clause-number
-look_all-requires-clause-number c =
+look_all-requires-clause-number g c _ _ =
     let held : c.last.result.now ≡ c.requires.come.level =
     only_whole c.args.wholes.now.levels.items c.requires.come.level c.last.result.now c.requires.come.only
     c.last.ensures in
@@ -90,7 +90,7 @@ look_all-requires-clause-number c =
     ∙ (c.in_ok-next.ensures.number ∙ ap (λ (l : WholeLevel). l.number + 1) (held ∙ sym lower))
 
 pub look_all-requires-clause-within : goal.look_all-requires-clause-within
-look_all-requires-clause-within c =
+look_all-requires-clause-within g c _ _ =
     let held : c.last.result.now ≡ c.requires.come.level =
     only_whole c.args.wholes.now.levels.items c.requires.come.level c.last.result.now c.requires.come.only
     c.last.ensures in
@@ -107,14 +107,14 @@ look_all-requires-clause-within c =
     )
 
 pub look_all-requires-clause-stand : goal.look_all-requires-clause-stand
-look_all-requires-clause-stand c =
+look_all-requires-clause-stand g c _ _ =
     subst (λ (l : WholeLevel). AllStand c.args.tests.now c.args.width c.args.gap l c.args.stages.now.items)
     (sym (lower_whole c.args.wholes.now.levels.items c.push.new.self.levels.items c.requires.come.level
     c.in_ok-next.next c.last_but_one-before.result.now c.requires.come.only c.in_ok-push.ensures.levels
     c.last_but_one-before.ensures)) c.requires.come.stand
 
 pub returns : goal.returns
-returns c =
+returns g c =
     let held : c.last.result.now ≡ c.requires.come.level =
     only_whole c.args.wholes.now.levels.items c.requires.come.level c.last.result.now c.requires.come.only
     c.last.ensures in

@@ -10,7 +10,7 @@ use Rattle.pd_walk.proofs.Standing.{beside_one, come_first, come_to_end, only_wh
 use Rattle.pd_walk.proofs.walk.walk_up.Goals as goal
 
 pub look_first-requires-clause-level : goal.look_first-requires-clause-level
-look_first-requires-clause-level c =
+look_first-requires-clause-level g c =
     subst (λ (l : WholeLevel). IsWholeLevel c.args.computation.now.events l)
     (sym (only_whole c.push.new.self.levels.items c.in_ok-first.field-0 c.last-first.result.now
     (c.in_ok-push.ensures.levels
@@ -19,7 +19,7 @@ look_first-requires-clause-level c =
     c.in_ok-first.ensures.level)
 
 pub first-requires-2 : goal.first-requires-2
-first-requires-2 c = record {
+first-requires-2 g c = record {
   c = c.args.computation.now.events;
   whole =
       subst (λ (l : WholeLevel). IsWholeLevel c.args.computation.now.events l)
@@ -31,7 +31,7 @@ first-requires-2 c = record {
 }
 
 pub look_first-requires-clause-number : goal.look_first-requires-clause-number
-look_first-requires-clause-number c =
+look_first-requires-clause-number g c =
     ap (λ (l : WholeLevel). l.number) (only_whole c.push.new.self.levels.items c.in_ok-first.field-0
     c.last-first.result.now
     (c.in_ok-push.ensures.levels
@@ -39,7 +39,7 @@ look_first-requires-clause-number c =
     ∙ c.in_ok-first.ensures.number
 
 pub look_first-requires-clause-beside : goal.look_first-requires-clause-beside
-look_first-requires-clause-beside c =
+look_first-requires-clause-beside g c =
     let only : c.push.new.self.levels.items ≡ c.in_ok-first.field-0 ∷ [] =
     c.in_ok-push.ensures.levels
     ∙ ap (λ (ls : List WholeLevel). ls ++ c.in_ok-first.field-0 ∷ []) c.requires.empty in
@@ -52,7 +52,7 @@ look_first-requires-clause-beside c =
     (omega (arith, c.most.ensures, c.in_ok-push.ensures.most, c.requires.none, ap length only)))
 
 pub loop-alloc-init : goal.loop-alloc-init
-loop-alloc-init c =
+loop-alloc-init g c =
     let only : c.push.new.self.levels.items ≡ c.in_ok-first.field-0 ∷ [] =
     c.in_ok-push.ensures.levels
     ∙ ap (λ (ls : List WholeLevel). ls ++ c.in_ok-first.field-0 ∷ []) c.requires.empty in
@@ -75,7 +75,7 @@ loop-alloc-init c =
     }
 
 pub returns : goal.returns
-returns c =
+returns g c =
     come_to_end c.args.computation.now c.args.preds.now c.in_ok-tests.tests.items c.args.width c.args.gap
     c.loop-alloc.k c.loop-alloc.wholes.most c.loop-alloc.wholes.levels.items c.loop-alloc.refusals
     c.loop-alloc.stages.items

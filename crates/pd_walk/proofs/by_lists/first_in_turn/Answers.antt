@@ -3,7 +3,7 @@ use Rattle.std.proofs.Common.{◌<◌, [], ◌∙◌, ap, arith}
 use Rattle.std.proofs.lemmas.List.{get_or_default}
 use Rattle.pd_model.specs.Predicates.{test_of}
 use Rattle.pd_pred.specs.Views.{predicate_view}
-use Rattle.pd_walk.proofs.by_lists.first_satisfying.Goals as goal
+use Rattle.pd_walk.proofs.by_lists.first_in_turn.Goals as goal
 
 pub returns-clause-none : goal.returns-clause-none
 returns-clause-none c = λ i d lt.

@@ -1,8 +1,0 @@
--- What the loops of `marks` keep.
-use Rattle.std.proofs.Common.{◌≡◌, map, take}
-use Rattle.pd_model.specs.Predicates.{test_of}
-use Rattle.pd_pred.specs.Views.{predicate_view}
-use Rattle.pd_back.proofs.avoiding.marks.Given as goal
-
-abbrev pub invariant-loop-i : goal.invariant-loop-i
-invariant-loop-i l = l.marks.items ≡ map (test_of l.computation (predicate_view l.pred)) (take l.i l.level.cuts)
