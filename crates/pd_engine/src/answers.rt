@@ -14,31 +14,36 @@ ghost use Rattle.std.specs.List.{AllZip};
 ghost use Rattle.std.specs.Prelude.{◌≡◌, ◌<◌, ◌≤◌, All, IfOk, length, map, string_bytes};
 
 use pd_clock::Computation;
+use pd_expand::Crew;
 use pd_level::Gate;
 use pd_pred::{Names, Pred};
 use pd_report::{Answer, Definitely, Possibly};
 use pd_spec::{NamedPred, Spec};
 use pd_walk::{Answers, DefinitelyAnswer, PossiblyAnswer, answer_all};
 use std::alloc::{AllocError, Global};
+use std::sync::Wait;
+use std::thread::Threads;
 
-/// The answer for each predicate, by one walk. `_workers` and the gate change nothing yet.
-pub(crate) fn answers_of<G: Gate + Sync>(
+/// The answer for each predicate, by one walk, whose lists of cuts the workers share.
+pub(crate) fn answers_of<S: Threads + Wait + Sync, G: Gate + Sync>(
+    rt: &S,
     alloc: Global,
     spec: &Spec,
     computation: &Computation<'_>,
-    _workers: u64,
-    _gate: &G,
+    workers: u64,
+    gate: &G,
 ) -> Result<Vec<Answer>, AllocError>
     requires names { length computation.now.events ≡ length (document_view spec.now).names }
-    requires some_workers { 1 ≤ _workers }
-    requires few_workers { _workers ≤ worker_limit }
+    requires some_workers { 1 ≤ workers }
+    requires few_workers { workers ≤ worker_limit }
     ensures { IfOk result (λ answers. AllZip
         (IsAnswered (document_view spec.now).names computation.now (document_view spec.now).width)
         (document_view spec.now).predicates (map views.answer_view answers.items)) }
 {
     let asked = spec.predicates();
     let preds = preds_of(alloc, asked)?;
-    let found = answer_all(alloc, computation, &preds, spec.width())?;
+    let crew = Crew::new(rt, workers, gate);
+    let found = answer_all(&crew, alloc, computation, &preds, spec.width())?;
     let mut answers = Vec::new(alloc);
     for i in 0..asked.len() {
         answers.push(answer(alloc, spec, &asked[i], computation, &found[i])?)?;

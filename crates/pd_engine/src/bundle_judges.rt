@@ -48,7 +48,7 @@ fn read_kept_document(alloc: Global, kept: &[u8]) -> Result<Spec, Unanswered>
 ///
 /// # Errors
 /// `BundleLong` if the bundle has over 67,108,864 bytes, `Read` if a read fails, and `Memory`.
-fn streams_report_of<S: RandomSource, R: ByteSource, G: Gate + Sync>(
+fn streams_report_of<S: RandomSource + Threads + Wait + Sync, R: ByteSource, G: Gate + Sync>(
     rt: &S,
     alloc: Global,
     spec: &Spec,
@@ -108,7 +108,7 @@ fn refusal_report_of<R: ByteSource>(
 ///
 /// # Errors
 /// `BundleLong` if it has over 67,108,864 bytes, `Read` if a read fails, and `Memory`.
-fn bundle_report<S: RandomSource, R: ByteSource + Drop, G: Gate + Sync>(
+fn bundle_report<S: RandomSource + Threads + Wait + Sync, R: ByteSource + Drop, G: Gate + Sync>(
     rt: &S,
     alloc: Global,
     reader: R,
@@ -142,8 +142,8 @@ fn bundle_report<S: RandomSource, R: ByteSource + Drop, G: Gate + Sync>(
 }
 
 /// Reads a bundle, judges it, and writes its report. Its first part is the document, and each of the others is a whole
-/// stream. They are read one after another, in pieces, and no bundle is held in memory. `workers`, from 1 to 16, and
-/// the gate change nothing yet.
+/// stream. They are read one after another, in pieces, and no bundle is held in memory. The workers, from 1 to 16,
+/// and the gate change how long it takes, and nothing that is written.
 ///
 /// # Errors
 /// `Memory`, `Read` if the reader fails, and `BundleLong` if it has more than 67,108,864 bytes leave nothing written.

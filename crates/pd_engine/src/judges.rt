@@ -35,7 +35,8 @@ pub(crate) fn write_report<W: Write>(
 
 /// Judges the session of the document in these bytes and of the streams, and writes its report. The streams are read
 /// each on its own thread; none is read if the document is refused, or if they are too many. A read that fails is a
-/// fault of its stream. `workers`, from 1 to 16, and the gate change nothing yet.
+/// fault of its stream. The workers, from 1 to 16, and the gate change how long it takes, and nothing that is
+/// written.
 ///
 /// # Errors
 /// `Memory` leaves nothing written. `Write` leaves a prefix of the report written, and not all of it.

@@ -28,7 +28,7 @@ use std::sync::Wait;
 use std::thread::Threads;
 
 /// The report of what the streams of a session gave, with an answer for each predicate, or why there are none.
-fn answered<S: RandomSource, G: Gate + Sync>(
+fn answered<S: RandomSource + Threads + Wait + Sync, G: Gate + Sync>(
     rt: &S,
     alloc: Global,
     spec: &Spec,
@@ -44,7 +44,7 @@ fn answered<S: RandomSource, G: Gate + Sync>(
 {
     let traces = traces_of(alloc, spec, gathered)?;
     let (computation, messages) = computation_of(rt, alloc, spec, &traces)?;
-    let answers = answers_of(alloc, spec, &computation, workers, gate)?;
+    let answers = answers_of(rt, alloc, spec, &computation, workers, gate)?;
     Ok(Report::Judged {
         processes: spec.names().processes() as u64,
         events: computation.total(),
@@ -53,12 +53,12 @@ fn answered<S: RandomSource, G: Gate + Sync>(
     })
 }
 
-/// The report of what the streams of a session gave: the first refusal, or an answer for each predicate. `workers`,
-/// from 1 to 16, and the gate change nothing yet.
+/// The report of what the streams of a session gave: the first refusal, or an answer for each predicate. The workers,
+/// from 1 to 16, and the gate change how long it takes, and nothing of the report.
 ///
 /// # Errors
 /// `Memory`.
-pub fn report_of<S: RandomSource, G: Gate + Sync>(
+pub fn report_of<S: RandomSource + Threads + Wait + Sync, G: Gate + Sync>(
     rt: &S,
     alloc: Global,
     spec: &Spec,
