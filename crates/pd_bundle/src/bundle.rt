@@ -98,6 +98,7 @@ impl Bundle {
         ensures long { result ≡ Err faults.Long → IfSome (R.remaining reader.old) (λ rest.
             bundle_byte_limit < self.old.count + length rest) }
         ensures sure { R.never_fails ≡ true → result ≡ Err faults.Read → ⊥ }
+        ensures roomy { result ≡ Err faults.Memory → ⊥ }
     {
         let room = BUNDLE_BYTE_LIMIT - self.count;
         self.held = 0;
@@ -172,10 +173,10 @@ impl Bundle {
         }
     }
 
-    /// Goes one step on, which reads at most once.
+    /// Goes one step on, which reads at most once. It takes no memory.
     ///
     /// # Errors
-    /// `Long` if the bundle has over 67,108,864 bytes, and `Read` if the read fails.
+    /// `Long` if the bundle has over 67,108,864 bytes, and `Read` if the read fails. The bundle isn't used again then.
     pub fn next<R: ByteSource>(&mut self, reader: &mut R) -> Result<Next, BundleFault>
         requires ready { self.old.ended ≡ false → R.has_ended reader.old ≡ false }
         ensures steps { IfOk result (Steps (R.remaining reader.old) (R.remaining reader.new) self.old self.new) }
@@ -184,6 +185,7 @@ impl Bundle {
         ensures long { result ≡ Err faults.Long → (input : Option (List ℕ)) (closed : List (List ℕ)) (part : List ℕ) →
             HasCut input (R.remaining reader.old) closed part self.old → IsTooLong input }
         ensures sure { R.never_fails ≡ true → result ≡ Err faults.Read → ⊥ }
+        ensures roomy { result ≡ Err faults.Memory → ⊥ }
     {
         if self.start < self.end {
             return Ok(self.cut());

@@ -53,7 +53,7 @@ fn feed_given(stream: &mut TraceReader<'_>, bundle: &Bundle) -> Result<(), Alloc
 /// whether another part begins.
 ///
 /// # Errors
-/// As `Bundle::next`, and `Memory`.
+/// As `Bundle::next`, and `Memory`. The bundle and its reader aren't used again then.
 pub fn read_document_part<R: ByteSource>(
     alloc: Global,
     reader: &mut R,
@@ -105,7 +105,7 @@ fn read_stream_part<R: ByteSource>(
     Ok((stream.outcome(), next.begins_part()))
 }
 
-/// Reads the parts that are left, of which one has begun, and keeps nothing of them.
+/// Reads the parts that are left, of which one has begun, and keeps nothing of them. It takes no memory.
 ///
 /// # Errors
 /// As `Bundle::next`.
@@ -117,6 +117,7 @@ pub fn skip_parts<R: ByteSource>(reader: &mut R, bundle: &mut Bundle) -> Result<
     ensures long { result ≡ Err faults.Long → (input : Option (List ℕ)) (closed : List (List ℕ)) →
         HasCut input (R.remaining reader.old) closed [] bundle.old → IsTooLong input }
     ensures sure { R.never_fails ≡ true → result ≡ Err faults.Read → ⊥ }
+    ensures roomy { result ≡ Err faults.Memory → ⊥ }
 {
     let mut next = bundle.next(reader)?;
     'steps: while !next.is_end() {
@@ -128,7 +129,7 @@ pub fn skip_parts<R: ByteSource>(reader: &mut R, bundle: &mut Bundle) -> Result<
 /// Reads the parts that are left as streams, one after another. If they are too many, nothing of them is kept.
 ///
 /// # Errors
-/// As `Bundle::next`, and `Memory`.
+/// As `Bundle::next`, and `Memory`. The bundle and its reader aren't used again then.
 pub fn read_stream_parts<R: ByteSource>(
     alloc: Global,
     spec: &Spec,

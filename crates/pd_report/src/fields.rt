@@ -1,7 +1,7 @@
 //! The fields of a line of text.
 ghost use Rattle.pd_format.specs.Reports.{place_text, with_commas};
 ghost use Rattle.pd_report.specs.Views.{names_view, named_places_view};
-ghost use Rattle.std.specs.Prelude.{◌≡◌, ◌++◌, decimal, map, OnOk};
+ghost use Rattle.std.specs.Prelude.{◌≡◌, ◌++◌, decimal, map, OnErr, OnOk};
 
 use itoa::Buffer;
 use std::alloc::AllocError;
@@ -9,9 +9,10 @@ use std::alloc::AllocError;
 /// Appends bytes.
 ///
 /// # Errors
-/// Out of memory.
+/// Out of memory; nothing is appended then.
 pub fn push_bytes(out: &mut Vec<u8>, bytes: &[u8]) -> Result<(), AllocError>
-    ensures { OnOk result (out.new.items ≡ out.old.items ++ bytes.now) }
+    ensures ok { OnOk result (out.new.items ≡ out.old.items ++ bytes.now) }
+    ensures err { OnErr result (out.new.items ≡ out.old.items) }
 {
     out.extend_from_slice(bytes)
 }
@@ -19,9 +20,10 @@ pub fn push_bytes(out: &mut Vec<u8>, bytes: &[u8]) -> Result<(), AllocError>
 /// Appends a number in decimal digits.
 ///
 /// # Errors
-/// Out of memory.
+/// Out of memory; nothing is appended then.
 pub fn push_number(out: &mut Vec<u8>, number: u64) -> Result<(), AllocError>
-    ensures { OnOk result (out.new.items ≡ out.old.items ++ decimal number) }
+    ensures ok { OnOk result (out.new.items ≡ out.old.items ++ decimal number) }
+    ensures err { OnErr result (out.new.items ≡ out.old.items) }
 {
     let mut buffer = Buffer::new();
     out.extend_from_slice(buffer.format(number).as_bytes())

@@ -1,5 +1,6 @@
 //! Reads and writes that fail.
 use super::slow::{Full, ROOM, SlowReader, SlowWriter};
+use super::streams::REPORT;
 use pd_engine::{EngineFault, NoGate, judge_bundle};
 use std::io::ErrorKind;
 use std::test::Fail;
@@ -11,6 +12,12 @@ const JUDGED: &str =
 const JUDGED_REPORT: &str =
     "session 1 processes 2 events 0 messages\nup possibly yes 2\nup definitely yes 2\n";
 
+const ONE_CUT: &str =
+    "{\"processes\":[{\"name\":\"a\",\"vars\":{\"x\":0}},{\"name\":\"b\",\"vars\":{\"y\":0}}],\
+\"predicates\":[{\"name\":\"both\",\"text\":\"a.x == 1 and b.y == 1\"}]}\n\
+---\n{\"process\":\"a\"}\n{\"set\":{\"x\":1}}\n{\"set\":{\"x\":0}}\n{\"end\":true}\n\
+---\n{\"process\":\"b\"}\n{\"set\":{\"y\":1}}\n{\"set\":{\"y\":0}}\n{\"end\":true}\n";
+
 const REFUSED: &str =
     "{\"processes\":[{\"name\":\"a\",\"vars\":{\"x\":0}}],\"predicates\":[{\"name\":\"up\",\"text\":\"a.x > 0\"}]}\n";
 
@@ -20,7 +27,11 @@ const REFUSED_REPORT: &str = "refused absent a\n";
 #[test]
 fn failed_reads(rt: HostRuntime) -> Result<(), Fail> {
     let alloc = rt.alloc();
-    for (bundle, report) in [(JUDGED, JUDGED_REPORT), (REFUSED, REFUSED_REPORT)] {
+    for (bundle, report) in [
+        (JUDGED, JUDGED_REPORT),
+        (ONE_CUT, REPORT),
+        (REFUSED, REFUSED_REPORT),
+    ] {
         let mut ended = false;
         for calls in 0..1_000usize {
             let reader = SlowReader {

@@ -8,6 +8,8 @@
 //! - `unlawful`: bundles whose messages are refused, and bundles with a causal cycle
 //! - `checked`: checks of reports, good and forged
 //! - `faults`: reads and writes that fail
+//! - `damaged`: streams of a bundle with strange bytes, or cut off
+//! - `apart`: a stream whose reader fails, and another one that is read on
 //! - `relation`: happened-before as a table of places, and what can be wrong with messages
 //! - `sessions`: small sessions, drawn at random
 //! - `written`: the bundles of drawn sessions
@@ -20,6 +22,8 @@
 #![tactic(auto)]
 
 #[cfg(test)]
+mod apart;
+#[cfg(test)]
 mod avoiding;
 #[cfg(test)]
 mod bundles;
@@ -27,6 +31,8 @@ mod bundles;
 mod checked;
 #[cfg(test)]
 mod cuts;
+#[cfg(test)]
+mod damaged;
 #[cfg(test)]
 mod definite;
 #[cfg(test)]

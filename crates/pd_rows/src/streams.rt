@@ -10,21 +10,21 @@ use std::test::Fail;
 use std::thread::Threads;
 use std::{io, thread};
 
-const DOCUMENT: &str =
+pub(crate) const DOCUMENT: &str =
     "{\"processes\":[{\"name\":\"a\",\"vars\":{\"x\":0}},{\"name\":\"b\",\"vars\":{\"y\":0}}],\
 \"predicates\":[{\"name\":\"both\",\"text\":\"a.x == 1 and b.y == 1\"}]}";
 
-const OF_A: &str =
+pub(crate) const OF_A: &str =
     "{\"process\":\"a\"}\n{\"set\":{\"x\":1}}\n{\"set\":{\"x\":0}}\n{\"end\":true}\n";
 
-const OF_B: &str =
+pub(crate) const OF_B: &str =
     "{\"process\":\"b\"}\n{\"set\":{\"y\":1}}\n{\"set\":{\"y\":0}}\n{\"end\":true}\n";
 
-const REPORT: &str =
+pub(crate) const REPORT: &str =
     "session 2 processes 4 events 0 messages\nboth possibly yes 1,1\nboth definitely no b,b,a,a\n";
 
 /// How many turns a reader waits for the other one.
-const TURNS: u64 = 10_000_000;
+pub(crate) const TURNS: u64 = 10_000_000;
 
 /// The document of a bundle, and its streams: what stands between its separators.
 fn parts(alloc: Global, bundle: &[u8]) -> Result<Vec<Vec<u8>>, AllocError> {

@@ -9,5 +9,5 @@ pub returns : goal.returns
 returns c =
     let others = c.in-Some.others.now in
     words_end decimal c.args.out.now.items c.push_number.new.out.items c.loop-number.out.items c.args.numbers.now others
-    _ c.in-Some.first.now c.in-Some.ensures.cases.0 c.in_ok-push_number.ensures c.loop-number.invariant
+    _ c.in-Some.first.now c.in-Some.ensures.cases.0 c.in_ok-push_number.ensures.ok c.loop-number.invariant
     (take_all c.loop-number.number-index others (omega arith))

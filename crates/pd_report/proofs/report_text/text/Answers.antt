@@ -22,10 +22,10 @@ returns c = elim c.match-report.branch [
   | in-Refused+in_ok-push_bytes-in-Refused+in_ok-push_refusal-in-Refused+in_ok-push_bytes-in-Refused-2 w ↦
       let refusal = refusal_view w.in-Refused.refusal in
       ap (λ out. out.items) w.out-is
-      ∙ w.in_ok-push_bytes-in-Refused-2.ensures
+      ∙ w.in_ok-push_bytes-in-Refused-2.ensures.ok
       ∙ ap (λ line. line ++ 10 ∷ []) (two_written c.new-out.result.items w.push_bytes.new.out.items
       w.push_refusal.new.out.items (codes "refused ") (spaced (refusal_words refusal)) c.new-out.ensures.items
-      w.in_ok-push_bytes-in-Refused.ensures w.in_ok-push_refusal-in-Refused.ensures)
+      w.in_ok-push_bytes-in-Refused.ensures.ok w.in_ok-push_refusal-in-Refused.ensures)
       ∙ sym (refused_text refusal)
       ∙ ap (λ report. report_text (report_view report)) (sym w.in-Refused.is)
 ]
