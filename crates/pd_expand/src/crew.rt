@@ -44,6 +44,13 @@ impl<'a, 'b, T: Threads + Wait + Sync, G: Gate + Sync> Crew<'a, 'b, T, G> {
         self.rt
     }
 
+    /// How many workers there are.
+    pub fn count(&self) -> u64
+        ensures { 1 ≤ result }
+    {
+        self.workers
+    }
+
     /// Whether the work on a level with this many cuts is shared: there are several workers, and it is worth their
     /// threads.
     pub fn shares(&self, cuts: usize) -> bool {

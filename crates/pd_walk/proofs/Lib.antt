@@ -5,3 +5,4 @@ pub mod Going
 pub mod Ending
 pub mod Standing
 pub mod Roots
+pub mod Turning

@@ -4,6 +4,8 @@
 //! - `split`, `stage`: what is known of a predicate on the way
 //! - `settle`: what the marks of a level decide
 //! - `look`: how a predicate goes on from one level to the next
+//! - `turns`: the predicates' turns at a level, taken by several workers
+//! - `weight`: how many comparisons the predicates have
 //! - `walk`: the walk up the whole levels, for all predicates
 //! - `finish`: the answers after the last whole level
 //! - `listed`: the walk by lists of avoiding cuts, if the whole levels are too wide
@@ -28,7 +30,9 @@ mod root;
 mod settle;
 mod split;
 mod stage;
+mod turns;
 mod walk;
+mod weight;
 
 pub use all::{answer_all, answer_within};
 pub use answers::Answers;

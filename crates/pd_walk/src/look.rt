@@ -116,3 +116,39 @@ pub(crate) fn look_marked(
     let marks = next(alloc, before, marks, level, test, skips)?;
     settle(alloc, test, width, gap, level, split, marks, beside)
 }
+
+/// What is known of a predicate after the next level.
+pub(crate) fn look(
+    alloc: Global,
+    test: &Compiled<'_, '_>,
+    width: u64,
+    gap: u64,
+    before: &Whole,
+    level: &Whole,
+    skips: Skips<'_>,
+    beside: u64,
+    stage: Stage,
+) -> Result<Stage, AllocError>
+    requires acyclic { HasNoCycle (events_of test.now) }
+    requires before { IsWholeLevel (events_of test.now) before.now }
+    requires level { IsWholeLevel (events_of test.now) level.now }
+    requires skips { HaveNoHits (events_of test.now) (meaning_of test.now) level.now.runs skips }
+    requires number { level.now.number ≡ before.now.number + 1 }
+    requires within { level.now.number ≤ total (events_of test.now) }
+    requires narrow { width < 18446744073709551615 }
+    requires short { (p : ℕ) → event_count (events_of test.now) p ≤ event_limit }
+    requires root { total (events_of test.now) < gap * gap }
+    requires stands { Stands (events_of test.now) (meaning_of test.now) width gap before.now stage }
+    requires beside { AreBeside gap level.now.number beside }
+    ensures { IfOk result (Stands (events_of test.now) (meaning_of test.now) width gap level.now) }
+{
+    match stage {
+        Stage::Open => look_open(alloc, test, width, gap, level, skips, beside),
+        Stage::Marked { split, marks } => {
+            look_marked(
+                alloc, test, width, gap, before, level, skips, split, &marks, beside,
+            )
+        }
+        Stage::Answered(answers) => Ok(Stage::Answered(answers)),
+    }
+}

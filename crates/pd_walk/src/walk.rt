@@ -11,8 +11,10 @@ ghost use Rattle.pd_walk.specs.declared.stage.Stage.{Stage};
 ghost use Rattle.pd_walk.specs.declared.stage.Stage.TheVariants.{Open};
 ghost use Rattle.std.specs.Prelude.{◌≡◌, ◌+◌, ◌*◌, ◌<◌, ◌≤◌, ℕ, IfOk, IsTrue, [], false, length, slice_index_or};
 
-use super::look::{look_marked, look_open};
+use super::look::{look, look_open};
 use super::stage::Stage;
+use super::turns::look_shared;
+use super::weight::weight;
 use pd_back::Held;
 use pd_clock::Computation;
 use pd_expand::Crew;
@@ -27,12 +29,78 @@ use std::mem;
 use std::sync::Wait;
 use std::thread::Threads;
 
+/// From this many comparisons at the cuts of a level on, the predicates' turns are shared: several milliseconds of work,
+/// where a thread takes tens of microseconds to start.
+const SHARED_COMPARISONS: u64 = 1_000_000;
+
+/// Whether the comparisons of all predicates at all cuts of a level are worth their threads.
+fn is_heavy(weight: u64, level: &Whole) -> bool {
+    weight.saturating_mul(level.cuts()) >= SHARED_COMPARISONS
+}
+
 /// How many bytes the tables of all predicates may take together.
 pub(crate) const TABLE_BYTES: usize = 67_108_864;
 
-/// What is known of each predicate after the next level.
+/// What is known of each predicate after the next level. If the predicates have much to evaluate there, several workers
+/// take their turns.
 fn look_all<T: Threads + Wait + Sync, G: Gate + Sync>(
-    _crew: &Crew<'_, '_, T, G>,
+    crew: &Crew<'_, '_, T, G>,
+    alloc: Global,
+    computation: &Computation<'_>,
+    tests: &[Compiled<'_, '_>],
+    weight: u64,
+    width: u64,
+    gap: u64,
+    before: &Whole,
+    level: &Whole,
+    refusals: &Refusals,
+    beside: u64,
+    stages: &mut Vec<Stage>,
+) -> Result<(), AllocError>
+    requires tests { AreFor computation.now tests.now }
+    requires before { IsWholeLevel computation.now.events before.now }
+    requires level { IsWholeLevel computation.now.events level.now }
+    requires number { level.now.number ≡ before.now.number + 1 }
+    requires within { level.now.number ≤ total computation.now.events }
+    requires narrow { width < 18446744073709551615 }
+    requires root { total computation.now.events < gap * gap }
+    requires beside { AreBeside gap level.now.number beside }
+    requires refusals { AreRefusals tests.now level.now refusals.now }
+    requires stand { AllStand tests.now width gap before.now stages.old.items }
+    ensures { IfOk result (λ _. AllStand tests.now width gap level.now stages.new.items) }
+{
+    if crew.count() > 1 && tests.len() > 1 && is_heavy(weight, level) {
+        return look_shared(
+            crew.runtime(),
+            alloc,
+            computation,
+            tests,
+            width,
+            gap,
+            before,
+            level,
+            refusals,
+            beside,
+            crew.count() as usize,
+            stages,
+        );
+    }
+    look_in_turn(
+        alloc,
+        computation,
+        tests,
+        width,
+        gap,
+        before,
+        level,
+        refusals,
+        beside,
+        stages,
+    )
+}
+
+/// The same, one predicate after the other.
+fn look_in_turn(
     alloc: Global,
     computation: &Computation<'_>,
     tests: &[Compiled<'_, '_>],
@@ -65,42 +133,6 @@ fn look_all<T: Threads + Wait + Sync, G: Gate + Sync>(
         )?;
     }
     Ok(())
-}
-
-/// What is known of a predicate after the next level.
-fn look(
-    alloc: Global,
-    test: &Compiled<'_, '_>,
-    width: u64,
-    gap: u64,
-    before: &Whole,
-    level: &Whole,
-    skips: Skips<'_>,
-    beside: u64,
-    stage: Stage,
-) -> Result<Stage, AllocError>
-    requires acyclic { HasNoCycle (events_of test.now) }
-    requires before { IsWholeLevel (events_of test.now) before.now }
-    requires level { IsWholeLevel (events_of test.now) level.now }
-    requires skips { HaveNoHits (events_of test.now) (meaning_of test.now) level.now.runs skips }
-    requires number { level.now.number ≡ before.now.number + 1 }
-    requires within { level.now.number ≤ total (events_of test.now) }
-    requires narrow { width < 18446744073709551615 }
-    requires short { (p : ℕ) → event_count (events_of test.now) p ≤ event_limit }
-    requires root { total (events_of test.now) < gap * gap }
-    requires stands { Stands (events_of test.now) (meaning_of test.now) width gap before.now stage }
-    requires beside { AreBeside gap level.now.number beside }
-    ensures { IfOk result (Stands (events_of test.now) (meaning_of test.now) width gap level.now) }
-{
-    match stage {
-        Stage::Open => look_open(alloc, test, width, gap, level, skips, beside),
-        Stage::Marked { split, marks } => {
-            look_marked(
-                alloc, test, width, gap, before, level, skips, split, &marks, beside,
-            )
-        }
-        Stage::Answered(answers) => Ok(Stage::Answered(answers)),
-    }
 }
 
 /// The predicates, compiled for the computation.
@@ -189,6 +221,7 @@ fn step_up<T: Threads + Wait + Sync, G: Gate + Sync>(
     computation: &Computation<'_>,
     steps: &Steps<'_, '_>,
     tests: &[Compiled<'_, '_>],
+    weight: u64,
     width: u64,
     gap: u64,
     _k: u64,
@@ -217,6 +250,7 @@ fn step_up<T: Threads + Wait + Sync, G: Gate + Sync>(
         alloc,
         computation,
         tests,
+        weight,
         width,
         gap,
         before,
@@ -266,6 +300,7 @@ pub(crate) fn walk_up<T: Threads + Wait + Sync, G: Gate + Sync>(
         &refusals,
         wholes.most(),
     )?;
+    let weight = weight(preds);
     let mut k = 0;
     while goes_on(&stages, wholes.last(), k, total, limit) {
         step_up(
@@ -274,6 +309,7 @@ pub(crate) fn walk_up<T: Threads + Wait + Sync, G: Gate + Sync>(
             computation,
             &steps,
             &tests,
+            weight,
             width,
             gap,
             k,
