@@ -9,7 +9,7 @@ use std::alloc::Global;
 use std::test::Fail;
 
 /// How many events each of the processes has.
-const EVENTS: u64 = 10;
+pub(crate) const EVENTS: u64 = 10;
 
 /// Three processes, each with a variable, and two predicates: one that is never true, and one that the way has to go
 /// around.
@@ -25,10 +25,11 @@ const DOCUMENT: &str = r#"{
   ]
 }"#;
 
-/// The stream of a process of which event `i` sets the variable to `i`.
-pub(crate) fn stream_of(alloc: Global, name: &str) -> Result<String, Fail> {
+/// The stream of a process with this many events, of which event `i` sets the variable to `i`.
+pub(crate) fn stream_of(alloc: Global, name: &str, events: u64) -> Result<String, Fail> {
     let mut stream = format!(in alloc; "{{\"process\":\"{name}\"}}\n")?;
-    for i in 1..EVENTS + 1 {
+    for before in 0..events {
+        let i = before + 1;
         let line = format!(in alloc; "{{\"set\":{{\"n\":{i}}}}}\n")?;
         stream.push_str(line.as_str())?;
     }
@@ -51,15 +52,16 @@ fn in_turn(alloc: Global, processes: &[usize]) -> Result<Vec<usize>, Fail> {
 fn few_levels_are_held(rt: HostRuntime) -> Result<(), Fail> {
     let alloc = rt.alloc();
     let spec = Spec::read(alloc, DOCUMENT.as_bytes())?;
-    let a = stream_of(alloc, "a")?;
-    let b = stream_of(alloc, "b")?;
-    let c = stream_of(alloc, "c")?;
+    let a = stream_of(alloc, "a", EVENTS)?;
+    let b = stream_of(alloc, "b", EVENTS)?;
+    let c = stream_of(alloc, "c", EVENTS)?;
     let traces = traces_of(alloc, &spec, &[a.as_bytes(), b.as_bytes(), c.as_bytes()])?;
     let matched = match_messages(&rt, alloc, &traces)?;
     let computation = Computation::build(alloc, &spec, &traces, matched)?;
     let in_turn = in_turn(alloc, &[2, 1, 0])?;
     for named in spec.predicates() {
         let (answer, most) = definitely_counted(
+            &rt,
             alloc,
             &computation,
             &named.pred,

@@ -8,6 +8,7 @@
 //! - `refusals`: runs that are skipped
 //! - `backward`: the levels that are held for an avoiding observation, and the observation itself
 //! - `limits`: the answers, whatever the width of a whole level at which the walk goes on by lists
+//! - `workers`: the answers, whatever the number of workers
 #![tactic(auto)]
 
 #[cfg(test)]
@@ -26,3 +27,5 @@ mod runs;
 mod sessions;
 #[cfg(test)]
 mod tables;
+#[cfg(test)]
+mod workers;

@@ -1,7 +1,8 @@
 //! The answers for each predicate, whatever the width of a whole level at which the walk goes on by lists.
-use super::backward::stream_of;
+use super::backward::{EVENTS, stream_of};
 use super::sessions::traces_of;
 use pd_clock::Computation;
+use pd_expand::Crew;
 use pd_format::WIDTH_LIMIT;
 use pd_level::NoGate;
 use pd_match::match_messages;
@@ -10,7 +11,9 @@ use pd_pred::Pred;
 use pd_spec::Spec;
 use pd_walk::{Answers, DefinitelyAnswer, PossiblyAnswer, answer_within};
 use std::alloc::Global;
+use std::sync::Wait;
 use std::test::Fail;
+use std::thread::Threads;
 
 /// Three processes whose levels have up to 91 cuts. Of the predicates the first holds at no cut and the second at the
 /// empty cut, the third all along a level, the next two beside some observations, and the last at the full cut and near
@@ -38,7 +41,8 @@ const WIDTHS: [u64; 5] = [1, 5, 20, 60, 1_000];
 const LIMITS: [u64; 4] = [0, 3, 30, 80];
 
 /// Both answers for one predicate.
-fn answers_of(
+fn answers_of<T: Threads + Wait + Sync>(
+    rt: &T,
     alloc: Global,
     computation: &Computation<'_>,
     pred: &Pred,
@@ -51,7 +55,8 @@ fn answers_of(
     if width > WIDTH_LIMIT {
         return Err(Fail::from("the width is above its limit"));
     }
-    let mut answers = answer_within(alloc, computation, &[pred], width, limit)?;
+    let crew = Crew::new(rt, 1, &NoGate);
+    let mut answers = answer_within(&crew, alloc, computation, &[pred], width, limit)?;
     match answers.pop() {
         Some(answers) => Ok(answers),
         None => Err(Fail::from("a predicate has no answer")),
@@ -59,7 +64,8 @@ fn answers_of(
 }
 
 /// The answer for Possibly alone.
-fn possibly_of(
+fn possibly_of<T: Threads + Wait + Sync>(
+    rt: &T,
     alloc: Global,
     computation: &Computation<'_>,
     pred: &Pred,
@@ -68,11 +74,11 @@ fn possibly_of(
     if width < 1 {
         return Err(Fail::from("the width is 0"));
     }
-    Ok(possibly(alloc, computation, pred, width, 1, &NoGate)?)
+    Ok(possibly(rt, alloc, computation, pred, width, 1, &NoGate)?)
 }
 
 /// Whether both answers for Possibly are the same.
-fn is_same_possibly(one: &PossiblyAnswer, other: &PossiblyAnswer) -> bool {
+pub(crate) fn is_same_possibly(one: &PossiblyAnswer, other: &PossiblyAnswer) -> bool {
     match one {
         PossiblyAnswer::Yes(cut) => match other {
             PossiblyAnswer::Yes(same) => cut.counts() == same.counts(),
@@ -87,7 +93,7 @@ fn is_same_possibly(one: &PossiblyAnswer, other: &PossiblyAnswer) -> bool {
 }
 
 /// Whether both answers for Definitely are the same.
-fn is_same_definitely(one: &DefinitelyAnswer, other: &DefinitelyAnswer) -> bool {
+pub(crate) fn is_same_definitely(one: &DefinitelyAnswer, other: &DefinitelyAnswer) -> bool {
     match one {
         DefinitelyAnswer::Yes(level) => match other {
             DefinitelyAnswer::Yes(same) => *level == *same,
@@ -105,19 +111,20 @@ fn is_same_definitely(one: &DefinitelyAnswer, other: &DefinitelyAnswer) -> bool 
 }
 
 /// Whether each limit gives the same answers under this width, with no more than 14 levels held.
-fn is_same_at_each_limit(
+fn is_same_at_each_limit<T: Threads + Wait + Sync>(
+    rt: &T,
     alloc: Global,
     computation: &Computation<'_>,
     pred: &Pred,
     width: u64,
 ) -> Result<bool, Fail> {
-    let whole = answers_of(alloc, computation, pred, width, u64::MAX)?;
-    let alone = possibly_of(alloc, computation, pred, width)?;
+    let whole = answers_of(rt, alloc, computation, pred, width, u64::MAX)?;
+    let alone = possibly_of(rt, alloc, computation, pred, width)?;
     if !is_same_possibly(&whole.possibly, &alone) {
         return Ok(false);
     }
     for &limit in &LIMITS {
-        let listed = answers_of(alloc, computation, pred, width, limit)?;
+        let listed = answers_of(rt, alloc, computation, pred, width, limit)?;
         if !is_same_possibly(&whole.possibly, &listed.possibly) {
             return Ok(false);
         }
@@ -135,25 +142,25 @@ fn is_same_at_each_limit(
 fn the_limit_changes_no_answer(rt: HostRuntime) -> Result<(), Fail> {
     let alloc = rt.alloc();
     let spec = Spec::read(alloc, DOCUMENT.as_bytes())?;
-    let a = stream_of(alloc, "a")?;
-    let b = stream_of(alloc, "b")?;
-    let c = stream_of(alloc, "c")?;
+    let a = stream_of(alloc, "a", EVENTS)?;
+    let b = stream_of(alloc, "b", EVENTS)?;
+    let c = stream_of(alloc, "c", EVENTS)?;
     let traces = traces_of(alloc, &spec, &[a.as_bytes(), b.as_bytes(), c.as_bytes()])?;
     let matched = match_messages(&rt, alloc, &traces)?;
     let computation = Computation::build(alloc, &spec, &traces, matched)?;
     for named in spec.predicates() {
         for &width in &WIDTHS {
             assert!(rt;
-                is_same_at_each_limit(alloc, &computation, &named.pred, width)?,
+                is_same_at_each_limit(&rt, alloc, &computation, &named.pred, width)?,
                 "{}",
                 named.name
             );
         }
-        let whole = possibly_of(alloc, &computation, &named.pred, 1_000)?;
-        let listed = possibly_of(alloc, &computation, &named.pred, u64::MAX)?;
+        let whole = possibly_of(&rt, alloc, &computation, &named.pred, 1_000)?;
+        let listed = possibly_of(&rt, alloc, &computation, &named.pred, u64::MAX)?;
         assert!(rt; is_same_possibly(&whole, &listed), "{}", named.name);
         if named.name.as_str() == "between" {
-            let answers = answers_of(alloc, &computation, &named.pred, 1_000, 0)?;
+            let answers = answers_of(&rt, alloc, &computation, &named.pred, 1_000, 0)?;
             assert!(rt; matches!(answers.definitely, DefinitelyAnswer::Yes(15)));
         }
         if named.name.as_str() == "never" {
