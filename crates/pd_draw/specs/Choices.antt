@@ -1,10 +1,16 @@
 -- Which predicate is drawn, and what stands against a picture.
 use Rattle.std.specs.Prelude.{ℕ, Bool, true, false, ◌||◌, List, Option, Some, None, position, slice_get}
+use Rattle.std.specs.Borrow.{Bor}
 use Rattle.std.specs.Str.{bytes_eq}
 use Rattle.pd_format.specs.OtherTexts.{Checked, Finding, NotRead, OfRefusal, OfSession, Verdict, Good, Bad, Unchecked}
 use Rattle.pd_judgement.specs.Findings.{has_bad}
 use Rattle.pd_draw.specs.declared.choice.Choice.{Choice}
 use Rattle.pd_draw.specs.declared.choice.Choice.TheVariants.{Alone, Of, Unknown}
+
+-- the name that is asked for, if there is one
+abbrev pub name_view : Option (Bor (List ℕ)) → Option (List ℕ)
+name_view None = None
+name_view (Some name) = Some name.now
 
 -- evidence is printed, if this is the verdict on it
 abbrev pub is_printed : Verdict → Bool

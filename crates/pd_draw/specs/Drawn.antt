@@ -96,3 +96,23 @@ pub record IsGoodAt (document : Document) (recorded : Recorded) (answers : List 
   pub answer_there : i < length answers
   pub good : (asked : NamedPredicate) (answer : Answer) → slice_get document.predicates i ≡ Some asked
       → slice_get answers i ≡ Some answer → HasGoodEvidence document.names recorded asked.predicate answer
+
+-- what the choice draws is good
+abbrev pub IsGoodChoice : Document → Recorded → List Answer → Choice → Type 0
+IsGoodChoice document recorded answers Alone = Unit {0}
+IsGoodChoice document recorded answers (Of i) = IsGoodAt document recorded answers i
+IsGoodChoice document recorded answers Unknown = Unit {0}
+
+-- the picture by this choice; there is none of a predicate that isn't there
+abbrev pub IsChosenPicture : Document → List Trace → List (Place × Place) → List Answer → Choice → Option Drawing
+    → Type 0
+IsChosenPicture document traces messages answers chosen None = chosen ≡ Unknown
+IsChosenPicture document traces messages answers chosen (Some drawing) =
+    IsPictureOf document traces messages (ShowsChoice document traces answers chosen) drawing
+
+-- the report has these answers
+pub record IsJudged (claimed : Report) (answers : List Answer) : Type 0 where
+  pub processes : ℕ
+  pub events : ℕ
+  pub matched : ℕ
+  pub is : claimed ≡ Judged processes events matched answers

@@ -1,8 +1,8 @@
 //! Which predicate is drawn.
 ghost use Rattle.pd_check.specs.Views.{checked_view, verdict_view};
-ghost use Rattle.pd_draw.specs.Choices.{by_evidence, by_name, choice, has_evidence, is_chosen_bad, is_printed};
+ghost use Rattle.pd_draw.specs.Choices.{by_evidence, by_name, choice, has_evidence, is_chosen_bad, is_printed, name_view};
 ghost use Rattle.pd_judgement.specs.Findings.{has_bad};
-ghost use Rattle.std.specs.Prelude.{◌≡◌, map, option_map, position, string_bytes};
+ghost use Rattle.std.specs.Prelude.{◌≡◌, map, position, string_bytes};
 ghost use Rattle.std.specs.Str.{bytes_eq};
 
 use pd_check::{Checked, Verdict};
@@ -35,21 +35,35 @@ fn has_evidence(checked: &Checked) -> bool
     is_printed(checked.possibly) || is_printed(checked.definitely)
 }
 
+/// The number of the first predicate that has evidence.
+fn place_with_evidence(checked: &[Checked]) -> Option<usize>
+    ensures { result ≡ position (λ c. has_evidence (checked_view c)) checked.now }
+{
+    checked.iter().position(|c| has_evidence(c))
+}
+
 /// The first predicate that has evidence.
 fn first_with_evidence(checked: &[Checked]) -> Choice
     ensures { result ≡ by_evidence (position (λ c. has_evidence (checked_view c)) checked.now) }
 {
-    match checked.iter().position(|c| has_evidence(c)) {
+    match place_with_evidence(checked) {
         Some(i) => Choice::Of(i),
         None => Choice::Alone,
     }
+}
+
+/// The number of the predicate of this name.
+fn place_of(checked: &[Checked], name: &str) -> Option<usize>
+    ensures { result ≡ position (λ c. bytes_eq (string_bytes c.name) name.now) checked.now }
+{
+    checked.iter().position(|c| c.name.as_str() == name)
 }
 
 /// The predicate of this name.
 fn of_name(checked: &[Checked], name: &str) -> Choice
     ensures { result ≡ by_name (position (λ c. bytes_eq (string_bytes c.name) name.now) checked.now) }
 {
-    match checked.iter().position(|c| c.name.as_str() == name) {
+    match place_of(checked, name) {
         Some(i) => Choice::Of(i),
         None => Choice::Unknown,
     }
@@ -57,7 +71,7 @@ fn of_name(checked: &[Checked], name: &str) -> Choice
 
 /// Which predicate is drawn: the one of this name, and without a name the first that has evidence.
 pub(crate) fn chosen(checked: &[Checked], name: Option<&str>) -> Choice
-    ensures { result ≡ choice (option_map (λ n. n.now) name) (map checked_view checked.now) }
+    ensures { result ≡ choice (name_view name.entry) (map checked_view checked.now) }
 {
     match name {
         Some(name) => of_name(checked, name),

@@ -1,6 +1,8 @@
 //! The picture, or what stands against it.
+ghost use Rattle.pd_check.specs.Found.{IsFoundOf};
 ghost use Rattle.pd_check.specs.Views.{finding_view};
-ghost use Rattle.pd_draw.specs.Drawn.{Comes, IsGoodAt, IsLetBy, IsPictureOf, ShowsPredicate, process_names};
+ghost use Rattle.pd_draw.specs.Choices.{name_view};
+ghost use Rattle.pd_draw.specs.Drawn.{Comes, IsChosenPicture, IsGoodAt, IsGoodChoice, IsJudged, IsLetBy, IsPictureOf, ShowsPredicate, process_names};
 ghost use Rattle.pd_draw.specs.Exhibits.{ShowsNothing, run_title};
 ghost use Rattle.pd_events.specs.Views.{computation_view};
 ghost use Rattle.pd_gather.specs.Views.{traces_view};
@@ -10,7 +12,7 @@ ghost use Rattle.pd_model.specs.Messages.{IsMessageList};
 ghost use Rattle.pd_picture.specs.Pictures.{IsPicture, texts_view};
 ghost use Rattle.pd_report.specs.Views as views;
 ghost use Rattle.pd_spec.specs.Views.{document_view};
-ghost use Rattle.std.specs.Prelude.{◌≡◌, ◌×◌, IfOk, List, ℕ, length, map, option_map};
+ghost use Rattle.std.specs.Prelude.{◌≡◌, IfOk, length, map};
 
 use super::choice::{Choice, chosen, is_chosen_bad};
 use super::exhibit::{evidence_of, title_of};
@@ -37,7 +39,7 @@ pub enum Drawn {
 
 /// Which predicate is drawn, unless what is found stands against the picture.
 fn let_by(finding: &Finding, name: Option<&str>) -> Option<Choice>
-    ensures { IsLetBy (option_map (λ n. n.now) name) (finding_view finding.now) result }
+    ensures { IsLetBy (name_view name.entry) (finding_view finding.now) result }
 {
     match finding {
         Finding::NotRead(_) | Finding::OfRefusal(_) => None,
@@ -87,7 +89,15 @@ fn run_picture(
         (process_names (document_view spec.now)) title.now evidence.now) }
 {
     let lanes = lane_names(alloc, spec.names())?;
-    picture(alloc, computation, traces, messages, &lanes, title, evidence)
+    picture(
+        alloc,
+        computation,
+        traces,
+        messages,
+        &lanes,
+        title,
+        evidence,
+    )
 }
 
 /// The picture of the run alone.
@@ -147,6 +157,84 @@ fn draw_predicate(
     )
 }
 
+/// The picture by this choice of a predicate, unless there is none of the name that was asked for.
+fn draw_choice(
+    alloc: Global,
+    spec: &Spec,
+    answers: &[Answer],
+    computation: &Computation<'_>,
+    traces: &[Trace],
+    messages: &[(Place, Place)],
+    chosen: Choice,
+) -> Result<Option<Drawing>, AllocError>
+    requires good { IsGoodChoice (document_view spec.now) computation.now (map views.answer_view answers.now) chosen }
+    requires recorded { computation.now ≡ recorded_of (document_view spec.now) (traces_view traces.now) }
+    requires traces { computation_view traces.now ≡ computation.now.events }
+    requires messages { IsMessageList computation.now.events (pairs_view messages.now) }
+    requires one_each { length computation.now.events ≡ length (document_view spec.now).names }
+    ensures { IfOk result (IsChosenPicture (document_view spec.now) (traces_view traces.now) (pairs_view messages.now)
+        (map views.answer_view answers.now) chosen) }
+{
+    match chosen {
+        Choice::Unknown => Ok(None),
+        Choice::Alone => {
+            let drawing = draw_run(alloc, spec, computation, traces, messages)?;
+            Ok(Some(drawing))
+        }
+        Choice::Of(i) => {
+            let drawing = draw_predicate(alloc, spec, answers, computation, traces, messages, i)?;
+            Ok(Some(drawing))
+        }
+    }
+}
+
+/// What is found of the report.
+fn finding_of(
+    alloc: Global,
+    spec: &Spec,
+    claimed: &Report,
+    computation: &Computation<'_>,
+    traces: &[Trace],
+    messages: &[(Place, Place)],
+) -> Result<Finding, AllocError>
+    requires recorded { computation.now ≡ recorded_of (document_view spec.now) (traces_view traces.now) }
+    requires one_each { length computation.now.events ≡ length (document_view spec.now).names }
+    ensures { IfOk result (λ finding. IsFoundOf (document_view spec.now) (traces_view traces.now)
+        (pairs_view messages.now) (views.report_view claimed.now) (finding_view finding)) }
+{
+    let _traces = traces;
+    find_formed(alloc, spec, claimed, computation, messages.len() as u64)
+}
+
+/// The picture of a session and a report with these answers, or what stands against it.
+fn draw_judged(
+    alloc: Global,
+    spec: &Spec,
+    claimed: &Report,
+    answers: &[Answer],
+    computation: &Computation<'_>,
+    traces: &[Trace],
+    messages: &[(Place, Place)],
+    name: Option<&str>,
+) -> Result<Drawn, AllocError>
+    requires judged { IsJudged (views.report_view claimed.now) (map views.answer_view answers.now) }
+    requires recorded { computation.now ≡ recorded_of (document_view spec.now) (traces_view traces.now) }
+    requires traces { computation_view traces.now ≡ computation.now.events }
+    requires messages { IsMessageList computation.now.events (pairs_view messages.now) }
+    requires one_each { length computation.now.events ≡ length (document_view spec.now).names }
+    ensures { IfOk result (Comes (document_view spec.now) (traces_view traces.now) (pairs_view messages.now)
+        (views.report_view claimed.now) (name_view name.entry)) }
+{
+    let finding = finding_of(alloc, spec, claimed, computation, traces, messages)?;
+    let Some(chosen) = let_by(&finding, name) else {
+        return Ok(Drawn::Bad(finding));
+    };
+    match draw_choice(alloc, spec, answers, computation, traces, messages, chosen)? {
+        Some(drawing) => Ok(Drawn::Picture(drawing)),
+        None => Ok(Drawn::NoPredicate),
+    }
+}
+
 /// The picture of a session and a report on it, or what stands against it. It shows the evidence of the predicate of
 /// this name, and without a name that of the first predicate that has evidence; if none has, the run alone. The
 /// computation and the messages are those of the traces.
@@ -167,22 +255,19 @@ pub fn draw(
     requires messages { IsMessageList computation.now.events (pairs_view messages.now) }
     requires one_each { length computation.now.events ≡ length (document_view spec.now).names }
     ensures { IfOk result (Comes (document_view spec.now) (traces_view traces.now) (pairs_view messages.now)
-        (views.report_view claimed.now) (option_map (λ n. n.now) name)) }
+        (views.report_view claimed.now) (name_view name.entry)) }
 {
-    let Report::Judged { answers, .. } = claimed else {
-        return Ok(Drawn::Bad(Finding::OfRefusal(false)));
-    };
-    let finding = find_formed(alloc, spec, claimed, computation, messages.len() as u64)?;
-    match let_by(&finding, name) {
-        None => Ok(Drawn::Bad(finding)),
-        Some(Choice::Unknown) => Ok(Drawn::NoPredicate),
-        Some(Choice::Alone) => {
-            let drawing = draw_run(alloc, spec, computation, traces, messages)?;
-            Ok(Drawn::Picture(drawing))
-        }
-        Some(Choice::Of(i)) => {
-            let drawing = draw_predicate(alloc, spec, answers, computation, traces, messages, i)?;
-            Ok(Drawn::Picture(drawing))
-        }
+    match claimed {
+        Report::Refused(_) => Ok(Drawn::Bad(Finding::OfRefusal(false))),
+        Report::Judged { answers, .. } => draw_judged(
+            alloc,
+            spec,
+            claimed,
+            answers,
+            computation,
+            traces,
+            messages,
+            name,
+        ),
     }
 }

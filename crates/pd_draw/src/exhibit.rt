@@ -117,11 +117,7 @@ fn claim(evidence: &Evidence) -> &'static str
 ///
 /// # Errors
 /// Out of memory.
-pub(crate) fn title_of(
-    alloc: Global,
-    name: &str,
-    evidence: &Evidence,
-) -> Result<String, AllocError>
+pub(crate) fn title_of(alloc: Global, name: &str, evidence: &Evidence) -> Result<String, AllocError>
     ensures { IfOk result (λ title. string_bytes title ≡ title_text name.now evidence.now) }
 {
     let mut title = String::from_str(alloc, name)?;

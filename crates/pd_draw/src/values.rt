@@ -5,9 +5,10 @@ ghost use Rattle.pd_picture.specs.Layout.{upto};
 ghost use Rattle.pd_picture.specs.Pictures.{texts_view};
 ghost use Rattle.pd_pred.specs.Trees.{sum_view, term_view, tree_view};
 ghost use Rattle.std.specs.Fmt.{signed_decimal};
+ghost use Rattle.std.specs.List.{list_any};
 ghost use Rattle.std.specs.Prelude.{◌≡◌, ◌<◌, IfOk, OnOk, length, map, string_bytes};
 
-use pd_pred::{Names, Sum, Term, Tree, Values};
+use pd_pred::{Names, SignedTerm, Sum, Term, Tree, Values};
 use std::alloc::{AllocError, Global};
 
 /// Whether a term names variable `var` of process `process`.
@@ -25,13 +26,20 @@ fn term_names(term: Term, process: usize, var: usize) -> bool
     }
 }
 
+/// Whether one of these terms names variable `var` of process `process`.
+fn any_names(terms: &[SignedTerm], process: usize, var: usize) -> bool
+    ensures { result ≡ list_any (λ signed. term_names process var (term_view signed.term)) terms.now }
+{
+    terms
+        .iter()
+        .any(|signed| term_names(signed.term, process, var))
+}
+
 /// Whether a term of a sum names variable `var` of process `process`.
 fn sum_names(sum: &Sum, process: usize, var: usize) -> bool
     ensures { result ≡ terms_name process var (sum_view sum.now) }
 {
-    sum.terms
-        .iter()
-        .any(|signed| term_names(signed.term, process, var))
+    any_names(&sum.terms, process, var)
 }
 
 /// Whether a predicate names variable `var` of process `process`, both counted from 0.
@@ -51,12 +59,7 @@ fn names_variable(tree: &Tree, process: usize, var: usize) -> bool
 }
 
 /// Appends what a variable of this name is worth, after a comma if something stands before it.
-fn push_item(
-    alloc: Global,
-    text: &mut String,
-    name: &str,
-    value: i64,
-) -> Result<(), AllocError>
+fn push_item(alloc: Global, text: &mut String, name: &str, value: i64) -> Result<(), AllocError>
     ensures { OnOk result (string_bytes text.new ≡ joined (string_bytes text.old) (shown_value name.now value)) }
 {
     if !text.is_empty() {
