@@ -8,3 +8,4 @@ mod Numbers
 mod Parsed
 mod ParserEnds
 mod WrittenSoFar
+mod DrawingsRead

@@ -6,6 +6,7 @@ use Rattle.clap.specs.Words.{App, Row, Rule, Shape, Text, IsAmong, all_of, fault
 use Rattle.clap.specs.declared.builder.value_parser.ValueParser.TheVariants.{Unsigned}
 use Rattle.clap.specs.declared.error.kind.ErrorKind.{ErrorKind}
 use Rattle.clap.specs.declared.error.kind.ErrorKind.TheVariants.{DisplayHelp, DisplayVersion, OutOfMemory}
+use Rattle.pd_expand.specs.Limits.{worker_limit}
 use Rattle.pd_judgement.specs.Statuses.{Request, JudgeInput, JudgeFiles, CheckFiles, ServeStreams, ShowHelp, Unclear}
 
 -- ---- limits
@@ -30,15 +31,6 @@ stream_rule = record (required_rule (codes "STREAM")) {
   range = Some (record { start_inclusive = 1; end_inclusive = usize_max });
 }
 
--- `judge SPEC STREAM...`
-abbrev pub judge_app : App
-judge_app = with_rule (with_rule (new_app (codes "judge")) (required_rule (codes "SPEC"))) stream_rule
-
--- `check SPEC REPORT STREAM...`
-abbrev pub check_app : App
-check_app = with_rule (with_rule (with_rule (new_app (codes "check")) (required_rule (codes "SPEC")))
-    (required_rule (codes "REPORT"))) stream_rule
-
 -- an option of this name with a number in this range
 abbrev pub number_rule : (id name : Text) (least most : ℕ) → Rule
 number_rule id name least most = record (new_rule id) { long = Some name; parser = Some (Unsigned least most) }
@@ -51,10 +43,39 @@ port_rule = record (number_rule (codes "PORT") (codes "port") 1 port_limit) { re
 abbrev pub watchers_rule : Rule
 watchers_rule = record (number_rule (codes "WATCHERS") (codes "watchers") 0 watcher_limit) { defaults = codes "0" ∷ [] }
 
--- `serve SPEC --port PORT [--watchers WATCHERS]`
+-- the number of workers
+abbrev pub workers_rule : Rule
+workers_rule = record (number_rule (codes "WORKERS") (codes "workers") 1 worker_limit) { defaults = codes "1" ∷ [] }
+
+-- `judge SPEC STREAM... [--workers WORKERS]`
+abbrev pub judge_app : App
+judge_app = with_rule (with_rule (with_rule (new_app (codes "judge")) (required_rule (codes "SPEC"))) stream_rule)
+    workers_rule
+
+-- `check SPEC REPORT STREAM...`
+abbrev pub check_app : App
+check_app = with_rule (with_rule (with_rule (new_app (codes "check")) (required_rule (codes "SPEC")))
+    (required_rule (codes "REPORT"))) stream_rule
+
+-- the name of a predicate
+abbrev pub predicate_rule : Rule
+predicate_rule = record (new_rule (codes "PREDICATE")) { long = Some (codes "predicate") }
+
+-- the document and the report of a picture
+abbrev pub drawn_app : App
+drawn_app = with_rule (with_rule (new_app (codes "draw")) (required_rule (codes "SPEC"))) (required_rule (codes "REPORT"))
+
+-- `draw SPEC REPORT STREAM... [--predicate PREDICATE]`
+abbrev pub draw_app : App
+draw_app = with_rule (with_rule drawn_app stream_rule) predicate_rule
+
+-- the document and the port of a server
+abbrev pub port_app : App
+port_app = with_rule (with_rule (new_app (codes "serve")) (required_rule (codes "SPEC"))) port_rule
+
+-- `serve SPEC --port PORT [--watchers WATCHERS] [--workers WORKERS]`
 abbrev pub serve_app : App
-serve_app = with_rule (with_rule (with_rule (new_app (codes "serve")) (required_rule (codes "SPEC"))) port_rule)
-    watchers_rule
+serve_app = with_rule (with_rule port_app watchers_rule) workers_rule
 
 -- the program alone: its name isn't among the arguments that are parsed
 abbrev pub plain_shape : Shape
@@ -64,10 +85,14 @@ plain_shape =
 abbrev pub plain_app : App
 plain_app = record { top = plain_shape; subs = [] }
 
--- with the commands `judge`, `check` and `serve`
+-- with the commands `judge` and `check`
+abbrev pub files_app : App
+files_app = with_subcommand (with_subcommand plain_app judge_app.top) check_app.top
+
+-- with the commands `draw` and `serve` too
 abbrev pub monitor_app : App
 monitor_app =
-    with_subcommand (with_subcommand (with_subcommand plain_app judge_app.top) check_app.top) serve_app.top
+    with_subcommand (with_subcommand files_app draw_app.top) serve_app.top
 
 -- ---- what the parser found
 
@@ -113,6 +138,18 @@ NamesNumber rows id n = (text : Text) × (first_of id rows ≡ Some text) × IsN
 abbrev pub IsPort : ℕ → Type 0
 IsPort port = (1 ≤ port) × (port ≤ port_limit)
 
+-- some workers, and not too many
+abbrev pub IsWorkers : ℕ → Type 0
+IsWorkers workers = (1 ≤ workers) × (workers ≤ worker_limit)
+
+-- the number of workers
+abbrev pub NamesWorkers : List Row → (workers : ℕ) → Type 0
+NamesWorkers rows workers = NamesNumber rows (codes "WORKERS") workers × IsWorkers workers
+
+-- it is missing, or isn't in its range
+abbrev pub LacksWorkers : List Row → Type 0
+LacksWorkers rows = ¬ ((workers : ℕ) × NamesWorkers rows workers)
+
 -- the name of a session document's file, the port of the streams, and the number of watchers
 pub record NamesService (rows : List Row) (document : Text) (port watchers : ℕ) : Type 0 where
   pub names_document : first_of (codes "SPEC") rows ≡ Some document
@@ -130,32 +167,54 @@ LacksService rows =
 
 -- the commands that take the names of streams' files
 abbrev pub TakesStreams : (command : Text) → Type 0
-TakesStreams command = (command ≡ codes "judge") ⊎ (command ≡ codes "check")
+TakesStreams command = (command ≡ codes "judge") ⊎ (command ≡ codes "check") ⊎ (command ≡ codes "draw")
+
+-- the commands that take the name of a report's file
+abbrev pub TakesReport : (command : Text) → Type 0
+TakesReport command = (command ≡ codes "check") ⊎ (command ≡ codes "draw")
+
+-- the commands that take a number of workers
+abbrev pub TakesWorkers : (command : Text) → Type 0
+TakesWorkers command = (command ≡ codes "judge") ⊎ (command ≡ codes "serve")
 
 -- What the arguments ask for. If they are taken, it is what their command is for, and with no command the bundle on the
 -- input is judged. Arguments that are not taken ask for a text that is shown, or have some other fault; and so have
--- those of a command that lacks a name or a number.
+-- those of a command that lacks a name or a number. How many workers there are changes nothing of what is asked for.
 pub data AsksFor (arguments : List Text) : Request → Type 0 where
   of_input : AreTaken arguments → ¬ ((rows : List Row) × AreOf (codes "judge") arguments rows)
       → ¬ ((rows : List Row) × AreOf (codes "check") arguments rows)
+      → ¬ ((rows : List Row) × AreOf (codes "draw") arguments rows)
       → ¬ ((rows : List Row) × AreOf (codes "serve") arguments rows) → AsksFor arguments JudgeInput
-  of_judge : (rows : List Row) (document : Text) (streams : List Text) → AreTaken arguments
-      → AreOf (codes "judge") arguments rows → NamesSession rows document streams
+  of_judge : (rows : List Row) (document : Text) (streams : List Text) (workers : ℕ) → AreTaken arguments
+      → AreOf (codes "judge") arguments rows → NamesSession rows document streams → NamesWorkers rows workers
       → AsksFor arguments (JudgeFiles document streams)
   of_check : (rows : List Row) (document report : Text) (streams : List Text) → AreTaken arguments
       → AreOf (codes "check") arguments rows → NamesSession rows document streams → NamesReport rows report
       → AsksFor arguments (CheckFiles document report streams)
-  of_serve : (rows : List Row) (document : Text) (port watchers : ℕ) → AreTaken arguments
-      → AreOf (codes "serve") arguments rows → NamesService rows document port watchers
+  of_serve : (rows : List Row) (document : Text) (port watchers workers : ℕ) → AreTaken arguments
+      → AreOf (codes "serve") arguments rows → NamesService rows document port watchers → NamesWorkers rows workers
       → AsksFor arguments (ServeStreams document port watchers)
   of_help : (kind : ErrorKind) → IsShownKind kind → HasFault arguments kind → AsksFor arguments ShowHelp
   of_fault : (kind : ErrorKind) → ¬ IsShownKind kind → HasFault arguments kind → AsksFor arguments Unclear
   of_missing : (command : Text) (rows : List Row) → TakesStreams command → AreOf command arguments rows
       → LacksSession rows → AsksFor arguments Unclear
-  of_missing_report : (rows : List Row) → AreOf (codes "check") arguments rows
+  of_missing_report : (command : Text) (rows : List Row) → TakesReport command → AreOf command arguments rows
       → ¬ ((report : Text) × NamesReport rows report) → AsksFor arguments Unclear
   of_missing_service : (rows : List Row) → AreOf (codes "serve") arguments rows → LacksService rows
       → AsksFor arguments Unclear
+  of_missing_workers : (command : Text) (rows : List Row) → TakesWorkers command → AreOf command arguments rows
+      → LacksWorkers rows → AsksFor arguments Unclear
+
+-- The arguments ask for a picture of a session in files of these names, and of the evidence of the predicate of this
+-- name, or without a name of the first that has evidence.
+pub record AsksToDraw (arguments : List Text) (document report : Text) (streams : List Text) (name : Option Text) :
+    Type 0 where
+  pub rows : List Row
+  pub are_taken : AreTaken arguments
+  pub are_of : AreOf (codes "draw") arguments rows
+  pub names_session : NamesSession rows document streams
+  pub names_report : NamesReport rows report
+  pub names_predicate : first_of (codes "PREDICATE") rows ≡ name
 
 -- A parse that gives no request says so: its error has a text to show, or one that reports what is wrong; or memory ran
 -- out.

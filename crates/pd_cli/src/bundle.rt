@@ -3,7 +3,8 @@ ghost use Rattle.pd_cli.specs.Faults.{ending_view};
 ghost use Rattle.pd_judgement.specs.Statuses.{JudgementLeaves};
 ghost use Rattle.std.specs.Prelude.{◌≡◌, false};
 
-use super::outcomes::{WORKERS, is_judged};
+use super::outcomes::is_judged;
+use super::workers::Workers;
 use pd_engine::{ByteSource, EngineFault, NoGate, judge_bundle};
 use std::alloc::Global;
 use std::io::Write;
@@ -25,7 +26,7 @@ pub(crate) fn judge_input<S: RandomSource + Threads + Wait + Sync, I: ByteSource
     requires { I.has_ended input ≡ false }
     ensures { JudgementLeaves (I.remaining input) (ending_view result) (O.contents output.old) (O.contents output.new) }
 {
-    let outcome = judge_bundle(rt, alloc, input, WORKERS, &NoGate, output)?;
+    let outcome = judge_bundle(rt, alloc, input, Workers::one().count(), &NoGate, output)?;
     if output.flush().is_err() {
         return Err(EngineFault::Write);
     }

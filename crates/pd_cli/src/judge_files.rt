@@ -6,9 +6,10 @@ ghost use Rattle.pd_judgement.specs.Writes.{WritesTruth};
 ghost use Rattle.std.specs.Prelude.{◌≡◌, ◌⊎◌, ℕ, List, All, IfErr, IfOk, Some, false, true, map};
 
 use super::file_source::FileSource;
-use super::outcomes::{WORKERS, is_judged};
+use super::outcomes::is_judged;
 use super::request::SessionNames;
 use super::session_files::{open_streams, read_document};
+use super::workers::Workers;
 use pd_engine::{ByteSource, EngineFault, NoGate, judge};
 use std::alloc::Global;
 use std::io::Write;
@@ -25,7 +26,14 @@ pub(crate) fn judge_read<
     S: RandomSource + Threads + Wait + Sync,
     R: ByteSource + Send + Drop,
     O: Write,
->(rt: &S, alloc: Global, spec: &[u8], streams: Vec<R>, output: &mut O) -> Result<bool, EngineFault>
+>(
+    rt: &S,
+    alloc: Global,
+    spec: &[u8],
+    streams: Vec<R>,
+    workers: &Workers,
+    output: &mut O,
+) -> Result<bool, EngineFault>
     requires { All (λ stream. R.has_ended stream ≡ false) streams.items }
     ensures written { FilesJudgementLeaves (Some spec.now) (map R.remaining streams.items) (ending_view result)
         (O.contents output.old) (O.contents output.new) }
@@ -34,7 +42,7 @@ pub(crate) fn judge_read<
         (O.contents output.old) (O.contents output.new)) }
     ensures err { IfErr result (λ fault. (fault ≡ EngineFault.Memory) ⊎ (fault ≡ EngineFault.Write)) }
 {
-    let outcome = judge(rt, alloc, spec, streams, WORKERS, &NoGate, output)?;
+    let outcome = judge(rt, alloc, spec, streams, workers.count(), &NoGate, output)?;
     if output.flush().is_err() {
         return Err(EngineFault::Write);
     }
@@ -53,6 +61,7 @@ pub(crate) fn judge_files<S: RandomSource + Threads + Wait + Sync, F: FileSource
     files: &F,
     alloc: Global,
     names: &SessionNames<'_>,
+    workers: &Workers,
     output: &mut O,
 ) -> Result<bool, EngineFault>
     ensures written { FilesJudgementLeaves (F.bytes_of files.now names.now.spec.now)
@@ -69,5 +78,5 @@ pub(crate) fn judge_files<S: RandomSource + Threads + Wait + Sync, F: FileSource
     let spec = files.open(names.spec)?;
     let streams = open_streams(files, alloc, &names.streams)?;
     let document = read_document(alloc, spec)?;
-    judge_read(rt, alloc, &document, streams, output)
+    judge_read(rt, alloc, &document, streams, workers, output)
 }

@@ -1,11 +1,8 @@
-//! How the program judges, and which outcome is a success.
+//! Which outcome is a success.
 ghost use Rattle.pd_engine.specs.Ends.{outcome_view};
 ghost use Rattle.std.specs.Prelude.{◌≡◌};
 
 use pd_engine::Outcome;
-
-/// How many workers judge a session.
-pub(crate) const WORKERS: u64 = 1;
 
 /// Whether the session is judged, and not refused.
 pub(crate) fn is_judged(outcome: Outcome) -> bool

@@ -1,5 +1,7 @@
 //! What the program is asked for.
 
+use super::workers::Workers;
+
 /// The names of the files of a session.
 #[derive(Drop)]
 pub(crate) struct SessionNames<'a> {
@@ -18,6 +20,8 @@ pub(crate) struct Service<'a> {
     pub(crate) port: u16,
     /// How many watchers are accepted on the next port, at most 64.
     pub(crate) watchers: u64,
+    /// How many workers share the work.
+    pub(crate) workers: Workers,
 }
 
 /// What the program is asked for.
@@ -25,10 +29,13 @@ pub(crate) struct Service<'a> {
 pub(crate) enum Request<'a> {
     /// To judge the bundle on the input.
     Bundle,
-    /// To judge a session document and streams.
-    Judge(SessionNames<'a>),
+    /// To judge a session document and streams by this many workers.
+    Judge(SessionNames<'a>, Workers),
     /// To check the report in the file of this name against a session document and streams.
     Check(&'a str, SessionNames<'a>),
+    /// To draw the report in the file of this name with a session document and streams: the evidence of the predicate of
+    /// this name, if there is one, or else of the first predicate that has evidence.
+    Draw(&'a str, Option<&'a str>, SessionNames<'a>),
     /// To judge a session document and streams that come by connections.
     Serve(Service<'a>),
 }

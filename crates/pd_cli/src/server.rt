@@ -10,11 +10,12 @@ ghost use Rattle.std.specs.Prelude.{◌≡◌, ◌≢◌, ◌⊎◌, ◌↔◌, 
 use super::file_source::FileSource;
 use super::judge_files::judge_read;
 use super::network::Network;
-use super::outcomes::{WORKERS, is_judged};
+use super::outcomes::is_judged;
 use super::request::Service;
 use super::service_fault::ServiceFault;
 use super::session_files::read_document;
 use super::watchers::Watchers;
+use super::workers::Workers;
 use pd_engine::{ByteSource, EngineFault, NoGate, Observer, Spec, SpecFault, judge_watched};
 use pd_judgement::one_document;
 use std::alloc::Global;
@@ -113,6 +114,7 @@ fn judge_accepted<
     alloc: Global,
     document: &[u8],
     streams: Vec<R>,
+    workers: &Workers,
     observer: &B,
     output: &mut O,
 ) -> Result<bool, EngineFault>
@@ -122,7 +124,14 @@ fn judge_accepted<
     ensures err { IfErr result (λ fault. (fault ≡ EngineFault.Memory) ⊎ (fault ≡ EngineFault.Write)) }
 {
     let outcome = judge_watched(
-        rt, alloc, document, streams, WORKERS, &NoGate, observer, output,
+        rt,
+        alloc,
+        document,
+        streams,
+        workers.count(),
+        &NoGate,
+        observer,
+        output,
     )?;
     if output.flush().is_err() {
         return Err(EngineFault::Write);
@@ -162,7 +171,15 @@ fn serve_session<S: RandomSource + Threads + Wait + Sync, N: Network + Sync, O: 
         alloc,
     };
     let streams = accept_streams(network, alloc, listener, spec.names().processes())?;
-    service_end(judge_accepted(rt, alloc, document, streams, &watchers, output))
+    service_end(judge_accepted(
+        rt,
+        alloc,
+        document,
+        streams,
+        &service.workers,
+        &watchers,
+        output,
+    ))
 }
 
 /// Judges a document's bytes and no streams, writes the report, and flushes the output.
@@ -184,6 +201,7 @@ fn judge_no_streams<S: RandomSource + Threads + Wait + Sync, N: Network, O: Writ
         alloc,
         document,
         Vec::<N::Connection>::new(alloc),
+        &Workers::one(),
         output,
     )
 }

@@ -39,10 +39,11 @@ What is found is written to the standard output. The status is 0 if nothing in i
 
 /// What the help of `judge` says.
 const JUDGE_HELP: &str = "Judges predicates on a computation that is recorded in files\n\n\
-Usage: monitor judge <SPEC> <STREAM>...\n\n\
+Usage: monitor judge [OPTIONS] <SPEC> <STREAM>...\n\n\
 Arguments:\n  <SPEC>       The session document\n  \
 <STREAM>...  The streams of events, one file for each\n\n\
-Options:\n  -h, --help  Print help\n\n\
+Options:\n      --workers <WORKERS>  How many threads, at most 16, share the work on levels with many cuts; \
+they change no byte of the report [default: 1]\n  -h, --help               Print help\n\n\
 A report is written to the standard output. The status is 0 if the session is judged, 1 if it is refused, \
 also because a stream can't be read, 2 if the arguments are refused, 3 if a file can't be opened, the document \
 can't be read or the output can't be written, and 4 if memory runs out.\n";
@@ -193,6 +194,33 @@ fn arguments_are_refused(rt: HostRuntime) -> Result<(), Fail> {
         assert_eq!(rt; (name, status), (name, MISUSED));
         assert!(rt; output.is_empty(), "{name}");
         assert!(rt; errors.starts_with(b"error: "), "{name}");
+    }
+    Ok(())
+}
+
+#[test]
+fn other_numbers_of_workers_are_refused(rt: HostRuntime) -> Result<(), Fail> {
+    for workers in ["0", "17", "x", ""] {
+        let cases: [&[&str]; 2] = [
+            &["monitor", "judge", "--workers", workers, "x", "y"],
+            &[
+                "monitor",
+                "serve",
+                "x",
+                "--port",
+                "7411",
+                "--workers",
+                workers,
+            ],
+        ];
+        for arguments in cases {
+            let mut output = Vec::new(rt.alloc());
+            let mut errors = Vec::new(rt.alloc());
+            let status = run_to(&rt, &rt, arguments, b"", &mut output, &mut errors)?;
+            assert_eq!(rt; (workers, status), (workers, MISUSED));
+            assert!(rt; output.is_empty(), "{workers}");
+            assert!(rt; errors.starts_with(b"error: "), "{workers}");
+        }
     }
     Ok(())
 }

@@ -1,5 +1,5 @@
 -- Which predicate is drawn, and what stands against a picture.
-use Rattle.std.specs.Prelude.{ℕ, Bool, true, false, ◌||◌, List, Option, Some, None, position, slice_get}
+use Rattle.std.specs.Prelude.{◌≡◌, ℕ, Bool, true, false, ◌||◌, List, Option, Some, None, position, slice_get}
 use Rattle.std.specs.Borrow.{Bor}
 use Rattle.std.specs.Str.{bytes_eq}
 use Rattle.pd_format.specs.OtherTexts.{Checked, Finding, NotRead, OfRefusal, OfSession, Verdict, Good, Bad, Unchecked}
@@ -33,6 +33,10 @@ by_name (Some i) = Of i
 abbrev pub choice : Option (List ℕ) → List Checked → Choice
 choice None checked = by_evidence (position has_evidence checked)
 choice (Some name) checked = by_name (position (λ (c : Checked). bytes_eq c.name name) checked)
+
+-- there is no predicate of the name that is asked for
+abbrev pub LacksName : Option (List ℕ) → List Checked → Type 0
+LacksName name checked = choice name checked ≡ Unknown
 
 abbrev pub has_bad_in : Option Checked → Bool
 has_bad_in None = false

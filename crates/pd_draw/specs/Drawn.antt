@@ -11,7 +11,7 @@ use Rattle.pd_check.specs.Found.{IsFoundOf}
 use Rattle.pd_picture.specs.Pictures.{IsPicture}
 use Rattle.pd_picture.specs.declared.evidence.Evidence.{Evidence}
 use Rattle.pd_svg.specs.declared.drawing.Drawing.{Drawing}
-use Rattle.pd_draw.specs.Choices.{choice, stands_against}
+use Rattle.pd_draw.specs.Choices.{LacksName, choice, stands_against}
 use Rattle.pd_draw.specs.Exhibits.{HasGoodEvidence, Shows, ShowsNothing, run_title, title_text}
 use Rattle.pd_draw.specs.declared.choice.Choice.{Choice}
 use Rattle.pd_draw.specs.declared.drawn.Drawn.{Drawn}
@@ -72,7 +72,7 @@ pub record IsUnknown (document : Document) (traces : List Trace) (messages : Lis
     (name : Option (List ℕ)) : Type 0 where
   pub checked : List Checked
   pub found : IsFoundOf document traces messages claimed (OfSession true (Some checked))
-  pub is_unknown : choice name checked ≡ Unknown
+  pub is_unknown : LacksName name checked
 
 -- what comes of it: the picture, or what stands against it
 abbrev pub Comes : Document → List Trace → List (Place × Place) → Report → (name : Option (List ℕ)) → Drawn → Type 0

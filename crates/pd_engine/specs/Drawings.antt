@@ -14,9 +14,8 @@ use Rattle.pd_judgement.specs.Writes.{CallEnd, IsGivenBy, Silent, Whole}
 use Rattle.pd_check.specs.Views.{finding_view}
 use Rattle.pd_svg.specs.Svg.{drawing_text}
 use Rattle.pd_svg.specs.declared.drawing.Drawing.{Drawing as Picture}
-use Rattle.pd_draw.specs.Choices.{choice, stands_against}
+use Rattle.pd_draw.specs.Choices.{LacksName, stands_against}
 use Rattle.pd_draw.specs.Drawn.{Comes, IsDrawn}
-use Rattle.pd_draw.specs.declared.choice.Choice.TheVariants.{Unknown}
 use Rattle.pd_draw.specs.declared.drawn.Drawn.{Drawn}
 use Rattle.pd_draw.specs.declared.drawn.Drawn.TheVariants as drawn
 use Rattle.pd_engine.specs.Ends.{fault_end}
@@ -60,7 +59,7 @@ pub record LacksPredicate (bytes report : List ℕ) (inputs : List (Option (List
   pub are_given : AllZip IsGivenBy inputs streams
   pub checked : List Checked
   pub right : IsFinding bytes report streams (OfSession true (Some checked))
-  pub is_unknown : choice name checked ≡ Unknown
+  pub is_unknown : LacksName name checked
 
 abbrev pub Draws : (bytes report : List ℕ) (inputs : List (Option (List ℕ))) (name : Option (List ℕ)) → Drawn → Type 0
 Draws bytes report inputs name (drawn.Picture picture) = IsPictureOf bytes report inputs name picture

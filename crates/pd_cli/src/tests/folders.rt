@@ -74,10 +74,24 @@ pub(super) fn run_on<T: RandomSource + Threads + Wait + Sync, O: Write>(
     names: &[&str],
     output: &mut O,
 ) -> Result<(u8, Vec<u8>), Fail> {
+    run_with(threads, rt, folder, &[command], names, output)
+}
+
+/// What the command that begins with these arguments gives on these files of the folder: its status and its errors.
+pub(super) fn run_with<T: RandomSource + Threads + Wait + Sync, O: Write>(
+    threads: &T,
+    rt: &HostRuntime,
+    folder: &str,
+    command: &[&str],
+    names: &[&str],
+    output: &mut O,
+) -> Result<(u8, Vec<u8>), Fail> {
     let alloc = rt.alloc();
     let mut arguments = Vec::new(alloc);
     arguments.push(String::from_str(alloc, "monitor")?)?;
-    arguments.push(String::from_str(alloc, command)?)?;
+    for argument in command {
+        arguments.push(String::from_str(alloc, argument)?)?;
+    }
     for name in names {
         arguments.push(format!(in alloc; "{folder}{name}")?)?;
     }

@@ -1,6 +1,6 @@
 //! Judgements of sessions in files that a test writes.
 use super::REPORT;
-use super::folders::{run_on, session_folder, write_long_document};
+use super::folders::{run_on, run_with, session_folder, write_long_document};
 use super::writers::{Failing, Slow};
 use crate::status::{FAILED, REFUSED, SUCCESS};
 use std::fs;
@@ -56,6 +56,22 @@ fn session_files_are_judged(rt: HostRuntime) -> Result<(), Fail> {
         assert_eq!(rt; (name, status), (name, want));
         assert!(rt; output.taken.as_slice() == text.as_bytes(), "{name}");
         assert!(rt; errors.is_empty(), "{name}");
+    }
+    fs::remove_dir_all(&rt, folder.as_str())?;
+    Ok(())
+}
+
+#[test]
+fn workers_change_no_report(rt: HostRuntime) -> Result<(), Fail> {
+    let folder = session_folder(&rt, "workers")?;
+    for workers in ["1", "4", "16"] {
+        let mut output = Vec::new(rt.alloc());
+        let command = ["judge", "--workers", workers];
+        let names = ["spec", "a", "b"];
+        let (status, errors) = run_with(&rt, &rt, folder.as_str(), &command, &names, &mut output)?;
+        assert_eq!(rt; (workers, status), (workers, SUCCESS));
+        assert!(rt; output.as_slice() == REPORT.as_bytes(), "{workers}");
+        assert!(rt; errors.is_empty(), "{workers}");
     }
     fs::remove_dir_all(&rt, folder.as_str())?;
     Ok(())

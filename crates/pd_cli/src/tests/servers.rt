@@ -22,7 +22,7 @@ struct Served {
     errors: Vec<u8>,
 }
 
-/// How a server on this port ends.
+/// How a server on this port ends, with further options.
 fn serve_on<T: RandomSource + Threads + Wait + Sync, F: FileSource, N: Network + Sync>(
     threads: &T,
     files: &F,
@@ -30,6 +30,7 @@ fn serve_on<T: RandomSource + Threads + Wait + Sync, F: FileSource, N: Network +
     alloc: Global,
     port: &str,
     watchers: &str,
+    options: &[&str],
 ) -> Result<Served, AllocError> {
     let mut arguments = Vec::new(alloc);
     for argument in [
@@ -42,6 +43,9 @@ fn serve_on<T: RandomSource + Threads + Wait + Sync, F: FileSource, N: Network +
         watchers,
     ] {
         arguments.push(String::from_str(alloc, argument)?)?;
+    }
+    for option in options {
+        arguments.push(String::from_str(alloc, option)?)?;
     }
     let mut output = Vec::new(alloc);
     let mut errors = Vec::new(alloc);
@@ -93,7 +97,7 @@ fn serve_beside<T: RandomSource + Threads + Wait + Sync>(
 ) -> (Result<Served, AllocError>, io::Result<Vec<u8>>) {
     join(
         threads,
-        || serve_on(threads, &Document(DOCUMENT), network, alloc, "1", "1"),
+        || serve_on(threads, &Document(DOCUMENT), network, alloc, "1", "1", &[]),
         || watch_and_send(alloc, clients),
     )
 }
@@ -124,7 +128,7 @@ fn a_port_that_is_in_use(rt: HostRuntime) -> Result<(), Fail> {
     let port = network.streams.local_addr()?.port();
     let port = format!(in rt.alloc(); "{port}")?;
     let files = Document(DOCUMENT);
-    let served = serve_on(&rt, &files, &rt, rt.alloc(), port.as_str(), "0")?;
+    let served = serve_on(&rt, &files, &rt, rt.alloc(), port.as_str(), "0", &[])?;
     assert_eq!(rt; served.status, FAILED);
     assert!(rt; served.output.is_empty());
     assert_eq!(rt; served.errors.as_slice(), b"monitor: network\n".as_slice());
@@ -169,11 +173,17 @@ fn servers_end_by_their_connections(rt: HostRuntime) -> Result<(), Fail> {
         ),
     ];
     for (name, streams, want, text, line) in cases {
-        // A watcher that takes nothing, ten of them, and watchers that can't be accepted change nothing.
-        for (watchers, has_watchers) in [("0", false), ("1", true), ("10", true), ("64", false)] {
+        // A watcher that takes nothing, ten of them, watchers that can't be accepted, and workers change nothing.
+        let others: [(&str, bool, &[&str]); 4] = [
+            ("0", false, &[]),
+            ("1", true, &["--workers", "1"]),
+            ("10", true, &["--workers", "4"]),
+            ("64", false, &["--workers", "16"]),
+        ];
+        for (watchers, has_watchers, options) in others {
             let network = Scripted::new(streams, 2, has_watchers);
             let files = Document(DOCUMENT);
-            let served = serve_on(&rt, &files, &network, rt.alloc(), "1", watchers)?;
+            let served = serve_on(&rt, &files, &network, rt.alloc(), "1", watchers, options)?;
             assert_eq!(rt; (name, watchers, served.status), (name, watchers, want));
             assert!(rt; served.output.as_slice() == text.as_bytes(), "{name}");
             assert!(rt; served.errors.as_slice() == line.as_bytes(), "{name}");
@@ -224,7 +234,7 @@ fn ports_that_cannot_be_bound(rt: HostRuntime) -> Result<(), Fail> {
     ] {
         let network = Scripted::new(&[OF_A, OF_B], last_port, true);
         let files = Document(document);
-        let served = serve_on(&rt, &files, &network, rt.alloc(), "1", watchers)?;
+        let served = serve_on(&rt, &files, &network, rt.alloc(), "1", watchers, &[])?;
         assert_eq!(rt; (name, served.status), (name, want));
         assert!(rt; served.output.as_slice() == text.as_bytes(), "{name}");
         assert!(rt; served.errors.as_slice() == line.as_bytes(), "{name}");
