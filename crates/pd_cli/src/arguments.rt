@@ -30,7 +30,10 @@ const JUDGE_ABOUT: &str = "Judges predicates on a computation that is recorded i
 const JUDGE_AFTER: &str =
     "A report is written to the standard output. The status is 0 if the session is judged, 1 if it is refused, \
 also because a stream can't be read, 2 if the arguments are refused, 3 if a file can't be opened, the document \
-can't be read or the output can't be written, and 4 if memory runs out.";
+can't be read or the output can't be written, and 4 if memory runs out.\n\n\
+The formats are described in docs/SPECIFICATION.md. An example, at the top of the repository:\n  \
+crates/monitor/out/monitor judge examples/ten-lines/session.json examples/ten-lines/left.stream \
+examples/ten-lines/right.stream";
 
 /// What the help says of `check`.
 const CHECK_ABOUT: &str =
@@ -38,7 +41,11 @@ const CHECK_ABOUT: &str =
 
 /// What the help of `check` ends with.
 const CHECK_AFTER: &str =
-    "What is found is written to the standard output. The status is 0 if nothing in it is bad, and else 1.";
+    "What is found is written to the standard output. The status is 0 if nothing in it is bad, 1 if something is, 2 if the \
+arguments are refused, 3 if a file can't be opened or read or the output can't be written, and 4 if memory runs out.\n\n\
+The formats are described in docs/SPECIFICATION.md. An example, at the top of the repository:\n  \
+crates/monitor/out/monitor check examples/ten-lines/session.json examples/ten-lines/report \
+examples/ten-lines/left.stream examples/ten-lines/right.stream";
 
 /// What the help says of `draw`.
 const DRAW_ABOUT: &str =
@@ -50,9 +57,9 @@ const DRAW_AFTER: &str =
 streams as `check` does. The status is 0 if the picture is written, 1 if something that a check finds stands against \
 it, which is then written to the standard error, 2 if the arguments are refused or there is no predicate of the name \
 that is asked for, 3 if a file can't be opened or read or the output can't be written, and 4 if memory runs out.\n\n\
-Example, from the folder of the repository:\n  \
-monitor draw examples/ten-lines/session.json examples/ten-lines/report.txt examples/ten-lines/a.jsonl \
-examples/ten-lines/b.jsonl > picture.svg";
+The formats are described in docs/SPECIFICATION.md. An example, at the top of the repository:\n  \
+crates/monitor/out/monitor draw examples/ten-lines/session.json examples/ten-lines/report \
+examples/ten-lines/left.stream examples/ten-lines/right.stream > picture.svg";
 
 /// What the help says of `serve`.
 const SERVE_ABOUT: &str =
@@ -63,7 +70,10 @@ const SERVE_AFTER: &str =
     "As many connections to the port, on this machine alone, as the document has processes are the streams. A report \
 is written to the standard output once all of them have ended and all watchers were answered. The status is 0 if \
 the session is judged, 1 if it is refused, 2 if the arguments are refused, 3 if the document can't be read, a port \
-can't be bound, a stream can't be accepted or the output can't be written, and 4 if memory runs out.";
+can't be bound, a stream can't be accepted or the output can't be written, and 4 if memory runs out.\n\n\
+The formats are described in docs/SPECIFICATION.md. An example, at the top of the repository:\n  \
+crates/monitor/out/monitor serve examples/live/session.json --port 7411\nand then, from another terminal:\n  \
+cat examples/live/left.stream > /dev/tcp/127.0.0.1/7411 & cat examples/live/right.stream > /dev/tcp/127.0.0.1/7411";
 
 /// The greatest port of streams: the next one is that of the watchers.
 const PORT_LIMIT: u64 = 65_534;

@@ -12,7 +12,7 @@ use Rattle.pd_engine.specs.SessionReports.{IsReportOfInputs}
 use Rattle.pd_engine.specs.Unanswered.{IsUnanswered}
 use Rattle.pd_engine.proofs.SessionDrawings.{session_drawn}
 use Rattle.pd_engine.proofs.SessionReports.{inputs_report, refusal_given, refused_inputs_report, traces_report}
-use Rattle.pd_engine.proofs.checks.draw_session.Goals as goal
+use Rattle.pd_engine.proofs.drawings.draw_session.Goals as goal
 
 pub returns-in_err-spec-clause-refused : goal.returns-in_err-spec-clause-refused
 returns-in_err-spec-clause-refused g c =
