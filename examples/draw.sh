@@ -12,7 +12,7 @@ for session in */session.json; do
   folder=${session%/session.json}
   grep -q '^refused ' "$folder/report" && continue
   if "$program" draw "$session" "$folder/report" "$folder"/*.stream > "$drawn"; then
-    cp "$drawn" "$folder/picture.svg"
+    cat "$drawn" > "$folder/picture.svg"
   else
     echo "examples: $folder isn't drawn"
     status=1
