@@ -9,6 +9,7 @@ ghost use Rattle.pd_judgement.specs.Judgements.{IsTracesReport};
 ghost use Rattle.pd_judgement.specs.Writes.{Writes};
 ghost use Rattle.pd_report.specs.Views.{report_view};
 ghost use Rattle.pd_spec.specs.Views.{document_view};
+ghost use Rattle.pd_svg.specs.Svg.{drawing_text};
 ghost use Rattle.std.specs.Prelude.{◌≡◌, ◌⊎◌, All, IfErr, IfOk, IsOkUnless, false, map};
 
 use super::EngineFault;
@@ -20,7 +21,7 @@ use pd_check::{Finding, find_refused, text};
 use pd_draw::Drawn;
 use pd_events::Trace;
 use pd_gather::{ByteSource, read_streams};
-use pd_report::{Report, ReportFault};
+use pd_report::{Report, ReportFault, WriteFault};
 use pd_spec::Spec;
 use std::alloc::Global;
 use std::io::Write;
@@ -127,6 +128,29 @@ fn draw_read<S: RandomSource + Threads + Wait + Sync, R: ByteSource + Send + Dro
     }
 }
 
+/// Writes a picture's text.
+///
+/// # Errors
+/// `Memory` leaves nothing written. `Write` leaves a prefix of the text written, and not all of it.
+fn write_picture<W: Write>(
+    alloc: Global,
+    picture: &pd_svg::Drawing,
+    writer: &mut W,
+) -> Result<Drawing, EngineFault>
+    ensures written { Writes (λ text. text ≡ drawing_text picture.now) (drawing_end result)
+        (W.contents writer.old) (W.contents writer.new) }
+    ensures whole { IfOk result (λ drawing. drawing ≡ Drawing.Written) }
+    ensures err { IfErr result (λ fault. (fault ≡ EngineFault.Memory) ⊎ (fault ≡ EngineFault.Write)) }
+{
+    match pd_svg::write(alloc, picture, writer) {
+        Ok(()) => Ok(Drawing::Written),
+        Err(fault) => match fault {
+            WriteFault::Memory => Err(EngineFault::Memory),
+            WriteFault::Write => Err(EngineFault::Write),
+        },
+    }
+}
+
 /// Draws a session and a report on it, and writes the picture as SVG: the run, and the evidence of the predicate of this
 /// name, or without a name of the first predicate that has evidence. It reads and judges both as `check` does. If
 /// something in what a check finds stands against the picture, nothing is written, and the text of what it finds is
@@ -155,10 +179,7 @@ pub fn draw<S: RandomSource + Threads + Wait + Sync, R: ByteSource + Send + Drop
     ensures err { IfErr result (λ fault. (fault ≡ EngineFault.Memory) ⊎ (fault ≡ EngineFault.Write)) }
 {
     match draw_read(rt, alloc, spec, report, streams, name)? {
-        Drawn::Picture(drawing) => {
-            pd_svg::write(alloc, &drawing, writer)?;
-            Ok(Drawing::Written)
-        }
+        Drawn::Picture(picture) => write_picture(alloc, &picture, writer),
         Drawn::Bad(finding) => Ok(Drawing::Refused(text(alloc, &finding)?)),
         Drawn::NoPredicate => Ok(Drawing::NoPredicate),
     }
