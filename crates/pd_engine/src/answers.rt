@@ -1,5 +1,6 @@
 //! The answers of a session.
 ghost use Rattle.pd_engine.specs.Paths.{ArePreds, HasProcessesBelow};
+ghost use Rattle.pd_expand.specs.Limits.{worker_limit};
 ghost use Rattle.pd_format.specs.Names.{name_of_process};
 ghost use Rattle.pd_judgement.specs.Judgements.{IsAnswered, printed_definitely, printed_possibly};
 ghost use Rattle.pd_model.specs.Answers.{IsDefinitelyAnswer, IsPossiblyAnswer};
@@ -10,7 +11,7 @@ ghost use Rattle.pd_spec.specs.Named.{named_view};
 ghost use Rattle.pd_spec.specs.Views.{document_view};
 ghost use Rattle.pd_walk.specs.Answers.{definitely_answer_view, possibly_answer_view};
 ghost use Rattle.std.specs.List.{AllZip};
-ghost use Rattle.std.specs.Prelude.{◌≡◌, ◌<◌, All, IfOk, length, map, string_bytes};
+ghost use Rattle.std.specs.Prelude.{◌≡◌, ◌<◌, ◌≤◌, All, IfOk, length, map, string_bytes};
 
 use pd_clock::Computation;
 use pd_level::Gate;
@@ -28,7 +29,9 @@ pub(crate) fn answers_of<G: Gate + Sync>(
     _workers: u64,
     _gate: &G,
 ) -> Result<Vec<Answer>, AllocError>
-    requires { length computation.now.events ≡ length (document_view spec.now).names }
+    requires names { length computation.now.events ≡ length (document_view spec.now).names }
+    requires some_workers { 1 ≤ _workers }
+    requires few_workers { _workers ≤ worker_limit }
     ensures { IfOk result (λ answers. AllZip
         (IsAnswered (document_view spec.now).names computation.now (document_view spec.now).width)
         (document_view spec.now).predicates (map views.answer_view answers.items)) }

@@ -4,13 +4,14 @@ ghost use Rattle.pd_engine.specs.Ends.{call_end, judged_as};
 ghost use Rattle.pd_engine.specs.SessionReports.{IsReportOfRead};
 ghost use Rattle.pd_engine.specs.Unanswered.{IsUnanswered};
 ghost use Rattle.pd_engine.specs.declared.outcome.Outcome.TheVariants as outcomes;
+ghost use Rattle.pd_expand.specs.Limits.{worker_limit};
 ghost use Rattle.pd_format.specs.Documents.{IsDocument};
 ghost use Rattle.pd_judgement.specs.Judgements.{IsJudgement, RawStream};
 ghost use Rattle.pd_judgement.specs.Writes.{IsTextOfBundle, IsTooLong, Silent, Writes, WritesTruthOfBundle};
 ghost use Rattle.pd_report.specs.Views.{report_view};
 ghost use Rattle.pd_spec.specs.Views.{document_view};
 ghost use Rattle.pd_bundle.specs.Steps.{HasParts};
-ghost use Rattle.std.specs.Prelude.{◌≡◌, ◌≢◌, ◌∷◌, [], ℕ, Err, IfErr, IfOk, List, Option, false, true};
+ghost use Rattle.std.specs.Prelude.{◌≡◌, ◌≢◌, ◌≤◌, ◌∷◌, [], ℕ, Err, IfErr, IfOk, List, Option, false, true};
 
 use super::document::read_document;
 use super::judges::write_report;
@@ -58,6 +59,8 @@ fn streams_report_of<S: RandomSource, R: ByteSource, G: Gate + Sync>(
     gate: &G,
 ) -> Result<Report, EngineFault>
     requires ready { bundle.old.ended ≡ false → R.has_ended reader.old ≡ false }
+    requires some_workers { 1 ≤ workers }
+    requires few_workers { workers ≤ worker_limit }
     ensures report { IfOk result (λ report. (input : Option (List ℕ)) (document : List ℕ)
         → IsDocument document (document_view spec.now)
         → HasParts begins input (R.remaining reader.old) (document ∷ []) bundle.old
@@ -113,6 +116,8 @@ fn bundle_report<S: RandomSource, R: ByteSource + Drop, G: Gate + Sync>(
     gate: &G,
 ) -> Result<Report, EngineFault>
     requires open { R.has_ended reader ≡ false }
+    requires some_workers { 1 ≤ workers }
+    requires few_workers { workers ≤ worker_limit }
     ensures report { IfOk result (λ report. IsReportOfRead (R.remaining reader) (report_view report)) }
     ensures long { result ≡ Err EngineFault.BundleLong → IsTooLong (R.remaining reader) }
     ensures sure { R.never_fails ≡ true → result ≢ Err EngineFault.Read }
@@ -157,6 +162,8 @@ pub fn judge_bundle<
     writer: &mut W,
 ) -> Result<Outcome, EngineFault>
     requires open { R.has_ended reader ≡ false }
+    requires some_workers { 1 ≤ workers }
+    requires few_workers { workers ≤ worker_limit }
     // The text of the report of the parts of the bundle that the reader gave is written whole, judged or refused as is
     // reported, and it is true; a write that fails leaves a prefix of it, and every other fault leaves nothing.
     ensures written { Writes (IsTextOfBundle (R.remaining reader) (judged_as result)) (call_end result)

@@ -1,10 +1,11 @@
 //! Judges a session, and writes its report.
 ghost use Rattle.pd_engine.specs.Ends.{IsTextAs, call_end, judged_as};
 ghost use Rattle.pd_engine.specs.declared.outcome.Outcome.TheVariants as outcomes;
+ghost use Rattle.pd_expand.specs.Limits.{worker_limit};
 ghost use Rattle.pd_judgement.specs.Judgements.{ended_streams};
 ghost use Rattle.pd_judgement.specs.Writes.{IsReportTextOf, IsTextOfStreams, Writes, WritesTruth};
 ghost use Rattle.pd_report.specs.Views.{report_view};
-ghost use Rattle.std.specs.Prelude.{◌≡◌, ◌⊎◌, ℕ, All, IfErr, IfOk, List, Some, false, map, true};
+ghost use Rattle.std.specs.Prelude.{◌≡◌, ◌⊎◌, ◌≤◌, ℕ, All, IfErr, IfOk, List, Some, false, map, true};
 
 use super::outcome::report_outcome;
 use super::reports::streams_report;
@@ -53,6 +54,8 @@ pub fn judge<
     writer: &mut W,
 ) -> Result<Outcome, EngineFault>
     requires open { All (λ r. R.has_ended r ≡ false) readers.items }
+    requires some_workers { 1 ≤ workers }
+    requires few_workers { workers ≤ worker_limit }
     // The text of the report of the document and of the streams that the readers gave is written whole, judged or
     // refused as is reported, and it is true; a write that fails leaves a prefix of it, out of memory nothing, and no
     // other fault comes.
@@ -98,6 +101,8 @@ pub fn judge_watched<
     writer: &mut W,
 ) -> Result<Outcome, EngineFault>
     requires open { All (λ r. R.has_ended r ≡ false) readers.items }
+    requires some_workers { 1 ≤ workers }
+    requires few_workers { workers ≤ worker_limit }
     // What is written is what `judge` writes of what the readers gave.
     ensures written { Writes (IsTextOfStreams spec.now (map R.remaining readers.items) (judged_as result))
         (call_end result) (W.contents writer.old) (W.contents writer.new) }

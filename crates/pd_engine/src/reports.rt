@@ -1,6 +1,7 @@
 //! The report of a session.
 ghost use Rattle.pd_engine.specs.SessionReports.{IsReportOfInputs, IsReportOfWhole};
 ghost use Rattle.pd_engine.specs.Unanswered.{given_report};
+ghost use Rattle.pd_expand.specs.Limits.{worker_limit};
 ghost use Rattle.pd_format.specs.Readings as readings;
 ghost use Rattle.pd_format.specs.Sessions.{session};
 ghost use Rattle.pd_gather.specs.Views.{ReadingFits, results_view};
@@ -9,7 +10,7 @@ ghost use Rattle.pd_judgement.specs.Judgements.{IsReportOfResults, events_of_tra
 ghost use Rattle.pd_model.specs.Order.{IsWellFormed};
 ghost use Rattle.pd_report.specs.Views.{report_view};
 ghost use Rattle.pd_spec.specs.Views.{document_view};
-ghost use Rattle.std.specs.Prelude.{◌≡◌, All, IfOk, IfSome, IsOkUnless, List, Ok, false, map, true};
+ghost use Rattle.std.specs.Prelude.{◌≡◌, ◌≤◌, All, IfOk, IfSome, IsOkUnless, List, Ok, false, map, true};
 
 use super::EngineFault;
 use super::answers::answers_of;
@@ -35,7 +36,9 @@ fn answered<S: RandomSource, G: Gate + Sync>(
     workers: u64,
     gate: &G,
 ) -> Result<Report, Unanswered>
-    requires { All (ReadingFits (document_view spec.now).names) gathered.readings.items }
+    requires fits { All (ReadingFits (document_view spec.now).names) gathered.readings.items }
+    requires some_workers { 1 ≤ workers }
+    requires few_workers { workers ≤ worker_limit }
     ensures { IfSome (given_report result) (IsReportOfResults (document_view spec.now) gathered.streams
         (results_view gathered.readings.items)) }
 {
@@ -63,7 +66,9 @@ pub fn report_of<S: RandomSource, G: Gate + Sync>(
     workers: u64,
     gate: &G,
 ) -> Result<Report, EngineFault>
-    requires { All (ReadingFits (document_view spec.now).names) gathered.readings.items }
+    requires fits { All (ReadingFits (document_view spec.now).names) gathered.readings.items }
+    requires some_workers { 1 ≤ workers }
+    requires few_workers { workers ≤ worker_limit }
     // The report is the one that the definitions give.
     ensures report { IfOk result (λ report. IsReportOfResults (document_view spec.now) gathered.streams
         (results_view gathered.readings.items) (report_view report)) }
@@ -98,6 +103,8 @@ fn session_report<
     observer: Option<&O>,
 ) -> Result<Report, Unanswered>
     requires open { All (λ r. R.has_ended r ≡ false) readers.items }
+    requires some_workers { 1 ≤ workers }
+    requires few_workers { workers ≤ worker_limit }
     ensures given { IfSome (given_report result)
         (IsReportOfInputs document.now (map R.remaining readers.items)) }
     ensures whole { R.never_fails ≡ true → IfSome (given_report result)
@@ -129,6 +136,8 @@ pub(crate) fn streams_report<
     observer: Option<&O>,
 ) -> Result<Report, EngineFault>
     requires open { All (λ r. R.has_ended r ≡ false) readers.items }
+    requires some_workers { 1 ≤ workers }
+    requires few_workers { workers ≤ worker_limit }
     ensures given { IfOk result (λ report.
         IsReportOfInputs document.now (map R.remaining readers.items) (report_view report)) }
     ensures whole { R.never_fails ≡ true → IfOk result (λ report.

@@ -20,11 +20,13 @@
 //! - `laws`: each cut of the next level lies in one block
 //! - `expanding`: the next level, by several workers
 //! - `marking`: which cuts of a level satisfy a predicate
+//! - `crew`: several workers that share the work on a level
 #![tactic(auto)]
 
 mod blocks;
 mod claim_seat;
 mod claims;
+mod crew;
 mod expanding;
 mod laws;
 mod marking;
@@ -38,6 +40,7 @@ mod workers;
 
 pub use claim_seat::ClaimSeat;
 pub use claims::Claims;
+pub use crew::Crew;
 pub use expanding::next_level;
 pub use laws::blocks_cover_the_next_level;
 pub use marking::marks;
