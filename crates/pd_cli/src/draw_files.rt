@@ -33,7 +33,7 @@ fn finish<O: Write>(
     drawing: Drawing,
     output: &mut O,
 ) -> Result<Drawing, EngineFault>
-    ensures { Finishes drawing.entry result (O.contents output.old) (O.contents output.new) }
+    ensures { Finishes drawing result (O.contents output.old) (O.contents output.new) }
 {
     match drawing {
         Drawing::Written => {
