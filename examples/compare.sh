@@ -1,7 +1,7 @@
 #!/usr/bin/env bash
 # compare.sh [PROGRAM]: runs the program on each example, and compares what it writes and its status with what is
-# stored. Each example is judged from its files, and again as a bundle; each finding is what a check writes. The last
-# line says how many were compared; the status is 1 if any differs. PROGRAM is crates/monitor/out/monitor if it isn't
+# stored. Each example is judged from its files, and again as a bundle, and drawn; each finding is what a check writes,
+# and of a refused session or a bad report nothing is drawn. The last line says how many were compared; the status is 1 if any differs. PROGRAM is crates/monitor/out/monitor if it isn't
 # given.
 set -u
 here=$(realpath "$(dirname "$0")")
@@ -12,7 +12,8 @@ if [ ! -x "$program" ]; then
   exit 1
 fi
 written=$(mktemp)
-trap 'rm -f "$written"' EXIT
+wrong=$(mktemp)
+trap 'rm -f "$written" "$wrong"' EXIT
 compared=0
 differing=0
 
@@ -54,6 +55,25 @@ for finding in */*.finding; do
   "$program" check "$folder/session.json" "$report" "$folder"/*.stream > "$written"
   compare "check $report" "$finding" "$wanted" "$?"
 done
+
+for session in */session.json; do
+  folder=${session%/session.json}
+  picture=$folder/picture.svg
+  wanted=0
+  if grep -q '^refused ' "$folder/report"; then
+    picture=/dev/null
+    wanted=1
+  fi
+  "$program" draw "$session" "$folder/report" "$folder"/*.stream > "$written" 2> /dev/null
+  compare "draw $folder" "$picture" "$wanted" "$?"
+done
+
+{
+  echo "monitor: no picture, for a check finds:"
+  cat mutual-exclusion/forged.finding
+} > "$wrong"
+"$program" draw mutual-exclusion/session.json mutual-exclusion/forged mutual-exclusion/*.stream > "$written" 2>&1
+compare "draw mutual-exclusion/forged" "$wrong" 1 "$?"
 
 echo "examples: $compared compared, $differing differ"
 [ "$differing" = 0 ]

@@ -141,6 +141,16 @@ path_there : (c : Computation) (test : List ℕ → Bool) (n : ℕ) (path : List
 path_there c test n path count avoids =
     walked_there c test n (empty_cut c) path (length-map c (λ (events : List Event). 0) ∙ count) avoids
 
+-- the path of these names is the one that is meant
+pub path_avoids : (names : List ProcessNames) (c : Computation) (test : List ℕ → Bool) (reported : List (List ℕ))
+    (path : List ℕ) → AreDistinct names → length c ≡ length names → AreNamed names reported path
+    → IsGoodPath names c test reported → IsAvoidingObservation c test path
+path_avoids names c test reported path distinct count named shown =
+    let same : shown.path ≡ path =
+    same_path names shown.path path distinct (path_there c test (length names) shown.path count shown.avoids)
+    named.0 (sym shown.named ∙ named.1) in
+    subst (IsAvoidingObservation c test) same shown.avoids
+
 -- the names found are those of the only path
 pub only_path : (names : List ProcessNames) (c : Computation) (test : List ℕ → Bool) (reported : List (List ℕ))
     (path : List ℕ) (good : Bool) → AreDistinct names → length c ≡ length names → AreNamed names reported path
@@ -151,11 +161,7 @@ only_path names c test reported path good distinct count named exact = (to, from
     to yes' = record { path = path; named = named.1; avoids = exact.0 yes' }
 
     from : IsGoodPath names c test reported → IsTrue good
-    from shown =
-        let same : shown.path ≡ path =
-        same_path names shown.path path distinct (path_there c test (length names) shown.path count shown.avoids)
-        named.0 (sym shown.named ∙ named.1) in
-        exact.1 (subst (IsAvoidingObservation c test) same shown.avoids)
+    from shown = exact.1 (path_avoids names c test reported path distinct count named shown)
 
 pub without_path : (names : List ProcessNames) (c : Computation) (test : List ℕ → Bool) (reported : List (List ℕ))
     → length c ≡ length names → ((path : List ℕ) → ¬ AreNamed names reported path) → IsTrue false

@@ -18,7 +18,7 @@ pub struct Checked {
 
 impl Checked {
     /// Whether one of the verdicts is bad.
-    pub(crate) fn has_bad(&self) -> bool
+    pub fn has_bad(&self) -> bool
         ensures { result ≡ has_bad (checked_view self.now) }
     {
         self.possibly.is_bad() || self.definitely.is_bad()

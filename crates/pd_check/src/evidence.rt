@@ -22,7 +22,10 @@ use pd_spec::{NamedPred, Spec};
 use std::alloc::{AllocError, Global};
 
 /// The processes of these names, counted from 0, if each is there.
-fn path_of(
+///
+/// # Errors
+/// Out of memory.
+pub fn path_of(
     alloc: Global,
     names: &Names,
     reported: &[String],

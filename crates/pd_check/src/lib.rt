@@ -25,6 +25,7 @@ mod verdict;
 
 pub use checked::Checked;
 pub use claims::{find_formed, find_refused};
+pub use evidence::path_of;
 pub use finding::Finding;
 pub use finding_text::text;
 pub use verdict::Verdict;

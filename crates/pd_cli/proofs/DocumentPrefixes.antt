@@ -61,7 +61,7 @@ same_judgement a b streams report e (of_refused fault refused reported) =
 same_judgement a b streams report e (of_read document results read are reported) =
     of_read document results (same_document a b document e read) are reported
 
-same_session : (a b : List ℕ) (streams : List RawStream) (document : Document) (traces : List Trace)
+pub same_session : (a b : List ℕ) (streams : List RawStream) (document : Document) (traces : List Trace)
     (messages : List (Place × Place)) → SameOutline a b → IsSessionOf a streams document traces messages
     → IsSessionOf b streams document traces messages
 same_session a b streams document traces messages e held = record {
@@ -92,7 +92,7 @@ same_truth a b streams report e truth = record {
       truth.headline document traces (same_holding b a streams document traces (sym e) holds);
 }
 
-same_finding : (a b report : List ℕ) (streams : List RawStream) (finding : Finding) → SameOutline a b
+pub same_finding : (a b report : List ℕ) (streams : List RawStream) (finding : Finding) → SameOutline a b
     → IsFinding a report streams finding → IsFinding b report streams finding
 same_finding a b report streams finding e (of_unread line unread) = of_unread line unread
 same_finding a b report streams finding e (of_refused_session claimed refusal good read judged right) =

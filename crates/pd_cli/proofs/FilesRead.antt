@@ -62,7 +62,7 @@ given_by_file : (file left : Option (List ℕ)) (given : RawStream) → HasWhole
 given_by_file None left given is h = record { stopped = h.stopped; prefix = tt; whole = λ _. tt }
 given_by_file (Some bytes) left given is h = subst (λ (l : Option (List ℕ)). IsGivenBy l given) is h
 
-given_by_files : (files lefts : List (Option (List ℕ))) (streams : List RawStream) → AllZip HasWholeFile files lefts
+pub given_by_files : (files lefts : List (Option (List ℕ))) (streams : List RawStream) → AllZip HasWholeFile files lefts
     → AllZip IsGivenBy lefts streams → AllZip IsGivenBy files streams
 given_by_files [] [] streams are given = given
 given_by_files [] (l ∷ lefts) streams are given = absurd are
@@ -164,7 +164,7 @@ truth_of_files file read document streams IsJudged old new stands known truth =
 
 -- ---- a check
 
-of_files : (file report_file : Option (List ℕ)) (read claimed : List ℕ) (P Q : List ℕ → List ℕ → Type 0)
+pub of_files : (file report_file : Option (List ℕ)) (read claimed : List ℕ) (P Q : List ℕ → List ℕ → Type 0)
     → StandsFor read file → IsWholeInput report_file claimed
     → ((document report : List ℕ) → SameOutline read document → P read report → Q document report)
     → OfFiles (Some read) (Some claimed) P → OfFiles file report_file Q

@@ -8,3 +8,5 @@ mod Numbers
 mod Parsed
 mod ParserEnds
 mod WrittenSoFar
+mod DrawingEnds
+mod DrawingsRead

@@ -57,6 +57,18 @@ abbrev pub check_app : App
 check_app = with_rule (with_rule (with_rule (new_app (codes "check")) (required_rule (codes "SPEC")))
     (required_rule (codes "REPORT"))) stream_rule
 
+-- the name of a predicate
+abbrev pub predicate_rule : Rule
+predicate_rule = record (new_rule (codes "PREDICATE")) { long = Some (codes "predicate") }
+
+-- the document and the report of a picture
+abbrev pub drawn_app : App
+drawn_app = with_rule (with_rule (new_app (codes "draw")) (required_rule (codes "SPEC"))) (required_rule (codes "REPORT"))
+
+-- `draw SPEC REPORT STREAM... [--predicate PREDICATE]`
+abbrev pub draw_app : App
+draw_app = with_rule (with_rule drawn_app stream_rule) predicate_rule
+
 -- the document and the port of a server
 abbrev pub port_app : App
 port_app = with_rule (with_rule (new_app (codes "serve")) (required_rule (codes "SPEC"))) port_rule
@@ -73,10 +85,14 @@ plain_shape =
 abbrev pub plain_app : App
 plain_app = record { top = plain_shape; subs = [] }
 
--- with the commands `judge`, `check` and `serve`
+-- with the commands `judge` and `check`
+abbrev pub files_app : App
+files_app = with_subcommand (with_subcommand plain_app judge_app.top) check_app.top
+
+-- with the commands `draw` and `serve` too
 abbrev pub monitor_app : App
 monitor_app =
-    with_subcommand (with_subcommand (with_subcommand plain_app judge_app.top) check_app.top) serve_app.top
+    with_subcommand (with_subcommand files_app draw_app.top) serve_app.top
 
 -- ---- what the parser found
 
@@ -151,7 +167,11 @@ LacksService rows =
 
 -- the commands that take the names of streams' files
 abbrev pub TakesStreams : (command : Text) → Type 0
-TakesStreams command = (command ≡ codes "judge") ⊎ (command ≡ codes "check")
+TakesStreams command = (command ≡ codes "judge") ⊎ (command ≡ codes "check") ⊎ (command ≡ codes "draw")
+
+-- the commands that take the name of a report's file
+abbrev pub TakesReport : (command : Text) → Type 0
+TakesReport command = (command ≡ codes "check") ⊎ (command ≡ codes "draw")
 
 -- the commands that take a number of workers
 abbrev pub TakesWorkers : (command : Text) → Type 0
@@ -163,6 +183,7 @@ TakesWorkers command = (command ≡ codes "judge") ⊎ (command ≡ codes "serve
 pub data AsksFor (arguments : List Text) : Request → Type 0 where
   of_input : AreTaken arguments → ¬ ((rows : List Row) × AreOf (codes "judge") arguments rows)
       → ¬ ((rows : List Row) × AreOf (codes "check") arguments rows)
+      → ¬ ((rows : List Row) × AreOf (codes "draw") arguments rows)
       → ¬ ((rows : List Row) × AreOf (codes "serve") arguments rows) → AsksFor arguments JudgeInput
   of_judge : (rows : List Row) (document : Text) (streams : List Text) (workers : ℕ) → AreTaken arguments
       → AreOf (codes "judge") arguments rows → NamesSession rows document streams → NamesWorkers rows workers
@@ -177,12 +198,23 @@ pub data AsksFor (arguments : List Text) : Request → Type 0 where
   of_fault : (kind : ErrorKind) → ¬ IsShownKind kind → HasFault arguments kind → AsksFor arguments Unclear
   of_missing : (command : Text) (rows : List Row) → TakesStreams command → AreOf command arguments rows
       → LacksSession rows → AsksFor arguments Unclear
-  of_missing_report : (rows : List Row) → AreOf (codes "check") arguments rows
+  of_missing_report : (command : Text) (rows : List Row) → TakesReport command → AreOf command arguments rows
       → ¬ ((report : Text) × NamesReport rows report) → AsksFor arguments Unclear
   of_missing_service : (rows : List Row) → AreOf (codes "serve") arguments rows → LacksService rows
       → AsksFor arguments Unclear
   of_missing_workers : (command : Text) (rows : List Row) → TakesWorkers command → AreOf command arguments rows
       → LacksWorkers rows → AsksFor arguments Unclear
+
+-- The arguments ask for a picture of a session in files of these names, and of the evidence of the predicate of this
+-- name, or without a name of the first that has evidence.
+pub record AsksToDraw (arguments : List Text) (document report : Text) (streams : List Text) (name : Option Text) :
+    Type 0 where
+  pub rows : List Row
+  pub are_taken : AreTaken arguments
+  pub are_of : AreOf (codes "draw") arguments rows
+  pub names_session : NamesSession rows document streams
+  pub names_report : NamesReport rows report
+  pub names_predicate : first_of (codes "PREDICATE") rows ≡ name
 
 -- A parse that gives no request says so: its error has a text to show, or one that reports what is wrong; or memory ran
 -- out.

@@ -1,4 +1,5 @@
 pub mod Arguments
+pub mod Drawings
 pub mod Faults
 pub mod FileSources
 pub mod Views

@@ -4,8 +4,8 @@ ghost use Rattle.clap.specs.Simple.{app_of, subcommand_of, subcommand_rows_of};
 ghost use Rattle.clap.specs.Values.{kind_of};
 ghost use Rattle.clap.specs.Walk.{Text, rows_of, rule_of};
 ghost use Rattle.clap.specs.declared.builder.command.Command.TheViews.{out-Command};
-ghost use Rattle.pd_cli.specs.Arguments.{AreOf, AreTaken, AsksFor, FindsSession, IsErrorOf, IsNumberText, IsPort, NamesNumber, NamesWorkers, check_app, judge_app, monitor_app, number_rule, port_app, port_rule, required_rule, serve_app, stream_rule, watchers_rule, workers_rule};
-ghost use Rattle.pd_cli.specs.Views.{asked_view, request_view, session_view};
+ghost use Rattle.pd_cli.specs.Arguments.{AreOf, AreTaken, AsksFor, AsksToDraw, FindsSession, IsErrorOf, IsNumberText, IsPort, NamesNumber, NamesWorkers, check_app, draw_app, drawn_app, files_app, judge_app, monitor_app, number_rule, port_app, port_rule, predicate_rule, required_rule, serve_app, stream_rule, watchers_rule, workers_rule};
+ghost use Rattle.pd_cli.specs.Views.{IsAsked, IsAskedIf, session_view};
 ghost use Rattle.std.specs.Prelude.{◌≡◌, ◌≢◌, ℕ, IfErr, IfOk, IfSome, List, None, codes, false, map, option_map};
 
 use super::request::{Request, Service, SessionNames};
@@ -19,7 +19,8 @@ use std::alloc::{AllocError, Global};
 const ABOUT: &str =
     "Judges predicates on a distributed computation. The command `judge` reads a session document, and one stream of \
 events for each process, from files. With no command they are read from the standard input, as one bundle. \
-A report is written to the standard output. The command `check` checks the evidence in such a report. \
+A report is written to the standard output. The command `check` checks the evidence in such a report, and `draw` \
+draws it. \
 The command `serve` judges streams that processes send over TCP while they run.";
 
 /// What the help says of `judge`.
@@ -29,7 +30,10 @@ const JUDGE_ABOUT: &str = "Judges predicates on a computation that is recorded i
 const JUDGE_AFTER: &str =
     "A report is written to the standard output. The status is 0 if the session is judged, 1 if it is refused, \
 also because a stream can't be read, 2 if the arguments are refused, 3 if a file can't be opened, the document \
-can't be read or the output can't be written, and 4 if memory runs out.";
+can't be read or the output can't be written, and 4 if memory runs out.\n\n\
+The formats are described in docs/SPECIFICATION.md. An example, at the top of the repository:\n  \
+crates/monitor/out/monitor judge examples/ten-lines/session.json examples/ten-lines/left.stream \
+examples/ten-lines/right.stream";
 
 /// What the help says of `check`.
 const CHECK_ABOUT: &str =
@@ -37,7 +41,25 @@ const CHECK_ABOUT: &str =
 
 /// What the help of `check` ends with.
 const CHECK_AFTER: &str =
-    "What is found is written to the standard output. The status is 0 if nothing in it is bad, and else 1.";
+    "What is found is written to the standard output. The status is 0 if nothing in it is bad, 1 if something is, 2 if the \
+arguments are refused, 3 if a file can't be opened or read or the output can't be written, and 4 if memory runs out.\n\n\
+The formats are described in docs/SPECIFICATION.md. An example, at the top of the repository:\n  \
+crates/monitor/out/monitor check examples/ten-lines/session.json examples/ten-lines/report \
+examples/ten-lines/left.stream examples/ten-lines/right.stream";
+
+/// What the help says of `draw`.
+const DRAW_ABOUT: &str =
+    "Draws a computation with the cut or the observation that a report shows of a predicate";
+
+/// What the help of `draw` ends with.
+const DRAW_AFTER: &str =
+    "A picture is written to the standard output, as SVG. The report is read and held against the document and the \
+streams as `check` does. The status is 0 if the picture is written, 1 if something that a check finds stands against \
+it, which is then written to the standard error, 2 if the arguments are refused or there is no predicate of the name \
+that is asked for, 3 if a file can't be opened or read or the output can't be written, and 4 if memory runs out.\n\n\
+The formats are described in docs/SPECIFICATION.md. An example, at the top of the repository:\n  \
+crates/monitor/out/monitor draw examples/ten-lines/session.json examples/ten-lines/report \
+examples/ten-lines/left.stream examples/ten-lines/right.stream > picture.svg";
 
 /// What the help says of `serve`.
 const SERVE_ABOUT: &str =
@@ -48,7 +70,10 @@ const SERVE_AFTER: &str =
     "As many connections to the port, on this machine alone, as the document has processes are the streams. A report \
 is written to the standard output once all of them have ended and all watchers were answered. The status is 0 if \
 the session is judged, 1 if it is refused, 2 if the arguments are refused, 3 if the document can't be read, a port \
-can't be bound, a stream can't be accepted or the output can't be written, and 4 if memory runs out.";
+can't be bound, a stream can't be accepted or the output can't be written, and 4 if memory runs out.\n\n\
+The formats are described in docs/SPECIFICATION.md. An example, at the top of the repository:\n  \
+crates/monitor/out/monitor serve examples/live/session.json --port 7411\nand then, from another terminal:\n  \
+cat examples/live/left.stream > /dev/tcp/127.0.0.1/7411 & cat examples/live/right.stream > /dev/tcp/127.0.0.1/7411";
 
 /// The greatest port of streams: the next one is that of the watchers.
 const PORT_LIMIT: u64 = 65_534;
@@ -70,6 +95,16 @@ fn streams_argument<'a>(alloc: Global) -> Arg<'a>
     ensures local { result.global ≡ false }
 {
     file_argument(alloc, "STREAM", "The streams of events, one file for each").num_args(1..)
+}
+
+/// The option that names a predicate.
+fn predicate_option<'a>(alloc: Global) -> Arg<'a>
+    ensures rule { rule_of result ≡ predicate_rule }
+    ensures local { result.global ≡ false }
+{
+    Arg::new(alloc, "PREDICATE").long("predicate").help(
+        "The predicate whose evidence is drawn; without it the first one that has evidence",
+    )
 }
 
 /// An option with a number in this range.
@@ -142,6 +177,28 @@ fn check_command<'a>(alloc: Global) -> Result<Command<'a>, AllocError>
         .arg(streams_argument(alloc))
 }
 
+/// The command line of a picture with the document and the report.
+fn drawn_command<'a>(alloc: Global) -> Result<Command<'a>, AllocError>
+    ensures app { IfOk result (λ command. app_of command ≡ drawn_app) }
+    ensures local { IfOk result (λ command. (out-Command command).has_globals ≡ false) }
+{
+    Command::new(alloc, "draw")
+        .about(DRAW_ABOUT)
+        .after_help(DRAW_AFTER)
+        .arg(file_argument(alloc, "SPEC", "The session document"))?
+        .arg(file_argument(alloc, "REPORT", "The report"))
+}
+
+/// The command line of a picture.
+fn draw_command<'a>(alloc: Global) -> Result<Command<'a>, AllocError>
+    ensures app { IfOk result (λ command. app_of command ≡ draw_app) }
+    ensures local { IfOk result (λ command. (out-Command command).has_globals ≡ false) }
+{
+    drawn_command(alloc)?
+        .arg(streams_argument(alloc))?
+        .arg(predicate_option(alloc))
+}
+
 /// The command line of a server with what must be given.
 fn port_command<'a>(alloc: Global) -> Result<Command<'a>, AllocError>
     ensures app { IfOk result (λ command. app_of command ≡ port_app) }
@@ -164,9 +221,9 @@ fn serve_command<'a>(alloc: Global) -> Result<Command<'a>, AllocError>
         .arg(workers_option(alloc))
 }
 
-/// The program's command line.
-fn program_command<'a>(alloc: Global) -> Result<Command<'a>, AllocError>
-    ensures { IfOk result (λ command. app_of command ≡ monitor_app) }
+/// The program's command line with the commands that judge and check files.
+fn files_command<'a>(alloc: Global) -> Result<Command<'a>, AllocError>
+    ensures { IfOk result (λ command. app_of command ≡ files_app) }
 {
     Command::new(alloc, "monitor")
         .about(ABOUT)
@@ -174,7 +231,15 @@ fn program_command<'a>(alloc: Global) -> Result<Command<'a>, AllocError>
         .bin_name("monitor")?
         .disable_help_subcommand(true)
         .subcommand(judge_command(alloc)?)?
-        .subcommand(check_command(alloc)?)?
+        .subcommand(check_command(alloc)?)
+}
+
+/// The program's command line.
+fn program_command<'a>(alloc: Global) -> Result<Command<'a>, AllocError>
+    ensures { IfOk result (λ command. app_of command ≡ monitor_app) }
+{
+    files_command(alloc)?
+        .subcommand(draw_command(alloc)?)?
         .subcommand(serve_command(alloc)?)
 }
 
@@ -201,7 +266,7 @@ fn judge_request<'a>(
 ) -> Result<Option<Request<'a>>, AllocError>
     ensures { IfOk result (λ request. (arguments : List Text) → AreTaken arguments
         → AreOf (codes "judge") arguments (rows_of (found_of matches.now))
-        → AsksFor arguments (asked_view request)) }
+        → IsAskedIf arguments request) }
 {
     let Some(workers) = workers_of(matches) else {
         return Ok(None);
@@ -219,7 +284,7 @@ fn check_request<'a>(
 ) -> Result<Option<Request<'a>>, AllocError>
     ensures { IfOk result (λ request. (arguments : List Text) → AreTaken arguments
         → AreOf (codes "check") arguments (rows_of (found_of matches.now))
-        → AsksFor arguments (asked_view request)) }
+        → IsAskedIf arguments request) }
 {
     let Some(report) = matches.get_str("REPORT") else {
         return Ok(None);
@@ -228,6 +293,25 @@ fn check_request<'a>(
         return Ok(None);
     };
     Ok(Some(Request::Check(report, names)))
+}
+
+/// What the arguments of `draw` ask for, if all names of files are there.
+fn draw_request<'a>(
+    alloc: Global,
+    matches: &ArgMatches<'a>,
+) -> Result<Option<Request<'a>>, AllocError>
+    ensures { IfOk result (λ request. (arguments : List Text) → AreTaken arguments
+        → AreOf (codes "draw") arguments (rows_of (found_of matches.now))
+        → IsAskedIf arguments request) }
+{
+    let predicate = matches.get_str("PREDICATE");
+    let Some(report) = matches.get_str("REPORT") else {
+        return Ok(None);
+    };
+    let Some(names) = session_names(alloc, matches)? else {
+        return Ok(None);
+    };
+    Ok(Some(Request::Draw(report, predicate, names)))
 }
 
 /// The number that this text is, if it is one of 64 bits.
@@ -279,7 +363,7 @@ fn port_of(number: u64) -> Option<u16>
 fn serve_request<'a>(matches: &ArgMatches<'a>) -> Option<Request<'a>>
     ensures { (arguments : List Text) → AreTaken arguments
         → AreOf (codes "serve") arguments (rows_of (found_of matches.now))
-        → AsksFor arguments (asked_view result) }
+        → IsAskedIf arguments result }
 {
     let Some(spec) = matches.get_str("SPEC") else {
         return None;
@@ -314,13 +398,16 @@ fn request_of<'a>(
 ) -> Result<Option<Request<'a>>, AllocError>
     ensures { IfOk result (λ request. (arguments : List Text) → AreTaken arguments
         → subcommand_rows_of matches.now ≡ subcommand_of monitor_app arguments
-        → AsksFor arguments (asked_view request)) }
+        → IsAskedIf arguments request) }
 {
     if let Some(found) = matches.subcommand_matches("judge") {
         return judge_request(alloc, found);
     }
     if let Some(found) = matches.subcommand_matches("check") {
         return check_request(alloc, found);
+    }
+    if let Some(found) = matches.subcommand_matches("draw") {
+        return draw_request(alloc, found);
     }
     if let Some(found) = matches.subcommand_matches("serve") {
         return Ok(serve_request(found));
@@ -348,7 +435,7 @@ fn missing_argument(command: &mut Command<'_>) -> Error
 /// refused.
 pub(crate) fn parse<'a>(alloc: Global, arguments: &'a [String]) -> Result<Request<'a>, Error>
     ensures asked { IfOk result (λ request.
-        AsksFor (map (λ argument. argument.bytes.items) arguments.entry.now) (request_view request)) }
+        IsAsked (map (λ argument. argument.bytes.items) arguments.entry.now) request) }
     ensures refused { IfErr result (λ error.
         IsErrorOf (map (λ argument. argument.bytes.items) arguments.entry.now) (kind_of error)) }
 {

@@ -4,8 +4,10 @@
 //! output. If the status is 0 or 1, what was written is the text of the report that the input's bytes make: judged at
 //! 0, refused at 1. Further arguments go to the command line's parser. `judge` with the names of files does the same
 //! with a session document and streams that stand in files. `check` with the names of files checks a report's evidence:
-//! at status 0 nothing that it found is bad, and at 1 something is. `serve` with a port judges streams that come by
-//! connections to that port. Whatever fails is reported in one line on the errors. What each status says stands in
+//! at status 0 nothing that it found is bad, and at 1 something is. `draw` with the names of files draws a report: at
+//! status 0 the picture is written, and at 1 something that a check finds stands against it. `serve` with a port judges
+//! streams that come by connections to that port. Whatever fails is reported in one line on the errors. What each status
+//! says stands in `specs/Drawings.antt` for `draw`, and for the others in
 //! `pd_judgement/specs/Statuses.antt`.
 //!
 //! - `program`: one run of the program, from its arguments to its exit status
@@ -15,6 +17,7 @@
 //! - `bundle`: judges the bundle on the input
 //! - `judge_files`: judges the session in files
 //! - `check_files`: checks a report against the session in files
+//! - `draw_files`: draws a report with the session in files
 //! - `server`: judges a session whose streams come by connections
 //! - `watchers`: shows watchers how far the streams are read
 //! - `workers`: how many workers share the work on a session
@@ -30,6 +33,7 @@
 mod arguments;
 mod bundle;
 mod check_files;
+mod draw_files;
 mod file_source;
 mod judge_files;
 mod line;

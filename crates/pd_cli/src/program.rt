@@ -1,12 +1,14 @@
 //! One run of the program.
-ghost use Rattle.pd_cli.specs.Arguments.{AsksFor};
-ghost use Rattle.pd_judgement.specs.Statuses.{CheckLeaves, Ends, EndsAsAsked, FilesJudgementLeaves, JudgementLeaves, ServiceLeaves};
+ghost use Rattle.pd_cli.specs.Drawings.{EndsDrawn, RunsAsAsked};
+ghost use Rattle.pd_draw.specs.Choices.{name_view};
+ghost use Rattle.pd_judgement.specs.Statuses.{CheckLeaves, Ends, FilesJudgementLeaves, JudgementLeaves, ServiceLeaves};
 ghost use Rattle.pd_judgement.specs.Writes.{WritesTruthOfBundle};
 ghost use Rattle.std.specs.Prelude.{◌≡◌, ◌≤◌, drop, false, map, vec_len};
 
 use super::arguments::parse;
 use super::bundle::judge_input;
 use super::check_files::check_files;
+use super::draw_files::{draw_files, report_drawing};
 use super::file_source::FileSource;
 use super::judge_files::judge_files;
 use super::network::Network;
@@ -39,6 +41,25 @@ fn run_check<S: RandomSource + Threads + Wait + Sync, F: FileSource, O: Write, E
 {
     let end = check_files(rt, files, alloc, report, names, output);
     report_end(&end, errors)
+}
+
+/// Draws the report in the file of this name with files, and gives the exit status.
+fn run_draw<S: RandomSource + Threads + Wait + Sync, F: FileSource, O: Write, E: Write>(
+    rt: &S,
+    files: &F,
+    alloc: Global,
+    report: &str,
+    predicate: Option<&str>,
+    names: &SessionNames<'_>,
+    output: &mut O,
+    errors: &mut E,
+) -> u8
+    ensures { EndsDrawn (F.bytes_of files.now names.now.spec.now) (F.bytes_of files.now report.now)
+        (map (λ name. F.bytes_of files.now name.now) names.now.streams.items) (name_view predicate.entry) result
+        (O.contents output.old) (O.contents output.new) (E.contents errors.old) (E.contents errors.new) }
+{
+    let end = draw_files(rt, files, alloc, report, predicate, names, output);
+    report_drawing(&end, errors)
 }
 
 /// Judges a session whose streams come by connections, and gives the exit status.
@@ -118,7 +139,7 @@ fn run_arguments<
     errors: &mut E,
 ) -> u8
     requires { I.has_ended input ≡ false }
-    ensures ends { EndsAsAsked (AsksFor (map (λ argument. argument.bytes.items) arguments.now))
+    ensures ends { RunsAsAsked (map (λ argument. argument.bytes.items) arguments.now)
         (I.remaining input) (F.bytes_of files.now) (N.may_give network.now) result
         (O.contents output.old) (O.contents output.new)
         (E.contents errors.old) (E.contents errors.new) }
@@ -130,6 +151,9 @@ fn run_arguments<
         }
         Ok(Request::Check(report, names)) => {
             run_check(rt, files, alloc, report, &names, output, errors)
+        }
+        Ok(Request::Draw(report, predicate, names)) => {
+            run_draw(rt, files, alloc, report, predicate, &names, output, errors)
         }
         Ok(Request::Serve(service)) => {
             run_service(rt, files, network, alloc, &service, output, errors)
@@ -143,7 +167,8 @@ fn run_arguments<
 /// With no further argument a bundle is read from `input`, and its report is written to `output`. Further arguments are
 /// parsed: `judge`, with the names of the files of a session document and one stream or more, judges these and writes
 /// their report to `output`; `check`, with the names of the files of a session document, a report and one stream or
-/// more, checks that report and writes what is found to `output`; `serve`, with the name of a session document's file
+/// more, checks that report and writes what is found to `output`; `draw`, with the same names, draws that report and
+/// writes the picture to `output`; `serve`, with the name of a session document's file
 /// and a port, judges streams that come by connections; the help that they ask for is written to `output`,
 /// and what is wrong with them to `errors`. `errors` also has one line for each fault; what of it can't be written is
 /// left off.
@@ -166,7 +191,7 @@ pub fn run<
 ) -> u8
     requires open { I.has_ended input ≡ false }
     // The exit status says what is left on the output and on the errors, by what the arguments after the first ask for.
-    ensures ends { EndsAsAsked (AsksFor (drop 1 (map (λ argument. argument.bytes.items) arguments.items)))
+    ensures ends { RunsAsAsked (drop 1 (map (λ argument. argument.bytes.items) arguments.items))
         (I.remaining input) (F.bytes_of files.now) (N.may_give network.now) result
         (O.contents output.old) (O.contents output.new)
         (E.contents errors.old) (E.contents errors.new) }

@@ -1,5 +1,6 @@
 //! The program's statuses, and what it writes.
 mod checks;
+mod drawings;
 mod folders;
 mod judgements;
 mod networks;
@@ -35,7 +36,11 @@ Usage: monitor check <SPEC> <REPORT> <STREAM>...\n\n\
 Arguments:\n  <SPEC>       The session document\n  <REPORT>     The report\n  \
 <STREAM>...  The streams of events, one file for each\n\n\
 Options:\n  -h, --help  Print help\n\n\
-What is found is written to the standard output. The status is 0 if nothing in it is bad, and else 1.\n";
+What is found is written to the standard output. The status is 0 if nothing in it is bad, 1 if something is, 2 if the \
+arguments are refused, 3 if a file can't be opened or read or the output can't be written, and 4 if memory runs out.\n\n\
+The formats are described in docs/SPECIFICATION.md. An example, at the top of the repository:\n  \
+crates/monitor/out/monitor check examples/ten-lines/session.json examples/ten-lines/report \
+examples/ten-lines/left.stream examples/ten-lines/right.stream\n";
 
 /// What the help of `judge` says.
 const JUDGE_HELP: &str = "Judges predicates on a computation that is recorded in files\n\n\
@@ -47,6 +52,11 @@ they change no byte of the report [default: 1]\n  -h, --help               Print
 A report is written to the standard output. The status is 0 if the session is judged, 1 if it is refused, \
 also because a stream can't be read, 2 if the arguments are refused, 3 if a file can't be opened, the document \
 can't be read or the output can't be written, and 4 if memory runs out.\n";
+
+/// What the help of `draw` says first.
+const DRAW_HELP: &str =
+    "Draws a computation with the cut or the observation that a report shows of a predicate\n\n\
+Usage: monitor draw [OPTIONS] <SPEC> <REPORT> <STREAM>...\n";
 
 /// What the help of `serve` says.
 const SERVE_HELP: &str =
@@ -108,7 +118,7 @@ fn sessions_end_by_their_reports(rt: HostRuntime) -> Result<(), Fail> {
 
 #[test]
 fn help_is_written_to_the_output(rt: HostRuntime) -> Result<(), Fail> {
-    let cases: [(&str, &[&str], &str); 4] = [
+    let cases: [(&str, &[&str], &str); 5] = [
         (
             "of the program",
             &["monitor", "--help"],
@@ -120,6 +130,7 @@ fn help_is_written_to_the_output(rt: HostRuntime) -> Result<(), Fail> {
             JUDGE_HELP,
         ),
         ("of a check", &["monitor", "check", "--help"], CHECK_HELP),
+        ("of a picture", &["monitor", "draw", "--help"], DRAW_HELP),
         ("of a server", &["monitor", "serve", "--help"], SERVE_HELP),
     ];
     for (name, arguments, text) in cases {
@@ -135,7 +146,7 @@ fn help_is_written_to_the_output(rt: HostRuntime) -> Result<(), Fail> {
 
 #[test]
 fn arguments_are_refused(rt: HostRuntime) -> Result<(), Fail> {
-    let cases: [(&str, &[&str]); 18] = [
+    let cases: [(&str, &[&str]); 20] = [
         ("another command", &["monitor", "judges"]),
         ("another command with a name", &["monitor", "judges", "x"]),
         ("a judgement of nothing", &["monitor", "judge"]),
@@ -150,6 +161,13 @@ fn arguments_are_refused(rt: HostRuntime) -> Result<(), Fail> {
         (
             "a check with an option",
             &["monitor", "check", "--x", "y", "z"],
+        ),
+        ("a picture with no stream", &["monitor", "draw", "x", "y"]),
+        (
+            "a picture of two predicates",
+            &[
+                "monitor", "draw", "x", "y", "z", "--predicate", "p", "--predicate", "q",
+            ],
         ),
         ("a server of nothing", &["monitor", "serve"]),
         ("a server with no port", &["monitor", "serve", "x"]),

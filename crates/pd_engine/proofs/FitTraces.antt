@@ -26,7 +26,7 @@ use Rattle.pd_engine.specs.Computations.{AreWellFormed}
 
 -- ---- what was recorded
 
-same_events : (traces : List Trace) → computation_view traces ≡ events_of_traces (traces_view traces)
+pub same_events : (traces : List Trace) → computation_view traces ≡ events_of_traces (traces_view traces)
 same_events [] = refl
 same_events (trace ∷ traces) = ap (λ (c : Computation). trace.events ∷ c) (same_events traces)
 

@@ -4,6 +4,7 @@ pub mod SessionNumbers
 pub mod SessionReports
 pub mod ReportTexts
 pub mod SessionFindings
+pub mod SessionDrawings
 pub mod DocumentRefusals
 pub mod RefusedPlaces
 pub mod PrintedPaths

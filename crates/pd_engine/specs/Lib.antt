@@ -4,6 +4,7 @@ pub mod Unanswered
 pub mod Computations
 pub mod SessionReports
 pub mod Checks
+pub mod Drawings
 pub mod Ends
 pub mod Paths
 pub mod Faults

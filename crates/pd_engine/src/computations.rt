@@ -18,6 +18,25 @@ use pd_spec::Spec;
 use std::alloc::Global;
 use std::random::RandomSource;
 
+/// The messages of a session's traces, or their refusal.
+pub(crate) fn messages_of<S: RandomSource>(
+    rt: &S,
+    alloc: Global,
+    spec: &Spec,
+    traces: &[Trace],
+) -> Result<Matched, Unanswered>
+    requires { AreTraces (document_view spec.now).names traces.now }
+    ensures lawful { IfOk result (λ matched. HasLawfulMessages (computation_view traces.now)) }
+    ensures messages { IfOk result (λ matched. IsMessageList (computation_view traces.now) matched) }
+    ensures refused { IfErr result (IsUnanswered (IsTracesReport (document_view spec.now)
+        (traces_view traces.now))) }
+{
+    match match_messages(rt, alloc, traces) {
+        Ok(matched) => Ok(matched),
+        Err(fault) => Err(Unanswered::Refused(of_messages(alloc, spec.names(), fault)?)),
+    }
+}
+
 /// The computation of a session's traces, and how many messages it has, or the refusal of the messages or of a causal
 /// cycle.
 pub(crate) fn computation_of<'a, S: RandomSource>(
@@ -32,14 +51,12 @@ pub(crate) fn computation_of<'a, S: RandomSource>(
     ensures refused { IfErr result (IsUnanswered (IsTracesReport (document_view spec.now)
         (traces_view traces.now))) }
 {
-    match match_messages(rt, alloc, traces) {
-        Ok(matched) => build(alloc, spec, traces, matched),
-        Err(fault) => Err(Unanswered::Refused(of_messages(alloc, spec.names(), fault)?)),
-    }
+    let matched = messages_of(rt, alloc, spec, traces)?;
+    build(alloc, spec, traces, matched)
 }
 
 /// The computation of traces whose messages are lawful, and how many messages it has, or the refusal of a causal cycle.
-fn build<'a>(
+pub(crate) fn build<'a>(
     alloc: Global,
     spec: &'a Spec,
     traces: &'a [Trace],

@@ -16,6 +16,7 @@
 //! - `judges`: judges a session, and writes its report
 //! - `bundle_judges`: judges a bundle, and writes its report
 //! - `checks`: checks a report's evidence
+//! - `drawings`: draws a report's evidence
 //! - `snapshots`: writes what is shown of the streams while they are read
 //! - `input`: reads a source up to a limit
 //! - `refusal`: refusals in the words of a report
@@ -29,6 +30,7 @@ mod bundle_judges;
 mod checks;
 mod computations;
 mod document;
+mod drawings;
 mod fault;
 mod input;
 mod judges;
@@ -43,6 +45,7 @@ mod unanswered;
 
 pub use bundle_judges::judge_bundle;
 pub use checks::check;
+pub use drawings::{Drawing, draw};
 pub use fault::EngineFault;
 pub use input::read_upto;
 pub use judges::{judge, judge_watched};

@@ -1,7 +1,6 @@
 -- A parse gives what the arguments ask for.
 use Rattle.std.proofs.Common.{map, ℕ, List, Option, subst}
-use Rattle.pd_cli.specs.Arguments.{AsksFor}
-use Rattle.pd_cli.specs.Views.{asked_view}
+use Rattle.pd_cli.specs.Views.{IsAskedIf}
 use Rattle.pd_cli.specs.declared.request.Request.{Request}
 use Rattle.pd_cli.proofs.Parsed.{error_found, program_fault, program_matches, program_taken, unclear_found}
 use Rattle.pd_cli.proofs.arguments.parse.Goals as goal
@@ -14,7 +13,7 @@ pub returns-in_default-clause-refused : goal.returns-in_default-clause-refused
 returns-in_default-clause-refused c =
     let arguments : List (List ℕ) = map (λ argument. argument.bytes.items) c.args.arguments.now in
     unclear_found arguments c.missing_argument.result
-    (subst (λ (request : Option Request). AsksFor arguments (asked_view request)) c.in_default.is
+    (subst (λ (request : Option Request). IsAskedIf arguments request) c.in_default.is
     (c.in_ok-request.ensures arguments
     (program_taken _ _ c.in_ok-command.ensures c.in-Ok.ensures.kinds)
     (program_matches _ _ c.in-Ok.matches c.in_ok-command.ensures c.in-Ok.ensures.ok.2))) c.missing_argument.ensures
@@ -22,7 +21,7 @@ returns-in_default-clause-refused c =
 pub returns-clause-asked : goal.returns-clause-asked
 returns-clause-asked c =
     let arguments : List (List ℕ) = map (λ argument. argument.bytes.items) c.args.arguments.now in
-    subst (λ (request : Option Request). AsksFor arguments (asked_view request)) c.in-Some.is
+    subst (λ (request : Option Request). IsAskedIf arguments request) c.in-Some.is
     (c.in_ok-request.ensures arguments
     (program_taken _ _ c.in_ok-command.ensures c.in-Ok.ensures.kinds)
     (program_matches _ _ c.in-Ok.matches c.in_ok-command.ensures c.in-Ok.ensures.ok.2))

@@ -1,16 +1,12 @@
--- The program's command line has the commands `judge`, `check` and `serve`.
-use Rattle.std.proofs.Common.{rules, ap, ap₂, ◌≡◌, ◌∙◌}
+-- The program's command line has the commands `draw` and `serve` too.
+use Rattle.std.proofs.Common.{ap, ap₂, ◌∙◌}
 use Rattle.std.proofs.lemmas.Result.{IfOk-weaker}
-use Rattle.clap.specs.Words.{App, app_of, with_subcommand}
-use Rattle.pd_cli.specs.Arguments.{plain_app}
+use Rattle.clap.specs.Words.{App, with_subcommand}
 use Rattle.pd_cli.proofs.arguments.program_command.Goals as goal
 
 pub returns : goal.returns
 returns c =
-    let plain_is : app_of c.disable_help_subcommand.result ≡ plain_app = search rules in
-    let judge_is = c.in_ok-subcommand.ensures.shape c.in_ok-judge_command.ensures.local
-    ∙ ap₂ with_subcommand plain_is (ap (λ (a : App). a.top) c.in_ok-judge_command.ensures.app) in
-    let check_is = c.in_ok-subcommand-2.ensures.shape c.in_ok-check_command.ensures.local
-    ∙ ap₂ with_subcommand judge_is (ap (λ (a : App). a.top) c.in_ok-check_command.ensures.app) in
-    IfOk-weaker c.subcommand-3.result _ _ (λ command h. h.shape c.in_ok-serve_command.ensures.local
-    ∙ ap₂ with_subcommand check_is (ap (λ (a : App). a.top) c.in_ok-serve_command.ensures.app)) c.subcommand-3.ensures
+    let draw_is = c.in_ok-subcommand.ensures.shape c.in_ok-draw_command.ensures.local
+    ∙ ap₂ with_subcommand c.in_ok-files_command.ensures (ap (λ (a : App). a.top) c.in_ok-draw_command.ensures.app) in
+    IfOk-weaker c.subcommand-2.result _ _ (λ command h. h.shape c.in_ok-serve_command.ensures.local
+    ∙ ap₂ with_subcommand draw_is (ap (λ (a : App). a.top) c.in_ok-serve_command.ensures.app)) c.subcommand-2.ensures

@@ -10,5 +10,7 @@ returns c arguments taken same =
     c.args.matches.now found.0 same found.1) in cc)
     (λ found. let bad = c.in_default-subcommand_matches.ensures.found.1 (named_by_rows (codes "check") arguments
     c.args.matches.now found.0 same found.1) in cc)
-    (λ found. let bad = c.in_default-subcommand_matches-2.ensures.found.1 (named_by_rows (codes "serve") arguments
+    (λ found. let bad = c.in_default-subcommand_matches-2.ensures.found.1 (named_by_rows (codes "draw") arguments
+    c.args.matches.now found.0 same found.1) in cc)
+    (λ found. let bad = c.in_default-subcommand_matches-3.ensures.found.1 (named_by_rows (codes "serve") arguments
     c.args.matches.now found.0 same found.1) in cc)

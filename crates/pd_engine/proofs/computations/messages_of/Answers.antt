@@ -1,9 +1,9 @@
--- The computation of a session's traces, or the refusal of its messages.
+-- The messages of a session's traces, or their refusal.
 use Rattle.pd_match.specs.Views.{match_fault_view}
 use Rattle.pd_spec.specs.Views.{document_view}
 use Rattle.pd_report.specs.Views as views
 use Rattle.pd_engine.proofs.FitTraces.{refused_report}
-use Rattle.pd_engine.proofs.computations.computation_of.Goals as goal
+use Rattle.pd_engine.proofs.computations.messages_of.Goals as goal
 
 pub returns-in_ok-of_messages-in-Err-clause-refused : goal.returns-in_ok-of_messages-in-Err-clause-refused
 returns-in_ok-of_messages-in-Err-clause-refused g c =

@@ -1,0 +1,123 @@
+//! Draws a report with the session in files.
+ghost use Rattle.pd_cli.specs.Drawings.{DrawLeaves, Finishes, draw_notice, draw_status, refusal_heading};
+ghost use Rattle.pd_draw.specs.Choices.{name_view};
+ghost use Rattle.pd_format.specs.Limits.{report_byte_limit};
+ghost use Rattle.pd_judgement.specs.Statuses.{WritesUpTo};
+ghost use Rattle.std.specs.Prelude.{◌≡◌, ◌≤◌, ◌++◌, All, IfOk, Some, false, length, map};
+
+use super::check_files::read_report;
+use super::file_source::FileSource;
+use super::line::write_line;
+use super::request::SessionNames;
+use super::session_files::{open_streams, read_document};
+use super::status::{MISUSED, REFUSED, SUCCESS, report_fault};
+use pd_engine::{ByteSource, Drawing, EngineFault, draw};
+use std::alloc::{AllocError, Global};
+use std::io::Write;
+use std::random::RandomSource;
+use std::sync::Wait;
+use std::thread::Threads;
+
+/// What is reported of a check's finding that stands against the picture: a line, and the text of what it finds.
+fn notice(alloc: Global, found: &[u8]) -> Result<Vec<u8>, AllocError>
+    ensures { IfOk result (λ notice. notice.items ≡ refusal_heading ++ found.now) }
+{
+    let mut notice = Vec::from_slice(alloc, b"monitor: no picture, for a check finds:\n")?;
+    notice.extend_from_slice(found)?;
+    Ok(notice)
+}
+
+/// Flushes the output after a picture, and makes what is reported of a finding.
+fn finish<O: Write>(
+    alloc: Global,
+    drawing: Drawing,
+    output: &mut O,
+) -> Result<Drawing, EngineFault>
+    ensures { Finishes drawing result (O.contents output.old) (O.contents output.new) }
+{
+    match drawing {
+        Drawing::Written => {
+            if output.flush().is_err() {
+                return Err(EngineFault::Write);
+            }
+            Ok(Drawing::Written)
+        }
+        Drawing::Refused(found) => Ok(Drawing::Refused(notice(alloc, &found)?)),
+        Drawing::NoPredicate => Ok(Drawing::NoPredicate),
+    }
+}
+
+/// Draws a report by its bytes, a document's bytes and the streams, writes the picture, and flushes the output.
+///
+/// # Errors
+/// `Memory` leaves nothing written. `Write` leaves a part of the picture written, or all of it if only the flush failed.
+fn draw_read<S: RandomSource + Threads + Wait + Sync, R: ByteSource + Send + Drop, O: Write>(
+    rt: &S,
+    alloc: Global,
+    spec: &[u8],
+    report: &[u8],
+    streams: Vec<R>,
+    predicate: Option<&str>,
+    output: &mut O,
+) -> Result<Drawing, EngineFault>
+    requires open { All (λ stream. R.has_ended stream ≡ false) streams.items }
+    requires short { length report.now ≤ report_byte_limit }
+    ensures { DrawLeaves (Some spec.now) (Some report.now) (map R.remaining streams.items) (name_view predicate.entry)
+        result (O.contents output.old) (O.contents output.new) }
+{
+    let drawing = draw(rt, alloc, spec, report, streams, predicate, output)?;
+    finish(alloc, drawing, output)
+}
+
+/// Opens the files of a picture, the document, the report and then the streams, reads the document and the report, draws
+/// the report with the document and the streams, writes the picture, and flushes the output. All files are opened before
+/// one is read.
+///
+/// # Errors
+/// `Read`, if a file can't be opened, or the document or the report can't be read, or the report has more than
+/// `REPORT_BYTE_LIMIT` bytes, and `Memory` leave nothing written. `Write` leaves a part of the picture written, or all of
+/// it if only the flush failed.
+pub(crate) fn draw_files<S: RandomSource + Threads + Wait + Sync, F: FileSource, O: Write>(
+    rt: &S,
+    files: &F,
+    alloc: Global,
+    report: &str,
+    predicate: Option<&str>,
+    names: &SessionNames<'_>,
+    output: &mut O,
+) -> Result<Drawing, EngineFault>
+    ensures { DrawLeaves (F.bytes_of files.now names.now.spec.now) (F.bytes_of files.now report.now)
+        (map (λ name. F.bytes_of files.now name.now) names.now.streams.items) (name_view predicate.entry) result
+        (O.contents output.old) (O.contents output.new) }
+{
+    let spec = files.open(names.spec)?;
+    let report = files.open(report)?;
+    let streams = open_streams(files, alloc, &names.streams)?;
+    let document = read_document(alloc, spec)?;
+    let claimed = read_report(alloc, report)?;
+    draw_read(rt, alloc, &document, &claimed, streams, predicate, output)
+}
+
+/// The exit status by how a run that draws ended, which is reported if no picture is written.
+pub(crate) fn report_drawing<E: Write>(end: &Result<Drawing, EngineFault>, errors: &mut E) -> u8
+    ensures status { result ≡ draw_status end.now }
+    ensures errors { WritesUpTo (λ text. text ≡ draw_notice end.now) (E.contents errors.old) (E.contents errors.new) }
+{
+    match end {
+        Ok(drawing) => match drawing {
+            Drawing::Written => {
+                write_line(b"", errors);
+                SUCCESS
+            }
+            Drawing::Refused(notice) => {
+                write_line(notice, errors);
+                REFUSED
+            }
+            Drawing::NoPredicate => {
+                write_line(b"monitor: no predicate of this name\n", errors);
+                MISUSED
+            }
+        },
+        Err(fault) => report_fault(fault, errors),
+    }
+}

@@ -1,0 +1,118 @@
+-- What is drawn of a session and a report on it.
+use Rattle.std.specs.Prelude.{◌≡◌, ◌<◌, ℕ, true, false, List, Option, Some, None, length, map, slice_get}
+use Rattle.pd_model.specs.Events.{Place}
+use Rattle.pd_format.specs.Documents.{Document, NamedPredicate}
+use Rattle.pd_format.specs.Names.{ProcessNames}
+use Rattle.pd_format.specs.OtherTexts.{Checked, Finding, OfSession}
+use Rattle.pd_format.specs.Readings.{Trace}
+use Rattle.pd_format.specs.Reports.{Answer, Report, Judged}
+use Rattle.pd_judgement.specs.Judgements.{events_of_traces, recorded_of}
+use Rattle.pd_check.specs.Found.{IsFoundOf}
+use Rattle.pd_picture.specs.Pictures.{IsPicture}
+use Rattle.pd_picture.specs.declared.evidence.Evidence.{Evidence}
+use Rattle.pd_svg.specs.declared.drawing.Drawing.{Drawing}
+use Rattle.pd_draw.specs.Choices.{LacksName, choice, stands_against}
+use Rattle.pd_draw.specs.Exhibits.{HasGoodEvidence, Shows, ShowsNothing, run_title, title_text}
+use Rattle.pd_draw.specs.declared.choice.Choice.{Choice}
+use Rattle.pd_draw.specs.declared.drawn.Drawn.{Drawn}
+use Rattle.pd_draw.specs.declared.drawn.Drawn.TheVariants.{Picture, Bad, NoPredicate}
+use Rattle.pd_check.specs.Views.{finding_view}
+use Rattle.pd_model.specs.Predicates.{Recorded}
+use Rattle.pd_draw.specs.declared.choice.Choice.TheVariants.{Alone, Of, Unknown}
+
+-- the evidence of the predicate with this number, and the title of its picture
+pub record ShowsPredicate (document : Document) (traces : List Trace) (answers : List Answer) (i : ℕ)
+    (evidence : Evidence) (title : List ℕ) : Type 0 where
+  pub asked : NamedPredicate
+  pub is_asked : slice_get document.predicates i ≡ Some asked
+  pub answer : Answer
+  pub is_answer : slice_get answers i ≡ Some answer
+  pub shows : Shows document.names (recorded_of document traces) asked.predicate answer evidence
+  pub is_title : title ≡ title_text asked.name evidence
+
+-- the evidence that is drawn by this choice, and the title of its picture
+abbrev pub ShowsChoice : Document → List Trace → List Answer → Choice → Evidence → (title : List ℕ) → Type 0
+ShowsChoice document traces answers Alone evidence title = ShowsNothing evidence × (title ≡ run_title)
+ShowsChoice document traces answers (Of i) evidence title = ShowsPredicate document traces answers i evidence title
+ShowsChoice document traces answers Unknown evidence title = ⊥
+
+abbrev pub process_names : Document → List (List ℕ)
+process_names document = map (λ (process : ProcessNames). process.name) document.names
+
+-- The picture of a session with this evidence and this title.
+pub record IsPictureOf (document : Document) (traces : List Trace) (messages : List (Place × Place))
+    (ShowsIt : Evidence → (title : List ℕ) → Type 0) (drawing : Drawing) : Type 0 where
+  pub evidence : Evidence
+  pub title : List ℕ
+  pub shows : ShowsIt evidence title
+  pub is_picture : IsPicture (events_of_traces traces) messages (process_names document) title evidence drawing
+
+-- The picture of a session and a report on it: nothing stands against it in what a check finds; the run is that of the
+-- session, and the evidence is that of the predicate of this name, or without a name of the first with evidence.
+pub record IsDrawn (document : Document) (traces : List Trace) (messages : List (Place × Place)) (claimed : Report)
+    (name : Option (List ℕ)) (drawing : Drawing) : Type 0 where
+  pub processes : ℕ
+  pub events : ℕ
+  pub matched : ℕ
+  pub answers : List Answer
+  pub is_judged : claimed ≡ Judged processes events matched answers
+  pub checked : List Checked
+  pub found : IsFoundOf document traces messages claimed (OfSession true (Some checked))
+  pub stands : stands_against name (OfSession true (Some checked)) ≡ false
+  pub shows : IsPictureOf document traces messages (ShowsChoice document traces answers (choice name checked)) drawing
+
+-- the finding, which stands against a picture
+pub record IsUndrawn (document : Document) (traces : List Trace) (messages : List (Place × Place)) (claimed : Report)
+    (name : Option (List ℕ)) (finding : Finding) : Type 0 where
+  pub found : IsFoundOf document traces messages claimed finding
+  pub stands : stands_against name finding ≡ true
+
+-- nothing else stands against a picture, but there is no predicate of this name
+pub record IsUnknown (document : Document) (traces : List Trace) (messages : List (Place × Place)) (claimed : Report)
+    (name : Option (List ℕ)) : Type 0 where
+  pub checked : List Checked
+  pub found : IsFoundOf document traces messages claimed (OfSession true (Some checked))
+  pub is_unknown : LacksName name checked
+
+-- what comes of it: the picture, or what stands against it
+abbrev pub Comes : Document → List Trace → List (Place × Place) → Report → (name : Option (List ℕ)) → Drawn → Type 0
+Comes document traces messages claimed name (Picture drawing) = IsDrawn document traces messages claimed name drawing
+Comes document traces messages claimed name (Bad finding) =
+    IsUndrawn document traces messages claimed name (finding_view finding)
+Comes document traces messages claimed name NoPredicate = IsUnknown document traces messages claimed name
+
+-- ---- on the way
+
+-- the finding lets this choice be drawn, or it stands against the picture
+abbrev pub IsLetBy : (name : Option (List ℕ)) → Finding → Option Choice → Type 0
+IsLetBy name finding None = stands_against name finding ≡ true
+IsLetBy name finding (Some chosen) =
+    (checked : List Checked) × (finding ≡ OfSession true (Some checked)) × (stands_against name finding ≡ false)
+    × (chosen ≡ choice name checked)
+
+-- the evidence of the answer with this number shows what it is printed for
+pub record IsGoodAt (document : Document) (recorded : Recorded) (answers : List Answer) (i : ℕ) : Type 0 where
+  pub asked_there : i < length document.predicates
+  pub answer_there : i < length answers
+  pub good : (asked : NamedPredicate) (answer : Answer) → slice_get document.predicates i ≡ Some asked
+      → slice_get answers i ≡ Some answer → HasGoodEvidence document.names recorded asked.predicate answer
+
+-- what the choice draws is good
+abbrev pub IsGoodChoice : Document → Recorded → List Answer → Choice → Type 0
+IsGoodChoice document recorded answers Alone = Unit {0}
+IsGoodChoice document recorded answers (Of i) = IsGoodAt document recorded answers i
+IsGoodChoice document recorded answers Unknown = Unit {0}
+
+-- the picture by this choice; there is none of a predicate that isn't there
+abbrev pub IsChosenPicture : Document → List Trace → List (Place × Place) → List Answer → Choice → Option Drawing
+    → Type 0
+IsChosenPicture document traces messages answers chosen None = chosen ≡ Unknown
+IsChosenPicture document traces messages answers chosen (Some drawing) =
+    IsPictureOf document traces messages (ShowsChoice document traces answers chosen) drawing
+
+-- the report has these answers
+pub record IsJudged (claimed : Report) (answers : List Answer) : Type 0 where
+  pub processes : ℕ
+  pub events : ℕ
+  pub matched : ℕ
+  pub is : claimed ≡ Judged processes events matched answers

@@ -1,0 +1,80 @@
+-- The evidence that a picture shows of a predicate, and what the picture is called.
+use Rattle.std.specs.Prelude.{◌≡◌, ℕ, List, ◌++◌, codes, map}
+use Rattle.pd_model.specs.Answers.{IsAvoidingObservation}
+use Rattle.pd_model.specs.Predicates.{Predicate, Recorded, state_at, test_of}
+use Rattle.pd_format.specs.Names.{ProcessNames, name_of_process}
+use Rattle.pd_format.specs.Reports.{Answer, Definitely, Possibly}
+use Rattle.pd_judgement.specs.Findings.{IsGoodCut, IsGoodPath}
+use Rattle.pd_picture.specs.Pictures.{texts_view}
+use Rattle.pd_picture.specs.declared.evidence.Evidence.{Evidence}
+use Rattle.pd_picture.specs.declared.evidence.Evidence.TheVariants.{Absent, Cut, Observation}
+use Rattle.pd_draw.specs.Values.{value_texts}
+
+-- ---- what is good
+
+-- the evidence of an answer shows what it is printed for
+pub record HasGoodEvidence (names : List ProcessNames) (recorded : Recorded) (predicate : Predicate) (answer : Answer) :
+    Type 0 where
+  pub cut : (cut : List ℕ) → answer.possibly ≡ Possibly.Yes cut
+      → IsGoodCut recorded.events (test_of recorded predicate) cut
+  pub path : (reported : List (List ℕ)) → answer.definitely ≡ Definitely.No reported
+      → IsGoodPath names recorded.events (test_of recorded predicate) reported
+
+-- ---- what is shown
+
+-- this cut, which is consistent and satisfies, with what the variables that the predicate names are worth there
+abbrev pub ShowsCut : List ProcessNames → Recorded → Predicate → List ℕ → Evidence → Type 0
+ShowsCut names recorded predicate cut Absent = ⊥
+ShowsCut names recorded predicate cut (Cut counts values) =
+    (counts.items ≡ cut) × IsGoodCut recorded.events (test_of recorded predicate) cut
+    × (texts_view values.items ≡ value_texts names (state_at recorded.initial recorded.events cut) predicate)
+ShowsCut names recorded predicate cut (Observation path) = ⊥
+
+-- an observation with no satisfying cut, whose processes have these names
+abbrev pub ShowsPath : List ProcessNames → Recorded → Predicate → List (List ℕ) → Evidence → Type 0
+ShowsPath names recorded predicate reported Absent = ⊥
+ShowsPath names recorded predicate reported (Cut counts values) = ⊥
+ShowsPath names recorded predicate reported (Observation path) =
+    (map (name_of_process names) path.items ≡ reported)
+    × IsAvoidingObservation recorded.events (test_of recorded predicate) path.items
+
+-- nothing
+abbrev pub ShowsNothing : Evidence → Type 0
+ShowsNothing Absent = Unit {0}
+ShowsNothing (Cut counts values) = ⊥
+ShowsNothing (Observation path) = ⊥
+
+-- what is shown of an answer whose `possibly` has no cut: the observation, if its `definitely` has one
+abbrev pub ShowsDefinitely : List ProcessNames → Recorded → Predicate → Definitely → Evidence → Type 0
+ShowsDefinitely names recorded predicate (Definitely.Yes level) evidence = ShowsNothing evidence
+ShowsDefinitely names recorded predicate (Definitely.No reported) evidence =
+    ShowsPath names recorded predicate reported evidence
+ShowsDefinitely names recorded predicate (Definitely.Unknown level) evidence = ShowsNothing evidence
+
+abbrev pub ShowsPossibly : List ProcessNames → Recorded → Predicate → Possibly → Definitely → Evidence → Type 0
+ShowsPossibly names recorded predicate (Possibly.Yes cut) definitely evidence =
+    ShowsCut names recorded predicate cut evidence
+ShowsPossibly names recorded predicate Possibly.No definitely evidence =
+    ShowsDefinitely names recorded predicate definitely evidence
+ShowsPossibly names recorded predicate (Possibly.Unknown level) definitely evidence =
+    ShowsDefinitely names recorded predicate definitely evidence
+
+-- What is shown of an answer: the cut of a *possibly yes*, else the observation of a *definitely no*, else nothing.
+abbrev pub Shows : List ProcessNames → Recorded → Predicate → Answer → Evidence → Type 0
+Shows names recorded predicate answer evidence =
+    ShowsPossibly names recorded predicate answer.possibly answer.definitely evidence
+
+-- ---- what the picture is called
+
+abbrev pub claim : Evidence → List ℕ
+claim Absent = codes " has no evidence"
+claim (Cut counts values) = codes " possibly yes"
+claim (Observation path) = codes " definitely no"
+
+-- the picture of a predicate of this name
+abbrev pub title_text : List ℕ → Evidence → List ℕ
+title_text name evidence = name ++ claim evidence
+
+-- the picture of a run alone
+abbrev pub run_title : List ℕ
+run_title = codes "The run"

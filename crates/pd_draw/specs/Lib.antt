@@ -1,0 +1,5 @@
+-- The modules of definitions of this crate.
+pub mod Choices
+pub mod Values
+pub mod Exhibits
+pub mod Drawn

@@ -1,0 +1,126 @@
+//! The evidence that is drawn, and what the picture is called.
+ghost use Rattle.pd_draw.specs.Exhibits.{HasGoodEvidence, Shows, ShowsCut, ShowsDefinitely, ShowsPath, claim, title_text};
+ghost use Rattle.pd_draw.specs.Values.{value_texts};
+ghost use Rattle.pd_judgement.specs.Findings.{IsGoodCut, IsGoodPath};
+ghost use Rattle.pd_model.specs.Predicates.{state_at, test_of};
+ghost use Rattle.pd_pred.specs.Views.{predicate_view};
+ghost use Rattle.pd_report.specs.Views as views;
+ghost use Rattle.pd_spec.specs.Named.{named_view};
+ghost use Rattle.std.specs.Prelude.{◌≡◌, IfOk, length, map, string_bytes};
+
+use super::values::value_texts;
+use pd_check::path_of;
+use pd_clock::{Computation, Cut};
+use pd_picture::Evidence;
+use pd_pred::{Names, Pred};
+use pd_report::{Answer, Definitely, Possibly};
+use pd_spec::NamedPred;
+use std::alloc::{AllocError, Global};
+
+/// A good cut, with what the predicate's variables are worth there.
+fn cut_of(
+    alloc: Global,
+    names: &Names,
+    computation: &Computation<'_>,
+    pred: &Pred,
+    counts: &[u64],
+) -> Result<Evidence, AllocError>
+    requires good { IsGoodCut computation.now.events (test_of computation.now (predicate_view pred.now)) counts.now }
+    ensures { IfOk result (ShowsCut names.now computation.now (predicate_view pred.now) counts.now) }
+{
+    let cut = Cut::new(alloc, counts)?;
+    let values = value_texts(alloc, names, pred.tree(), &computation.at(&cut))?;
+    let counts = counts.to_vec(alloc)?;
+    Ok(Evidence::Cut { counts, values })
+}
+
+/// A good observation, whose processes have these names.
+fn observation_of(
+    alloc: Global,
+    names: &Names,
+    computation: &Computation<'_>,
+    pred: &Pred,
+    reported: &[String],
+) -> Result<Evidence, AllocError>
+    requires good { IsGoodPath names.now computation.now.events (test_of computation.now (predicate_view pred.now))
+        (map string_bytes reported.now) }
+    requires one_each { length computation.now.events ≡ length names.now }
+    ensures { IfOk result (ShowsPath names.now computation.now (predicate_view pred.now)
+        (map string_bytes reported.now)) }
+{
+    names.differ();
+    match path_of(alloc, names, reported)? {
+        Some(path) => Ok(Evidence::Observation(path)),
+        None => Ok(Evidence::Absent),
+    }
+}
+
+/// The observation of a *definitely no*, if it is one.
+fn definitely_evidence(
+    alloc: Global,
+    names: &Names,
+    computation: &Computation<'_>,
+    asked: &NamedPred,
+    answer: &Answer,
+) -> Result<Evidence, AllocError>
+    requires good { HasGoodEvidence names.now computation.now (named_view asked.now).predicate
+        (views.answer_view answer.now) }
+    requires one_each { length computation.now.events ≡ length names.now }
+    ensures { IfOk result (ShowsDefinitely names.now computation.now (named_view asked.now).predicate
+        (views.definitely_view answer.now.definitely)) }
+{
+    match &answer.definitely {
+        Definitely::No(reported) => {
+            observation_of(alloc, names, computation, &asked.pred, reported)
+        }
+        Definitely::Yes(_) | Definitely::Unknown(_) => Ok(Evidence::Absent),
+    }
+}
+
+/// The evidence of an answer that the check found good: its cut, else its observation, else none.
+///
+/// # Errors
+/// Out of memory.
+pub(crate) fn evidence_of(
+    alloc: Global,
+    names: &Names,
+    computation: &Computation<'_>,
+    asked: &NamedPred,
+    answer: &Answer,
+) -> Result<Evidence, AllocError>
+    requires good { HasGoodEvidence names.now computation.now (named_view asked.now).predicate
+        (views.answer_view answer.now) }
+    requires one_each { length computation.now.events ≡ length names.now }
+    ensures { IfOk result (Shows names.now computation.now (named_view asked.now).predicate
+        (views.answer_view answer.now)) }
+{
+    match &answer.possibly {
+        Possibly::Yes(counts) => cut_of(alloc, names, computation, &asked.pred, counts),
+        Possibly::No | Possibly::Unknown(_) => {
+            definitely_evidence(alloc, names, computation, asked, answer)
+        }
+    }
+}
+
+/// What is said of a predicate with this evidence.
+fn claim(evidence: &Evidence) -> &'static str
+    ensures { result.now ≡ claim evidence.now }
+{
+    match evidence {
+        Evidence::Absent => " has no evidence",
+        Evidence::Cut { .. } => " possibly yes",
+        Evidence::Observation(_) => " definitely no",
+    }
+}
+
+/// What the picture of a predicate of this name and of this evidence is called.
+///
+/// # Errors
+/// Out of memory.
+pub(crate) fn title_of(alloc: Global, name: &str, evidence: &Evidence) -> Result<String, AllocError>
+    ensures { IfOk result (λ title. string_bytes title ≡ title_text name.now evidence.now) }
+{
+    let mut title = String::from_str(alloc, name)?;
+    title.push_str(claim(evidence))?;
+    Ok(title)
+}

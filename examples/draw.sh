@@ -1,0 +1,21 @@
+#!/usr/bin/env bash
+# draw.sh [PROGRAM]: draws each example whose session isn't refused again, as picture.svg in its folder. PROGRAM is
+# crates/monitor/out/monitor if it isn't given. The status is 1 if one isn't drawn.
+set -u
+here=$(realpath "$(dirname "$0")")
+program=$(realpath -m "${1:-$here/../crates/monitor/out/monitor}")
+cd "$here"
+drawn=$(mktemp)
+trap 'rm -f "$drawn"' EXIT
+status=0
+for session in */session.json; do
+  folder=${session%/session.json}
+  grep -q '^refused ' "$folder/report" && continue
+  if "$program" draw "$session" "$folder/report" "$folder"/*.stream > "$drawn"; then
+    cat "$drawn" > "$folder/picture.svg"
+  else
+    echo "examples: $folder isn't drawn"
+    status=1
+  fi
+done
+exit "$status"
