@@ -10,11 +10,11 @@ message keeps its id.
 Each round runs every session once, so that the sessions of one round share what else the machine does. The machine may
 be shared, so compare figures of one call with each other, not with those of another call."""
 import os
-import resource
 import subprocess
 import sys
 import tempfile
-import time
+
+import peak
 
 HERE = os.path.dirname(os.path.abspath(__file__))
 EVENTS = 8 * 10000
@@ -24,14 +24,10 @@ SESSIONS = WALKS + ["streams", "messages", "locals"]
 
 def run(program, path):
     """The seconds and the peak memory in bytes of one run."""
-    start = time.perf_counter()
-    with open(path, "rb") as bundle:
-        child = subprocess.Popen([program], stdin=bundle, stdout=subprocess.DEVNULL)
-        _, status, usage = os.wait4(child.pid, 0)
-    seconds = time.perf_counter() - start
+    status, _, seconds, memory = peak.run([program], path)
     if status != 0:
         raise SystemExit(f"{path}: status {status}")
-    return seconds, usage.ru_maxrss * 1024
+    return seconds, memory
 
 
 def line(name, size, seconds, memory):

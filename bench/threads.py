@@ -8,7 +8,8 @@ import os
 import subprocess
 import sys
 import tempfile
-import time
+
+import peak
 
 HERE = os.path.dirname(os.path.abspath(__file__))
 SESSIONS = ["streams", "messages"]
@@ -17,13 +18,10 @@ SESSIONS = ["streams", "messages"]
 def run(arguments, bundle, cores):
     """The seconds and the peak memory in bytes of one run on these cores."""
     chosen = ",".join(str(core) for core in cores)
-    start = time.perf_counter()
-    with open(bundle or os.devnull, "rb") as opened:
-        child = subprocess.Popen(["taskset", "-c", chosen, *arguments], stdin=opened, stdout=subprocess.DEVNULL)
-        _, status, usage = os.wait4(child.pid, 0)
+    status, _, seconds, memory = peak.run(["taskset", "-c", chosen, *arguments], bundle or os.devnull)
     if status != 0:
         raise SystemExit(f"{arguments}: status {status}")
-    return time.perf_counter() - start, usage.ru_maxrss * 1024
+    return seconds, memory
 
 
 def generate(name, folder):
