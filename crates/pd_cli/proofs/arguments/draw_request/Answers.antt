@@ -16,8 +16,9 @@ named (Some name) = refl
 
 pub returns-in_default : goal.returns-in_default
 returns-in_default c arguments taken are =
-    of_missing_report (codes "draw") (rows_of (found_of c.args.matches.now)) (inr refl) are (λ found. not_none _ c.get_str-2.result found.0
-    (c.get_str-2.ensures ∙ (first_value-rows (found_of c.args.matches.now) (codes "REPORT") ∙ found.1)) c.in_default.is)
+    of_missing_report (codes "draw") (rows_of (found_of c.args.matches.now)) (inr refl) are
+    (λ found. not_none _ c.get_str.result found.0
+    (c.get_str.ensures ∙ (first_value-rows (found_of c.args.matches.now) (codes "REPORT") ∙ found.1)) c.in_default.is)
 
 pub returns-in_default-2 : goal.returns-in_default-2
 returns-in_default-2 c arguments taken are =
@@ -33,6 +34,6 @@ returns c arguments taken are = record {
   names_session = subst (λ (names : Option SessionNames). FindsSession (rows_of (found_of c.args.matches.now))
       (option_map session_view names)) c.in-Some-2.is c.in_ok-names.ensures;
   names_report = sym (first_value-rows (found_of c.args.matches.now) (codes "REPORT")) ∙ sym c.in-Some.ensures;
-  names_predicate = sym (c.get_str.ensures ∙ first_value-rows (found_of c.args.matches.now) (codes "PREDICATE"))
-      ∙ named c.get_str.result;
+  names_predicate = sym (c.get_str-predicate.ensures ∙ first_value-rows (found_of c.args.matches.now) (codes "PREDICATE"))
+      ∙ named c.get_str-predicate.result;
 }
