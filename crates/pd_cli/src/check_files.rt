@@ -20,7 +20,10 @@ use std::thread::Threads;
 ///
 /// # Errors
 /// `Read`, if there are more or a read fails, and `Memory`.
-pub(crate) fn read_report<R: ByteSource + Drop>(alloc: Global, reader: R) -> Result<Vec<u8>, EngineFault>
+pub(crate) fn read_report<R: ByteSource + Drop>(
+    alloc: Global,
+    reader: R,
+) -> Result<Vec<u8>, EngineFault>
     requires { R.has_ended reader ≡ false }
     ensures whole { IfOk result (λ bytes. IsWholeInput (R.remaining reader) bytes.items) }
     ensures short { IfOk result (λ bytes. vec_len bytes ≤ report_byte_limit) }

@@ -28,11 +28,7 @@ fn notice(alloc: Global, found: &[u8]) -> Result<Vec<u8>, AllocError>
 }
 
 /// Flushes the output after a picture, and makes what is reported of a finding.
-fn finish<O: Write>(
-    alloc: Global,
-    drawing: Drawing,
-    output: &mut O,
-) -> Result<Drawing, EngineFault>
+fn finish<O: Write>(alloc: Global, drawing: Drawing, output: &mut O) -> Result<Drawing, EngineFault>
     ensures { Finishes drawing result (O.contents output.old) (O.contents output.new) }
 {
     match drawing {

@@ -166,7 +166,15 @@ fn arguments_are_refused(rt: HostRuntime) -> Result<(), Fail> {
         (
             "a picture of two predicates",
             &[
-                "monitor", "draw", "x", "y", "z", "--predicate", "p", "--predicate", "q",
+                "monitor",
+                "draw",
+                "x",
+                "y",
+                "z",
+                "--predicate",
+                "p",
+                "--predicate",
+                "q",
             ],
         ),
         ("a server of nothing", &["monitor", "serve"]),

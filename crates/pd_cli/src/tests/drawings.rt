@@ -30,7 +30,10 @@ fn pictures(rt: HostRuntime) -> Result<(), Fail> {
         assert_eq!(rt; (name, status), (name, SUCCESS));
         assert!(rt; errors.is_empty(), "{name}");
         let written = output.taken.as_slice();
-        assert!(rt; written.starts_with(b"<svg xmlns=") && written.ends_with(END), "{name}");
+        assert!(rt;
+            written.starts_with(b"<svg xmlns=") && written.ends_with(END),
+            "{name}"
+        );
         let found = written
             .windows(text.len())
             .any(|part| part == text.as_bytes());
@@ -98,8 +101,7 @@ fn pictures_that_cannot_be_written(rt: HostRuntime) -> Result<(), Fail> {
     for (name, takes) in [("at the first byte", false), ("at the flush", true)] {
         let names = ["spec", "report", "a", "b"];
         let mut output = Failing { takes };
-        let (status, errors) =
-            run_with(&rt, &rt, folder.as_str(), &["draw"], &names, &mut output)?;
+        let (status, errors) = run_with(&rt, &rt, folder.as_str(), &["draw"], &names, &mut output)?;
         assert_eq!(rt; (name, status), (name, FAILED));
         assert_eq!(rt;
             (name, errors.as_slice()),

@@ -1,5 +1,6 @@
 -- The names of a session's files and of a report's file ask to draw the report.
-use Rattle.std.proofs.Common.{codes, inr, option_map, refl, subst, sym, ◌∙◌, Option}
+use Rattle.std.proofs.Common.{◌≡◌, ℕ, List, Bor, codes, inr, option_map, refl, subst, sym, ◌∙◌, Option, Some, None}
+use Rattle.pd_draw.specs.Choices.{name_view}
 use Rattle.clap.specs.Matches.{found_of}
 use Rattle.clap.specs.Walk.{rows_of}
 use Rattle.clap.proofs.WalkLemmas.{first_value-rows}
@@ -9,10 +10,15 @@ use Rattle.pd_cli.specs.declared.request.SessionNames.{SessionNames}
 use Rattle.pd_cli.proofs.Parsed.{not_none}
 use Rattle.pd_cli.proofs.arguments.draw_request.Goals as goal
 
+named : (found : Option (Bor (List ℕ))) → option_map (λ (name : Bor (List ℕ)). name.now) found ≡ name_view found
+named None = refl
+named (Some name) = refl
+
 pub returns-in_default : goal.returns-in_default
 returns-in_default c arguments taken are =
-    of_missing_report (codes "draw") (rows_of (found_of c.args.matches.now)) (inr refl) are (λ found. not_none _ c.get_str-2.result found.0
-    (c.get_str-2.ensures ∙ (first_value-rows (found_of c.args.matches.now) (codes "REPORT") ∙ found.1)) c.in_default.is)
+    of_missing_report (codes "draw") (rows_of (found_of c.args.matches.now)) (inr refl) are
+    (λ found. not_none _ c.get_str.result found.0
+    (c.get_str.ensures ∙ (first_value-rows (found_of c.args.matches.now) (codes "REPORT") ∙ found.1)) c.in_default.is)
 
 pub returns-in_default-2 : goal.returns-in_default-2
 returns-in_default-2 c arguments taken are =
@@ -28,5 +34,6 @@ returns c arguments taken are = record {
   names_session = subst (λ (names : Option SessionNames). FindsSession (rows_of (found_of c.args.matches.now))
       (option_map session_view names)) c.in-Some-2.is c.in_ok-names.ensures;
   names_report = sym (first_value-rows (found_of c.args.matches.now) (codes "REPORT")) ∙ sym c.in-Some.ensures;
-  names_predicate = ?;
+  names_predicate = sym (c.get_str-predicate.ensures ∙ first_value-rows (found_of c.args.matches.now) (codes "PREDICATE"))
+      ∙ named c.get_str-predicate.result;
 }
