@@ -3,7 +3,7 @@ ghost use Rattle.pd_cli.specs.Drawings.{EndsDrawn, RunsAsAsked};
 ghost use Rattle.pd_draw.specs.Choices.{name_view};
 ghost use Rattle.pd_judgement.specs.Statuses.{CheckLeaves, Ends, FilesJudgementLeaves, JudgementLeaves, ServiceLeaves};
 ghost use Rattle.pd_judgement.specs.Writes.{WritesTruthOfBundle};
-ghost use Rattle.std.specs.Prelude.{◌≡◌, ◌≤◌, drop, false, map, vec_len};
+ghost use Rattle.std.specs.Prelude.{◌≡◌, ◌≤◌, drop, false, length, map, vec_len};
 
 use super::arguments::parse;
 use super::bundle::judge_input;
@@ -162,6 +162,14 @@ fn run_arguments<
     }
 }
 
+/// The arguments without the first one.
+fn without_first(arguments: &[String]) -> &[String]
+    requires { 1 ≤ length arguments.now }
+    ensures { result.now ≡ drop 1 arguments.now }
+{
+    &arguments[1..]
+}
+
 /// Runs the program on its arguments, of which the first is its name, and gives its exit status.
 ///
 /// With no further argument a bundle is read from `input`, and its report is written to `output`. Further arguments are
@@ -211,7 +219,7 @@ pub fn run<
         files,
         network,
         alloc,
-        &arguments[1..],
+        without_first(&arguments),
         input,
         output,
         errors,

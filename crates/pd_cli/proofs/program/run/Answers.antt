@@ -1,5 +1,8 @@
 -- With no further argument the bundle on the input is judged.
-use Rattle.std.proofs.Common.{arith, inl}
+use Rattle.std.proofs.Common.{ℕ, List, String, arith, inl, map, drop, ap, sym, ◌∙◌, subst}
+use Rattle.std.specs.Global.{Global}
+use Rattle.std.proofs.lemmas.List.{drop-map}
+use Rattle.pd_cli.specs.Drawings.{RunsAsAsked}
 use Rattle.pd_cli.proofs.BundleEnds.{as_asked_by_none, none_left, truth_of_status}
 use Rattle.pd_cli.proofs.program.run.Goals as goal
 
@@ -11,6 +14,17 @@ returns-then-len-le1-clause-ends g c =
     (g.E.Write.contents c.args.errors.now) (g.E.Write.contents c.run_bundle.new.errors)
     (none_left _ c.args.arguments.items (omega (arith, c.args.arguments.ok.0, c.len.ensures, c.if-len-le1.true)))
     c.run_bundle.ensures)
+
+pub returns-clause-ends : goal.returns-clause-ends
+returns-clause-ends g c =
+    let bytes : String Global → List ℕ = λ argument. argument.bytes.items in
+    subst (λ (arguments : List (List ℕ)). RunsAsAsked arguments (g.I.ByteSource.remaining c.args.input)
+    (g.F.FileSource.bytes_of c.args.files.now) (g.N.Network.may_give c.args.network.now) c.run_arguments.result
+    (g.O.Write.contents c.args.output.now) (g.O.Write.contents c.run_arguments.new.output)
+    (g.E.Write.contents c.args.errors.now) (g.E.Write.contents c.run_arguments.new.errors))
+    (ap (λ (arguments : List (String Global)). map bytes arguments)
+    (c.without_first.ensures ∙ ap (λ (arguments : List (String Global)). drop 1 arguments) c.deref.ensures.value)
+    ∙ sym (drop-map bytes 1 c.args.arguments.items)) c.run_arguments.ensures.ends
 
 pub returns-then-len-le1-clause-headline : goal.returns-then-len-le1-clause-headline
 returns-then-len-le1-clause-headline g c few success =
