@@ -1,8 +1,8 @@
 #!/usr/bin/env bash
 # compare.sh [PROGRAM]: runs the program on each example, and compares what it writes and its status with what is
 # stored. Each example is judged from its files, and again as a bundle, and drawn; each finding is what a check writes,
-# and of a refused session or a bad report nothing is drawn. The last line says how many were compared; the status is 1 if any differs. PROGRAM is crates/monitor/out/monitor if it isn't
-# given.
+# and of a refused session or a bad report nothing is drawn. The last line says how many were compared; the status is 1
+# if any differs. PROGRAM is crates/monitor/out/monitor if it isn't given.
 set -u
 here=$(realpath "$(dirname "$0")")
 program=$(realpath -m "${1:-$here/../crates/monitor/out/monitor}")
