@@ -68,7 +68,7 @@ fn answers_of<T: Threads + Wait + Sync, G: Gate + Sync>(
         return Err(Fail::from("there are too many workers"));
     }
     let crew = Crew::new(rt, workers, gate);
-    let mut answers = answer_within(&crew, alloc, computation, &[pred], 100_000, 0)?;
+    let mut answers = answer_within(&crew, alloc, computation, &[pred], 65_536, 0)?;
     match answers.pop() {
         Some(answers) => Ok(answers),
         None => Err(Fail::from("a predicate has no answer")),
