@@ -9,3 +9,4 @@ pub mod FirstSatisfying
 pub mod MarkedKeys
 pub mod ListedCuts
 pub mod ReadPrefixes
+pub mod ByThreads

@@ -2,3 +2,4 @@
 pub mod RunPlaces
 pub mod Skips
 pub mod Marks
+pub mod Spots

@@ -18,7 +18,7 @@ use pd_runs::{RunTest, Whole};
 use std::alloc::Global;
 
 /// The least count of the last process but one in run `i` whose cut satisfies.
-fn hit_in<T: RunTest>(level: &Whole, test: &T, skips: Skips<'_>, i: usize) -> Option<u64>
+pub(crate) fn hit_in<T: RunTest>(level: &Whole, test: &T, skips: Skips<'_>, i: usize) -> Option<u64>
     requires level { IsWholeLevel (T.events test.now) level.now }
     requires skips { HaveNoHits (T.events test.now) (T.test test.now) level.now.runs skips }
     requires within { i < length level.now.runs }
@@ -43,7 +43,7 @@ fn hit_in<T: RunTest>(level: &Whole, test: &T, skips: Skips<'_>, i: usize) -> Op
 }
 
 /// The cut of run `i` with this count of the last process but one. It takes no memory.
-fn cut_in(alloc: Global, level: &Whole, i: usize, x: u64) -> Cut
+pub(crate) fn cut_in(alloc: Global, level: &Whole, i: usize, x: u64) -> Cut
     requires within { i < length level.now.runs }
     requires high { x ≤ rest_at level.now.number (run_at level.now.runs i) }
     requires processes { length (run_at level.now.runs i).prefix + 2 ≡ level.now.processes }

@@ -8,9 +8,12 @@
 //! - `mark`: the marks of the first level with a satisfying cut, and those of the next level
 //! - `list`: the numbers of the marked cuts
 //! - `skips`: which runs aren't looked at
+//! - `spots`: where the words of a level's marks begin
+//! - `by_threads`: the first cut that satisfies, and the marks of the next level, by several threads
 //! - `hit`: the first cut of a level that satisfies
 #![tactic(auto)]
 
+mod by_threads;
 mod find;
 mod hit;
 mod hits;
@@ -20,7 +23,9 @@ mod marks;
 mod parents;
 mod run;
 mod skips;
+mod spots;
 
+pub use by_threads::{first_hit_by_threads, next_by_threads};
 pub use hit::first_hit;
 pub use mark::{next, unsatisfying};
 pub use marks::Marks;

@@ -23,9 +23,9 @@ use std::alloc::{AllocError, Global};
 
 /// A level and its marks.
 #[derive(Clone, Copy)]
-struct Before<'a, 'b> {
-    level: &'a Whole,
-    marks: &'b Marks,
+pub(crate) struct Before<'a, 'b> {
+    pub level: &'a Whole,
+    pub marks: &'b Marks,
 }
 
 /// The bits, without those of the cuts that satisfy.
@@ -61,7 +61,7 @@ fn unsatisfied<T: RunTest>(
 /// The cuts of a run that avoid: bit `j` is that of the cut whose count of the last process but one is `x + j`, for
 /// `j` below
 /// `n`. With no level before, none of its cuts satisfies, nor one of a level below it.
-fn avoiding<T: RunTest>(
+pub(crate) fn avoiding<T: RunTest>(
     before: Option<Before<'_, '_>>,
     level: &Whole,
     test: &T,

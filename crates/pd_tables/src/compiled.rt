@@ -7,6 +7,7 @@ ghost use Rattle.std.specs.Prelude.{◌≡◌, ℕ, ◌+◌, ◌-◌, ◌<◌, �
 
 use super::compile::{Rest, compile};
 use super::node::{Node, holds, mask, may};
+use super::size::comparisons;
 use pd_clock::Computation;
 use pd_pred::Pred;
 use pd_runs::RunTest;
@@ -86,6 +87,12 @@ impl<'a, 'b> Compiled<'a, 'b> {
             → test_of self.now.recorded self.now.predicate (cut_at prefix.now x y) ≡ false }
     {
         may(&self.node, prefix)
+    }
+
+    /// How many comparisons are made at a cut, at most the greatest `u64`. It is a measure of the time that an evaluation
+    /// takes, and nothing is promised of it.
+    pub fn comparisons(&self) -> u64 {
+        comparisons(&self.node)
     }
 }
 

@@ -48,6 +48,7 @@
 //! - `table`: a number for each count of a process
 //! - `zero`: how a sum is compared with 0
 //! - `run_state`: the state at a cut of a run
+//! - `size`: how many comparisons a compiled predicate has
 //! - `bits`: truths that are put into a word
 #![tactic(auto)]
 
@@ -64,6 +65,7 @@ mod node;
 mod parts;
 mod row;
 mod run_state;
+mod size;
 mod table;
 #[cfg(test)]
 mod tests;

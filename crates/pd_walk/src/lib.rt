@@ -5,7 +5,7 @@
 //! - `settle`: what the marks of a level decide
 //! - `look`: how a predicate goes on from one level to the next
 //! - `turns`: the predicates' turns at a level, taken by several workers
-//! - `weight`: how many comparisons the predicates have
+//! - `worth`: whether the work at a level is worth several threads
 //! - `walk`: the walk up the whole levels, for all predicates
 //! - `finish`: the answers after the last whole level
 //! - `listed`: the walk by lists of avoiding cuts, if the whole levels are too wide
@@ -32,7 +32,7 @@ mod split;
 mod stage;
 mod turns;
 mod walk;
-mod weight;
+mod worth;
 
 pub use all::{answer_all, answer_within};
 pub use answers::Answers;

@@ -2,27 +2,83 @@
 ghost use Rattle.pd_format.specs.Limits.{event_limit};
 ghost use Rattle.pd_marks.specs.Marks.{IsMarking};
 ghost use Rattle.pd_marks.specs.Skips.{HaveNoHits};
-ghost use Rattle.pd_model.specs.Answers.{IsPossiblyAnswer};
-ghost use Rattle.pd_model.specs.Cuts.{total};
+ghost use Rattle.pd_model.specs.Answers.{IsFirstSatisfying, IsPossiblyAnswer};
+ghost use Rattle.pd_model.specs.Cuts.{IsOfLevel, total};
 ghost use Rattle.pd_model.specs.Events.{event_count};
 ghost use Rattle.pd_model.specs.Order.{HasNoCycle};
+ghost use Rattle.pd_model.specs.Walks.{NoneBelow};
 ghost use Rattle.pd_runs.specs.Levels.{IsWholeLevel};
 ghost use Rattle.pd_walk.specs.Answers.{possibly_answer_view};
 ghost use Rattle.pd_walk.specs.Stages.{AreBeside, IsOpenBelow, IsSplitBelow, Stands, events_of, meaning_of};
-ghost use Rattle.std.specs.Prelude.{◌≡◌, ◌+◌, ◌*◌, ◌<◌, ◌≤◌, ℕ, IfNone, IfOk, IfSome};
+ghost use Rattle.std.specs.Prelude.{◌≡◌, ◌+◌, ◌*◌, ◌<◌, ◌≤◌, ℕ, IfNone, IfOk, IfSome, List, false, true};
 
 use super::PossiblyAnswer;
 use super::settle::settle;
 use super::split::Split;
 use super::stage::Stage;
 use pd_back::Held;
-use pd_marks::{Marks, Skips, first_hit, next, unsatisfying};
+use pd_clock::Cut;
+use pd_marks::{
+    Marks, Skips, first_hit, first_hit_by_threads, next, next_by_threads, unsatisfying,
+};
 use pd_runs::Whole;
 use pd_tables::Compiled;
 use std::alloc::{AllocError, Global};
+use std::thread::Threads;
+
+/// The first cut of the level that satisfies. If it is shared, several threads look for it.
+fn first_hit_of<T: Threads + Sync>(
+    rt: &T,
+    shared: bool,
+    alloc: Global,
+    test: &Compiled<'_, '_>,
+    level: &Whole,
+    skips: Skips<'_>,
+) -> Result<Option<Cut>, AllocError>
+    requires level { IsWholeLevel (events_of test.now) level.now }
+    requires skips { HaveNoHits (events_of test.now) (meaning_of test.now) level.now.runs skips }
+    ensures level { IfOk result (λ found. IfSome found (IsOfLevel (events_of test.now) level.now.number)) }
+    ensures satisfies { IfOk result (λ found. IfSome found (λ cut. meaning_of test.now cut ≡ true)) }
+    ensures first { IfOk result (λ found. IfSome found (λ cut.
+        NoneBelow (events_of test.now) (meaning_of test.now) level.now.number
+        → IsFirstSatisfying (events_of test.now) (meaning_of test.now) cut)) }
+    ensures none { IfOk result (λ found. IfNone found ((cut : List ℕ)
+        → IsOfLevel (events_of test.now) level.now.number cut → meaning_of test.now cut ≡ false)) }
+{
+    if shared {
+        return first_hit_by_threads(rt, alloc, level, test, skips);
+    }
+    Ok(first_hit(alloc, level, test, skips))
+}
+
+/// The marks of the next level. If they are shared, several threads find them.
+fn next_of<T: Threads + Sync>(
+    rt: &T,
+    shared: bool,
+    alloc: Global,
+    before: &Whole,
+    marks: &Marks,
+    level: &Whole,
+    test: &Compiled<'_, '_>,
+    skips: Skips<'_>,
+) -> Result<Marks, AllocError>
+    requires before { IsWholeLevel (events_of test.now) before.now }
+    requires level { IsWholeLevel (events_of test.now) level.now }
+    requires skips { HaveNoHits (events_of test.now) (meaning_of test.now) level.now.runs skips }
+    requires number { level.now.number ≡ before.now.number + 1 }
+    requires marks { IsMarking (events_of test.now) (meaning_of test.now) before.now marks.now }
+    ensures { IfOk result (IsMarking (events_of test.now) (meaning_of test.now) level.now) }
+{
+    if shared {
+        return next_by_threads(rt, alloc, before, marks, level, test, skips);
+    }
+    next(alloc, before, marks, level, test, skips)
+}
 
 /// What is known of a predicate after a level, if before it none satisfied. `beside` whole levels were held at once.
-pub(crate) fn look_open(
+pub(crate) fn look_open<T: Threads + Sync>(
+    rt: &T,
+    shared: bool,
     alloc: Global,
     test: &Compiled<'_, '_>,
     width: u64,
@@ -45,7 +101,8 @@ pub(crate) fn look_open(
     // the laws that the proof uses
     pd_model::levels();
     pd_model::avoidance();
-    let Some(possibly) = possibly_at(alloc, test, width, level, skips) else {
+    let found = possibly_at(rt, shared, alloc, test, width, level, skips)?;
+    let Some(possibly) = found else {
         return Ok(Stage::Open);
     };
     let marks = unsatisfying(alloc, level, test, skips)?;
@@ -58,38 +115,43 @@ pub(crate) fn look_open(
 }
 
 /// The answer for Possibly, if it is found at this level: unknown if the level is too wide, and else its first
-/// satisfying cut. It takes no memory.
-fn possibly_at(
+/// satisfying cut.
+fn possibly_at<T: Threads + Sync>(
+    rt: &T,
+    shared: bool,
     alloc: Global,
     test: &Compiled<'_, '_>,
     width: u64,
     level: &Whole,
     skips: Skips<'_>,
-) -> Option<PossiblyAnswer>
+) -> Result<Option<PossiblyAnswer>, AllocError>
     requires level { IsWholeLevel (events_of test.now) level.now }
     requires skips { HaveNoHits (events_of test.now) (meaning_of test.now) level.now.runs skips }
     requires narrow { width < 18446744073709551615 }
     requires opened { IsOpenBelow (events_of test.now) (meaning_of test.now) width level.now.number }
-    ensures found { IfSome result (λ answer. IsPossiblyAnswer (events_of test.now) (meaning_of test.now) width
-        (possibly_answer_view answer)) }
-    ensures none { IfNone result (IsOpenBelow (events_of test.now) (meaning_of test.now) width
-        (level.now.number + 1)) }
+    ensures found { IfOk result (λ found. IfSome found (λ answer. IsPossiblyAnswer (events_of test.now)
+        (meaning_of test.now) width (possibly_answer_view answer))) }
+    ensures none { IfOk result (λ found. IfNone found (IsOpenBelow (events_of test.now) (meaning_of test.now) width
+        (level.now.number + 1))) }
 {
     // the laws that the proof uses
     pd_model::possibly_walk();
     pd_runs::laws::whole_levels();
     if level.cuts() > width {
-        return Some(PossiblyAnswer::Unknown(level.number()));
+        return Ok(Some(PossiblyAnswer::Unknown(level.number())));
     }
-    match first_hit(alloc, level, test, skips) {
-        Some(cut) => Some(PossiblyAnswer::Yes(cut)),
-        None => None,
+    let first = first_hit_of(rt, shared, alloc, test, level, skips)?;
+    match first {
+        Some(cut) => Ok(Some(PossiblyAnswer::Yes(cut))),
+        None => Ok(None),
     }
 }
 
 /// What is known after the next level, if these are the marks of the level before it. `beside` whole levels were held
 /// at once.
-pub(crate) fn look_marked(
+pub(crate) fn look_marked<T: Threads + Sync>(
+    rt: &T,
+    shared: bool,
     alloc: Global,
     test: &Compiled<'_, '_>,
     width: u64,
@@ -113,12 +175,14 @@ pub(crate) fn look_marked(
     requires beside { AreBeside gap level.now.number beside }
     ensures { IfOk result (Stands (events_of test.now) (meaning_of test.now) width gap level.now) }
 {
-    let marks = next(alloc, before, marks, level, test, skips)?;
+    let marks = next_of(rt, shared, alloc, before, marks, level, test, skips)?;
     settle(alloc, test, width, gap, level, split, marks, beside)
 }
 
 /// What is known of a predicate after the next level.
-pub(crate) fn look(
+pub(crate) fn look<T: Threads + Sync>(
+    rt: &T,
+    shared: bool,
     alloc: Global,
     test: &Compiled<'_, '_>,
     width: u64,
@@ -143,10 +207,10 @@ pub(crate) fn look(
     ensures { IfOk result (Stands (events_of test.now) (meaning_of test.now) width gap level.now) }
 {
     match stage {
-        Stage::Open => look_open(alloc, test, width, gap, level, skips, beside),
+        Stage::Open => look_open(rt, shared, alloc, test, width, gap, level, skips, beside),
         Stage::Marked { split, marks } => {
             look_marked(
-                alloc, test, width, gap, before, level, skips, split, &marks, beside,
+                rt, shared, alloc, test, width, gap, before, level, skips, split, &marks, beside,
             )
         }
         Stage::Answered(answers) => Ok(Stage::Answered(answers)),

@@ -47,7 +47,8 @@ fn turns_of(alloc: Global, stages: &mut Vec<Stage>) -> Result<Vec<Turn>, AllocEr
 }
 
 /// Takes the turn of predicate `i`.
-fn take_turn(
+fn take_turn<T: Threads + Sync>(
+    rt: &T,
     alloc: Global,
     computation: &Computation<'_>,
     tests: &[Compiled<'_, '_>],
@@ -69,7 +70,7 @@ fn take_turn(
     let stage = mem::replace(&mut turn.stage, Stage::Open);
     let skips = refusals.of(i);
     let looked = look(
-        alloc, &tests[i], width, gap, before, level, skips, beside, stage,
+        rt, false, alloc, &tests[i], width, gap, before, level, skips, beside, stage,
     );
     match looked {
         Ok(stage) => turn.stage = stage,
@@ -132,6 +133,7 @@ fn take_all<T: Threads + Sync>(
             ensures { IsTaken tests.entry.now width gap level.entry.now i turn.new }
         {
             take_turn(
+                rt,
                 alloc,
                 computation,
                 tests,

@@ -14,7 +14,7 @@ ghost use Rattle.std.specs.Prelude.{◌≡◌, ◌+◌, ◌*◌, ◌<◌, ◌≤
 use super::look::{look, look_open};
 use super::stage::Stage;
 use super::turns::look_shared;
-use super::weight::weight;
+use super::worth::{is_much, is_shared, unanswered, weight};
 use pd_back::Held;
 use pd_clock::Computation;
 use pd_expand::Crew;
@@ -29,20 +29,11 @@ use std::mem;
 use std::sync::Wait;
 use std::thread::Threads;
 
-/// From this many comparisons at the cuts of a level on, the predicates' turns are shared: several milliseconds of work,
-/// where a thread takes tens of microseconds to start.
-const SHARED_COMPARISONS: u64 = 1_000_000;
-
-/// Whether the comparisons of all predicates at all cuts of a level are worth their threads.
-fn is_heavy(weight: u64, level: &Whole) -> bool {
-    weight.saturating_mul(level.cuts()) >= SHARED_COMPARISONS
-}
-
 /// How many bytes the tables of all predicates may take together.
 pub(crate) const TABLE_BYTES: usize = 67_108_864;
 
 /// What is known of each predicate after the next level. If the predicates have much to evaluate there, several workers
-/// take their turns.
+/// take their turns; if there are fewer of them than workers, the workers share each one that has much to evaluate.
 fn look_all<T: Threads + Wait + Sync, G: Gate + Sync>(
     crew: &Crew<'_, '_, T, G>,
     alloc: Global,
@@ -69,7 +60,8 @@ fn look_all<T: Threads + Wait + Sync, G: Gate + Sync>(
     requires stand { AllStand tests.now width gap before.now stages.old.items }
     ensures { IfOk result (λ _. AllStand tests.now width gap level.now stages.new.items) }
 {
-    if crew.count() > 1 && tests.len() > 1 && is_heavy(weight, level) {
+    let several = crew.count() > 1;
+    if several && unanswered(stages) >= crew.count() && is_much(weight, level.cuts()) {
         return look_shared(
             crew.runtime(),
             alloc,
@@ -86,6 +78,8 @@ fn look_all<T: Threads + Wait + Sync, G: Gate + Sync>(
         );
     }
     look_in_turn(
+        crew.runtime(),
+        several,
         alloc,
         computation,
         tests,
@@ -99,8 +93,11 @@ fn look_all<T: Threads + Wait + Sync, G: Gate + Sync>(
     )
 }
 
-/// The same, one predicate after the other.
-fn look_in_turn(
+/// The same, one predicate after the other. If there are several workers, threads share a predicate that has much to
+/// evaluate there.
+fn look_in_turn<T: Threads + Sync>(
+    rt: &T,
+    several: bool,
     alloc: Global,
     computation: &Computation<'_>,
     tests: &[Compiled<'_, '_>],
@@ -128,8 +125,10 @@ fn look_in_turn(
     for i in 0..tests.len() {
         let stage = mem::replace(&mut stages[i], Stage::Open);
         let skips = refusals.of(i);
+        let test = &tests[i];
+        let shared = is_shared(several, test, level, skips);
         stages[i] = look(
-            alloc, &tests[i], width, gap, before, level, skips, beside, stage,
+            rt, shared, alloc, test, width, gap, before, level, skips, beside, stage,
         )?;
     }
     Ok(())
@@ -153,7 +152,8 @@ fn compile_all<'a, 'b>(
 }
 
 /// What is known of each predicate after level 0.
-fn look_first(
+fn look_first<T: Threads + Sync>(
+    rt: &T,
     alloc: Global,
     computation: &Computation<'_>,
     tests: &[Compiled<'_, '_>],
@@ -176,7 +176,9 @@ fn look_first(
     let mut stages = Vec::with_capacity(alloc, tests.len())?;
     for i in 0..tests.len() {
         let skips = refusals.of(i);
-        stages.push(look_open(alloc, &tests[i], width, gap, level, skips, beside)?)?;
+        stages.push(look_open(
+            rt, false, alloc, &tests[i], width, gap, level, skips, beside,
+        )?)?;
     }
     Ok(stages)
 }
@@ -291,6 +293,7 @@ pub(crate) fn walk_up<T: Threads + Wait + Sync, G: Gate + Sync>(
     let first = wholes.last();
     let mut refusals = Refusals::first(alloc, &tests, first)?;
     let mut stages = look_first(
+        crew.runtime(),
         alloc,
         computation,
         &tests,
@@ -300,7 +303,7 @@ pub(crate) fn walk_up<T: Threads + Wait + Sync, G: Gate + Sync>(
         &refusals,
         wholes.most(),
     )?;
-    let weight = weight(preds);
+    let weight = weight(&tests);
     let mut k = 0;
     while goes_on(&stages, wholes.last(), k, total, limit) {
         step_up(

@@ -1,15 +1,19 @@
 -- Each turn is ready before its call, and taken after it.
 use Rattle.std.proofs.Common.{sym, subst, arith}
+use denote.Param.Send.{sendable}
 use Rattle.pd_walk.specs.Turns.{IsReady, IsTaken}
 use Rattle.pd_walk.specs.declared.turns.Turn.{Turn}
 use Rattle.pd_walk.proofs.turns.take_all.Goals as goal
 
 pub for_each_mut-requires-clause-accepts : goal.for_each_mut-requires-clause-accepts
 for_each_mut-requires-clause-accepts g c _ _ i p lt is = (
-  c.requires.at,
-  omega (arith, lt, c.requires.one_each),
-  subst (λ (turn : Turn). IsReady c.args.tests.now c.args.width c.args.gap c.args.before.now i turn) (sym is)
-      (c.requires.ready i p.now lt),
+  (
+    c.requires.at,
+    omega (arith, lt, c.requires.one_each),
+    subst (λ (turn : Turn). IsReady c.args.tests.now c.args.width c.args.gap c.args.before.now i turn) (sym is)
+        (c.requires.ready i p.now lt),
+  ),
+  search sendable depth 20,
 )
 
 pub returns-clause-taken : goal.returns-clause-taken

@@ -10,19 +10,19 @@ use Rattle.pd_walk.proofs.Standing.{each_more, skips_of}
 use Rattle.pd_walk.proofs.walk.look_first.Goals as goal
 
 pub look_open-requires-clause-acyclic : goal.look_open-requires-clause-acyclic
-look_open-requires-clause-acyclic c =
+look_open-requires-clause-acyclic g c _ _ =
     subst (λ (recorded : Recorded). HasNoCycle recorded.events)
     (sym (ap (λ (test : CompiledView). test.recorded) c.index-tests-i.is
     ∙ c.requires.tests c.loop-i.i c.index-tests-i.result c.loop-i-test.true)) c.limits.ensures.acyclic
 
 pub look_open-requires-clause-skips : goal.look_open-requires-clause-skips
-look_open-requires-clause-skips c =
+look_open-requires-clause-skips g c _ _ =
     skips_of c.args.tests.now c.args.level.now c.loop-i.i c.index-tests-i.result c.of-skips.result
     (λ at. c.of-skips.ensures c.args.tests.now at c.args.level.now c.requires.refusals c.loop-i-test.true)
     c.index-tests-i.is
 
 pub loop-i-preserved : goal.loop-i-preserved
-loop-i-preserved c =
+loop-i-preserved g c =
     let pushed : c.push.new.self.items ≡ c.loop-i.stages.items ++ c.in_ok-look_open.field-0 ∷ [] =
     c.in_ok-push.ensures.items in
     record {

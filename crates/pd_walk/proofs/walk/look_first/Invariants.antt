@@ -6,7 +6,7 @@ use Rattle.pd_walk.specs.declared.stage.Stage.{Stage}
 use Rattle.pd_walk.proofs.walk.look_first.Given as goal
 
 abbrev pub invariant-loop-i : goal.invariant-loop-i
-invariant-loop-i l = record {
+invariant-loop-i g l = record {
   one_each : length l.stages.items ≡ l.i;
   each : (j : ℕ) (test : CompiledView) (stage : Stage) → j < l.i
       → OneStands (get_or l.tests j test) l.width l.gap l.level (get_or l.stages.items j stage);

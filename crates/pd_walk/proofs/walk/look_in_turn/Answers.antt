@@ -10,18 +10,18 @@ use Rattle.pd_walk.proofs.Standing.{all_looked, none_looked, one_looked, skips_o
 use Rattle.pd_walk.proofs.walk.look_in_turn.Goals as goal
 
 pub loop-i-init : goal.loop-i-init
-loop-i-init c =
+loop-i-init g c =
     none_looked c.args.tests.now c.args.width c.args.gap c.args.before.now c.args.level.now c.args.stages.now.items
     c.requires.stand
 
 pub look-requires-clause-acyclic : goal.look-requires-clause-acyclic
-look-requires-clause-acyclic c =
+look-requires-clause-acyclic g c _ _ =
     subst (λ (recorded : Recorded). HasNoCycle recorded.events)
     (sym (ap (λ (test : CompiledView). test.recorded) c.index-tests-i.is
     ∙ c.requires.tests c.loop-i.i c.index-tests-i.result c.loop-i-test.true)) c.limits.ensures.acyclic
 
 pub look-requires-clause-stands : goal.look-requires-clause-stands
-look-requires-clause-stands c =
+look-requires-clause-stands g c _ _ =
     subst (λ (stage : Stage). OneStands c.index-tests-i.result c.args.width c.args.gap c.args.before.now stage)
     (sym (c.replace-stage.ensures.value ∙ c.index_mut.ensures.value))
     (subst (λ (test : CompiledView). OneStands test c.args.width c.args.gap c.args.before.now
@@ -29,14 +29,20 @@ look-requires-clause-stands c =
     (c.loop-i.invariant.left c.loop-i.i c.index-tests-i.result c.index_mut.result.now (omega arith)
     c.loop-i-test.true))
 
+pub is_shared-shared-requires : goal.is_shared-shared-requires
+is_shared-shared-requires g c =
+    (skips_of c.args.tests.now c.args.level.now c.loop-i.i c.index-tests-i.result c.of-skips.result
+    (λ at. c.of-skips.ensures c.args.tests.now at c.args.level.now c.requires.refusals c.loop-i-test.true)
+    c.index-tests-i.is).few
+
 pub look-requires-clause-skips : goal.look-requires-clause-skips
-look-requires-clause-skips c =
+look-requires-clause-skips g c _ _ =
     skips_of c.args.tests.now c.args.level.now c.loop-i.i c.index-tests-i.result c.of-skips.result
     (λ at. c.of-skips.ensures c.args.tests.now at c.args.level.now c.requires.refusals c.loop-i-test.true)
     c.index-tests-i.is
 
 pub loop-i-preserved : goal.loop-i-preserved
-loop-i-preserved c =
+loop-i-preserved g c =
     one_looked c.args.tests.now c.args.width c.args.gap c.args.before.now c.args.level.now c.loop-i.stages.items
     c.loop-i.i c.replace-stage.new.dest c.in_ok-stages.field-0 c.loop-i-test.true c.loop-i.invariant
     (λ test.
@@ -46,6 +52,6 @@ loop-i-preserved c =
     c.in_ok-stages.ensures)
 
 pub returns : goal.returns
-returns c =
+returns g c =
     all_looked c.args.tests.now c.args.width c.args.gap c.args.before.now c.args.level.now c.loop-i.stages.items
     c.loop-i.i (omega (arith, c.loop-i-test.false)) c.loop-i.invariant

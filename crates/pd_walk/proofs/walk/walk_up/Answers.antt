@@ -10,7 +10,7 @@ use Rattle.pd_walk.proofs.Standing.{beside_one, come_first, come_to_end, only_wh
 use Rattle.pd_walk.proofs.walk.walk_up.Goals as goal
 
 pub look_first-requires-clause-level : goal.look_first-requires-clause-level
-look_first-requires-clause-level g c =
+look_first-requires-clause-level g c _ _ =
     subst (λ (l : WholeLevel). IsWholeLevel c.args.computation.now.events l)
     (sym (only_whole c.push.new.self.levels.items c.in_ok-first.field-0 c.last-first.result.now
     (c.in_ok-push.ensures.levels
@@ -31,7 +31,7 @@ first-requires-2 g c = record {
 }
 
 pub look_first-requires-clause-number : goal.look_first-requires-clause-number
-look_first-requires-clause-number g c =
+look_first-requires-clause-number g c _ _ =
     ap (λ (l : WholeLevel). l.number) (only_whole c.push.new.self.levels.items c.in_ok-first.field-0
     c.last-first.result.now
     (c.in_ok-push.ensures.levels
@@ -39,7 +39,7 @@ look_first-requires-clause-number g c =
     ∙ c.in_ok-first.ensures.number
 
 pub look_first-requires-clause-beside : goal.look_first-requires-clause-beside
-look_first-requires-clause-beside g c =
+look_first-requires-clause-beside g c _ _ =
     let only : c.push.new.self.levels.items ≡ c.in_ok-first.field-0 ∷ [] =
     c.in_ok-push.ensures.levels
     ∙ ap (λ (ls : List WholeLevel). ls ++ c.in_ok-first.field-0 ∷ []) c.requires.empty in

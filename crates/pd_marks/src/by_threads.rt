@@ -1,0 +1,188 @@
+//! A whole level looked at by several threads.
+ghost use Rattle.pd_marks.specs.Marks.{IsBefore, IsMarking};
+ghost use Rattle.pd_marks.specs.RunPlaces.{run_at};
+ghost use Rattle.pd_marks.specs.Skips.{HaveNoHits};
+ghost use Rattle.pd_marks.specs.Spots.{IsHitIn, IsSpot, IsWordOf, spot_at};
+ghost use Rattle.pd_model.specs.Answers.{IsFirstSatisfying};
+ghost use Rattle.pd_model.specs.Cuts.{IsOfLevel};
+ghost use Rattle.pd_model.specs.Walks.{NoneBelow};
+ghost use Rattle.pd_runs.specs.Levels.{IsWholeLevel};
+ghost use Rattle.std.specs.Prelude.{◌≡◌, ◌+◌, ◌<◌, ◌≤◌, ℕ, IfNone, IfOk, IfSome, List, None, false, length, slice_index, slice_index_or, true};
+
+use super::hit::{cut_in, hit_in};
+use super::hits::block;
+use super::mark::{Before, avoiding};
+use super::marks::{Marks, bits};
+use super::run;
+use super::skips::Skips;
+use super::spots::{Spot, spots};
+use pd_clock::Cut;
+use pd_format::PROCESS_LIMIT;
+use pd_runs::{RunTest, Whole};
+use rayon::prelude::*;
+use std::alloc::{AllocError, Global};
+use std::thread::Threads;
+
+/// The least count of the last process but one in run `i` whose cut satisfies.
+fn hit_of<T: RunTest>(level: &Whole, test: &T, skips: Skips<'_>, i: usize) -> Option<u64>
+    requires level { IsWholeLevel (T.events test.now) level.now }
+    requires skips { HaveNoHits (T.events test.now) (T.test test.now) level.now.runs skips }
+    requires within { i < length level.now.runs }
+    ensures { IsHitIn (T.test test.now) level.now.number (run_at level.now.runs i) result }
+{
+    hit_in(level, test, skips, i)
+}
+
+/// The same for each run.
+fn hits_in_runs<R: Threads + Sync, T: RunTest + Sync>(
+    rt: &R,
+    alloc: Global,
+    level: &Whole,
+    test: &T,
+    skips: Skips<'_>,
+) -> Result<Vec<Option<u64>>, AllocError>
+    requires level { IsWholeLevel (T.events test.now) level.now }
+    requires skips { HaveNoHits (T.events test.now) (T.test test.now) level.now.runs skips }
+    ensures one_each { IfOk result (λ found. length found.items ≡ length level.now.runs) }
+    ensures hits { IfOk result (λ found. (i : ℕ) → i < length level.now.runs
+        → IsHitIn (T.test test.now) level.now.number (run_at level.now.runs i) (slice_index_or found.items i None)) }
+{
+    (0..level.len())
+        .into_par_iter()
+        .map(
+            |i: usize| -> Option<u64>
+                requires { (i < length level.now.runs) × IsWholeLevel (T.events test.now) level.now
+                    × HaveNoHits (T.events test.now) (T.test test.now) level.now.runs skips }
+                ensures { IsHitIn (T.test test.entry.now) level.entry.now.number (run_at level.entry.now.runs i)
+                    result }
+            { hit_of(level, test, skips, i) },
+        )
+        .collect(rt, alloc)
+}
+
+/// The first cut of the level that satisfies, in lexicographic order. Each cut is tested, by as many threads as there
+/// are processors.
+///
+/// # Errors
+/// An allocation was refused.
+pub fn first_hit_by_threads<R: Threads + Sync, T: RunTest + Sync>(
+    rt: &R,
+    alloc: Global,
+    level: &Whole,
+    test: &T,
+    skips: Skips<'_>,
+) -> Result<Option<Cut>, AllocError>
+    requires level { IsWholeLevel (T.events test.now) level.now }
+    requires skips { HaveNoHits (T.events test.now) (T.test test.now) level.now.runs skips }
+    ensures level { IfOk result (λ found. IfSome found (IsOfLevel (T.events test.now) level.now.number)) }
+    ensures satisfies { IfOk result (λ found. IfSome found (λ cut. T.test test.now cut ≡ true)) }
+    ensures first { IfOk result (λ found. IfSome found (λ cut.
+        NoneBelow (T.events test.now) (T.test test.now) level.now.number
+        → IsFirstSatisfying (T.events test.now) (T.test test.now) cut)) }
+    ensures none { IfOk result (λ found. IfNone found ((cut : List ℕ)
+        → IsOfLevel (T.events test.now) level.now.number cut → T.test test.now cut ≡ false)) }
+{
+    let found = hits_in_runs(rt, alloc, level, test, skips)?;
+    for i in 0..level.len() {
+        match found[i] {
+            Some(x) => return Ok(Some(cut_in(alloc, level, i, x))),
+            None => {}
+        }
+    }
+    Ok(None)
+}
+
+/// The word that begins at a spot: which of the cuts there avoid.
+fn word_of<T: RunTest>(
+    before: &Whole,
+    marks: &Marks,
+    level: &Whole,
+    test: &T,
+    skips: Skips<'_>,
+    spot: Spot,
+) -> u64
+    requires level { IsWholeLevel (T.events test.now) level.now }
+    requires skips { HaveNoHits (T.events test.now) (T.test test.now) level.now.runs skips }
+    requires before { IsBefore (T.events test.now) (T.test test.now) level.now before.now marks.now }
+    requires spot { IsSpot level.now.runs spot }
+    ensures { IsWordOf (T.events test.now) (T.test test.now) level.now spot result }
+{
+    let known = Before {
+        level: before,
+        marks,
+    };
+    let n = block(spot.x, run::hi(level, spot.run));
+    let mut places = [0; PROCESS_LIMIT];
+    avoiding(
+        Some(known),
+        level,
+        test,
+        skips,
+        spot.run,
+        spot.x,
+        n,
+        &mut places,
+    )
+}
+
+/// The words that begin at these spots.
+fn words_of<R: Threads + Sync, T: RunTest + Sync>(
+    rt: &R,
+    alloc: Global,
+    before: &Whole,
+    marks: &Marks,
+    level: &Whole,
+    test: &T,
+    skips: Skips<'_>,
+    spots: &[Spot],
+) -> Result<Vec<u64>, AllocError>
+    requires level { IsWholeLevel (T.events test.now) level.now }
+    requires skips { HaveNoHits (T.events test.now) (T.test test.now) level.now.runs skips }
+    requires before { IsBefore (T.events test.now) (T.test test.now) level.now before.now marks.now }
+    requires spots { (j : ℕ) → j < length spots.now → IsSpot level.now.runs (spot_at spots.now j) }
+    ensures one_each { IfOk result (λ words. length words.items ≡ length spots.now) }
+    ensures words { IfOk result (λ words. (j : ℕ) → j < length spots.now
+        → IsWordOf (T.events test.now) (T.test test.now) level.now (spot_at spots.now j) (slice_index words.items j)) }
+{
+    (0..spots.len())
+        .into_par_iter()
+        .map(
+            |j: usize| -> u64
+                requires { (j < length spots.now) × IsSpot level.now.runs (spot_at spots.now j)
+                    × IsWholeLevel (T.events test.now) level.now
+                    × HaveNoHits (T.events test.now) (T.test test.now) level.now.runs skips
+                    × IsBefore (T.events test.now) (T.test test.now) level.now before.now marks.now }
+                ensures { IsWordOf (T.events test.entry.now) (T.test test.entry.now) level.entry.now
+                    (spot_at spots.entry.now j) result }
+            { word_of(before, marks, level, test, skips, spots[j]) },
+        )
+        .collect(rt, alloc)
+}
+
+/// The marks of the next level, from a level and its marks, by as many threads as there are processors.
+///
+/// # Errors
+/// An allocation was refused.
+pub fn next_by_threads<R: Threads + Sync, T: RunTest + Sync>(
+    rt: &R,
+    alloc: Global,
+    before: &Whole,
+    marks: &Marks,
+    level: &Whole,
+    test: &T,
+    skips: Skips<'_>,
+) -> Result<Marks, AllocError>
+    requires before { IsWholeLevel (T.events test.now) before.now }
+    requires level { IsWholeLevel (T.events test.now) level.now }
+    requires skips { HaveNoHits (T.events test.now) (T.test test.now) level.now.runs skips }
+    requires number { level.now.number ≡ before.now.number + 1 }
+    requires marks { IsMarking (T.events test.now) (T.test test.now) before.now marks.now }
+    ensures { IfOk result (IsMarking (T.events test.now) (T.test test.now) level.now) }
+{
+    let (first, spots) = spots(alloc, level)?;
+    let words = words_of(rt, alloc, before, marks, level, test, skips, &spots)?;
+    match bits(&words) {
+        Some(count) => Ok(Marks::new(first, words, count)),
+        None => Err(AllocError),
+    }
+}

@@ -1,0 +1,63 @@
+//! Whether the work at a level is worth several threads.
+ghost use Rattle.std.specs.Prelude.{◌<◌};
+
+use super::stage::Stage;
+use pd_marks::Skips;
+use pd_runs::Whole;
+use pd_tables::Compiled;
+
+/// From this many comparisons at the cuts of a level on, threads share them: several milliseconds of work, where a thread
+/// takes tens of microseconds to start.
+const SHARED_COMPARISONS: u64 = 200_000;
+
+/// Whether this many comparisons at this many cuts are worth several threads.
+pub(crate) fn is_much(comparisons: u64, cuts: u64) -> bool {
+    comparisons.saturating_mul(cuts) >= SHARED_COMPARISONS
+}
+
+/// How many comparisons the predicates have together, if they are at most the greatest `u64`.
+pub(crate) fn weight(tests: &[Compiled<'_, '_>]) -> u64 {
+    let mut sum: u64 = 0;
+    for i in 0..tests.len() {
+        sum = sum.saturating_add(tests[i].comparisons());
+    }
+    sum
+}
+
+/// How many predicates aren't answered yet.
+pub(crate) fn unanswered(stages: &[Stage]) -> u64 {
+    let mut count: u64 = 0;
+    for stage in stages {
+        match stage {
+            Stage::Answered(_) => {}
+            _ => count = count.saturating_add(1),
+        }
+    }
+    count
+}
+
+/// How many cuts of a level have to be looked at: those of the runs that aren't skipped.
+fn cuts_left(level: &Whole, skips: Skips<'_>) -> u64
+    requires { skips.bit < 64 }
+{
+    let mut sum: u64 = 0;
+    for i in 0..level.len() {
+        if !skips.has(i) {
+            sum = sum.saturating_add(level.hi(i).saturating_sub(level.lo(i)).saturating_add(1));
+        }
+    }
+    sum
+}
+
+/// Whether threads share what a predicate has to evaluate at a level: there are several workers, and it is much.
+pub(crate) fn is_shared(
+    several: bool,
+    test: &Compiled<'_, '_>,
+    level: &Whole,
+    skips: Skips<'_>,
+) -> bool
+    requires { skips.bit < 64 }
+{
+    let comparisons = test.comparisons();
+    several && is_much(comparisons, level.cuts()) && is_much(comparisons, cuts_left(level, skips))
+}
