@@ -11,3 +11,11 @@ pub push_more : {A : Type 0} (f : ℕ → List A) (old now after : List A) (n : 
 push_more {A = A} f old now after n is added =
     added ∙ (ap (λ (xs : List A). xs ++ f n) is ∙ (append_assoc old (upto f n) (f n)
     ∙ ap (λ (xs : List A). old ++ xs) (sym (upto_more f n))))
+
+-- three parts, one after another
+pub three_more : (old first second third one two three : List ℕ) → one ≡ old ++ first → two ≡ one ++ second
+    → three ≡ two ++ third → three ≡ old ++ ((first ++ second) ++ third)
+three_more old first second third one two three is next last =
+    last ∙ (ap (λ (xs : List ℕ). xs ++ third)
+    (next ∙ (ap (λ (xs : List ℕ). xs ++ second) is ∙ append_assoc old first second))
+    ∙ append_assoc old (first ++ second) third)

@@ -30,7 +30,7 @@ module _ (c recorded : Computation) (columns : Place → ℕ) (messages : List (
       ++ evidence_shapes shown columns c evidence
       → drawing.width ≡ page_width shown last → drawing.height ≡ lane_y (length c) - 30
       → string_bytes drawing.title ≡ title
-      → string_bytes drawing.description ≡ description shown most c evidence
+      → string_bytes drawing.description ≡ description shown most c names evidence
       → IsPicture c (pairs_view messages) names title evidence drawing
   is_picture lawful are drawing shapes wide high titled described = record {
     columns = columns;
@@ -53,6 +53,6 @@ module _ (c recorded : Computation) (columns : Place → ℕ) (messages : List (
     height = high;
     is_titled = titled;
     is_described =
-        described ∙ (ap (λ (n : ℕ). description shown n c evidence) most_is
-        ∙ ap (λ (w : Window). description w (widest columns c) c evidence) window_is);
+        described ∙ (ap (λ (n : ℕ). description shown n c names evidence) most_is
+        ∙ ap (λ (w : Window). description w (widest columns c) c names evidence) window_is);
   }

@@ -38,11 +38,16 @@ texts_view texts = map string_bytes texts
 
 -- ---- the run
 
+-- the height of the type of a process's name: a long one is set smaller, so that it has room
+abbrev pub name_size : List ℕ → ℕ
+name_size name = if nat_le (length name) 18 then 15 else 10
+
 -- the line of a process, and its name at the left of it
 abbrev pub lane_shapes : Window → List (List ℕ) → ℕ → List Seen
 lane_shapes window names p =
     SeenLine class.Process (point left (lane_y p)) (point (right window) (lane_y p))
-    ∷ SeenText class.Name (point (left - 14) (lane_y p + 5)) anchor.End 15 (shortened 14 (text_at names p)) ∷ []
+    ∷ SeenText class.Name (point (left - 14) (lane_y p + 5)) anchor.End (name_size (text_at names p))
+    (shortened 32 (text_at names p)) ∷ []
 
 abbrev pub lanes_shapes : Window → List (List ℕ) → List Seen
 lanes_shapes window names = upto (lane_shapes window names) (length names)
@@ -95,7 +100,7 @@ is_past (Observation path) e = true
 abbrev pub event_shapes : Window → (Place → ℕ) → Evidence → Place → List Seen
 event_shapes window columns evidence e =
     SeenCircle (if is_past evidence e then class.Past else class.Next) (event_point window columns e) 7
-    ∷ SeenText class.Number (point (column_x window (columns e)) (lane_y e.process + 26)) anchor.Middle 12
+    ∷ SeenText class.Number (point (column_x window (columns e)) (lane_y e.process + 30)) anchor.Middle 12
     (decimal e.number) ∷ []
 
 -- ---- the evidence
@@ -106,12 +111,12 @@ cut_x window columns counts p = column_x window (columns (place p (slice_index c
 
 abbrev pub cut_points : Window → (Place → ℕ) → List ℕ → ℕ → List Point
 cut_points window columns counts p =
-    point (cut_x window columns counts p) (lane_y p - 34) ∷ point (cut_x window columns counts p) (lane_y p + 34) ∷ []
+    point (cut_x window columns counts p) (lane_y p - 36) ∷ point (cut_x window columns counts p) (lane_y p + 36) ∷ []
 
 -- the values of a process's variables at the cut, beside it
 abbrev pub value_shapes : Window → (Place → ℕ) → List ℕ → List (List ℕ) → ℕ → List Seen
 value_shapes window columns counts values p =
-    SeenText class.Value (point (cut_x window columns counts p + 8) (lane_y p - 14)) anchor.Start 13
+    SeenText class.Value (point (cut_x window columns counts p + 8) (lane_y p - 20)) anchor.Start 13
     (shortened 40 (text_at values p)) ∷ []
 
 abbrev pub cut_shapes : Window → (Place → ℕ) → (lanes : ℕ) → List ℕ → List (List ℕ) → List Seen
@@ -123,7 +128,7 @@ cut_shapes window columns lanes counts values =
 abbrev pub step_shapes : Window → (Place → ℕ) → (step : ℕ) → Place → List Seen
 step_shapes window columns step e =
     if is_shown window (columns e) then (
-    SeenText class.Step (point (column_x window (columns e)) (lane_y e.process - 14)) anchor.Middle 13 (decimal step)
+    SeenText class.Step (point (column_x window (columns e)) (lane_y e.process - 20)) anchor.Middle 13 (decimal step)
     ∷ []
     ) else []
 
@@ -170,10 +175,36 @@ heading_shapes window widest title evidence =
 abbrev pub counts_text : Computation → List ℕ
 counts_text c = decimal (length c) ++ codes " processes, " ++ decimal (total c) ++ codes " events. "
 
+-- these values, after the word that leads to them; nothing if there are none
+abbrev pub where_worth : List ℕ → List ℕ
+where_worth [] = []
+where_worth (byte ∷ rest) = codes ", where " ++ byte ∷ rest
+
+-- a number and a name, each after these words
+unfoldable pub count_words : (before : List ℕ) → (count : ℕ) → (between name : List ℕ) → List ℕ
+count_words before count between name = before ++ decimal count ++ between ++ name
+
+-- how many events of the process of this name are in a cut, and what its variables are worth there
+unfoldable pub process_words : (count : ℕ) → (name values : List ℕ) → List ℕ
+process_words count name values =
+    count_words (codes " The cut has ") count (codes " events of ") name ++ where_worth values ++ codes "."
+
+-- the same of the process with this number
+abbrev pub crossing_words : (counts : List ℕ) → (names values : List (List ℕ)) → ℕ → List ℕ
+crossing_words counts names values p =
+    process_words (slice_index counts p) (text_at names p) (text_at values p)
+
+-- the same of each process, if the evidence is a cut
+abbrev pub cut_words : (names : List (List ℕ)) → (lanes : ℕ) → Evidence → List ℕ
+cut_words names lanes Absent = []
+cut_words names lanes (Cut counts values) = upto (crossing_words counts.items names (texts_view values.items)) lanes
+cut_words names lanes (Observation path) = []
+
 -- what stands in the picture, for those who don't see it
-abbrev pub description : Window → (widest : ℕ) → Computation → Evidence → List ℕ
-description window widest c evidence =
+abbrev pub description : Window → (widest : ℕ) → Computation → (names : List (List ℕ)) → Evidence → List ℕ
+description window widest c names evidence =
     counts_text c ++ legend evidence ++ codes " " ++ window_note window widest
+    ++ cut_words names (length c) evidence
 
 -- ---- the whole
 
@@ -227,4 +258,4 @@ pub record IsPicture (c : Computation) (messages : List (Place × Place)) (names
   pub height : drawing.height ≡ page_height c
   pub is_titled : string_bytes drawing.title ≡ title
   pub is_described : string_bytes drawing.description
-      ≡ description (window columns c evidence) (widest columns c) c evidence
+      ≡ description (window columns c evidence) (widest columns c) c names evidence

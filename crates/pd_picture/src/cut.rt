@@ -37,8 +37,8 @@ fn push_crossing(
 {
     let x = cut_x(window, rows, counts, p);
     let y = lane_y(p);
-    points.push(Point { x, y: y - 34 })?;
-    points.push(Point { x, y: y + 34 })?;
+    points.push(Point { x, y: y - 36 })?;
+    points.push(Point { x, y: y + 36 })?;
     Ok(())
 }
 
@@ -76,7 +76,7 @@ fn push_value(
     let text = shortened(alloc, text_at(values, p), 40)?;
     let at = Point {
         x: cut_x(window, rows, counts, p) + 8,
-        y: lane_y(p) - 14,
+        y: lane_y(p) - 20,
     };
     push_text(shapes, Class::Value, at, Anchor::Start, 13, text)
 }

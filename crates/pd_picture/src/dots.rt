@@ -97,7 +97,7 @@ fn push_dot(
     push_circle(shapes, class, at, 7)?;
     let below = Point {
         x: at.x,
-        y: at.y + 26,
+        y: at.y + 30,
     };
     push_number(alloc, shapes, Class::Number, below, 12, place.number)
 }

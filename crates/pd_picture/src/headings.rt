@@ -1,12 +1,13 @@
 //! What a picture says in words.
-ghost use Rattle.pd_picture.specs.Pictures.{counts_text, description, heading_shapes, legend, point, window_note};
+ghost use Rattle.pd_picture.specs.Layout.{upto};
+ghost use Rattle.pd_picture.specs.Pictures.{count_words, counts_text, crossing_words, cut_words, description, heading_shapes, legend, point, process_words, texts_view, where_worth, window_note};
 ghost use Rattle.pd_picture.specs.Shapes.{SeenText, all_seen};
 ghost use Rattle.std.specs.Prelude.{◌≡◌, ◌++◌, ◌∷◌, [], IfOk, OnOk, string_bytes};
 
 use super::Evidence;
 use super::shapes::push_text;
-use super::texts::{push_decimal, push_words, shortened};
-use super::window::Window;
+use super::texts::{push_decimal, push_words, shortened, text_at};
+use super::window::{Window, count_at};
 use pd_clock::Computation;
 use pd_svg::{Anchor, Class, Point, Shape};
 use std::alloc::{AllocError, Global};
@@ -99,21 +100,128 @@ fn counts_text(alloc: Global, computation: &Computation<'_>) -> Result<String, A
     Ok(text)
 }
 
+/// Appends these values after the word that leads to them, if there are some.
+fn push_worth(text: &mut String, values: &str) -> Result<(), AllocError>
+    ensures { OnOk result (string_bytes text.new ≡ string_bytes text.old ++ where_worth values.now) }
+{
+    if !values.is_empty() {
+        push_words(text, ", where ")?;
+        push_words(text, values)?;
+    }
+    Ok(())
+}
+
+/// Appends a number and a name, each after these words.
+#[tactic(auto, unfolding(crate::specs::Pictures::count_words))]
+fn push_count_words(
+    alloc: Global,
+    text: &mut String,
+    before: &str,
+    count: u64,
+    between: &str,
+    name: &str,
+) -> Result<(), AllocError>
+    ensures { OnOk result (string_bytes text.new ≡ string_bytes text.old
+        ++ count_words before.now count between.now name.now) }
+{
+    push_words(text, before)?;
+    push_decimal(alloc, text, count)?;
+    push_words(text, between)?;
+    push_words(text, name)
+}
+
+/// Appends how many events of the process of this name are in a cut, and what its variables are worth there.
+fn push_process_words(
+    alloc: Global,
+    text: &mut String,
+    count: u64,
+    name: &str,
+    values: &str,
+) -> Result<(), AllocError>
+    ensures { OnOk result (string_bytes text.new ≡ string_bytes text.old
+        ++ process_words count name.now values.now) }
+{
+    push_count_words(alloc, text, " The cut has ", count, " events of ", name)?;
+    push_worth(text, values)?;
+    push_words(text, ".")?;
+    Ok(())
+}
+
+/// Appends the same of the process with this number.
+fn push_crossing_words(
+    alloc: Global,
+    text: &mut String,
+    counts: &[u64],
+    names: &[String],
+    values: &[String],
+    p: usize,
+) -> Result<(), AllocError>
+    ensures { OnOk result (string_bytes text.new ≡ string_bytes text.old
+        ++ crossing_words counts.now (texts_view names.now) (texts_view values.now) p) }
+{
+    push_process_words(
+        alloc,
+        text,
+        count_at(counts, p),
+        text_at(names, p),
+        text_at(values, p),
+    )
+}
+
+/// Appends the same of each of these many processes.
+fn push_crossings_words(
+    alloc: Global,
+    text: &mut String,
+    counts: &[u64],
+    names: &[String],
+    values: &[String],
+    lanes: usize,
+) -> Result<(), AllocError>
+    ensures { OnOk result (string_bytes text.new ≡ string_bytes text.old
+        ++ upto (crossing_words counts.now (texts_view names.now) (texts_view values.now)) lanes) }
+{
+    for p in 0..lanes {
+        push_crossing_words(alloc, text, counts, names, values, p)?;
+    }
+    Ok(())
+}
+
+/// Appends the same of each of these many processes, if the evidence is a cut.
+fn push_cut_words(
+    alloc: Global,
+    text: &mut String,
+    names: &[String],
+    lanes: usize,
+    evidence: &Evidence,
+) -> Result<(), AllocError>
+    ensures { OnOk result (string_bytes text.new ≡ string_bytes text.old
+        ++ cut_words (texts_view names.now) lanes evidence.now) }
+{
+    match evidence {
+        Evidence::Cut { counts, values } => {
+            push_crossings_words(alloc, text, counts, names, values, lanes)
+        }
+        Evidence::Absent | Evidence::Observation(_) => Ok(()),
+    }
+}
+
 /// What stands in the picture, for those who don't see it.
 pub(crate) fn description(
     alloc: Global,
     window: Window,
     widest: u32,
     computation: &Computation<'_>,
+    names: &[String],
     evidence: &Evidence,
 ) -> Result<String, AllocError>
     ensures { IfOk result (λ text. string_bytes text
-        ≡ description window widest computation.now.events evidence.now) }
+        ≡ description window widest computation.now.events (texts_view names.now) evidence.now) }
 {
     let note = window_note(alloc, window, widest)?;
     let mut text = counts_text(alloc, computation)?;
     push_words(&mut text, legend(evidence))?;
     push_words(&mut text, " ")?;
     push_words(&mut text, &note)?;
+    push_cut_words(alloc, &mut text, names, computation.processes(), evidence)?;
     Ok(text)
 }

@@ -1,5 +1,5 @@
 //! The lines of the processes.
-ghost use Rattle.pd_picture.specs.Pictures.{lane_shapes, lanes_shapes, texts_view};
+ghost use Rattle.pd_picture.specs.Pictures.{lane_shapes, lanes_shapes, name_size, texts_view};
 ghost use Rattle.pd_picture.specs.Shapes.{all_seen};
 ghost use Rattle.std.specs.Prelude.{◌≡◌, ◌++◌, OnOk};
 
@@ -8,6 +8,13 @@ use super::texts::{shortened, text_at};
 use super::window::{Window, lane_y};
 use pd_svg::{Anchor, Class, Point, Shape};
 use std::alloc::{AllocError, Global};
+
+/// The height of the type of a process's name: a long one is set smaller, so that it has room.
+fn name_size(name: &str) -> u32
+    ensures { result ≡ name_size name.now }
+{
+    if name.len() <= 18 { 15 } else { 10 }
+}
 
 /// Adds the line of a process, and its name at the left of it.
 fn push_lane(
@@ -27,9 +34,11 @@ fn push_lane(
         y,
     };
     push_line(shapes, Class::Process, from, to)?;
-    let name = shortened(alloc, text_at(names, p), 14)?;
+    let name = text_at(names, p);
     let at = Point { x: 206, y: y + 5 };
-    push_text(shapes, Class::Name, at, Anchor::End, 15, name)
+    let size = name_size(name);
+    let text = shortened(alloc, name, 32)?;
+    push_text(shapes, Class::Name, at, Anchor::End, size, text)
 }
 
 /// Adds the lines of the processes of these names.

@@ -166,7 +166,7 @@ fn drawn(
         evidence,
     )?;
     let title = String::from_str(alloc, title)?;
-    let description = description(alloc, window, widest, computation, evidence)?;
+    let description = description(alloc, window, widest, computation, names, evidence)?;
     Ok(Drawing {
         width: page_width(window, focus),
         height: lane_y(computation.processes()) - 30,

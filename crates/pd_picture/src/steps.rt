@@ -30,7 +30,7 @@ fn push_step(
     let at = window.event_point(rows, place);
     let above = Point {
         x: at.x,
-        y: at.y - 14,
+        y: at.y - 20,
     };
     push_number(alloc, shapes, Class::Step, above, 13, step)
 }

@@ -87,7 +87,7 @@ declarations Flight = codes "stroke:#0072b2;stroke-width:2;stroke-dasharray:7 5"
 declarations Cut = codes "fill:none;stroke:#d55e00;stroke-width:4;stroke-linejoin:round"
 declarations Number = codes "fill:#595959;stroke:#fff;stroke-width:4;paint-order:stroke"
 declarations Step = codes "fill:#006b4f;font-weight:bold;stroke:#fff;stroke-width:4;paint-order:stroke"
-declarations Value = codes "fill:#a84a00;font-weight:bold"
+declarations Value = codes "fill:#a84a00;font-weight:bold;stroke:#fff;stroke-width:4;paint-order:stroke"
 declarations Name = codes "fill:#000;font-weight:bold"
 declarations Note = codes "fill:#000"
 
@@ -104,7 +104,7 @@ all_classes = Process ∷ Past ∷ Next ∷ Message ∷ Flight ∷ Cut ∷ Numbe
 unfoldable pub style_start : List ℕ
 style_start =
     codes "<style>\ntext{font-family:DejaVu Sans,Verdana,Arial,sans-serif}\n"
-    ++ codes "@page{size:landscape}\n@media print{svg{width:100%;height:auto}}\n"
+    ++ codes "@page{size:landscape}\n@media print{svg{width:100%;height:auto;max-height:100vh}}\n"
     ++ codes ".page{fill:#fff}\n.head{fill:#0072b2}\n"
 
 abbrev pub style_text : List ℕ

@@ -24,7 +24,8 @@ fn declarations(class: Class) -> &'static [u8]
         Class::Number => b"fill:#595959;stroke:#fff;stroke-width:4;paint-order:stroke",
         Class::Step =>
             b"fill:#006b4f;font-weight:bold;stroke:#fff;stroke-width:4;paint-order:stroke",
-        Class::Value => b"fill:#a84a00;font-weight:bold",
+        Class::Value =>
+            b"fill:#a84a00;font-weight:bold;stroke:#fff;stroke-width:4;paint-order:stroke",
         Class::Name => b"fill:#000;font-weight:bold",
         Class::Note => b"fill:#000",
     }
@@ -59,7 +60,7 @@ fn style_start() -> &'static [u8]
     b"<style>\n\
     text{font-family:DejaVu Sans,Verdana,Arial,sans-serif}\n\
     @page{size:landscape}\n\
-    @media print{svg{width:100%;height:auto}}\n\
+    @media print{svg{width:100%;height:auto;max-height:100vh}}\n\
     .page{fill:#fff}\n\
     .head{fill:#0072b2}\n"
 }
