@@ -18,63 +18,7 @@ import threading
 import time
 
 from peers import free_port
-
-SHIM = r"""
-#include <errno.h>
-#include <fcntl.h>
-#include <stdlib.h>
-#include <sys/mman.h>
-#include <unistd.h>
-
-void *__libc_malloc(size_t);
-void *__libc_calloc(size_t, size_t);
-void *__libc_realloc(void *, size_t);
-void *__libc_memalign(size_t, size_t);
-
-static long *asked, refused;
-
-/* The count stands in a file that is mapped, since a program with threads may end without its destructors. */
-__attribute__((constructor)) static void map(void) {
-    const char *number = getenv("REFUSED"), *path = getenv("ASKED");
-    int file = path ? open(path, O_RDWR) : -1;
-    if (file < 0) return;
-    refused = number ? atol(number) : 0;
-    void *place = mmap(0, sizeof *asked, PROT_READ | PROT_WRITE, MAP_SHARED, file, 0);
-    close(file);
-    if (place != MAP_FAILED) asked = place;
-}
-
-static int is_refused(void) {
-    return asked && __atomic_add_fetch(asked, 1, __ATOMIC_SEQ_CST) == refused;
-}
-
-void *malloc(size_t size) {
-    if (is_refused()) { errno = ENOMEM; return 0; }
-    return __libc_malloc(size);
-}
-
-void *calloc(size_t count, size_t size) {
-    if (is_refused()) { errno = ENOMEM; return 0; }
-    return __libc_calloc(count, size);
-}
-
-void *realloc(void *old, size_t size) {
-    if (is_refused()) { errno = ENOMEM; return 0; }
-    return __libc_realloc(old, size);
-}
-
-void *aligned_alloc(size_t alignment, size_t size) {
-    if (is_refused()) { errno = ENOMEM; return 0; }
-    return __libc_memalign(alignment, size);
-}
-
-int posix_memalign(void **given, size_t alignment, size_t size) {
-    if (is_refused()) return ENOMEM;
-    *given = __libc_memalign(alignment, size);
-    return *given ? 0 : ENOMEM;
-}
-"""
-
+from refusals import asked_for, make_shim, surroundings
 
 # The processes of a session with their variables, its predicates, and the events of each process.
 TWO, BOTH = {"a": "x", "b": "y"}, {"both": "a.x == 1 and b.y == 1"}
@@ -101,24 +45,10 @@ def write_session(folder, variables, predicates, events):
             out.writelines(f"{{{line}}}\n" for line in [f'"process":"{name}"', *lines, '"end":true'])
 
 
-def shim(folder, number):
-    """The surroundings of a run with this allocation refused, of which the allocations are counted from now on."""
-    asked = os.path.join(folder, "asked")
-    with open(asked, "wb") as counted:
-        counted.write(bytes(8))
-    return {**os.environ, "LD_PRELOAD": os.path.join(folder, "shim.so"), "REFUSED": str(number), "ASKED": asked}
-
-
-def asked_for(folder):
-    """How many allocations the last run asked for."""
-    with open(os.path.join(folder, "asked"), "rb") as counted:
-        return int.from_bytes(counted.read(8), sys.byteorder)
-
-
 def run(arguments, bundle, folder, number):
     """What a run with these arguments gives, and how many allocations it asked for."""
-    surroundings = shim(folder, number)
-    ended = subprocess.run(arguments, input=bundle, capture_output=True, env=surroundings, timeout=RUN_SECONDS)
+    ended = subprocess.run(arguments, input=bundle, capture_output=True, env=surroundings(folder, number),
+                           timeout=RUN_SECONDS)
     return (ended.returncode, ended.stdout, ended.stderr), asked_for(folder)
 
 
@@ -157,7 +87,7 @@ def serve(arguments, streams, folder, number):
     """What a server gives and its watcher is shown, and how many allocations it asked for."""
     port, shown = free_port(), []
     server = subprocess.Popen([*arguments, "--port", str(port), "--watchers", "1"], stdout=subprocess.PIPE,
-                              stderr=subprocess.PIPE, env=shim(folder, number))
+                              stderr=subprocess.PIPE, env=surroundings(folder, number))
     peers = threading.Thread(target=play, args=(port, server, streams, shown))
     peers.start()
     try:
@@ -220,10 +150,7 @@ def refuse_each(name, take, arguments, given, folder):
 def main():
     program = os.path.abspath(sys.argv[1])
     with tempfile.TemporaryDirectory() as folder:
-        source = os.path.join(folder, "shim.c")
-        with open(source, "w") as out:
-            out.write(SHIM)
-        subprocess.run(["gcc", "-O1", "-shared", "-fPIC", "-o", os.path.join(folder, "shim.so"), source], check=True)
+        make_shim(folder)
         inputs = {path: path for path in sys.argv[2:]}
         for name, session in SESSIONS.items():
             inputs[name] = os.path.join(folder, name)

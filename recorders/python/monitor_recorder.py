@@ -12,6 +12,7 @@ process crashes. Several threads may use one recorder. What `monitor` would refu
 and the recorder goes on as if the call hadn't been made. The formats and limits are those of docs/SPECIFICATION.md.
 """
 import contextlib
+import io
 import itertools
 import json
 import operator
@@ -39,17 +40,20 @@ class NotRecorded(ValueError):
 class Recorder:
     """The recording of one process. It writes its first line when it is made.
 
-    `out` takes bytes, without a buffer of its own: a file that was opened with `buffering=0`, or a connected socket. It
-    is closed with the recorder. If `variables` is given, no other variable may be set; otherwise any 16 may.
+    `out` takes bytes, without a buffer of its own: a file that was opened with `buffering=0`, or a connected socket. A
+    file with a buffer is refused, since a crash loses what stands in it. `out` is closed with the recorder.
 
-    Other threads may record too. Hold `lock`, by `with recorder.lock:`, if an event and its line must stay together.
+    If `variables` is given, no other variable may be set; otherwise any 16 may.
+
+    Other threads may record too, but no signal handler. Hold `lock`, by `with recorder.lock:`, if an event and its line
+    must stay together.
     """
 
     def __init__(self, process, out, variables=None):
         self.process = checked_name("process", process)
         self.lock = threading.RLock()
         self._variables = checked_variables(variables)
-        self._out = out
+        self._out = checked_file(out)
         self._owner = os.getpid()
         self._state = OPEN
         self._events = 0
@@ -198,6 +202,13 @@ class Recorder:
             self._out.sendall(text)
         else:
             write_all(self._out, text)
+
+
+def checked_file(out):
+    """What is given, if it isn't one of Python's files that keep bytes for a while before the system has them."""
+    if isinstance(out, (io.BufferedIOBase, io.TextIOBase)) and not isinstance(out, io.BytesIO):
+        raise NotRecorded("the file has a buffer, which a crash would lose: open it in mode wb with buffering=0")
+    return out
 
 
 def write_all(out, text):

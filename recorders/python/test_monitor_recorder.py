@@ -212,6 +212,15 @@ class Files(Case):
         Recorder.to_file("right", self.path, replace=True).close()
         self.assertEqual(self.lines()[0], {"process": "right"})
 
+    def test_a_file_with_a_buffer(self):
+        for mode in ("wb", "w"):
+            with open(self.path, mode) as out, self.assertRaisesRegex(NotRecorded, "has a buffer"):
+                Recorder("left", out)
+            self.assertEqual(self.text(), "")
+        memory = io.BytesIO()
+        Recorder("left", memory).event()
+        self.assertEqual(memory.getvalue(), b'{"process":"left"}\n{}\n')
+
     def test_a_file_that_cannot_be_written(self):
         with self.assertRaises(OSError):
             Recorder.to_file("left", "/dev/full", replace=True)
