@@ -23,6 +23,10 @@ use rayon::prelude::*;
 use std::alloc::{AllocError, Global};
 use std::thread::Threads;
 
+/// How few runs, or words of marks, a thread is started for. A level comes here only if looking at it takes milliseconds,
+/// and `rayon` by itself would give no thread fewer than some thousand of them.
+const LEAST_PIECE: usize = 64;
+
 /// The least count of the last process but one in run `i` whose cut satisfies.
 fn hit_of<T: RunTest>(level: &Whole, test: &T, skips: Skips<'_>, i: usize) -> Option<u64>
     requires level { IsWholeLevel (T.events test.now) level.now }
@@ -57,6 +61,7 @@ fn hits_in_runs<R: Threads + Sync, T: RunTest + Sync>(
                     result }
             { hit_of(level, test, skips, i) },
         )
+        .with_min_len(LEAST_PIECE)
         .collect(rt, alloc)
 }
 
@@ -156,6 +161,7 @@ fn words_of<R: Threads + Sync, T: RunTest + Sync>(
                     (spot_at spots.entry.now j) result }
             { word_of(before, marks, level, test, skips, spots[j]) },
         )
+        .with_min_len(LEAST_PIECE)
         .collect(rt, alloc)
 }
 

@@ -21,7 +21,7 @@ collect-requires-clause-ready g c κs within =
     let inside = nat_range-All (λ i. (i < length runs) × IsWholeLevel events c.args.level.now
     × HaveNoHits events test runs c.args.skips) 0 (length runs)
     (λ i low high. (high, c.requires.level, c.requires.skips)) in
-    rw (c.map.ensures.base, c.map.ensures.f, ends.0, ends.1, c.len.ensures) (λ k d lt. (inside k d lt, λ y p. tt))
+    rw (c.with_min_len.ensures.base, c.map.ensures.base, c.map.ensures.f, ends.0, ends.1, c.len.ensures) (λ k d lt. (inside k d lt, λ y p. tt))
 
 pub returns-clause-one_each : goal.returns-clause-one_each
 returns-clause-one_each g c =
@@ -29,7 +29,7 @@ returns-clause-one_each g c =
     let runs = c.args.level.now.runs in
     let whole : length runs - 0 ≡ length runs = omega arith in
     IfOk-then c.collect.result _ _ c.collect.ensures (λ v h.
-    let chain = rw (c.map.ensures.base, c.map.ensures.f) at h.1 in
+    let chain = rw (c.with_min_len.ensures.base, c.map.ensures.base, c.map.ensures.f) at h.1 in
     let places = chain.1 ∙ (λ i. nat_range (ends.0 i) ((ends.1 ∙ c.len.ensures) i)) ∙ ap (range_with_len 0) whole in
     ap length h.2 ∙ as_many (λ i found. IsHitIn (g.T.RunTest.test c.args.test.now) c.args.level.now.number
     (run_at runs i) found) 0 (length runs) h.0 (rw places at chain.2))
@@ -40,7 +40,7 @@ returns-clause-hits g c =
     let runs = c.args.level.now.runs in
     let whole : length runs - 0 ≡ length runs = omega arith in
     IfOk-then c.collect.result _ _ c.collect.ensures (λ v h.
-    let chain = rw (c.map.ensures.base, c.map.ensures.f) at h.1 in
+    let chain = rw (c.with_min_len.ensures.base, c.map.ensures.base, c.map.ensures.f) at h.1 in
     let places = chain.1 ∙ (λ i. nat_range (ends.0 i) ((ends.1 ∙ c.len.ensures) i)) ∙ ap (range_with_len 0) whole in
     rw h.2 (λ i lt. in_place (λ i found. IsHitIn (g.T.RunTest.test c.args.test.now) c.args.level.now.number
     (run_at runs i) found) (length runs) h.0 (rw places at chain.2) i None lt))

@@ -22,7 +22,7 @@ collect-requires-clause-ready g c κs within =
     × IsWholeLevel events level × HaveNoHits events test level.runs c.args.skips
     × IsBefore events test level c.args.before.now c.args.marks.now) 0 (length spots)
     (λ j low high. (high, c.requires.spots j high, c.requires.level, c.requires.skips, c.requires.before)) in
-    rw (c.map.ensures.base, c.map.ensures.f, ends.0, ends.1) (λ k d lt. (inside k d lt, λ y p. tt))
+    rw (c.with_min_len.ensures.base, c.map.ensures.base, c.map.ensures.f, ends.0, ends.1) (λ k d lt. (inside k d lt, λ y p. tt))
 
 pub returns-clause-one_each : goal.returns-clause-one_each
 returns-clause-one_each g c =
@@ -30,7 +30,7 @@ returns-clause-one_each g c =
     let spots = c.args.spots.now in
     let whole : length spots - 0 ≡ length spots = omega arith in
     IfOk-then c.collect.result _ _ c.collect.ensures (λ v h.
-    let chain = rw (c.map.ensures.base, c.map.ensures.f) at h.1 in
+    let chain = rw (c.with_min_len.ensures.base, c.map.ensures.base, c.map.ensures.f) at h.1 in
     let places = chain.1 ∙ (λ i. nat_range (ends.0 i) (ends.1 i)) ∙ ap (range_with_len 0) whole in
     ap length h.2 ∙ as_many (λ j word. IsWordOf (g.T.RunTest.events c.args.test.now)
     (g.T.RunTest.test c.args.test.now) c.args.level.now (spot_at spots j) word) 0 (length spots) h.0
@@ -42,7 +42,7 @@ returns-clause-words g c =
     let spots = c.args.spots.now in
     let whole : length spots - 0 ≡ length spots = omega arith in
     IfOk-then c.collect.result _ _ c.collect.ensures (λ v h.
-    let chain = rw (c.map.ensures.base, c.map.ensures.f) at h.1 in
+    let chain = rw (c.with_min_len.ensures.base, c.map.ensures.base, c.map.ensures.f) at h.1 in
     let places = chain.1 ∙ (λ i. nat_range (ends.0 i) (ends.1 i)) ∙ ap (range_with_len 0) whole in
     rw h.2 (λ j lt. in_place (λ j word. IsWordOf (g.T.RunTest.events c.args.test.now)
     (g.T.RunTest.test c.args.test.now) c.args.level.now (spot_at spots j) word) (length spots) h.0
