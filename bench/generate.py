@@ -9,6 +9,12 @@ streams   8 processes of 10,000 events each, every event setting 16 variables; o
 messages  8 processes of 10,000 events each, nearly all of them sends and receipts of a run without a cycle; the same
           predicate
 avoiding  7 processes in 40 rounds of 4 local events; a sum that some cuts satisfy, and no observation has to
+sums      7 processes in 20 rounds of 4 local events; an `or` of 40 sums that no cut satisfies
+marked    the same with one part more, which the cut after p0's first event satisfies, so that nearly all levels are
+          marked
+many      8 processes in 3 rounds of 3 local events; 16 predicates of 30 sums each that no cut satisfies
+lists     8 processes of 20 local events each and no messages; an `or` of 14 sums, which holds unless the processes
+          are nearly level, so that the avoiding cuts stand in lists
 locals    the same lines with each send and receipt replaced by a local event of the same length, for comparison with
           messages
 """
@@ -91,6 +97,37 @@ def avoiding():
     rounds(7, 4, 40, [("sometimes", " + ".join(f"p{k}.n" for k in range(7)) + " == 7000")])
 
 
+def sums(processes, count, seed):
+    """Comparisons of sums over all processes that are false where all counters are even."""
+    rng = random.Random(seed)
+    parts = []
+    for _ in range(count):
+        sum_of = " + ".join(f"{2 * rng.randrange(1, 5)} * p{k}.n" for k in range(processes))
+        parts.append(f"{sum_of} == {2 * rng.randrange(10000) + 1}")
+    return parts
+
+
+def open_sums():
+    rounds(7, 4, 20, [("never", " or ".join(sums(7, 40, 3)))])
+
+
+def marked_sums():
+    rounds(7, 4, 20, [("early", " or ".join(["p0.n > 0 and p1.n == 0", *sums(7, 40, 3)]))])
+
+
+def many_sums():
+    rounds(8, 3, 3, [(f"q{k}", " or ".join(sums(8, 30, k))) for k in range(16)])
+
+
+def listed_sums():
+    """In each avoiding cut no process is more than two events ahead of the next one: some tens of thousands a level."""
+    names = [f"p{k}" for k in range(8)]
+    wide = [f"p{k}.n - p{(k + 1) % 8}.n > 4" for k in range(8)]
+    head = document([(name, ["n"]) for name in names],
+                    [("apart", " or ".join(wide + sums(8, 6, 5)))], 65536)
+    bundle(head, [stream(name, ({"n": 2 * i} for i in range(1, 21))) for name in names])
+
+
 def streams():
     variables = [f"v{k:02}" for k in range(16)]
     names = [f"p{k}" for k in range(8)]
@@ -157,4 +194,4 @@ def locals_alone():
 
 
 {"lattice": lattice, "terms": terms, "streams": streams, "messages": messages, "locals": locals_alone,
- "avoiding": avoiding}[sys.argv[1]]()
+ "avoiding": avoiding, "sums": open_sums, "marked": marked_sums, "many": many_sums, "lists": listed_sums}[sys.argv[1]]()
