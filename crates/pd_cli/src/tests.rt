@@ -146,7 +146,7 @@ fn help_is_written_to_the_output(rt: HostRuntime) -> Result<(), Fail> {
 
 #[test]
 fn arguments_are_refused(rt: HostRuntime) -> Result<(), Fail> {
-    let cases: [(&str, &[&str]); 20] = [
+    let cases: [(&str, &[&str]); 21] = [
         ("another command", &["monitor", "judges"]),
         ("another command with a name", &["monitor", "judges", "x"]),
         ("a judgement of nothing", &["monitor", "judge"]),
@@ -154,6 +154,19 @@ fn arguments_are_refused(rt: HostRuntime) -> Result<(), Fail> {
         (
             "a judgement with an option",
             &["monitor", "judge", "--x", "y", "z"],
+        ),
+        (
+            "two numbers of workers",
+            &[
+                "monitor",
+                "judge",
+                "--workers",
+                "1",
+                "--workers",
+                "2",
+                "x",
+                "y",
+            ],
         ),
         ("a check of nothing", &["monitor", "check"]),
         ("a check with a document alone", &["monitor", "check", "x"]),

@@ -18,6 +18,7 @@
 //! - `plain`: a plain program that judges all counts of small computations
 //! - `observations`: Definitely by all observations, where there are few of them
 //! - `turns`: streams that take turns
+//! - `workers`: the reports of all bundles, whatever the number of workers
 //! - `mixed`: streams that mix lines of the plain shape with others, cut at each byte
 #![tactic(auto)]
 
@@ -57,5 +58,7 @@ mod streams;
 mod turns;
 #[cfg(test)]
 mod unlawful;
+#[cfg(test)]
+mod workers;
 #[cfg(test)]
 mod written;

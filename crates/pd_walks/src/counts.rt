@@ -1,6 +1,6 @@
 //! The levels at the greatest count that a process may have.
 ghost use Rattle.pd_model.specs.Cuts.{IsConsistent};
-ghost use Rattle.std.specs.Prelude.{All, IfOk};
+ghost use Rattle.std.specs.Prelude.{◌≤◌, All, IfOk};
 
 use super::sessions::traces_of;
 use pd_clock::Computation;
@@ -24,14 +24,20 @@ fn longest_stream(alloc: Global) -> Result<String, Fail> {
     Ok(stream)
 }
 
-/// The next level, which has no more than one cut.
-fn level_after(alloc: Global, computation: &Computation<'_>, level: &Level) -> Result<Level, Fail>
-    requires { All (IsConsistent computation.now.events) level.now.cuts }
+/// The next level, which has no more cuts than the width.
+pub(crate) fn level_after(
+    alloc: Global,
+    computation: &Computation<'_>,
+    level: &Level,
+    width: u64,
+) -> Result<Level, Fail>
+    requires cuts { All (IsConsistent computation.now.events) level.now.cuts }
+    requires wide { 1 ≤ width }
     ensures { IfOk result (λ next. All (IsConsistent computation.now.events) next.cuts) }
 {
-    match Level::next(alloc, computation, level, 1) {
+    match Level::next(alloc, computation, level, width) {
         Ok(next) => Ok(next),
-        Err(_) => Err(Fail::from("a level has more than one cut")),
+        Err(_) => Err(Fail::from("a level is over the width")),
     }
 }
 
@@ -43,7 +49,7 @@ fn level_of(alloc: Global, computation: &Computation<'_>, events: usize) -> Resu
     pd_model::levels();
     let mut level = Level::first(alloc, computation)?;
     for _ in 0..events {
-        level = level_after(alloc, computation, &level)?;
+        level = level_after(alloc, computation, &level, 1)?;
     }
     Ok(level)
 }
@@ -67,7 +73,7 @@ fn the_last_levels_of_the_longest_process(rt: HostRuntime) -> Result<(), Fail> {
     let computation = Computation::build(alloc, &spec, &traces, matched)?;
     let before = level_of(alloc, &computation, EVENT_LIMIT - 1)?;
     assert_eq!(rt; only_count(alloc, &before), Some(9_999));
-    let last = level_after(alloc, &computation, &before)?;
+    let last = level_after(alloc, &computation, &before, 1)?;
     assert_eq!(rt; only_count(alloc, &last), Some(10_000));
     assert_eq!(rt; last.number(), 10_000);
     for named in spec.predicates() {
@@ -78,7 +84,7 @@ fn the_last_levels_of_the_longest_process(rt: HostRuntime) -> Result<(), Fail> {
             assert!(rt; last.holds(&computation, &named.pred, 0));
         }
     }
-    let after = level_after(alloc, &computation, &last)?;
+    let after = level_after(alloc, &computation, &last, 1)?;
     assert!(rt; after.is_empty());
     Ok(())
 }

@@ -6,6 +6,7 @@
 //! - `runs`: whole levels as runs, and how many cuts they have
 //! - `tables`: predicates by tables, and as their texts spell them
 //! - `refusals`: runs that are skipped
+//! - `blocks`: the next level by several workers, beside the one that a single thread finds
 //! - `backward`: the levels that are held for an avoiding observation, and the observation itself
 //! - `limits`: the answers, whatever the width of a whole level at which the walk goes on by lists
 //! - `workers`: the answers, whatever the number of workers
@@ -13,6 +14,8 @@
 
 #[cfg(test)]
 mod backward;
+#[cfg(test)]
+mod blocks;
 #[cfg(test)]
 mod counts;
 #[cfg(test)]

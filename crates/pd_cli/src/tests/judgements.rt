@@ -1,7 +1,7 @@
 //! Judgements of sessions in files that a test writes.
 use super::REPORT;
 use super::folders::{run_on, run_with, session_folder, write_long_document};
-use super::writers::{Failing, Slow};
+use super::writers::{Bounded, Failing, Slow};
 use crate::status::{FAILED, REFUSED, SUCCESS};
 use std::fs;
 use std::test::Fail;
@@ -122,6 +122,23 @@ fn reports_of_files_that_cannot_be_written(rt: HostRuntime) -> Result<(), Fail> 
             (name, b"monitor: write\n".as_slice())
         );
     }
+    fs::remove_dir_all(&rt, folder.as_str())?;
+    Ok(())
+}
+
+/// A prefix of the report was written, and the fault is named beside it.
+#[test]
+fn reports_of_files_that_are_cut_off(rt: HostRuntime) -> Result<(), Fail> {
+    let folder = session_folder(&rt, "unfinished")?;
+    let mut output = Bounded {
+        taken: Vec::new(rt.alloc()),
+        room: 10,
+    };
+    let names = ["spec", "a", "b"];
+    let (status, errors) = run_on(&rt, &rt, folder.as_str(), "judge", &names, &mut output)?;
+    assert_eq!(rt; status, FAILED);
+    assert_eq!(rt; output.taken.as_slice(), b"session 2 ".as_slice());
+    assert_eq!(rt; errors.as_slice(), b"monitor: write\n".as_slice());
     fs::remove_dir_all(&rt, folder.as_str())?;
     Ok(())
 }

@@ -51,3 +51,27 @@ impl Write for Slow {
         Ok(())
     }
 }
+
+/// Takes this many bytes, and then fails.
+#[derive(Drop)]
+pub(super) struct Bounded {
+    pub(super) taken: Vec<u8>,
+    /// How many bytes it still takes.
+    pub(super) room: usize,
+}
+
+impl Write for Bounded {
+    fn write(&mut self, bytes: &[u8]) -> io::Result<usize> {
+        if self.room == 0 {
+            return Err(Error::from(ErrorKind::BrokenPipe));
+        }
+        let count = bytes.len().min(self.room);
+        self.taken.extend_from_slice(&bytes[..count])?;
+        self.room -= count;
+        Ok(count)
+    }
+
+    fn flush(&mut self) -> io::Result<()> {
+        Ok(())
+    }
+}
