@@ -21,6 +21,10 @@ IsWordOf tests prefix word =
     (q : ℕ) (test : CompiledView) → q < length tests → IsTrue (has_bit word q)
     → IsRefused (slice_index_or tests q test) prefix
 
+-- the word is that of run i
+pub record IsWordOfRun (tests : List CompiledView) (level : WholeLevel) (i word : ℕ) : Type 0 where
+  pub is : IsWordOf tests (run_at level.runs i).prefix word
+
 -- a word for each run
 pub record AreRefusals (tests : List CompiledView) (level : WholeLevel) (words : List ℕ) : Type 0 where
   pub one_each : length words ≡ length level.runs

@@ -2,10 +2,12 @@
 //! stands with it.
 //!
 //! - `refusals`: the words of a level's runs, from nothing or from those of the level before
+//! - `by_threads`: the words of a level's runs, by several threads
 //! - `asked`: the word of one run
 #![tactic(auto)]
 
 mod asked;
+mod by_threads;
 mod refusals;
 
 pub use refusals::Refusals;

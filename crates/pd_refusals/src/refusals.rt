@@ -5,14 +5,16 @@ ghost use Rattle.pd_model.specs.Predicates.{test_of};
 ghost use Rattle.pd_refusals.specs.Refusals.{AreRefusals, IsSomeLevel, IsWordOf};
 ghost use Rattle.pd_runs.specs.Levels.{WholeLevel};
 ghost use Rattle.pd_tables.specs.Views.{CompiledView};
-ghost use Rattle.std.specs.Prelude.{◌≡◌, ◌<◌, ◌≤◌, ℕ, IfOk, List, length, slice_index, slice_index_or};
+ghost use Rattle.std.specs.Prelude.{◌≡◌, ◌<◌, ◌≤◌, ℕ, IfOk, IfSome, List, length, slice_index, slice_index_or};
 
 use super::asked::{BITS, asked};
+use super::by_threads::{are_many, may_be_many, words_by_threads};
 use pd_marks::Skips;
 use pd_runs::Whole;
 use pd_tables::Compiled;
 use std::alloc::{AllocError, Global};
 use std::marker::Model;
+use std::thread::Threads;
 
 /// A word for each run of a whole level: bit `q` is set only if predicate `q` holds at no cut with the run's prefix.
 /// The first 16 predicates have a bit.
@@ -52,6 +54,37 @@ fn place_from(level: &Whole, sought: u128, at: usize) -> usize
     level.len()
 }
 
+/// Whether the run at this place in the level before, if there is one, has another prefix than run `i`.
+pub(crate) fn is_born(before: &Whole, at: usize, level: &Whole, i: usize) -> bool
+    requires { i < length level.now.runs }
+{
+    at >= before.len() || key(before, at) != key(level, i)
+}
+
+/// The word of the run at this place in the level before, if that has the prefix of run `i`.
+pub(crate) fn kept(
+    _tests: &[Compiled<'_, '_>],
+    before: &Whole,
+    refusals: &Refusals,
+    at: usize,
+    level: &Whole,
+    i: usize,
+) -> Option<u16>
+    requires before { IsSomeLevel before.now }
+    requires level { IsSomeLevel level.now }
+    requires processes { before.now.processes ≡ level.now.processes }
+    requires refusals { AreRefusals _tests.now before.now refusals.now }
+    requires within { i < length level.now.runs }
+    ensures { IfSome result (IsWordOf _tests.now (run_at level.now.runs i).prefix) }
+{
+    before.limits();
+    level.limits();
+    if at < before.len() && key(before, at) == key(level, i) {
+        return Some(refusals.word(at));
+    }
+    None
+}
+
 /// The word of run `i`: that of the run at this place in the level before, if that has its prefix.
 fn word_after(
     tests: &[Compiled<'_, '_>],
@@ -68,12 +101,46 @@ fn word_after(
     requires within { i < length level.now.runs }
     ensures { IsWordOf tests.now (run_at level.now.runs i).prefix result }
 {
-    before.limits();
-    level.limits();
-    if at < before.len() && key(before, at) == key(level, i) {
-        return refusals.word(at);
+    match kept(tests, before, refusals, at, level, i) {
+        Some(word) => word,
+        None => asked(tests, level, i),
     }
-    asked(tests, level, i)
+}
+
+/// For each run of the level the place of its prefix in the level before, if that has it.
+fn places_of(alloc: Global, before: &Whole, level: &Whole) -> Result<Vec<usize>, AllocError>
+    ensures { IfOk result (λ places. length places.items ≡ length level.now.runs) }
+{
+    let mut places = Vec::with_capacity(alloc, level.len())?;
+    let mut at = 0;
+    for i in 0..level.len() {
+        at = place_from(before, key(level, i), at);
+        places.push(at)?;
+    }
+    Ok(places)
+}
+
+/// The words of the runs, one after the other.
+fn words_in_turn(
+    alloc: Global,
+    tests: &[Compiled<'_, '_>],
+    before: &Whole,
+    refusals: &Refusals,
+    level: &Whole,
+) -> Result<Vec<u16>, AllocError>
+    requires before { IsSomeLevel before.now }
+    requires level { IsSomeLevel level.now }
+    requires processes { before.now.processes ≡ level.now.processes }
+    requires refusals { AreRefusals tests.now before.now refusals.now }
+    ensures { IfOk result (λ words. AreRefusals tests.now level.now words.items) }
+{
+    let mut words = Vec::with_capacity(alloc, level.len())?;
+    let mut at = 0;
+    for i in 0..level.len() {
+        at = place_from(before, key(level, i), at);
+        words.push(word_after(tests, before, refusals, at, level, i))?;
+    }
+    Ok(words)
 }
 
 impl Refusals {
@@ -104,29 +171,37 @@ impl Refusals {
         Ok(Refusals { words })
     }
 
-    /// The refusals of the next level, from those of a level. Only the runs with a new prefix are asked.
+    /// The refusals of the next level, from those of a level. Only the runs with a new prefix are asked: by at most
+    /// this many threads, if they are many.
     ///
     /// # Errors
     /// An allocation was refused.
-    pub fn next(
+    pub fn next<R: Threads + Sync>(
+        rt: &R,
+        threads: usize,
         alloc: Global,
         tests: &[Compiled<'_, '_>],
         before: &Whole,
         refusals: &Refusals,
         level: &Whole,
     ) -> Result<Refusals, AllocError>
+        requires threads { 0 < threads }
         requires before { IsSomeLevel before.now }
         requires level { IsSomeLevel level.now }
         requires processes { before.now.processes ≡ level.now.processes }
         requires refusals { AreRefusals tests.now before.now refusals.now }
         ensures { IfOk result (AreRefusals tests.now level.now) }
     {
-        let mut words = Vec::with_capacity(alloc, level.len())?;
-        let mut at = 0;
-        for i in 0..level.len() {
-            at = place_from(before, key(level, i), at);
-            words.push(word_after(tests, before, refusals, at, level, i))?;
+        if threads > 1 && may_be_many(tests, level) {
+            let places = places_of(alloc, before, level)?;
+            if are_many(tests, before, level, &places) {
+                let words = words_by_threads(
+                    rt, threads, alloc, tests, before, refusals, level, &places,
+                )?;
+                return Ok(Refusals { words });
+            }
         }
+        let words = words_in_turn(alloc, tests, before, refusals, level)?;
         Ok(Refusals { words })
     }
 

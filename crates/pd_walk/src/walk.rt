@@ -246,7 +246,9 @@ fn step_up<T: Threads + Wait + Sync, G: Gate + Sync>(
     wholes.push(next)?;
     let before = wholes.last_but_one();
     let level = wholes.last();
-    let after = Refusals::next(alloc, tests, before, refusals, level)?;
+    let threads = crew.count() as usize;
+    let rt = crew.runtime();
+    let after = Refusals::next(rt, threads, alloc, tests, before, refusals, level)?;
     look_all(
         crew,
         alloc,

@@ -41,8 +41,13 @@ fn are_same_cuts(alloc: Global, one: &Level, other: &Level) -> bool {
     if one.len() != other.len() || one.number() != other.number() {
         return false;
     }
-    for i in 0..one.len().min(other.len()) {
-        if one.cut(alloc, i).counts() != other.cut(alloc, i).counts() {
+    for i in 0..one.len() {
+        if i >= other.len() {
+            return false;
+        }
+        let first = one.cut(alloc, i);
+        let second = other.cut(alloc, i);
+        if first.counts() != second.counts() {
             return false;
         }
     }
@@ -78,6 +83,25 @@ fn is_next<T: Threads + Wait + Sync>(
     }
 }
 
+/// Whether each number of workers gives what `Level::next` gives, at each width.
+fn are_next<T: Threads + Wait + Sync>(
+    rt: &T,
+    alloc: Global,
+    computation: &Computation<'_>,
+    level: &Level,
+) -> Result<bool, Fail>
+    requires { All (IsConsistent computation.now.events) level.now.cuts }
+{
+    for width in WIDTHS {
+        for workers in WORKERS {
+            if !is_next(rt, alloc, computation, level, width, workers)? {
+                return Ok(false);
+            }
+        }
+    }
+    Ok(true)
+}
+
 /// The first level that has another number of cuts, or whose next one is another by some number of workers.
 fn first_wrong<T: Threads + Wait + Sync>(
     rt: &T,
@@ -91,12 +115,8 @@ fn first_wrong<T: Threads + Wait + Sync>(
         if level.len() != length {
             return Ok(Some(level.number()));
         }
-        for width in WIDTHS {
-            for workers in WORKERS {
-                if !is_next(rt, alloc, computation, &level, width, workers)? {
-                    return Ok(Some(level.number()));
-                }
-            }
+        if !are_next(rt, alloc, computation, &level)? {
+            return Ok(Some(level.number()));
         }
         level = level_after(alloc, computation, &level, 91)?;
     }

@@ -18,6 +18,7 @@ use pd_spec::Spec;
 use pd_tables::Compiled;
 use std::alloc::{AllocError, Global};
 use std::test::Fail;
+use std::thread::Threads;
 
 const DOCUMENT: &str = r#"{
   "processes": [
@@ -224,7 +225,8 @@ fn level_after(
 ///
 /// # Errors
 /// A run with a satisfying cut is skipped, or skipping changes what is found.
-fn skipped_of(
+fn skipped_of<T: Threads + Sync>(
+    rt: &T,
     alloc: Global,
     computation: &Computation<'_>,
     pred: &Pred,
@@ -246,7 +248,7 @@ fn skipped_of(
     let mut runs: u64 = 0;
     for _ in 0..computation.total() {
         let after = level_after(alloc, computation, &steps, test, &level)?;
-        let asked = Refusals::next(alloc, tests, &level, &refusals, &after)?;
+        let asked = Refusals::next(rt, 2, alloc, tests, &level, &refusals, &after)?;
         let skips = skips_of(test, tests, q, &after, &asked);
         if !has_same_hit(alloc, test, skips, &after) {
             return Err(Fail::from("another cut is the first that satisfies"));
@@ -281,7 +283,8 @@ fn compiled<'a, 'b>(
 }
 
 /// Whether runs are skipped for the predicate with this index, and nothing else is found for it.
-fn are_skipped(
+fn are_skipped<T: Threads + Sync>(
+    rt: &T,
     alloc: Global,
     computation: &Computation<'_>,
     spec: &Spec,
@@ -294,7 +297,7 @@ fn are_skipped(
     let Some(named) = spec.predicates().get(q) else {
         return Err(Fail::from("there is no such predicate"));
     };
-    Ok(skipped_of(alloc, computation, &named.pred, tests, q)? > 0)
+    Ok(skipped_of(rt, alloc, computation, &named.pred, tests, q)? > 0)
 }
 
 #[test]
@@ -318,8 +321,8 @@ fn skipping_changes_no_answer(rt: HostRuntime) -> Result<(), Fail> {
         compiled(alloc, &computation, &spec, 1)?,
         compiled(alloc, &computation, &spec, 2)?,
     ];
-    assert!(rt; are_skipped(alloc, &computation, &spec, &tests, 0)?);
-    assert!(rt; are_skipped(alloc, &computation, &spec, &tests, 1)?);
-    assert!(rt; are_skipped(alloc, &computation, &spec, &tests, 2)?);
+    assert!(rt; are_skipped(&rt, alloc, &computation, &spec, &tests, 0)?);
+    assert!(rt; are_skipped(&rt, alloc, &computation, &spec, &tests, 1)?);
+    assert!(rt; are_skipped(&rt, alloc, &computation, &spec, &tests, 2)?);
     Ok(())
 }

@@ -23,7 +23,7 @@ next-requires-clause-level g c =
     (subst (λ (l : WholeLevel). IsWholeLevel c.args.computation.now.events l) (sym same) c.requires.come.whole)
 
 pub next-requires-2-clause-before : goal.next-requires-2-clause-before
-next-requires-2-clause-before g c = record {
+next-requires-2-clause-before g c _ _ = record {
   c = c.args.computation.now.events;
   whole =
       subst (λ (l : WholeLevel). IsWholeLevel c.args.computation.now.events l)
@@ -33,7 +33,7 @@ next-requires-2-clause-before g c = record {
 }
 
 pub next-requires-2-clause-level : goal.next-requires-2-clause-level
-next-requires-2-clause-level g c = record {
+next-requires-2-clause-level g c _ _ = record {
   c = c.args.computation.now.events;
   whole =
       subst (λ (l : WholeLevel). IsWholeLevel c.args.computation.now.events l)
@@ -43,7 +43,7 @@ next-requires-2-clause-level g c = record {
 }
 
 pub next-requires-2-clause-processes : goal.next-requires-2-clause-processes
-next-requires-2-clause-processes g c =
+next-requires-2-clause-processes g c _ _ =
     let lower : c.last_but_one-before.result.now ≡ c.requires.come.level =
     lower_whole c.args.wholes.now.levels.items c.push.new.self.levels.items c.requires.come.level c.in_ok-next.next
     c.last_but_one-before.result.now c.requires.come.only c.in_ok-push.ensures.levels c.last_but_one-before.ensures in
@@ -55,7 +55,7 @@ next-requires-2-clause-processes g c =
     ∙ ap (λ (l : WholeLevel). l.processes) (sym upper)
 
 pub next-requires-2-clause-refusals : goal.next-requires-2-clause-refusals
-next-requires-2-clause-refusals g c =
+next-requires-2-clause-refusals g c _ _ =
     subst (λ (l : WholeLevel). AreRefusals c.args.tests.now l c.args.refusals.now)
     (sym (lower_whole c.args.wholes.now.levels.items c.push.new.self.levels.items c.requires.come.level
     c.in_ok-next.next c.last_but_one-before.result.now c.requires.come.only c.in_ok-push.ensures.levels

@@ -6,7 +6,7 @@ use Rattle.pd_runs.specs.Levels.{IsWholeLevel}
 use Rattle.pd_walks.proofs.refusals.skipped_of.Given as goal
 
 abbrev pub invariant-loop : goal.invariant-loop
-invariant-loop l = record {
+invariant-loop _ l = record {
   level : IsWholeLevel l.test.recorded.events l.level;
   refusals : AreRefusals l.tests l.level l.refusals;
   marks : IsMarking l.test.recorded.events (test_of l.test.recorded l.test.predicate) l.level l.marks;

@@ -4,7 +4,7 @@ use Rattle.pd_marks.specs.RunPlaces.{key_of_run, run_at}
 use Rattle.pd_marks.proofs.AvoidingBits.{digits_at}
 use Rattle.pd_marks.proofs.RunKeys.{prefix_length, same_prefix}
 use Rattle.pd_refusals.specs.Refusals.{IsWordOf}
-use Rattle.pd_refusals.proofs.refusals.word_after.Goals as goal
+use Rattle.pd_refusals.proofs.refusals.kept.Goals as goal
 
 pub returns-then-key : goal.returns-then-key
 returns-then-key c =
@@ -23,6 +23,6 @@ returns-then-key c =
     (omega (arith, many, more, c.requires.processes))
     (digits_at c.args.before.now c.limits.ensures.digits c.args.at at)
     (digits_at c.args.level.now c.limits-2.ensures.digits c.args.i c.requires.within) key in
-    subst (λ (prefix : List ℕ). IsWordOf c.args.tests.now prefix c.word.result) same
-    (subst (λ (word : ℕ). IsWordOf c.args.tests.now (run_at c.args.before.now.runs c.args.at).prefix word)
+    subst (λ (prefix : List ℕ). IsWordOf c.args._tests.now prefix c.word.result) same
+    (subst (λ (word : ℕ). IsWordOf c.args._tests.now (run_at c.args.before.now.runs c.args.at).prefix word)
     (sym c.word.ensures) (c.requires.refusals.each c.args.at at))

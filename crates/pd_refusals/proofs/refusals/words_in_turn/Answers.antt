@@ -3,7 +3,7 @@ use Rattle.std.proofs.Common.{◌≡◌, ◌+◌, ℕ, length, length-append, �
 use Rattle.pd_marks.specs.RunPlaces.{run_at}
 use Rattle.pd_refusals.specs.Refusals.{IsWordOf}
 use Rattle.pd_refusals.proofs.Words.{each_pushed}
-use Rattle.pd_refusals.proofs.refusals.Refusals.next.Goals as goal
+use Rattle.pd_refusals.proofs.refusals.words_in_turn.Goals as goal
 
 pub loop-i-preserved : goal.loop-i-preserved
 loop-i-preserved c = record {

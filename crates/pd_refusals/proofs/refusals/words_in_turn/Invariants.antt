@@ -2,7 +2,7 @@
 use Rattle.std.proofs.Common.{◌≡◌, ◌<◌, ℕ, length, slice_index}
 use Rattle.pd_marks.specs.RunPlaces.{run_at}
 use Rattle.pd_refusals.specs.Refusals.{IsWordOf}
-use Rattle.pd_refusals.proofs.refusals.Refusals.next.Given as goal
+use Rattle.pd_refusals.proofs.refusals.words_in_turn.Given as goal
 
 abbrev pub invariant-loop-i : goal.invariant-loop-i
 invariant-loop-i l = record {
