@@ -12,6 +12,8 @@ avoiding  7 processes in 40 rounds of 4 local events; a sum that some cuts satis
 sums      7 processes in 20 rounds of 4 local events; an `or` of 40 sums that no cut satisfies
 marked    the same with one part more, which the cut after p0's first event satisfies, so that nearly all levels are
           marked
+heavy     6 processes in 8 rounds of 7 local events, levels of tens of thousands of cuts; an `or` of 46 sums that no cut
+          satisfies
 many      8 processes in 3 rounds of 3 local events; 16 predicates of 30 sums each that no cut satisfies
 lists     8 processes of 20 local events each and no messages; an `or` of 14 sums, which holds unless the processes
           are nearly level, so that the avoiding cuts stand in lists
@@ -115,6 +117,10 @@ def marked_sums():
     rounds(7, 4, 20, [("early", " or ".join(["p0.n > 0 and p1.n == 0", *sums(7, 40, 3)]))])
 
 
+def heavy_sums():
+    rounds(6, 7, 8, [("never", " or ".join(sums(6, 46, 3)))])
+
+
 def many_sums():
     rounds(8, 3, 3, [(f"q{k}", " or ".join(sums(8, 30, k))) for k in range(16)])
 
@@ -194,4 +200,5 @@ def locals_alone():
 
 
 {"lattice": lattice, "terms": terms, "streams": streams, "messages": messages, "locals": locals_alone,
- "avoiding": avoiding, "sums": open_sums, "marked": marked_sums, "many": many_sums, "lists": listed_sums}[sys.argv[1]]()
+ "avoiding": avoiding, "sums": open_sums, "heavy": heavy_sums, "marked": marked_sums, "many": many_sums,
+ "lists": listed_sums}[sys.argv[1]]()
