@@ -28,7 +28,7 @@ use std::thread::Threads;
 /// beginning. The crew shares the work on levels that are made again.
 ///
 /// # Errors
-/// An allocation was refused.
+/// An allocation was refused. Which levels are still held then is left open: they aren't used again.
 pub fn way_back<T: Threads + Wait + Sync, G: Gate + Sync>(
     crew: &Crew<'_, '_, T, G>,
     alloc: Global,

@@ -1,40 +1,13 @@
--- What threads give of each place, and the spots of a level's words.
-use Rattle.std.proofs.Common.{◌≡◌, ℕ, zero, suc, ◌+◌, ◌-◌, ◌*◌, ◌/◌, ◌%◌, ◌<◌, ◌≤◌, ◌↔◌, IsTrue, Bool, false, true, List, [], ◌∷◌, ◌++◌, length, get_or, refl, sym, subst, ap, ◌∙◌, arith}
+-- What is seen at a place, and the spots of a level's words.
+use Rattle.std.proofs.Common.{◌≡◌, ℕ, suc, ◌+◌, ◌-◌, ◌*◌, ◌/◌, ◌%◌, ◌<◌, ◌≤◌, ◌↔◌, IsTrue, Bool, false, true, List, [], ◌∷◌, ◌++◌, length, get_or, sym, subst, ap, ◌∙◌, arith}
 use Rattle.std.proofs.lemmas.List.{get_or_append_left, get_or-append_right, get_or_default}
 use Rattle.std.specs.Prelude.{None, Option, Some}
-use Rattle.std.specs.List.{AllZip, range_with_len}
 use Rattle.pd_model.specs.Events.{Computation}
 use Rattle.pd_runs.specs.WholeLevels.{Run, AvoidsAt}
 use Rattle.pd_marks.specs.Marks.{HasWords, bit_from, cut_with, last_word}
 use Rattle.pd_marks.specs.RunPlaces.{run_at}
 use Rattle.pd_marks.specs.Spots.{HasSpots, IsHitIn, IsSpot, IsWordAt, spot_at}
 use Rattle.pd_marks.specs.declared.spots.Spot.{Spot}
-
--- one for each number from a on
-pub as_many : {B : Type 0} (R : ℕ → B → Type 0) (a n : ℕ) (ys : List B) → AllZip R (range_with_len a n) ys
-    → length ys ≡ n
-as_many R a zero [] zip = refl
-as_many R a zero (y ∷ ys) zip = absurd zip
-as_many R a (suc n) [] zip = absurd zip
-as_many R a (suc n) (y ∷ ys) zip = ap suc (as_many R (a + 1) n ys zip.1)
-
--- and each by its number
-by_number : {B : Type 0} (R : ℕ → B → Type 0) (a n : ℕ) (ys : List B) → AllZip R (range_with_len a n) ys
-    → (i : ℕ) (d : B) → i < n → R (a + i) (get_or ys i d)
-by_number R a zero ys zip i d lt = absurd (omega arith)
-by_number R a (suc n) [] zip i d lt = absurd zip
-by_number R a (suc n) (y ∷ ys) zip zero d lt =
-    let e : a ≡ a + 0 = omega arith in
-    subst (λ (m : ℕ). R m y) e zip.0
-by_number R a (suc n) (y ∷ ys) zip (suc i) d lt =
-    let e : a + 1 + i ≡ a + suc i = omega arith in
-    subst (λ (m : ℕ). R m (get_or ys i d)) e (by_number R (a + 1) n ys zip.1 i d (omega arith))
-
-pub in_place : {B : Type 0} (R : ℕ → B → Type 0) (n : ℕ) (ys : List B) → AllZip R (range_with_len 0 n) ys
-    → (i : ℕ) (d : B) → i < n → R i (get_or ys i d)
-in_place R n ys zip i d lt =
-    let e : 0 + i ≡ i = omega arith in
-    subst (λ (m : ℕ). R m (get_or ys i d)) e (by_number R 0 n ys zip i d lt)
 
 -- what is seen at the place of a run is its hit
 pub hit_at : (test : List ℕ → Bool) (k : ℕ) (run : Run) (found : List (Option ℕ)) (i x : ℕ) (seen : Option ℕ)

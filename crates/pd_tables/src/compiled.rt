@@ -45,7 +45,7 @@ impl<'a, 'b> Compiled<'a, 'b> {
     /// bits.
     ///
     /// # Errors
-    /// An allocation was refused.
+    /// An allocation was refused. Tables that were built until then may have been taken off `room`.
     pub fn compile(
         alloc: Global,
         computation: &'a Computation<'b>,

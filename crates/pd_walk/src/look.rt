@@ -26,10 +26,10 @@ use pd_tables::Compiled;
 use std::alloc::{AllocError, Global};
 use std::thread::Threads;
 
-/// The first cut of the level that satisfies. If it is shared, several threads look for it.
+/// The first cut of the level that satisfies, by this many threads if they are several.
 fn first_hit_of<T: Threads + Sync>(
     rt: &T,
-    shared: bool,
+    threads: usize,
     alloc: Global,
     test: &Compiled<'_, '_>,
     level: &Whole,
@@ -45,16 +45,16 @@ fn first_hit_of<T: Threads + Sync>(
     ensures none { IfOk result (λ found. IfNone found ((cut : List ℕ)
         → IsOfLevel (events_of test.now) level.now.number cut → meaning_of test.now cut ≡ false)) }
 {
-    if shared {
-        return first_hit_by_threads(rt, alloc, level, test, skips);
+    if threads > 1 {
+        return first_hit_by_threads(rt, threads, alloc, level, test, skips);
     }
     Ok(first_hit(alloc, level, test, skips))
 }
 
-/// The marks of the next level. If they are shared, several threads find them.
+/// The marks of the next level, by this many threads if they are several.
 fn next_of<T: Threads + Sync>(
     rt: &T,
-    shared: bool,
+    threads: usize,
     alloc: Global,
     before: &Whole,
     marks: &Marks,
@@ -69,8 +69,8 @@ fn next_of<T: Threads + Sync>(
     requires marks { IsMarking (events_of test.now) (meaning_of test.now) before.now marks.now }
     ensures { IfOk result (IsMarking (events_of test.now) (meaning_of test.now) level.now) }
 {
-    if shared {
-        return next_by_threads(rt, alloc, before, marks, level, test, skips);
+    if threads > 1 {
+        return next_by_threads(rt, threads, alloc, before, marks, level, test, skips);
     }
     next(alloc, before, marks, level, test, skips)
 }
@@ -78,7 +78,7 @@ fn next_of<T: Threads + Sync>(
 /// What is known of a predicate after a level, if before it none satisfied. `beside` whole levels were held at once.
 pub(crate) fn look_open<T: Threads + Sync>(
     rt: &T,
-    shared: bool,
+    threads: usize,
     alloc: Global,
     test: &Compiled<'_, '_>,
     width: u64,
@@ -101,7 +101,7 @@ pub(crate) fn look_open<T: Threads + Sync>(
     // the laws that the proof uses
     pd_model::levels();
     pd_model::avoidance();
-    let found = possibly_at(rt, shared, alloc, test, width, level, skips)?;
+    let found = possibly_at(rt, threads, alloc, test, width, level, skips)?;
     let Some(possibly) = found else {
         return Ok(Stage::Open);
     };
@@ -118,7 +118,7 @@ pub(crate) fn look_open<T: Threads + Sync>(
 /// satisfying cut.
 fn possibly_at<T: Threads + Sync>(
     rt: &T,
-    shared: bool,
+    threads: usize,
     alloc: Global,
     test: &Compiled<'_, '_>,
     width: u64,
@@ -140,7 +140,7 @@ fn possibly_at<T: Threads + Sync>(
     if level.cuts() > width {
         return Ok(Some(PossiblyAnswer::Unknown(level.number())));
     }
-    let first = first_hit_of(rt, shared, alloc, test, level, skips)?;
+    let first = first_hit_of(rt, threads, alloc, test, level, skips)?;
     match first {
         Some(cut) => Ok(Some(PossiblyAnswer::Yes(cut))),
         None => Ok(None),
@@ -151,7 +151,7 @@ fn possibly_at<T: Threads + Sync>(
 /// at once.
 pub(crate) fn look_marked<T: Threads + Sync>(
     rt: &T,
-    shared: bool,
+    threads: usize,
     alloc: Global,
     test: &Compiled<'_, '_>,
     width: u64,
@@ -175,14 +175,14 @@ pub(crate) fn look_marked<T: Threads + Sync>(
     requires beside { AreBeside gap level.now.number beside }
     ensures { IfOk result (Stands (events_of test.now) (meaning_of test.now) width gap level.now) }
 {
-    let marks = next_of(rt, shared, alloc, before, marks, level, test, skips)?;
+    let marks = next_of(rt, threads, alloc, before, marks, level, test, skips)?;
     settle(alloc, test, width, gap, level, split, marks, beside)
 }
 
 /// What is known of a predicate after the next level.
 pub(crate) fn look<T: Threads + Sync>(
     rt: &T,
-    shared: bool,
+    threads: usize,
     alloc: Global,
     test: &Compiled<'_, '_>,
     width: u64,
@@ -207,10 +207,10 @@ pub(crate) fn look<T: Threads + Sync>(
     ensures { IfOk result (Stands (events_of test.now) (meaning_of test.now) width gap level.now) }
 {
     match stage {
-        Stage::Open => look_open(rt, shared, alloc, test, width, gap, level, skips, beside),
+        Stage::Open => look_open(rt, threads, alloc, test, width, gap, level, skips, beside),
         Stage::Marked { split, marks } => {
             look_marked(
-                rt, shared, alloc, test, width, gap, before, level, skips, split, &marks, beside,
+                rt, threads, alloc, test, width, gap, before, level, skips, split, &marks, beside,
             )
         }
         Stage::Answered(answers) => Ok(Stage::Answered(answers)),

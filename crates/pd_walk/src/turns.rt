@@ -70,7 +70,7 @@ fn take_turn<T: Threads + Sync>(
     let stage = mem::replace(&mut turn.stage, Stage::Open);
     let skips = refusals.of(i);
     let looked = look(
-        rt, false, alloc, &tests[i], width, gap, before, level, skips, beside, stage,
+        rt, 1, alloc, &tests[i], width, gap, before, level, skips, beside, stage,
     );
     match looked {
         Ok(stage) => turn.stage = stage,

@@ -14,7 +14,7 @@ ghost use Rattle.std.specs.Prelude.{◌≡◌, ◌+◌, ◌*◌, ◌<◌, ◌≤
 use super::look::{look, look_open};
 use super::stage::Stage;
 use super::turns::look_shared;
-use super::worth::{is_much, is_shared, unanswered, weight};
+use super::worth::{is_much, threads_for, threads_of, unanswered, weight};
 use pd_back::Held;
 use pd_clock::Computation;
 use pd_expand::Crew;
@@ -60,8 +60,8 @@ fn look_all<T: Threads + Wait + Sync, G: Gate + Sync>(
     requires stand { AllStand tests.now width gap before.now stages.old.items }
     ensures { IfOk result (λ _. AllStand tests.now width gap level.now stages.new.items) }
 {
-    let several = crew.count() > 1;
-    if several && unanswered(stages) >= crew.count() && is_much(weight, level.cuts()) {
+    let threads = threads_of(crew.count());
+    if threads > 1 && unanswered(stages) >= crew.count() && is_much(weight, level.cuts()) {
         return look_shared(
             crew.runtime(),
             alloc,
@@ -73,13 +73,13 @@ fn look_all<T: Threads + Wait + Sync, G: Gate + Sync>(
             level,
             refusals,
             beside,
-            crew.count() as usize,
+            threads,
             stages,
         );
     }
     look_in_turn(
         crew.runtime(),
-        several,
+        threads,
         alloc,
         computation,
         tests,
@@ -93,11 +93,11 @@ fn look_all<T: Threads + Wait + Sync, G: Gate + Sync>(
     )
 }
 
-/// The same, one predicate after the other. If there are several workers, threads share a predicate that has much to
+/// The same, one predicate after the other. If there are several threads, they share a predicate that has much to
 /// evaluate there.
 fn look_in_turn<T: Threads + Sync>(
     rt: &T,
-    several: bool,
+    threads: usize,
     alloc: Global,
     computation: &Computation<'_>,
     tests: &[Compiled<'_, '_>],
@@ -126,7 +126,7 @@ fn look_in_turn<T: Threads + Sync>(
         let stage = mem::replace(&mut stages[i], Stage::Open);
         let skips = refusals.of(i);
         let test = &tests[i];
-        let shared = is_shared(several, test, level, skips);
+        let shared = threads_for(threads, test, level, skips);
         stages[i] = look(
             rt, shared, alloc, test, width, gap, before, level, skips, beside, stage,
         )?;
@@ -176,9 +176,7 @@ fn look_first<T: Threads + Sync>(
     let mut stages = Vec::with_capacity(alloc, tests.len())?;
     for i in 0..tests.len() {
         let skips = refusals.of(i);
-        stages.push(look_open(
-            rt, false, alloc, &tests[i], width, gap, level, skips, beside,
-        )?)?;
+        stages.push(look_open(rt, 1, alloc, &tests[i], width, gap, level, skips, beside)?)?;
     }
     Ok(stages)
 }
@@ -246,7 +244,7 @@ fn step_up<T: Threads + Wait + Sync, G: Gate + Sync>(
     wholes.push(next)?;
     let before = wholes.last_but_one();
     let level = wholes.last();
-    let threads = crew.count() as usize;
+    let threads = threads_of(crew.count());
     let rt = crew.runtime();
     let after = Refusals::next(rt, threads, alloc, tests, before, refusals, level)?;
     look_all(

@@ -29,8 +29,8 @@ look-requires-clause-stands g c _ _ =
     (c.loop-i.invariant.left c.loop-i.i c.index-tests-i.result c.index_mut.result.now (omega arith)
     c.loop-i-test.true))
 
-pub is_shared-shared-requires : goal.is_shared-shared-requires
-is_shared-shared-requires g c =
+pub threads_for-shared-requires : goal.threads_for-shared-requires
+threads_for-shared-requires g c =
     (skips_of c.args.tests.now c.args.level.now c.loop-i.i c.index-tests-i.result c.of-skips.result
     (λ at. c.of-skips.ensures c.args.tests.now at c.args.level.now c.requires.refusals c.loop-i-test.true)
     c.index-tests-i.is).few
