@@ -147,7 +147,7 @@ fn workers_option<'a>(alloc: Global) -> Arg<'a>
     number_option(alloc, "WORKERS", "workers", 1, WORKER_LIMIT)
         .default_value("1")
         .help(
-            "How many workers, at most 16, share the work on levels with many cuts; they change no byte of the report",
+            "How many threads, at most 16, share the work on levels with many cuts; they change no byte of the report",
         )
 }
 

@@ -47,7 +47,7 @@ const JUDGE_HELP: &str = "Judges predicates on a computation that is recorded in
 Usage: monitor judge [OPTIONS] <SPEC> <STREAM>...\n\n\
 Arguments:\n  <SPEC>       The session document\n  \
 <STREAM>...  The streams of events, one file for each\n\n\
-Options:\n      --workers <WORKERS>  How many workers, at most 16, share the work on levels with many cuts; \
+Options:\n      --workers <WORKERS>  How many threads, at most 16, share the work on levels with many cuts; \
 they change no byte of the report [default: 1]\n  -h, --help               Print help\n\n\
 A report is written to the standard output. The status is 0 if the session is judged, 1 if it is refused, \
 also because a stream can't be read, 2 if the arguments are refused, 3 if a file can't be opened, the document \

@@ -14,7 +14,7 @@ ghost use Rattle.std.specs.Prelude.{◌≡◌, ◌+◌, ◌*◌, ◌<◌, ◌≤
 use super::look::{look, look_open};
 use super::stage::Stage;
 use super::turns::look_shared;
-use super::worth::{is_much, threads_for, threads_of, unanswered, weight};
+use super::worth::{is_much, threads_for, unanswered, weight};
 use pd_back::Held;
 use pd_clock::Computation;
 use pd_expand::Crew;
@@ -60,7 +60,7 @@ fn look_all<T: Threads + Wait + Sync, G: Gate + Sync>(
     requires stand { AllStand tests.now width gap before.now stages.old.items }
     ensures { IfOk result (λ _. AllStand tests.now width gap level.now stages.new.items) }
 {
-    let threads = threads_of(crew.count());
+    let threads = crew.count() as usize;
     if threads > 1 && unanswered(stages) >= crew.count() && is_much(weight, level.cuts()) {
         return look_shared(
             crew.runtime(),
@@ -244,7 +244,7 @@ fn step_up<T: Threads + Wait + Sync, G: Gate + Sync>(
     wholes.push(next)?;
     let before = wholes.last_but_one();
     let level = wholes.last();
-    let threads = threads_of(crew.count());
+    let threads = crew.count() as usize;
     let rt = crew.runtime();
     let after = Refusals::next(rt, threads, alloc, tests, before, refusals, level)?;
     look_all(

@@ -49,19 +49,6 @@ fn cuts_left(level: &Whole, skips: Skips<'_>) -> u64
     sum
 }
 
-/// How many threads share a whole level among this many workers: one worker has its own alone, several have four each.
-/// Runs and turns are dealt out in equal numbers and are of unequal work, so that with a thread for each worker all
-/// would wait for the slowest.
-pub(crate) fn threads_of(workers: u64) -> usize
-    ensures { 0 < result }
-{
-    if workers > 1 {
-        (workers as usize).saturating_mul(4)
-    } else {
-        1
-    }
-}
-
 /// By how many of these threads what a predicate has to evaluate at a level is shared: by all, or by one if it isn't
 /// much.
 pub(crate) fn threads_for(
