@@ -7,7 +7,7 @@ ghost use Rattle.pd_model.specs.Answers.{IsFirstSatisfying};
 ghost use Rattle.pd_model.specs.Cuts.{IsOfLevel};
 ghost use Rattle.pd_model.specs.Walks.{NoneBelow};
 ghost use Rattle.pd_runs.specs.Levels.{IsWholeLevel};
-ghost use Rattle.std.specs.Prelude.{◌≡◌, ◌+◌, ◌<◌, ◌≤◌, ℕ, IfNone, IfOk, IfSome, List, None, false, length, replicate, slice_index, slice_index_or, true};
+ghost use Rattle.std.specs.Prelude.{◌≡◌, ◌+◌, ◌<◌, ◌≤◌, ℕ, IfNone, IfOk, IfSome, List, None, false, length, slice_index, slice_index_or, true};
 
 use super::hit::{cut_in, hit_in};
 use super::hits::block;
@@ -19,8 +19,9 @@ use super::spots::{Spot, spots};
 use pd_clock::Cut;
 use pd_format::PROCESS_LIMIT;
 use pd_runs::{RunTest, Whole};
+use pd_share::values_of;
 use std::alloc::{AllocError, Global};
-use std::thread::{Threads, for_each_mut};
+use std::thread::Threads;
 
 /// The least count of the last process but one in run `i` whose cut satisfies.
 fn hit_of<T: RunTest>(level: &Whole, test: &T, skips: Skips<'_>, i: usize) -> Option<u64>
@@ -32,43 +33,7 @@ fn hit_of<T: RunTest>(level: &Whole, test: &T, skips: Skips<'_>, i: usize) -> Op
     hit_in(level, test, skips, i)
 }
 
-/// Puts the hit of each run in its place, by at most this many threads.
-fn fill_hits<R: Threads + Sync, T: RunTest + Sync>(
-    rt: &R,
-    threads: usize,
-    level: &Whole,
-    test: &T,
-    skips: Skips<'_>,
-    hits: &mut [Option<u64>],
-)
-    requires threads { 0 < threads }
-    requires level { IsWholeLevel (T.events test.now) level.now }
-    requires skips { HaveNoHits (T.events test.now) (T.test test.now) level.now.runs skips }
-    requires one_each { length hits.old ≡ length level.now.runs }
-    ensures one_each { length hits.new ≡ length hits.old }
-    ensures hits { (i : ℕ) → i < length level.now.runs
-        → IsHitIn (T.test test.now) level.now.number (run_at level.now.runs i) (slice_index_or hits.new i None) }
-{
-    for_each_mut(
-        rt,
-        hits,
-        threads,
-        &move |i: usize, hit: &mut Option<u64>|
-            requires { (i < length level.now.runs) × IsWholeLevel (T.events test.now) level.now
-                × HaveNoHits (T.events test.now) (T.test test.now) level.now.runs skips }
-            ensures { IsHitIn (T.test test.entry.now) level.entry.now.number (run_at level.entry.now.runs i) hit.new }
-        { *hit = hit_of(level, test, skips, i) },
-    );
-}
-
-/// No hit, this many times.
-fn no_hits(alloc: Global, n: usize) -> Result<Vec<Option<u64>>, AllocError>
-    ensures { IfOk result (λ hits. hits.items ≡ replicate n None) }
-{
-    vec![in alloc; None; n]
-}
-
-/// The hit of each run, by at most this many threads.
+/// The same for each run, by at most this many threads.
 fn hits_in_runs<R: Threads + Sync, T: RunTest + Sync>(
     rt: &R,
     threads: usize,
@@ -77,21 +42,28 @@ fn hits_in_runs<R: Threads + Sync, T: RunTest + Sync>(
     test: &T,
     skips: Skips<'_>,
 ) -> Result<Vec<Option<u64>>, AllocError>
-    requires threads { 0 < threads }
     requires level { IsWholeLevel (T.events test.now) level.now }
     requires skips { HaveNoHits (T.events test.now) (T.test test.now) level.now.runs skips }
     ensures one_each { IfOk result (λ found. length found.items ≡ length level.now.runs) }
     ensures hits { IfOk result (λ found. (i : ℕ) → i < length level.now.runs
         → IsHitIn (T.test test.now) level.now.number (run_at level.now.runs i) (slice_index_or found.items i None)) }
 {
-    let mut hits = no_hits(alloc, level.len())?;
-    let places = hits.as_mut_slice();
-    fill_hits(rt, threads, level, test, skips, places);
-    Ok(hits)
+    values_of(
+        rt,
+        threads,
+        alloc,
+        level.len(),
+        &|i: usize| -> Option<u64>
+            requires { (i < length level.now.runs) × IsWholeLevel (T.events test.now) level.now
+                × HaveNoHits (T.events test.now) (T.test test.now) level.now.runs skips }
+            ensures { IsHitIn (T.test test.entry.now) level.entry.now.number (run_at level.entry.now.runs i)
+                result }
+        { hit_of(level, test, skips, i) },
+    )
 }
 
 /// The first cut of the level that satisfies, in lexicographic order. Each cut is tested, by at most this many threads,
-/// each of which takes a piece of the level's runs.
+/// which draw the level's runs.
 ///
 /// # Errors
 /// An allocation was refused.
@@ -103,7 +75,6 @@ pub fn first_hit_by_threads<R: Threads + Sync, T: RunTest + Sync>(
     test: &T,
     skips: Skips<'_>,
 ) -> Result<Option<Cut>, AllocError>
-    requires threads { 0 < threads }
     requires level { IsWholeLevel (T.events test.now) level.now }
     requires skips { HaveNoHits (T.events test.now) (T.test test.now) level.now.runs skips }
     ensures level { IfOk result (λ found. IfSome found (IsOfLevel (T.events test.now) level.now.number)) }
@@ -157,50 +128,6 @@ fn word_of<T: RunTest>(
     )
 }
 
-/// Puts the word that begins at each spot in its place, by at most this many threads.
-fn fill_words<R: Threads + Sync, T: RunTest + Sync>(
-    rt: &R,
-    threads: usize,
-    before: &Whole,
-    marks: &Marks,
-    level: &Whole,
-    test: &T,
-    skips: Skips<'_>,
-    spots: &[Spot],
-    words: &mut [u64],
-)
-    requires threads { 0 < threads }
-    requires level { IsWholeLevel (T.events test.now) level.now }
-    requires skips { HaveNoHits (T.events test.now) (T.test test.now) level.now.runs skips }
-    requires before { IsBefore (T.events test.now) (T.test test.now) level.now before.now marks.now }
-    requires spots { (j : ℕ) → j < length spots.now → IsSpot level.now.runs (spot_at spots.now j) }
-    requires one_each { length words.old ≡ length spots.now }
-    ensures one_each { length words.new ≡ length words.old }
-    ensures words { (j : ℕ) → j < length spots.now
-        → IsWordOf (T.events test.now) (T.test test.now) level.now (spot_at spots.now j) (slice_index words.new j) }
-{
-    for_each_mut(
-        rt,
-        words,
-        threads,
-        &move |j: usize, word: &mut u64|
-            requires { (j < length spots.now) × IsSpot level.now.runs (spot_at spots.now j)
-                × IsWholeLevel (T.events test.now) level.now
-                × HaveNoHits (T.events test.now) (T.test test.now) level.now.runs skips
-                × IsBefore (T.events test.now) (T.test test.now) level.now before.now marks.now }
-            ensures { IsWordOf (T.events test.entry.now) (T.test test.entry.now) level.entry.now
-                (spot_at spots.entry.now j) word.new }
-        { *word = word_of(before, marks, level, test, skips, spots[j]) },
-    );
-}
-
-/// As many words with no bit.
-fn no_words(alloc: Global, n: usize) -> Result<Vec<u64>, AllocError>
-    ensures { IfOk result (λ words. words.items ≡ replicate n 0) }
-{
-    vec![in alloc; 0u64; n]
-}
-
 /// The words that begin at these spots, by at most this many threads.
 fn words_of<R: Threads + Sync, T: RunTest + Sync>(
     rt: &R,
@@ -213,7 +140,6 @@ fn words_of<R: Threads + Sync, T: RunTest + Sync>(
     skips: Skips<'_>,
     spots: &[Spot],
 ) -> Result<Vec<u64>, AllocError>
-    requires threads { 0 < threads }
     requires level { IsWholeLevel (T.events test.now) level.now }
     requires skips { HaveNoHits (T.events test.now) (T.test test.now) level.now.runs skips }
     requires before { IsBefore (T.events test.now) (T.test test.now) level.now before.now marks.now }
@@ -222,16 +148,24 @@ fn words_of<R: Threads + Sync, T: RunTest + Sync>(
     ensures words { IfOk result (λ words. (j : ℕ) → j < length spots.now
         → IsWordOf (T.events test.now) (T.test test.now) level.now (spot_at spots.now j) (slice_index words.items j)) }
 {
-    let mut words = no_words(alloc, spots.len())?;
-    let places = words.as_mut_slice();
-    fill_words(
-        rt, threads, before, marks, level, test, skips, spots, places,
-    );
-    Ok(words)
+    values_of(
+        rt,
+        threads,
+        alloc,
+        spots.len(),
+        &|j: usize| -> u64
+            requires { (j < length spots.now) × IsSpot level.now.runs (spot_at spots.now j)
+                × IsWholeLevel (T.events test.now) level.now
+                × HaveNoHits (T.events test.now) (T.test test.now) level.now.runs skips
+                × IsBefore (T.events test.now) (T.test test.now) level.now before.now marks.now }
+            ensures { IsWordOf (T.events test.entry.now) (T.test test.entry.now) level.entry.now
+                (spot_at spots.entry.now j) result }
+        { word_of(before, marks, level, test, skips, spots[j]) },
+    )
 }
 
-/// The marks of the next level, from a level and its marks, by at most this many threads, each of which takes a piece
-/// of the words of marks.
+/// The marks of the next level, from a level and its marks, by at most this many threads, which draw the words of
+/// marks.
 ///
 /// # Errors
 /// An allocation was refused.
@@ -245,7 +179,6 @@ pub fn next_by_threads<R: Threads + Sync, T: RunTest + Sync>(
     test: &T,
     skips: Skips<'_>,
 ) -> Result<Marks, AllocError>
-    requires threads { 0 < threads }
     requires before { IsWholeLevel (T.events test.now) before.now }
     requires level { IsWholeLevel (T.events test.now) level.now }
     requires skips { HaveNoHits (T.events test.now) (T.test test.now) level.now.runs skips }

@@ -1,13 +1,14 @@
 //! The words of a level's runs by several threads.
 ghost use Rattle.pd_refusals.specs.Refusals.{AreRefusals, IsSomeLevel, IsWordOfRun};
-ghost use Rattle.std.specs.Prelude.{◌≡◌, ◌<◌, ℕ, IfOk, length, replicate, slice_index_or};
+ghost use Rattle.std.specs.Prelude.{◌≡◌, ◌<◌, ℕ, IfOk, length};
 
 use super::asked::asked;
 use super::refusals::{Refusals, is_born, kept};
 use pd_runs::Whole;
+use pd_share::values_of;
 use pd_tables::Compiled;
 use std::alloc::{AllocError, Global};
-use std::thread::{Threads, for_each_mut};
+use std::thread::Threads;
 
 /// How few runs may be shared.
 const SHARED_RUNS: usize = 128;
@@ -71,75 +72,6 @@ fn word_there(
     }
 }
 
-/// Puts the word of each run in its place, by at most this many threads.
-fn fill<R: Threads + Sync>(
-    rt: &R,
-    tests: &[Compiled<'_, '_>],
-    before: &Whole,
-    refusals: &Refusals,
-    level: &Whole,
-    places: &[usize],
-    threads: usize,
-    words: &mut [u16],
-)
-    requires before { IsSomeLevel before.now }
-    requires level { IsSomeLevel level.now }
-    requires processes { before.now.processes ≡ level.now.processes }
-    requires refusals { AreRefusals tests.now before.now refusals.now }
-    requires places { length places.now ≡ length level.now.runs }
-    requires threads { 0 < threads }
-    requires one_each { length words.old ≡ length level.now.runs }
-    ensures one_each { length words.new ≡ length words.old }
-    ensures words { (i : ℕ) (word : ℕ) → i < length words.new
-        → IsWordOfRun tests.now level.now i (slice_index_or words.new i word) }
-{
-    for_each_mut(
-        rt,
-        words,
-        threads,
-        &move |i: usize, word: &mut u16|
-            requires { IsSomeLevel before.now × IsSomeLevel level.now
-                × (before.now.processes ≡ level.now.processes)
-                × AreRefusals tests.now before.now refusals.now
-                × (length places.now ≡ length level.now.runs) × (i < length level.now.runs) }
-            ensures { IsWordOfRun tests.entry.now level.entry.now i word.new }
-        { *word = word_there(tests, before, refusals, places[i], level, i) },
-    );
-}
-
-/// The word of each run, by at most this many threads, each of which writes into a part of `found`.
-fn words_in<R: Threads + Sync>(
-    rt: &R,
-    threads: usize,
-    alloc: Global,
-    tests: &[Compiled<'_, '_>],
-    before: &Whole,
-    refusals: &Refusals,
-    level: &Whole,
-    places: &[usize],
-    found: &mut [u16],
-) -> Result<Vec<u16>, AllocError>
-    requires threads { 0 < threads }
-    requires before { IsSomeLevel before.now }
-    requires level { IsSomeLevel level.now }
-    requires processes { before.now.processes ≡ level.now.processes }
-    requires refusals { AreRefusals tests.now before.now refusals.now }
-    requires places { length places.now ≡ length level.now.runs }
-    requires one_each { length found.old ≡ length level.now.runs }
-    ensures { IfOk result (λ words. AreRefusals tests.now level.now words.items) }
-{
-    fill(rt, tests, before, refusals, level, places, threads, found);
-    let words = found.to_vec(alloc)?;
-    Ok(words)
-}
-
-/// As many zeros.
-fn zeros(alloc: Global, n: usize) -> Result<Vec<u16>, AllocError>
-    ensures { IfOk result (λ words. words.items ≡ replicate n 0) }
-{
-    vec![in alloc; 0u16; n]
-}
-
 /// The words of the runs, by at most this many threads.
 pub(crate) fn words_by_threads<R: Threads + Sync>(
     rt: &R,
@@ -151,7 +83,6 @@ pub(crate) fn words_by_threads<R: Threads + Sync>(
     level: &Whole,
     places: &[usize],
 ) -> Result<Vec<u16>, AllocError>
-    requires threads { 0 < threads }
     requires before { IsSomeLevel before.now }
     requires level { IsSomeLevel level.now }
     requires processes { before.now.processes ≡ level.now.processes }
@@ -159,16 +90,18 @@ pub(crate) fn words_by_threads<R: Threads + Sync>(
     requires places { length places.now ≡ length level.now.runs }
     ensures { IfOk result (λ words. AreRefusals tests.now level.now words.items) }
 {
-    let mut found = zeros(alloc, level.len())?;
-    words_in(
+    let words = values_of(
         rt,
         threads,
         alloc,
-        tests,
-        before,
-        refusals,
-        level,
-        places,
-        found.as_mut_slice(),
-    )
+        level.len(),
+        &|i: usize| -> u16
+            requires { IsSomeLevel before.now × IsSomeLevel level.now
+                × (before.now.processes ≡ level.now.processes)
+                × AreRefusals tests.now before.now refusals.now
+                × (length places.now ≡ length level.now.runs) × (i < length level.now.runs) }
+            ensures { IsWordOfRun tests.entry.now level.entry.now i result }
+        { word_there(tests, before, refusals, places[i], level, i) },
+    )?;
+    Ok(words)
 }

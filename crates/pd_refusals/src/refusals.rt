@@ -185,7 +185,6 @@ impl Refusals {
         refusals: &Refusals,
         level: &Whole,
     ) -> Result<Refusals, AllocError>
-        requires threads { 0 < threads }
         requires before { IsSomeLevel before.now }
         requires level { IsSomeLevel level.now }
         requires processes { before.now.processes ≡ level.now.processes }

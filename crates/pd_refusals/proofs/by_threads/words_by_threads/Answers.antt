@@ -1,9 +1,9 @@
--- There is a place for each run.
-use Rattle.std.proofs.Common.{length, ap, ◌∙◌}
-use Rattle.std.proofs.lemmas.List.{length-replicate}
+-- Each place has the word of the run there.
+use Rattle.std.proofs.Common.{◌∙◌, arith}
 use Rattle.pd_refusals.proofs.by_threads.words_by_threads.Goals as goal
 
-pub words_in-requires-clause-one_each : goal.words_in-requires-clause-one_each
-words_in-requires-clause-one_each g c _ _ =
-    ap length (c.as_mut_slice.ensures.value ∙ c.in_ok-found.ensures)
-    ∙ (length-replicate c.len.result 0 ∙ c.len.ensures)
+pub returns : goal.returns
+returns g c = record {
+  one_each = c.in_ok-words.ensures.one_each ∙ c.len.ensures;
+  each = λ i lt. (c.in_ok-words.ensures.values i 0 (omega (arith, lt, c.len.ensures))).is;
+}
