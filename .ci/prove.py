@@ -1,11 +1,14 @@
 #!/usr/bin/env python3
-"""prove.py [-j N] [CRATE..]: proves the crates (all of them if none is named) as `rt check` does, N at a time.
+"""prove.py [-j N] [--for CRATE] [CRATE..]: proves crates side by side, N jobs in all (as many as there are processors).
 
-Runs of `rt` in one folder wait for each other, so each runs in a copy of the repository, with the `out` folders of the
-libraries below it. The `out` folder of what is proved comes back here, so that the next call proves only what has
-changed. It decides nothing: the gate is `rt ci`. The logs are in the folder that is printed first.
+All crates are proved if none is named; with --for those that this one stands on, and it itself. A line comes for each
+crate that is proved, with its seconds and how many are left. Runs of `rt` in one folder wait for each other, so each
+works in a copy of the repository, over the libraries that are built here; what it builds, and what it keeps for the
+next time, comes back into the crate's folder `out`. So a second call proves only what has changed. It decides nothing:
+the gate is `rt ci`.
 """
 import argparse
+import contextlib
 import os
 import shutil
 import subprocess
@@ -15,12 +18,14 @@ import threading
 import time
 
 ROOT = os.path.dirname(os.path.dirname(os.path.abspath(__file__)))
+# More jobs than this gain next to nothing for one crate.
+MOST_JOBS = 4
 
 
 def libraries():
     """Of each crate the crates of the repository that it stands on, those below them too."""
     direct = {}
-    with open(os.path.join(ROOT, "crates.txt")) as lines:
+    with open(os.path.join(ROOT, "crates.txt"), encoding="utf-8") as lines:
         for line in lines:
             name, colon, others = line.split("#")[0].partition(":")
             if colon:
@@ -33,60 +38,104 @@ def libraries():
     return {name: below(name) for name in direct}
 
 
+def lines_of(name):
+    """How many lines of code and proofs a crate has: about what its proof costs."""
+    count = 0
+    for part in ("src", "specs", "proofs"):
+        for at, _, names in os.walk(os.path.join(ROOT, "crates", name, part)):
+            for file in names:
+                with open(os.path.join(at, file), "rb") as lines:
+                    count += lines.read().count(b"\n")
+    return count
+
+
 def copy_files(to):
-    files = subprocess.run(["git", "ls-files", "-co", "--exclude-standard"], cwd=ROOT, check=True,
-                           capture_output=True, text=True).stdout.split("\n")
+    files = subprocess.run(["git", "ls-files", "-co", "--exclude-standard", "crates", "crates.txt", "HANDLES"],
+                           cwd=ROOT, check=True, capture_output=True, text=True).stdout.splitlines()
     for file in files:
         if os.path.isfile(os.path.join(ROOT, file)):
             os.makedirs(os.path.dirname(os.path.join(to, file)), exist_ok=True)
             shutil.copy2(os.path.join(ROOT, file), os.path.join(to, file))
 
 
-def copy_out(name, source, to):
-    source, to = (os.path.join(folder, "crates", name, "out") for folder in (source, to))
+def link_or_copy(source, to):
+    try:
+        os.link(source, to)
+    except OSError:
+        shutil.copy2(source, to)
+
+
+def bring(name, part, source, to):
+    """Gives a crate in one copy of the repository what stands in its folder `out` in another."""
+    source, to = (os.path.join(folder, "crates", name, "out", part) for folder in (source, to))
     if os.path.isdir(source):
         shutil.rmtree(to, ignore_errors=True)
-        shutil.copytree(source, to, symlinks=True)
+        os.makedirs(os.path.dirname(to), exist_ok=True)
+        shutil.copytree(source, to, symlinks=True, copy_function=link_or_copy)
 
 
 class Run:
-    """Which crates are proved, which are at work, and the copies that are free."""
+    """Which crates are proved, which are at work, and the copies and jobs that are free."""
 
     def __init__(self, folder, names, below, jobs):
-        self.folder, self.below, self.jobs = folder, below, jobs
-        self.waiting, self.proved, self.failed, self.working = set(names), set(below) - set(names), set(), set()
+        self.folder, self.below, self.jobs, self.idle = folder, below, jobs, jobs
+        self.waiting, self.proved, self.failed, self.working = set(names), set(below) - set(names), {}, set()
         self.free = [os.path.join(folder, f"copy{i}") for i in range(jobs)]
         self.changed = threading.Condition()
+        weights = {name: lines_of(name) for name in below}
+        above = {name: [other for other in names if name in below[other]] for name in below}
+        ranks = {}
+        for name in sorted(below, key=lambda it: -len(below[it])):
+            ranks[name] = weights[name] + max((ranks[other] for other in above[name] if other in ranks), default=0)
+        self.ranks = ranks
 
-    def prove(self, name, copy):
+    def prove(self, name, copy, jobs):
         start = time.time()
-        for other in self.below[name] | {name}:
-            copy_out(other, ROOT, copy)
-        jobs = str(max(1, self.jobs - len(self.working) + 1))
-        status = self.run_rt(name, copy, "check", jobs)
-        if status == 0 and any(name in below for below in self.below.values()):
-            status = self.run_rt(name, copy, "lib", jobs)
-        if status == 0:
-            copy_out(name, copy, ROOT)
+        try:
+            fault = self.prove_in(name, copy, jobs)
+        except OSError as error:
+            fault = str(error)
         with self.changed:
-            print(f"{name}: {'proved' if status == 0 else 'not proved'} in {time.time() - start:.0f} s", flush=True)
-            (self.proved if status == 0 else self.failed).add(name)
             self.working.remove(name)
+            if fault is None:
+                self.proved.add(name)
+            else:
+                self.failed[name] = fault
+            left = len(self.waiting) + len(self.working)
+            said = "proved" if fault is None else "NOT PROVED"
+            print(f"{name}: {said} in {time.time() - start:.0f} s, {left} left", flush=True)
             self.free.append(copy)
+            self.idle += jobs
             self.changed.notify_all()
 
-    def run_rt(self, name, copy, verb, jobs):
-        with open(os.path.join(self.folder, name), "a") as log:
-            return subprocess.run(["rt", verb, "--jobs", jobs], cwd=os.path.join(copy, "crates", name),
-                                  stdout=log, stderr=log).returncode
+    def prove_in(self, name, copy, jobs):
+        """What `rt` says of a crate that isn't proved, or nothing."""
+        for other in self.below[name]:
+            if not os.path.isdir(os.path.join(copy, "crates", other, "out", "rlib")):
+                bring(other, "rlib", ROOT, copy)
+        bring(name, "incremental", ROOT, copy)
+        is_program = os.path.isfile(os.path.join(ROOT, "crates", name, "src", "main.rt"))
+        ran = subprocess.run(["rt", "check" if is_program else "lib", "--jobs", str(jobs)],
+                             cwd=os.path.join(copy, "crates", name), stdout=subprocess.PIPE, stderr=subprocess.STDOUT,
+                             text=True, errors="replace", check=False)
+        if ran.returncode:
+            return ran.stdout
+        for part in ("rlib", "incremental"):
+            bring(name, part, copy, ROOT)
+        shutil.rmtree(os.path.join(copy, "crates", name, "out", "incremental"), ignore_errors=True)
+        return None
 
     def start_next(self):
-        ready = [name for name in self.waiting if self.below[name] <= self.proved]
-        ready.sort(key=lambda name: -sum(name in below for below in self.below.values()))
-        for name in ready[:len(self.free)]:
+        """Starts what can be proved, first what has the longest chain above it; what stands alone has more jobs."""
+        ready = sorted((name for name in self.waiting if self.below[name] <= self.proved), key=lambda it: -self.ranks[it])
+        for at, name in enumerate(ready):
+            if self.idle <= 0 or not self.free:
+                break
+            jobs = max(1, min(MOST_JOBS, self.idle // (len(ready) - at)))
+            self.idle -= jobs
             self.waiting.remove(name)
             self.working.add(name)
-            threading.Thread(target=self.prove, args=(name, self.free.pop())).start()
+            threading.Thread(target=self.prove, args=(name, self.free.pop(), jobs)).start()
 
     def all(self):
         with self.changed:
@@ -98,22 +147,27 @@ class Run:
 
 
 def main():
-    parser = argparse.ArgumentParser()
-    parser.add_argument("-j", type=int, default=os.cpu_count())
+    parser = argparse.ArgumentParser(description=__doc__, formatter_class=argparse.RawDescriptionHelpFormatter)
+    parser.add_argument("-j", type=int, default=len(os.sched_getaffinity(0)), metavar="N")
+    parser.add_argument("--for", dest="top", metavar="CRATE")
     parser.add_argument("crates", nargs="*")
-    words = parser.parse_args()
+    given = parser.parse_args()
     below = libraries()
-    with tempfile.TemporaryDirectory() as folder:
-        print(folder, flush=True)
-        run = Run(folder, words.crates or list(below), below, words.j)
+    unknown = [name for name in [*given.crates, *([given.top] if given.top else [])] if name not in below]
+    if unknown:
+        sys.exit(f"prove: crates.txt has no crate {' '.join(unknown)}")
+    names = given.crates or ([*below[given.top], given.top] if given.top else list(below))
+    with tempfile.TemporaryDirectory(prefix="monitor-prove-") as folder, contextlib.suppress(KeyboardInterrupt):
+        run = Run(folder, names, below, max(1, given.j))
         for copy in run.free:
             copy_files(copy)
-        good = run.all()
-        for name in sorted(run.failed):
-            print(open(os.path.join(folder, name)).read())
+        is_good = run.all()
+        for name, log in sorted(run.failed.items()):
+            print(f"== {name}\n{log}")
         for name in sorted(run.waiting):
             print(f"{name}: not tried")
-    sys.exit(0 if good else 1)
+        sys.exit(0 if is_good else 1)
+    sys.exit(130)
 
 
 if __name__ == "__main__":
