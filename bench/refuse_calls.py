@@ -1,13 +1,12 @@
 #!/usr/bin/env python3
-"""refuse_calls.py [TESTS]: refuses each allocation of the tests of `pd_calls` in turn.
+"""refuse_calls.py [TESTS..]: refuses each allocation of tests in turn, of `pd_reading_tests` and `pd_walk_tests`.
 
-TESTS is the program of these tests; without it the one that `rt test` left in `crates/pd_calls/out`. Each of them
-whose name ends in `_again` makes each of its calls once more if memory is refused, looks that nothing has changed by
-then, and expects what the call gives with memory. For each of them and each N, counted upward until a run meets no
-refusal, the test runs with its Nth allocation refused, and has to pass. What comes before the calls, as the document
-and the streams, is made once more as a whole. The first allocations are the C library's own, and so are those with
-which it starts threads. The status is 1 if a test fails, doesn't end within a minute, or makes no call again. It needs
-gcc."""
+TESTS are programs of tests; without them those that `rt test` left in the `out` folders of the crates. Each test whose
+name ends in `_again` makes each of its calls once more if memory is refused, looks that nothing has changed by then,
+and expects what the call gives with memory. For each of them and each N, counted upward until a run meets no refusal,
+the test runs with its Nth allocation refused, and has to pass. What comes before the calls, as the document and the
+streams, is made once more as a whole. The first allocations are the C library's own, and so are those with which it
+starts threads. The status is 1 if a test fails, doesn't end within a minute, or makes no call again. It needs gcc."""
 import os
 import subprocess
 import sys
@@ -15,7 +14,8 @@ import tempfile
 
 from refusals import asked_for, make_shim, surroundings
 
-TESTS = os.path.join(os.path.dirname(os.path.dirname(os.path.abspath(__file__))), "crates/pd_calls/out/pd_calls_tests")
+CRATES = os.path.join(os.path.dirname(os.path.dirname(os.path.abspath(__file__))), "crates")
+NAMES = ["pd_reading_tests", "pd_walk_tests"]
 RUN_SECONDS = 60
 # More allocations than any of the tests makes.
 MOST_RUNS = 20_000
@@ -50,14 +50,19 @@ def refuse_each(tests, name, folder):
     return again > 0
 
 
-def main():
-    tests = os.path.abspath(sys.argv[1]) if len(sys.argv) > 1 else TESTS
+def refuse_all(tests, folder):
+    """Whether each test of the program that makes its calls again passes, and whether there is one."""
     if not os.path.exists(tests):
-        sys.exit("refuse_calls.py: first run `rt test` in crates/pd_calls, or `bench/unproved.py TESTS pd_calls`")
+        sys.exit("refuse_calls.py: first run `rt test` in the crates, or `bench/unproved.py TESTS CRATE` for each")
+    names = names_of(tests)
+    return bool(names) and all([refuse_each(tests, name, folder) for name in names])
+
+
+def main():
+    programs = sys.argv[1:] or [os.path.join(CRATES, name, "out", f"{name}_tests") for name in NAMES]
     with tempfile.TemporaryDirectory() as folder:
         make_shim(folder)
-        names = names_of(tests)
-        if not names or not all([refuse_each(tests, name, folder) for name in names]):
+        if not all([refuse_all(os.path.abspath(tests), folder) for tests in programs]):
             raise SystemExit(1)
 
 

@@ -12,8 +12,6 @@ mod cutter;
 mod fault;
 mod next;
 mod parts;
-#[cfg(test)]
-mod tests;
 
 pub use bundle::Bundle;
 pub use fault::BundleFault;

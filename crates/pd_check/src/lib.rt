@@ -19,8 +19,6 @@ mod claims;
 mod evidence;
 mod finding;
 mod finding_text;
-#[cfg(test)]
-mod tests;
 mod verdict;
 
 pub use checked::Checked;

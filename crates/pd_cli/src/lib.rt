@@ -46,8 +46,6 @@ mod server;
 mod service_fault;
 mod session_files;
 mod status;
-#[cfg(test)]
-mod tests;
 mod watchers;
 mod workers;
 

@@ -28,8 +28,6 @@ mod fault;
 mod history;
 mod order;
 mod state;
-#[cfg(test)]
-mod tests;
 
 pub use computation::Computation;
 pub use cut::Cut;

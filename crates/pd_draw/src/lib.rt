@@ -15,8 +15,6 @@
 mod choice;
 mod drawn;
 mod exhibit;
-#[cfg(test)]
-mod tests;
 mod values;
 
 pub use drawn::{Drawn, draw};

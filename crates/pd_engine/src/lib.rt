@@ -39,8 +39,6 @@ mod refusal;
 mod reports;
 mod sessions;
 mod snapshots;
-#[cfg(test)]
-mod tests;
 mod unanswered;
 
 pub use bundle_judges::judge_bundle;

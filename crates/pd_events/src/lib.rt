@@ -32,8 +32,6 @@ mod record;
 mod room;
 mod settings;
 mod statement;
-#[cfg(test)]
-mod tests;
 
 pub use event::{Event, EventKind, LineRecord, Trace};
 pub use events::Events;

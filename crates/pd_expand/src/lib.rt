@@ -32,8 +32,6 @@ mod laws;
 mod marking;
 mod part;
 mod rule;
-#[cfg(test)]
-mod tests;
 mod union;
 mod view;
 mod workers;

@@ -12,8 +12,6 @@
 mod cut;
 mod framer;
 mod line;
-#[cfg(test)]
-mod tests;
 
 pub use cut::has_line_feed;
 pub use framer::Framer;

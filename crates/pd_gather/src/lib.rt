@@ -42,8 +42,6 @@ mod read_fault;
 mod readers;
 mod session_streams;
 mod streams;
-#[cfg(test)]
-mod tests;
 mod traces;
 mod unread;
 mod watching;

@@ -28,8 +28,6 @@ mod place;
 mod receiving;
 mod sender;
 mod sending;
-#[cfg(test)]
-mod tests;
 
 pub use fault::MatchFault;
 pub use matched::Matched;

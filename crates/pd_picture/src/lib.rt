@@ -33,8 +33,6 @@ mod messages;
 mod pictures;
 mod shapes;
 mod steps;
-#[cfg(test)]
-mod tests;
 mod texts;
 mod window;
 

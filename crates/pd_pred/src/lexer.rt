@@ -203,30 +203,3 @@ pub(crate) fn lex(alloc: Global, text: &str) -> Result<Vec<Placed<'_>>, LexError
     tokens.push(Placed { at, token })?;
     Ok(tokens)
 }
-
-#[cfg(test)]
-mod tests {
-    use super::*;
-    use std::test::Fail;
-
-    #[test]
-    fn takes_a_comparison_apart(rt: HostRuntime) -> Result<(), Fail> {
-        let tokens = lex(rt.alloc(), "a.x<=1")?;
-        assert_eq!(rt; tokens.len(), 6);
-        assert!(rt; matches!(tokens[0].token, Token::Word(_)));
-        assert!(rt; matches!(tokens[1].token, Token::Dot));
-        assert!(rt; matches!(tokens[2].token, Token::Word(_)));
-        assert!(rt; matches!(tokens[3].token, Token::Relates(Comparison::IsAtMost)));
-        assert!(rt; matches!(tokens[4].token, Token::Digits(_)));
-        assert!(rt; matches!(tokens[5].token, Token::End));
-        assert_eq!(rt; tokens[4].at, 6);
-        assert_eq!(rt; tokens[5].at, 7);
-        Ok(())
-    }
-
-    #[test]
-    fn reports_a_stray_byte(rt: HostRuntime) {
-        assert_eq!(rt; lex(rt.alloc(), "a.x = 1").err(), Some(LexError::Stray(5)));
-        assert_eq!(rt; lex(rt.alloc(), "a.\u{e9}").err(), Some(LexError::Stray(3)));
-    }
-}

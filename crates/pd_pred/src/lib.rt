@@ -27,8 +27,6 @@ mod openers;
 mod placement;
 mod predicate;
 mod state;
-#[cfg(test)]
-mod tests;
 mod token;
 mod tree;
 mod values;

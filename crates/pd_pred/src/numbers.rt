@@ -79,27 +79,3 @@ pub(crate) fn first_too_large(tokens: &[Placed<'_>]) -> Option<u64>
     }
     None
 }
-
-#[cfg(test)]
-mod tests {
-    use super::super::lexer::lex;
-    use super::*;
-    use std::test::Fail;
-
-    #[test]
-    fn reads_digits(rt: HostRuntime) {
-        assert_eq!(rt; number_of("0012"), 12);
-        assert_eq!(rt; number_of("9223372036854775807"), 9_223_372_036_854_775_807);
-    }
-
-    #[test]
-    fn finds_the_first_too_large(rt: HostRuntime) -> Result<(), Fail> {
-        let factor = lex(rt.alloc(), "2147483648 < 2147483648 * a.x")?;
-        assert_eq!(rt; first_too_large(&factor), Some(14));
-        let number = lex(rt.alloc(), "1 < 9223372036854775808")?;
-        assert_eq!(rt; first_too_large(&number), Some(5));
-        let greatest = lex(rt.alloc(), "2147483647 * a.x < 9223372036854775807")?;
-        assert_eq!(rt; first_too_large(&greatest), None);
-        Ok(())
-    }
-}

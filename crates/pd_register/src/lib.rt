@@ -28,8 +28,6 @@ mod rule;
 mod seat;
 mod snapshot;
 mod step;
-#[cfg(test)]
-mod tests;
 mod view;
 mod watcher;
 

@@ -47,8 +47,6 @@ mod report;
 mod report_text;
 mod same;
 mod session_line;
-#[cfg(test)]
-mod tests;
 mod words;
 
 pub use answer::Answer;

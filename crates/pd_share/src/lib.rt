@@ -10,8 +10,6 @@
 #![tactic(auto)]
 
 mod found;
-#[cfg(test)]
-mod tests;
 mod values;
 
 pub use values::values_of;

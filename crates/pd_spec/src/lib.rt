@@ -26,8 +26,6 @@ mod outline;
 mod parts;
 mod predicates;
 mod spec;
-#[cfg(test)]
-mod tests;
 mod twice;
 
 pub use fault::SpecFault;

@@ -26,8 +26,6 @@ mod shape;
 mod shape_text;
 mod style;
 mod tags;
-#[cfg(test)]
-mod tests;
 
 pub use anchor::Anchor;
 pub use class::Class;

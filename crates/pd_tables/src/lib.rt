@@ -67,8 +67,6 @@ mod row;
 mod run_state;
 mod size;
 mod table;
-#[cfg(test)]
-mod tests;
 mod zero;
 
 pub use compiled::Compiled;

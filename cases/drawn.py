@@ -1,0 +1,568 @@
+#!/usr/bin/env python3
+"""drawn.py [PROGRAM] [--count N] [--seed S] [--only K]: draws small sessions at random, has the program judge them, and
+compares its reports with those of a plain judge.
+
+The plain judge is written from the definitions in docs/SPECIFICATION.md, with no thought of speed: happened-before is
+closed as a relation, cuts are all counts of events that are closed under it, and if a session has few events,
+Definitely is judged by all of its observations too. PROGRAM is ../crates/monitor/out/monitor if it isn't given. Each
+session is judged as a bundle; one of four also from files, by 2 and 16 workers, and its report is checked, as it is and
+forged. Each kind of line has to stand in the reports and findings so often that the drawing can't go empty. The last
+line says how many sessions there are, how often the program ran, and how many sessions differ; the status is 1 if any
+does, or if lines are missing. With --only the session K is drawn alone.
+"""
+import argparse
+import concurrent.futures
+import functools
+import itertools
+import json
+import operator
+import os
+import random
+import re
+import subprocess
+import sys
+import tempfile
+
+from run import Differs, HERE, Place, checked
+
+# How many events a session has at most whose observations are all looked at.
+FEW = 8
+# What stands in lines, and in how many lines of 400 sessions at least.
+LINES_WANTED = {
+    "session 1 ": 15, "session 2 ": 60, "session 3 ": 60,
+    " 0 messages": 40, " [12] messages": 40, " [3-6] messages": 40,
+    " possibly yes .*[1-9]": 80, " possibly no": 80, " possibly unknown ": 40,
+    " definitely yes [1-9]": 40, " definitely no .*,": 80, " definitely unknown ": 40,
+    "refused cycle .*,": 15, "refused cycle .*,.*,": 2, "refused sendtwice ": 4, "refused orphan ": 4,
+    "refused selfmessage ": 2, "refused receivedtwice ": 3, "session bad": 3,
+    " possibly good": 20, " possibly bad": 40, " definitely good": 30, " definitely bad": 30,
+}
+RELATIONS = {"==": operator.eq, "!=": operator.ne, "<": operator.lt, "<=": operator.le, ">": operator.gt,
+             ">=": operator.ge}
+
+
+class Event:
+    """What an event does: its kind is `local`, `send` or `recv`; and what it sets."""
+
+    def __init__(self, sets):
+        self.kind, self.id, self.sets = "local", None, sets
+
+
+class Session:
+    """Processes with their variables and events, predicates, and a width. A place is the number of a process, from 0,
+    and the number of its event, from 1."""
+
+    def __init__(self, names, initial, events):
+        self.names, self.initial, self.events = names, initial, events
+        self.places = [(process, number) for process, of_process in enumerate(events)
+                       for number in range(1, len(of_process) + 1)]
+        self.predicates, self.width = [], 4096
+
+    def at(self, place):
+        return self.events[place[0]][place[1] - 1]
+
+    def of_kind(self, kind):
+        return [place for place in self.places if self.at(place).kind == kind]
+
+    def with_id_of(self, place, places):
+        return [other for other in places if self.at(other).id == self.at(place).id]
+
+
+# The plain judge.
+
+def first_fault(session):
+    """What is wrong with the messages, and where."""
+    sends, receipts = session.of_kind("send"), session.of_kind("recv")
+    for place in sends:
+        if any(other < place for other in session.with_id_of(place, sends)):
+            return "sendtwice", place
+    for place in receipts:
+        sent = session.with_id_of(place, sends)
+        if not sent:
+            return "orphan", place
+        if sent[0][0] == place[0]:
+            return "selfmessage", place
+        if any(other < place for other in session.with_id_of(place, receipts)):
+            return "receivedtwice", place
+    return None
+
+
+def happened_before(session):
+    """The least transitive relation that holds from an earlier to a later event of one process and from a message's
+    send to its receipt."""
+    relation = {(first, later) for first in session.places for later in session.places
+                if first[0] == later[0] and first[1] < later[1]}
+    for receipt in session.of_kind("recv"):
+        relation |= {(send, receipt) for send in session.with_id_of(receipt, session.of_kind("send"))}
+    while True:
+        longer = {(first, last) for first, middle in relation for other, last in relation if middle == other}
+        if longer <= relation:
+            return relation
+        relation |= longer
+
+
+def cycle(session, before):
+    """The places of the cycle that is reported, if some event happened before itself."""
+    cyclic = {place for place in session.places if (place, place) in before}
+    stuck = cyclic | {place for first in cyclic for place in session.places if (first, place) in before}
+    if not stuck:
+        return None
+    first_stuck = {process: min(place for place in stuck if place[0] == process) for process, _ in stuck}
+    taken, place = [], first_stuck[min(first_stuck)]
+    while place[0] not in [process for process, _ in taken]:
+        taken.append(place)
+        send, = session.with_id_of(place, session.of_kind("send"))
+        place = first_stuck[send[0]]
+    return taken[[process for process, _ in taken].index(place[0]):]
+
+
+def consistent_cuts(session, before):
+    """All consistent cuts, those of each level in lexicographic order."""
+    def closed(cut):
+        return all(first[1] <= cut[first[0]] for first, later in before if later[1] <= cut[later[0]])
+    counts = itertools.product(*[range(len(events) + 1) for events in session.events])
+    return sorted((cut for cut in counts if closed(cut)), key=lambda cut: (sum(cut), cut))
+
+
+def value_at(session, cut, process, variable):
+    """The value that the last event of the process in the cut gave the variable, else the initial one."""
+    for event in reversed(session.events[process][:cut[process]]):
+        if variable in event.sets:
+            return event.sets[variable]
+    return session.initial[process][variable]
+
+
+def holds(session, cut, predicate):
+    """Whether the state at the cut satisfies the predicate."""
+    word, *parts = predicate
+    if word in ("true", "false"):
+        return word == "true"
+    if word == "not":
+        return not holds(session, cut, parts[0])
+    if word in ("and", "or"):
+        return (all if word == "and" else any)(holds(session, cut, part) for part in parts)
+    left, right = (sum(sign * factor * (value_at(session, cut, *reference) if reference else 1)
+                       for sign, factor, reference in terms) for terms in parts)
+    return RELATIONS[word](left, right)
+
+
+def undone(cut, process):
+    """The cut without the last event of this process."""
+    return (*cut[:process], cut[process] - 1, *cut[process + 1:])
+
+
+def possibly(cuts, satisfying, width):
+    """The answer of all consistent cuts, in the order of their levels."""
+    levels = [sum(cut) for cut in cuts]
+    over = [level for level in levels if levels.count(level) > width]
+    found = [cut for cut in cuts if cut in satisfying]
+    if over and not any(sum(cut) < over[0] for cut in found):
+        return f"unknown {over[0]}"
+    return "yes " + ",".join(map(str, found[0])) if found else "no"
+
+
+def definitely(session, cuts, satisfying, width):
+    """The answer of the avoiding cuts."""
+    @functools.cache
+    def avoids(cut):
+        if cut not in cuts or cut in satisfying:
+            return False
+        return sum(cut) == 0 or any(avoids(undone(cut, process)) for process in range(len(cut)) if cut[process])
+    full = tuple(len(events) for events in session.events)
+    avoiding = [sum(cut) for cut in cuts if avoids(cut)]
+    for level in range(sum(full) + 1):
+        if avoiding.count(level) > width:
+            return f"unknown {level}"
+        if level not in avoiding:
+            return f"yes {level}"
+    steps, cut = [], full
+    while sum(cut):
+        process = min(process for process in range(len(cut)) if cut[process] and avoids(undone(cut, process)))
+        steps.insert(0, process)
+        cut = undone(cut, process)
+    return "no " + named(session, steps)
+
+
+def named(session, steps):
+    return ",".join(session.names[process] for process in steps) or "-"
+
+
+def observations(cuts, full, cut):
+    """All lists of consistent cuts from this one to the full one, each next one having exactly one event more."""
+    if cut == full:
+        yield [cut]
+    for process in range(len(cut)):
+        longer = (*cut[:process], cut[process] + 1, *cut[process + 1:])
+        if longer in cuts:
+            for rest in observations(cuts, full, longer):
+                yield [cut, *rest]
+
+
+def step_between(cut, longer):
+    return next(process for process in range(len(cut)) if cut[process] != longer[process])
+
+
+def definitely_observed(session, cuts, satisfying, width):
+    """The same answer of all observations. The latest level at which one of them first has a satisfying cut is the
+    least with no avoiding cut; of the observations without such a cut, the one is printed that undoes, from the full
+    cut backward, the event of the first process at the first step in which it differs from another."""
+    full = tuple(len(events) for events in session.events)
+    lists = list(observations(cuts, full, tuple(0 for _ in full)))
+    for level in range(sum(full) + 1):
+        if len({passed[level] for passed in lists if not satisfying & set(passed[:level + 1])}) > width:
+            return f"unknown {level}"
+    if all(satisfying & set(passed) for passed in lists):
+        return f"yes {max(min(sum(cut) for cut in satisfying & set(passed)) for passed in lists)}"
+    backward = [[step_between(cut, longer) for cut, longer in zip(passed, passed[1:])][::-1] for passed in lists
+                if not satisfying & set(passed)]
+    return "no " + named(session, min(backward)[::-1])
+
+
+class Judged:
+    """The report of a session, and for one that is judged its consistent cuts and which of them satisfy each
+    predicate."""
+
+    def __init__(self, session):
+        fault, before = first_fault(session), happened_before(session)
+        self.session, self.cuts, self.satisfying = session, None, []
+        if fault:
+            self.report = f"refused {fault[0]} {self.place(fault[1])}\n"
+        elif around := cycle(session, before):
+            self.report = "refused cycle " + ",".join(map(self.place, around)) + "\n"
+        else:
+            self.cuts = consistent_cuts(session, before)
+            messages = len(session.of_kind("recv"))
+            self.first_line = (f"session {len(session.names)} processes {len(session.places)} events "
+                               f"{messages} messages\n")
+            self.report = self.first_line + "".join(map(self.answers, session.predicates))
+
+    def place(self, place):
+        return f"{self.session.names[place[0]]}#{place[1]}"
+
+    def answers(self, named_predicate):
+        session, (name, predicate) = self.session, named_predicate
+        satisfying = {cut for cut in self.cuts if holds(session, cut, predicate)}
+        self.satisfying.append(satisfying)
+        definite = definitely(session, self.cuts, satisfying, session.width)
+        if len(session.places) <= FEW:
+            observed = definitely_observed(session, self.cuts, satisfying, session.width)
+            if observed != definite:
+                raise Differs(f"all observations say {name} definitely {observed}, the avoiding cuts {definite}")
+        return f"{name} possibly {possibly(self.cuts, satisfying, session.width)}\n{name} definitely {definite}\n"
+
+
+# The drawing of sessions.
+
+def draw_value(draw):
+    return draw.choice([2 ** 63 - 1, -2 ** 63]) if draw.random() < 0.02 else draw.randint(-2, 2)
+
+
+def draw_processes(draw):
+    names = draw.sample(["a", "b", "c", "_d", "e2", "x"], draw.choice([1, 2, 2, 2, 3, 3, 3, 3, 3]))
+    initial = [{name: draw_value(draw) for name in draw.choice([["x"], ["x", "n"]])} for _ in names]
+    events = [[Event({name: draw_value(draw) for name in variables if draw.random() < 0.7})
+               for _ in range(draw.choice([0, 1, 2, 3, 3, 4, 4, 4]))] for variables in initial]
+    return Session(names, initial, events)
+
+
+def draw_id(draw, number):
+    return draw.choice(["m", "", "a message ", "é", "\U0001f600", "\"\\"]) + str(number)
+
+
+def make_message(send, receipt, identity):
+    send.kind, receipt.kind, send.id, receipt.id = "send", "recv", identity, identity
+
+
+def draw_messages(draw, session):
+    """Makes pairs of local events of different processes messages; in half of the sessions only if the send comes first
+    in some order of all events, so that there is no cycle."""
+    order = {}
+    left = [list(range(1, len(events) + 1)) for events in session.events]
+    while any(left):
+        process = draw.choice([process for process, numbers in enumerate(left) if numbers])
+        order[process, left[process].pop(0)] = len(order)
+    ordered = draw.random() < 0.5
+    for number in range(draw.choice([0, 2, 4, 8, 20, 60])):
+        local = session.of_kind("local")
+        if not local:
+            break
+        send, receipt = draw.choice(local), draw.choice(local)
+        if send[0] != receipt[0] and not (ordered and order[receipt] < order[send]):
+            make_message(session.at(send), session.at(receipt), draw_id(draw, number))
+    for place in session.of_kind("local"):
+        if draw.random() < 0.05:
+            session.at(place).kind, session.at(place).id = "send", "in flight " + str(place)
+
+
+def draw_ring(draw, session):
+    """Has each of some processes receive a message of the next one before it sends its own to the one before, and
+    another process wait for one of them."""
+    able = [process for process, events in enumerate(session.events) if len(events) > 1]
+    if len(able) < 2:
+        return
+    ring = draw.choice([draw.sample(able, len(able)), draw.sample(able[-2:], 2)])
+    pairs = [sorted(draw.sample(range(len(session.events[process])), 2)) for process in ring]
+    receipts, sends = ([session.events[process][pair[end]] for process, pair in zip(ring, pairs)] for end in (0, 1))
+    for number, receipt in enumerate(receipts):
+        make_message(sends[(number + 1) % len(ring)], receipt, f"ring {number}")
+    waiting = [event for process, events in enumerate(session.events) for event in events if process not in ring]
+    later = [event for process, pair in zip(ring, pairs) for event in session.events[process][pair[0]:]
+             if event.kind == "local"]
+    if waiting and later:
+        make_message(draw.choice(later), draw.choice(waiting), "to one that waits")
+
+
+def muddle(draw, session):
+    """Gives some events the kinds of others, or makes them receipts of their messages."""
+    for _ in range(draw.choice([1, 1, 2, 2, 6])):
+        first, second = session.at(draw.choice(session.places)), session.at(draw.choice(session.places))
+        second.kind, second.id = first.kind, first.id
+        if first.kind == "send" and draw.random() < 0.5:
+            second.kind = "recv"
+
+
+def draw_sum(draw, session):
+    terms = []
+    for _ in range(draw.choice([1, 1, 2, 2, 3])):
+        process = draw.randrange(len(session.names))
+        reference = (process, draw.choice(list(session.initial[process]))) if draw.random() < 0.8 else None
+        factor = draw.choice([0, 1, 1, 1, 2, 3]) if draw.random() < 0.97 else 2 ** 31 - 1
+        terms.append((draw.choice([1, 1, -1]), factor, reference))
+    return terms
+
+
+def draw_predicate(draw, session, depth=3):
+    """A predicate as a tree: a word with its parts; a comparison's parts are sums of a sign, a factor and a reference,
+    or the factor alone."""
+    word = draw.choice(["and", "and", "or", "not", "", "", ""]) if depth else ""
+    if word:
+        parts = 1 if word == "not" else draw.choice([2, 2, 3])
+        return (word, *[draw_predicate(draw, session, depth - 1) for _ in range(parts)])
+    if draw.random() < 0.04:
+        return (draw.choice(["true", "false"]),)
+    right = draw_sum(draw, session) if draw.random() < 0.4 else [(draw.choice([1, -1]), draw.randint(0, 3), None)]
+    return (draw.choice(["==", "==", *RELATIONS]), draw_sum(draw, session), right)
+
+
+def draw_session(draw):
+    session = draw_processes(draw)
+    if draw.random() < 0.25:
+        draw_ring(draw, session)
+    draw_messages(draw, session)
+    if session.places and draw.random() < 0.3:
+        muddle(draw, session)
+    counts = [tuple(draw.randint(0, len(events)) for events in session.events) for _ in range(8)]
+    start = tuple(0 for _ in session.names)
+    for name in draw.sample(["p", "q", "a", "both_1"], draw.choice([1, 2, 3])):
+        tries = [draw_predicate(draw, session) for _ in range(draw.choice([1, 3, 6]))]
+        session.predicates.append((name, min(tries, key=lambda tree: (
+            holds(session, start, tree), not any(holds(session, cut, tree) for cut in counts)))))
+    session.width = draw.choice([1, 2, 3, 4, 5, 8, 4096, 4096, 4096])
+    return session
+
+
+# Sessions as text.
+
+def sum_tokens(session, terms):
+    tokens = []
+    for sign, factor, reference in terms:
+        tokens += ["-"] if sign < 0 else ["+"] if tokens else []
+        if reference is None or factor != 1:
+            tokens.append(str(factor))
+        if reference is not None:
+            tokens += [*(["*"] if factor != 1 else []), session.names[reference[0]], ".", reference[1]]
+    return tokens
+
+
+def predicate_tokens(draw, session, predicate, within=""):
+    """The tokens of a predicate that stands within another one, with parentheses if it needs them, and sometimes if it
+    doesn't."""
+    word, *parts = predicate
+    if word in RELATIONS:
+        tokens = [*sum_tokens(session, parts[0]), word, *sum_tokens(session, parts[1])]
+    elif word in ("and", "or"):
+        tokens = predicate_tokens(draw, session, parts[0], word)
+        for part in parts[1:]:
+            tokens += [word, *predicate_tokens(draw, session, part, word)]
+    else:
+        tokens = [word, *(predicate_tokens(draw, session, parts[0], word) if parts else [])]
+    needs = word in ("and", "or") and within == "not" or word == "or" and within == "and"
+    return ["(", *tokens, ")"] if needs or draw.random() < 0.05 else tokens
+
+
+def predicate_text(draw, session, predicate):
+    """The text of a predicate, in one of four with spaces as they come."""
+    text, usual = "", draw.random() < 0.75
+    for token in predicate_tokens(draw, session, predicate):
+        parts = text and (text[-1].isalnum() or text[-1] == "_") and (token[0].isalnum() or token[0] == "_")
+        near = token in ".*" or text.endswith(("*", ".")) if usual else draw.random() < 0.5
+        text += ("" if not text or near and not parts else " " if usual else draw.choice([" ", "\t", "  "])) + token
+    return text
+
+
+def other_text(draw, value):
+    """The JSON text of a value as it isn't usual: with spaces and escapes, in another order, with fields that come
+    twice, of which the last one counts."""
+    def space():
+        return draw.choice(["", "", " ", "\t", " \r "])
+    if isinstance(value, str):
+        marks = [json.dumps(mark)[1:-1] if draw.random() < 0.7 or ord(mark) > 127 else f"\\u{ord(mark):04x}"
+                 for mark in value]
+        return '"' + "".join(marks) + '"'
+    if not isinstance(value, dict):
+        return json.dumps(value)
+    fields = draw.sample(list(value.items()), len(value))
+    if fields and draw.random() < 0.3:
+        fields.insert(0, (draw.choice(fields)[0], draw.choice([None, False, 7, "k", {}, {"z": -1}, [{}]])))
+    texts = [space() + other_text(draw, name) + space() + ":" + space() + other_text(draw, of_it) + space()
+             for name, of_it in fields]
+    return "{" + (",".join(texts) or space()) + "}"
+
+
+def line_text(draw, value, odd):
+    """A line of a stream, and sometimes an empty one before it."""
+    if draw.random() >= odd:
+        return json.dumps(value, separators=(",", ":"), ensure_ascii=False) + "\n"
+    return draw.choice(["", "", "\n", " \t\r\n"]) + draw.choice(["", " "]) + other_text(draw, value) + "\r\n"
+
+
+def document_text(draw, session):
+    processes = [{"name": name, "vars": initial} for name, initial in zip(session.names, session.initial)]
+    predicates = [{"name": name, "text": predicate_text(draw, session, predicate)}
+                  for name, predicate in session.predicates]
+    fields = {"processes": processes, "predicates": predicates}
+    if session.width != 4096 or draw.random() < 0.5:
+        fields["width"] = session.width
+    return json.dumps(fields) + "\n"
+
+
+def stream_text(draw, session, process):
+    odd = draw.choice([0, 0.3, 1])
+    lines = [line_text(draw, {"process": session.names[process]}, odd)]
+    for event in session.events[process]:
+        fields = {} if event.kind == "local" else {event.kind: event.id}
+        if event.sets or draw.random() < 0.2:
+            fields["set"] = event.sets
+        lines.append(line_text(draw, fields, odd))
+    after = draw.choice(["", "", "", " what follows\n"])
+    return "".join(lines) + line_text(draw, {"end": True}, odd) + after
+
+
+# Forged reports.
+
+def forge_steps(draw, judged):
+    """The processes of an observation, some of them in another order or changed."""
+    steps, cut = [], tuple(0 for _ in judged.session.names)
+    while sum(cut) < len(judged.session.places):
+        longer = draw.choice([longer for longer in judged.cuts if sum(longer) == sum(cut) + 1
+                              and all(count <= more for count, more in zip(cut, longer))])
+        steps.append(step_between(cut, longer))
+        cut = longer
+    change = draw.random()
+    if change < 0.2:
+        draw.shuffle(steps)
+    elif change < 0.3 and steps:
+        steps[draw.randrange(len(steps))] = draw.randrange(len(cut))
+    elif change < 0.35:
+        steps = steps[:-1]
+    return steps
+
+
+def avoided_by(judged, steps, satisfying):
+    """Whether these are the processes of an observation with no satisfying cut."""
+    cuts = [tuple(steps[:level].count(process) for process in range(len(judged.session.names)))
+            for level in range(len(steps) + 1)]
+    return (sum(cuts[-1]) == len(judged.session.places) and all(cut in judged.cuts for cut in cuts)
+            and not satisfying & set(cuts))
+
+
+def forge(draw, judged):
+    """A report with other evidence, and what a check of it finds."""
+    first = draw.choice([judged.first_line] * 5 + ["session 4 processes 0 events 9 messages\n"])
+    report, finding = first, f"session {'good' if first == judged.first_line else 'bad'}\n"
+    for (name, _), satisfying in zip(judged.session.predicates, judged.satisfying):
+        cut = tuple(draw.randint(0, len(events)) for events in judged.session.events)
+        if satisfying and draw.random() < 0.4:
+            cut = draw.choice(sorted(satisfying))
+        steps = forge_steps(draw, judged)
+        report += f"{name} possibly yes {','.join(map(str, cut))}\n"
+        report += f"{name} definitely no {named(judged.session, steps)}\n"
+        finding += f"{name} possibly {'good' if cut in satisfying else 'bad'}\n"
+        finding += f"{name} definitely {'good' if avoided_by(judged, steps, satisfying) else 'bad'}\n"
+    return report, finding
+
+
+# The runs.
+
+def run_files(draw, place, judged, document, streams):
+    """Has the session judged from files, and its report and a forged one checked; returns what is found."""
+    names = [f"stream-{number + 1}" for number in range(len(streams))]
+    place.write({"session.json": document, "report": judged.report, **dict(zip(names, streams))})
+    status, report = int(judged.cuts is None), judged.report.encode()
+    for workers in ("2", "16"):
+        ran = place.run(["judge", "--workers", workers, "session.json", *names])
+        place.expect(f"judge --workers {workers}", ran, status, report)
+    place.expect("check", place.run(["check", "session.json", "report", *names]), 0, checked(report))
+    if status:
+        return ""
+    forged, finding = forge(draw, judged)
+    place.write({"forged": forged})
+    ran = place.run(["check", "session.json", "forged", *names])
+    place.expect(f"check of a forged report\n{forged}", ran, int("bad\n" in finding), finding.encode())
+    return finding
+
+
+def tried(program, seed, number):
+    """How often the program ran for the session of this number, the lines that it wrote, and in what it differs, if it
+    does."""
+    draw = random.Random(f"{seed} {number}")
+    session = draw_session(draw)
+    document = document_text(draw, session)
+    streams = [stream_text(draw, session, process) for process in range(len(session.names))]
+    draw.shuffle(streams)
+    bundle = "---\n".join([document, *streams])
+    with tempfile.TemporaryDirectory() as folder:
+        place = Place(program, folder)
+        try:
+            judged = Judged(session)
+            status = int(judged.cuts is None)
+            place.expect("as a bundle", place.run([], bundle.encode()), status, judged.report.encode())
+            finding = run_files(draw, place, judged, document, streams) if number % 4 == 0 else ""
+        except Differs as error:
+            return place.runs, "", f"{error}\n{bundle}"
+        except subprocess.TimeoutExpired:
+            return place.runs, "", f"no end\n{bundle}"
+        return place.runs, judged.report + finding, None
+
+
+def main():
+    parser = argparse.ArgumentParser(description=__doc__, formatter_class=argparse.RawDescriptionHelpFormatter)
+    parser.add_argument("program", nargs="?", default=os.path.join(HERE, "..", "crates", "monitor", "out", "monitor"))
+    parser.add_argument("--count", type=int, default=400)
+    parser.add_argument("--seed", type=int, default=1978)
+    parser.add_argument("--only", type=int)
+    given = parser.parse_args()
+    program = os.path.abspath(given.program)
+    if not os.access(program, os.X_OK):
+        sys.exit(f"drawn: no program {program}")
+    numbers = range(given.count) if given.only is None else [given.only]
+    lines, runs, differing, missing = [], 0, 0, 0
+    with concurrent.futures.ProcessPoolExecutor(os.cpu_count()) as pool:
+        found = pool.map(functools.partial(tried, program, given.seed), numbers, chunksize=10)
+        for number, (count, text, why) in zip(numbers, found):
+            runs += count
+            lines += text.splitlines()
+            if why:
+                differing += 1
+                print(f"drawn: session {number} of seed {given.seed}: {why}")
+    for part, least in LINES_WANTED.items() if given.only is None and not differing else []:
+        stood = sum(re.search(part, line) is not None for line in lines)
+        if stood < least * given.count // 400:
+            missing += 1
+            print(f"drawn: {stood} lines with {part!r}, and {least * given.count // 400} are wanted")
+    print(f"drawn: {len(numbers)} sessions, {runs} runs, {differing} differ")
+    sys.exit(1 if differing or missing or not runs else 0)
+
+
+if __name__ == "__main__":
+    main()

@@ -1,0 +1,212 @@
+#!/usr/bin/env python3
+"""servers.py [PROGRAM]: sets clients and watchers on `serve`, and compares its output, its errors and its status with
+what each case says, and what is shown to its watchers.
+
+PROGRAM is ../crates/monitor/out/monitor if it isn't given. A case that ends otherwise is printed with both. The last
+line says how many cases there are, how often the program ran, and how many cases differ; the status is 1 if any does.
+A server has two ports that nobody has bound, below those that the system gives to connections. If another program takes
+one of them before the server binds it, it is started again on others.
+"""
+import argparse
+import contextlib
+import fcntl
+import os
+import random
+import re
+import socket
+import struct
+import subprocess
+import sys
+import tempfile
+import termios
+import time
+
+from run import HERE, SECONDS, Differs, differ
+
+TRIES = 5
+DOCUMENT = (b'{"processes":[{"name":"a","vars":{"x":0}},{"name":"b","vars":{"y":0}}],'
+            b'"predicates":[{"name":"both","text":"a.x == 1 and b.y == 1"}]}')
+OF_A = b'{"process":"a"}\n{"set":{"x":1}}\n{"set":{"x":0}}\n{"end":true}\n'
+OF_B = b'{"process":"b"}\n{"set":{"y":1}}\n{"set":{"y":0}}\n{"end":true}\n'
+REPORT = b"session 2 processes 4 events 0 messages\nboth possibly yes 1,1\nboth definitely no b,b,a,a\n"
+NO_NETWORK = b"monitor: network\n"
+FRESH = b"stream 1 process - events 0 fresh\nstream 2 process - events 0 fresh\n"
+SHOWN = re.compile(rb"stream 1 process [-ab] events [012] (fresh|joined|ended|faulted)\n"
+                   rb"stream 2 process [-ab] events [012] (fresh|joined|ended|faulted)\n")
+
+# What the connections send, one after the other, the report, and the status.
+SESSIONS = {
+    "two streams": ([OF_A, OF_B], REPORT, 0),
+    "the other order": ([OF_B, OF_A], REPORT, 0),
+    "more connections than processes": ([OF_A, OF_B, OF_B], REPORT, 0),
+    "a connection that ends within a line": ([b'{"process":"a"}\n{"set', OF_B], b"refused stream 1 line 2 json\n", 1),
+    "a connection that ends at once": ([b"", OF_B], b"refused stream 1 line 1 unended\n", 1),
+    "garbage": ([OF_A, b"\0\1\n"], b"refused stream 2 line 1 json\n", 1),
+    "one stream twice": ([OF_A, OF_A], b"refused stream 2 line 1 taken\n", 1),
+}
+# How many watchers there are, and how many workers, if any are asked for.
+OTHERS = [(0, None), (1, 1), (10, 4), (64, 16)]
+
+
+def listen(port):
+    return socket.create_server(("127.0.0.1", port))
+
+
+def two_ports():
+    """A port that nobody had bound, and itself and the next one, which are bound now."""
+    while True:
+        number = random.randrange(10_000, 30_000)
+        with contextlib.suppress(OSError), contextlib.ExitStack() as bound:
+            ports = [bound.enter_context(listen(number + place)) for place in (0, 1)]
+            bound.pop_all()
+            return number, ports
+
+
+class Server(contextlib.ExitStack):
+    """The program as a server on a free port, and the connections to it. All of it ends with the context."""
+
+    def __init__(self, program, folder, document=DOCUMENT, watchers=0, workers=None, taken=()):
+        super().__init__()
+        with open(os.path.join(folder, "session.json"), "wb") as file:
+            file.write(document)
+        self.port, ports = two_ports()
+        for place, port in enumerate(ports):
+            if place in taken:
+                self.enter_context(port)
+            else:
+                port.close()
+        words = ["--port", str(self.port), "--watchers", str(watchers)]
+        words += ["--workers", str(workers)] if workers else []
+        self.process = self.enter_context(subprocess.Popen(
+            [program, "serve", "session.json", *words], cwd=folder, stdout=subprocess.PIPE, stderr=subprocess.PIPE))
+        self.callback(self.process.kill)
+
+    def connect(self, place=0):
+        """A connection to the streams' port, or to the one after it, as soon as that is bound."""
+        last = time.monotonic() + SECONDS
+        while self.process.poll() is None and time.monotonic() < last:
+            with contextlib.suppress(ConnectionRefusedError):
+                address = "127.0.0.1", self.port + place
+                return self.enter_context(socket.create_connection(address, SECONDS))
+            time.sleep(0.002)
+        raise ConnectionError(f"nobody listens on port {self.port + place}")
+
+    def end(self):
+        """Its status, its output and its errors."""
+        try:
+            output, errors = self.process.communicate(timeout=SECONDS)
+        except subprocess.TimeoutExpired:
+            self.process.kill()
+            output, errors = self.process.communicate()
+        return self.process.returncode, output, errors
+
+
+def send(connection, stream):
+    """Sends a stream, and closes the connection once the other side has all of it: who connects after that is accepted
+    later."""
+    last = time.monotonic() + SECONDS
+    with connection:
+        connection.sendall(stream)
+        while struct.unpack("i", fcntl.ioctl(connection, termios.TIOCOUTQ, bytes(4)))[0] and time.monotonic() < last:
+            time.sleep(0.001)
+
+
+def read(connection):
+    with connection, connection.makefile("rb") as file:
+        return file.read()
+
+
+def nobody(_server):
+    """No one connects."""
+
+
+def clients(streams, watchers=0):
+    """Those who send the streams, and then the watchers: the first is gone at once, the second never reads, the third
+    reads, and so on."""
+    def act(server):
+        for stream in streams[:2]:
+            send(server.connect(), stream)
+        for stream in streams[2:]:
+            with contextlib.suppress(OSError):
+                send(socket.create_connection(("127.0.0.1", server.port)), stream)
+        connected = [server.connect(1) for _ in range(watchers)]
+        for connection in connected[::3]:
+            connection.close()
+        for connection in connected[2::3]:
+            shown = read(connection)
+            if not SHOWN.fullmatch(shown):
+                differ("what a watcher is shown", FRESH, shown)
+    return act
+
+
+def watched_first(server):
+    """All that the server waits for connect, and the streams are sent once the watcher has read."""
+    senders = [server.connect(), server.connect()]
+    shown = read(server.connect(1))
+    if shown != FRESH:
+        differ("what a watcher is shown", FRESH, shown)
+    for sender, stream in zip(senders, (OF_A, OF_B)):
+        send(sender, stream)
+
+
+def cases():
+    """Of each case the name, who connects, what the server is started with, and its status, output and errors."""
+    for name, (streams, report, status) in SESSIONS.items():
+        for watchers, workers in OTHERS:
+            options = {"watchers": watchers, "workers": workers}
+            yield f"{name}, {watchers} watchers", clients(streams, watchers), options, (status, report, b"")
+    yield "streams that nobody sends yet", watched_first, {"watchers": 1}, (0, REPORT, b"")
+    yield "the port is taken", nobody, {"taken": [0]}, (3, b"", NO_NETWORK)
+    yield "the watchers' port is taken", nobody, {"taken": [1], "watchers": 1}, (3, b"", NO_NETWORK)
+    yield "the next port is taken, and there are no watchers", clients([OF_A, OF_B]), {"taken": [1]}, (0, REPORT, b"")
+    options = {"taken": [0], "watchers": 1, "document": b"x"}
+    yield "the port is taken, and the document refused", nobody, options, (1, b"refused spec json\n", b"")
+
+
+def ended(program, act, options):
+    """The status, the output and the errors of a server, and what went wrong with a connection."""
+    wrong = b""
+    with tempfile.TemporaryDirectory() as folder, Server(program, folder, **options) as server:
+        try:
+            act(server)
+        except OSError as error:
+            wrong = str(error).encode()
+        return *server.end(), wrong
+
+
+def tried(program, act, options, wanted):
+    """How often the program ran for a case, and in what it differs, if it does."""
+    for run in range(1, TRIES + 1):
+        try:
+            status, output, errors, wrong = ended(program, act, options)
+            if errors == NO_NETWORK != wanted[2] and run < TRIES:
+                continue
+            for what, want, given in (("the output", wanted[1], output), ("the errors", wanted[2], errors),
+                                      ("the status", str(wanted[0]).encode(), str(status).encode()),
+                                      ("the connections", b"", wrong)):
+                if want != given:
+                    differ(what, want, given)
+        except Differs as error:
+            return run, str(error)
+        return run, None
+
+
+def main():
+    parser = argparse.ArgumentParser(description=__doc__, formatter_class=argparse.RawDescriptionHelpFormatter)
+    parser.add_argument("program", nargs="?", default=os.path.join(HERE, "..", "crates", "monitor", "out", "monitor"))
+    program = os.path.abspath(parser.parse_args().program)
+    if not os.access(program, os.X_OK):
+        sys.exit(f"servers: no program {program}")
+    count = runs = differing = 0
+    for name, act, options, wanted in cases():
+        tries, why = tried(program, act, options, wanted)
+        count, runs = count + 1, runs + tries
+        if why:
+            differing += 1
+            print(f"servers: {name}: {why}")
+    print(f"servers: {count} cases, {runs} runs, {differing} differ")
+    sys.exit(1 if differing else 0)
+
+
+if __name__ == "__main__":
+    main()

@@ -1,0 +1,83 @@
+//! A network that is made up.
+use pd_cli::Network;
+use std::io;
+use std::io::{Error, ErrorKind, Read, Write};
+use std::sync::atomic::{AtomicU64, Ordering};
+
+/// A peer that sends these bytes and takes none.
+#[derive(Drop)]
+pub(crate) struct Peer {
+    bytes: &'static [u8],
+}
+
+impl Read for Peer {
+    fn read(&mut self, piece: &mut [u8]) -> io::Result<usize> {
+        self.bytes.read(piece)
+    }
+}
+
+impl Write for Peer {
+    fn write(&mut self, _bytes: &[u8]) -> io::Result<usize> {
+        Err(Error::from(ErrorKind::BrokenPipe))
+    }
+
+    fn flush(&mut self) -> io::Result<()> {
+        Err(Error::from(ErrorKind::BrokenPipe))
+    }
+}
+
+/// Connections that are made up.
+#[derive(Drop)]
+pub(crate) struct Scripted {
+    /// What the connections to port 1 send, one after the other; then none can be accepted.
+    streams: &'static [&'static str],
+    /// How many of them were accepted.
+    accepted: AtomicU64,
+    /// Whether connections to other ports can be accepted.
+    has_watchers: bool,
+}
+
+impl Scripted {
+    /// Of which no connection was accepted yet.
+    pub(crate) fn new(streams: &'static [&'static str], has_watchers: bool) -> Scripted {
+        Scripted {
+            streams,
+            accepted: AtomicU64::new(0),
+            has_watchers,
+        }
+    }
+}
+
+impl Network for Scripted {
+    ghost use Rattle.std.specs.Prelude.{⊤, false};
+
+    type Listener = u16;
+
+    type Connection = Peer;
+
+    ghost may_give = { λ _ _ _. ⊤ };
+
+    ghost is_on = { λ _ _. ⊤ };
+
+    ghost never_fails = { false };
+
+    fn bind_port(&self, port: u16) -> io::Result<u16> {
+        Ok(port)
+    }
+
+    fn next_connection(&self, listener: &u16) -> io::Result<Peer> {
+        if *listener != 1 {
+            if self.has_watchers {
+                return Ok(Peer { bytes: b"" });
+            }
+            return Err(Error::from(ErrorKind::ConnectionAborted));
+        }
+        let place = self.accepted.fetch_add(1, Ordering::SeqCst);
+        match self.streams.get(place as usize) {
+            Some(stream) => Ok(Peer {
+                bytes: stream.as_bytes(),
+            }),
+            None => Err(Error::from(ErrorKind::ConnectionAborted)),
+        }
+    }
+}

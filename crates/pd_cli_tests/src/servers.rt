@@ -1,0 +1,85 @@
+//! Streams and watchers that can't be accepted, and watchers that take nothing.
+use super::networks::Scripted;
+use super::runs::{FAILED, REFUSED, SUCCESS, run_to};
+use super::sinks::AMPLE;
+use super::small::{OF_A, OF_B, REPORT};
+use std::test::Fail;
+
+/// The line that reports a connection that can't be accepted.
+const NETWORK_LINE: &str = "monitor: network\n";
+
+#[test]
+fn servers_end_by_their_connections(rt: HostRuntime) -> Result<(), Fail> {
+    let cases: [(&str, &'static [&'static str], u8, &str, &str); 7] = [
+        ("two streams", &[OF_A, OF_B], SUCCESS, REPORT, ""),
+        ("the other order", &[OF_B, OF_A], SUCCESS, REPORT, ""),
+        ("a third stream", &[OF_A, OF_B, OF_B], SUCCESS, REPORT, ""),
+        (
+            "a stream that ends within a line",
+            &["{\"process\":\"a\"}\n{\"set", OF_B],
+            REFUSED,
+            "refused stream 1 line 2 json\n",
+            "",
+        ),
+        (
+            "garbage",
+            &[OF_A, "\u{0}\u{1}\n"],
+            REFUSED,
+            "refused stream 2 line 1 json\n",
+            "",
+        ),
+        ("no second stream", &[OF_A], FAILED, "", NETWORK_LINE),
+        ("no stream", &[], FAILED, "", NETWORK_LINE),
+    ];
+    for (name, streams, status, text, line) in cases {
+        // Watchers that take nothing, watchers that can't be accepted, and workers change nothing.
+        let others: [(bool, &[&str]); 4] = [
+            (false, &["serve", "spec", "--port", "1", "--watchers", "0"]),
+            (
+                true,
+                &[
+                    "serve",
+                    "spec",
+                    "--port",
+                    "1",
+                    "--watchers",
+                    "1",
+                    "--workers",
+                    "1",
+                ],
+            ),
+            (
+                true,
+                &[
+                    "serve",
+                    "spec",
+                    "--port",
+                    "1",
+                    "--watchers",
+                    "10",
+                    "--workers",
+                    "4",
+                ],
+            ),
+            (
+                false,
+                &[
+                    "serve",
+                    "spec",
+                    "--port",
+                    "1",
+                    "--watchers",
+                    "64",
+                    "--workers",
+                    "16",
+                ],
+            ),
+        ];
+        for (has_watchers, words) in others {
+            let network = Scripted::new(streams, has_watchers);
+            let ran = run_to(&rt, rt.alloc(), &network, words, AMPLE, AMPLE)?;
+            assert!(rt; ran.is(status, text.as_bytes(), line.as_bytes()), "{name}");
+        }
+    }
+    Ok(())
+}

@@ -1,2 +1,0 @@
-//! Claims drawn by three threads, and levels expanded by several workers.
-mod claims;

@@ -1,0 +1,165 @@
+//! The computation of a session, and what is asked about it.
+use crate::definite::are_answers;
+use crate::levels::are_levels;
+use crate::limits::are_same;
+use crate::messages::are_messages;
+use crate::order::is_ordered;
+use crate::pictures::are_cut_off;
+use crate::refusals::are_skipped;
+use crate::runs::{
+    FOUR, FOUR_COUNTS, FOUR_RUNS, FOUR_STREAMS, TWO, TWO_COUNTS, TWO_STREAMS, are_whole,
+};
+use crate::sessions::{SIX, SIX_STREAMS, THREE, THREE_STREAMS, traces_of};
+use crate::workers::are_known;
+use crate::{order, refusals};
+use pd_clock::Computation;
+use pd_level::{Gate, NoGate};
+use pd_match::match_messages;
+use pd_spec::Spec;
+use std::alloc::Global;
+use std::random::RandomSource;
+use std::sync::Wait;
+use std::thread::Threads;
+
+/// What is asked about a session.
+#[derive(Clone, Copy)]
+pub(crate) enum Question<'a> {
+    /// Whether the messages, clocks and cuts are those of the session in `order`.
+    Order,
+    /// Whether values are cut off between characters in a picture.
+    Picture,
+    /// Whether this many workers give the levels that a single thread gives, and marks are those of the predicate.
+    Levels(&'a [u64]),
+    /// Whether the whole levels have these numbers of cuts, and level 8 these runs.
+    Runs(&'a [u64], &'a [(usize, [u64; 5])]),
+    /// Whether runs are skipped for each predicate.
+    Skips,
+    /// Whether each limit gives the same answers.
+    Limits,
+    /// Whether this many workers give the known answers, and all of several expand blocks.
+    Workers(&'a [u64]),
+    /// Whether the answers for Definitely are the known ones.
+    Definite,
+}
+
+/// Whether the session answers the question as it should. Nothing if memory was refused before. If it was refused in a
+/// call that is made again, `again` is set.
+pub(crate) fn is_right<K: RandomSource, T: Threads + Wait + Sync, G: Gate + Sync>(
+    rt: &T,
+    keys: &K,
+    gate: &G,
+    alloc: Global,
+    document: &str,
+    streams: &[[&str; 2]],
+    question: Question<'_>,
+    again: &mut bool,
+) -> Option<bool> {
+    if streams.len() > 8 {
+        return Some(false);
+    }
+    let Ok(spec) = Spec::read(alloc, document.as_bytes()) else {
+        return None;
+    };
+    let Ok(traces) = traces_of(alloc, &spec, streams) else {
+        return None;
+    };
+    let Ok(matched) = match_messages(keys, alloc, &traces) else {
+        return None;
+    };
+    let Ok(pairs) = matched.pairs(alloc) else {
+        return None;
+    };
+    if matches!(question, Question::Order) && !are_messages(&matched, &pairs) {
+        return Some(false);
+    }
+    let Ok(computation) = Computation::build(alloc, &spec, &traces, matched) else {
+        return None;
+    };
+    if computation.processes() < 2 {
+        return Some(false);
+    }
+    match question {
+        Question::Order => is_ordered(alloc, &computation),
+        Question::Picture => are_cut_off(alloc, &computation, &traces, &pairs),
+        Question::Levels(workers) => {
+            let Some(aside) = spec.predicates().get(3) else {
+                return Some(false);
+            };
+            are_levels(rt, alloc, &computation, &aside.pred, workers, gate, again).ok()
+        }
+        Question::Runs(counts, runs) => are_whole(alloc, &computation, counts, runs).ok(),
+        Question::Skips => are_skipped(rt, alloc, &computation, &spec),
+        Question::Limits => are_same(rt, alloc, &computation, &spec),
+        Question::Workers(workers) => are_known(rt, alloc, &computation, &spec, workers),
+        Question::Definite => are_answers(rt, alloc, &computation, &spec, again),
+    }
+}
+
+/// A session, and what is asked about it.
+#[derive(Clone, Copy)]
+struct Row<'a> {
+    document: &'a str,
+    streams: &'a [[&'a str; 2]],
+    question: Question<'a>,
+}
+
+#[test]
+fn sessions_answer_as_they_should(rt: HostRuntime) {
+    let rows = [
+        Row {
+            document: order::DOCUMENT,
+            streams: &order::STREAMS,
+            question: Question::Order,
+        },
+        Row {
+            document: order::DOCUMENT,
+            streams: &order::STREAMS,
+            question: Question::Picture,
+        },
+        Row {
+            document: THREE,
+            streams: &THREE_STREAMS,
+            question: Question::Levels(&[1, 2, 16]),
+        },
+        Row {
+            document: TWO,
+            streams: &TWO_STREAMS,
+            question: Question::Runs(&TWO_COUNTS, &[]),
+        },
+        Row {
+            document: FOUR,
+            streams: &FOUR_STREAMS,
+            question: Question::Runs(&FOUR_COUNTS, &FOUR_RUNS),
+        },
+        Row {
+            document: refusals::DOCUMENT,
+            streams: &refusals::STREAMS,
+            question: Question::Skips,
+        },
+        Row {
+            document: THREE,
+            streams: &THREE_STREAMS,
+            question: Question::Limits,
+        },
+        Row {
+            document: SIX,
+            streams: &SIX_STREAMS,
+            question: Question::Workers(&[1, 2, 3, 16]),
+        },
+    ];
+    let mut number: u64 = 0;
+    for row in &rows {
+        number = number.wrapping_add(1);
+        let right = is_right(
+            &rt,
+            &rt,
+            &NoGate,
+            rt.alloc(),
+            row.document,
+            row.streams,
+            row.question,
+            &mut false,
+        );
+        assert!(rt; right == Some(true), "question {number}");
+    }
+}
