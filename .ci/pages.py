@@ -14,7 +14,7 @@ ROW = re.compile(r"^(\| \[[^]]*\]\(([^)]+)\) \| )(\d+)( \|)", re.M)
 COUNTED = "docs/READING.md"
 wrong = 0
 
-PAGES = ["README.md", "docs/*.md", "examples/**/*.md", "recorders/**/*.md"]
+PAGES = ["*.md", "docs/*.md", "cases/*.md", "examples/**/*.md", "recorders/**/*.md"]
 for page in sorted(path for pattern in PAGES for path in glob.glob(pattern, recursive=True)):
     with open(page, encoding="utf-8") as file:
         text = file.read()

@@ -18,8 +18,6 @@ import threading
 import time
 
 ROOT = os.path.dirname(os.path.dirname(os.path.abspath(__file__)))
-# More jobs than this gain next to nothing for one crate.
-MOST_JOBS = 4
 
 
 def libraries():
@@ -39,13 +37,12 @@ def libraries():
 
 
 def lines_of(name):
-    """How many lines of code and proofs a crate has: about what its proof costs."""
+    """How many lines of code a crate has: its proof takes about as long as that says."""
     count = 0
-    for part in ("src", "specs", "proofs"):
-        for at, _, names in os.walk(os.path.join(ROOT, "crates", name, part)):
-            for file in names:
-                with open(os.path.join(at, file), "rb") as lines:
-                    count += lines.read().count(b"\n")
+    for at, _, names in os.walk(os.path.join(ROOT, "crates", name, "src")):
+        for file in names:
+            with open(os.path.join(at, file), "rb") as lines:
+                count += lines.read().count(b"\n")
     return count
 
 
@@ -78,9 +75,9 @@ class Run:
     """Which crates are proved, which are at work, and the copies and jobs that are free."""
 
     def __init__(self, folder, names, below, jobs):
-        self.folder, self.below, self.jobs, self.idle = folder, below, jobs, jobs
+        self.folder, self.below, self.jobs, self.idle = folder, below, jobs, jobs + 1
         self.waiting, self.proved, self.failed, self.working = set(names), set(below) - set(names), {}, set()
-        self.free = [os.path.join(folder, f"copy{i}") for i in range(jobs)]
+        self.free = [os.path.join(folder, f"copy{i}") for i in range(jobs + 1)]
         self.changed = threading.Condition()
         weights = {name: lines_of(name) for name in below}
         above = {name: [other for other in names if name in below[other]] for name in below}
@@ -126,12 +123,15 @@ class Run:
         return None
 
     def start_next(self):
-        """Starts what can be proved, first what has the longest chain above it; what stands alone has more jobs."""
+        """Starts what can be proved. What has the longest chain above it comes first, and has most of the jobs: what is
+        above it waits for it. One job more than there are processors keeps them busy while a check begins and ends."""
         ready = sorted((name for name in self.waiting if self.below[name] <= self.proved), key=lambda it: -self.ranks[it])
-        for at, name in enumerate(ready):
+        for name in ready:
             if self.idle <= 0 or not self.free:
                 break
-            jobs = max(1, min(MOST_JOBS, self.idle // (len(ready) - at)))
+            is_first = all(self.ranks[name] >= self.ranks[other] for other in self.working)
+            most = self.jobs if len(ready) == 1 and not self.working else max(1, self.jobs - 1)
+            jobs = min(self.idle, most) if is_first else 1
             self.idle -= jobs
             self.waiting.remove(name)
             self.working.add(name)

@@ -1,7 +1,12 @@
 """What the programs that connect to `monitor serve` share: ports that are free, and connections to them."""
+import itertools
 import random
 import socket
 import time
+
+FIRST = 10_000 + 2 * random.randrange(10_000)
+# Pairs of ports below those that the system gives to connections, in turn: threads of one process never share one.
+PAIRS = itertools.cycle([*range(FIRST, 30_000, 2), *range(10_000, FIRST, 2)])
 
 
 def is_free(port):
@@ -13,11 +18,8 @@ def is_free(port):
 
 
 def free_port():
-    """A port that nobody has bound, as is the one after it; below those that the system gives to connections."""
-    while True:
-        port = random.randrange(10_000, 30_000)
-        if is_free(port) and is_free(port + 1):
-            return port
+    """A port that nobody has bound, as is the one after it."""
+    return next(port for port in PAIRS if is_free(port) and is_free(port + 1))
 
 
 def connect(port):

@@ -1,4 +1,5 @@
-"""What refuses an allocation of a program: a library that is loaded before the C library's own, and counts."""
+"""What refuses an allocation, a read or a write of a program: a library that is loaded before the C library's own, and
+counts."""
 import os
 import subprocess
 import sys
@@ -7,7 +8,10 @@ SHIM = r"""
 #include <errno.h>
 #include <fcntl.h>
 #include <stdlib.h>
+#include <string.h>
 #include <sys/mman.h>
+#include <sys/socket.h>
+#include <sys/syscall.h>
 #include <unistd.h>
 
 void *__libc_malloc(size_t);
@@ -16,6 +20,7 @@ void *__libc_realloc(void *, size_t);
 void *__libc_memalign(size_t, size_t);
 
 static long *asked, refused;
+static const char *kind = "allocation";
 
 /* The count stands in a file that is mapped, since a program with threads may end without its destructors. */
 __attribute__((constructor)) static void map(void) {
@@ -23,37 +28,53 @@ __attribute__((constructor)) static void map(void) {
     int file = path ? open(path, O_RDWR) : -1;
     if (file < 0) return;
     refused = number ? atol(number) : 0;
+    if (getenv("KIND")) kind = getenv("KIND");
     void *place = mmap(0, sizeof *asked, PROT_READ | PROT_WRITE, MAP_SHARED, file, 0);
     close(file);
     if (place != MAP_FAILED) asked = place;
 }
 
-static int is_refused(void) {
-    return asked && __atomic_add_fetch(asked, 1, __ATOMIC_SEQ_CST) == refused;
+static int is_refused(const char *what) {
+    return asked && !strcmp(kind, what) && __atomic_add_fetch(asked, 1, __ATOMIC_SEQ_CST) == refused;
+}
+
+ssize_t read(int file, void *to, size_t size) {
+    if (is_refused("read")) { errno = EIO; return -1; }
+    return syscall(SYS_read, file, to, size);
+}
+
+ssize_t recv(int file, void *to, size_t size, int flags) {
+    if (is_refused("read")) { errno = EIO; return -1; }
+    return recvfrom(file, to, size, flags, 0, 0);
+}
+
+ssize_t write(int file, const void *from, size_t size) {
+    if (is_refused("write")) { errno = EIO; return -1; }
+    return syscall(SYS_write, file, from, size);
 }
 
 void *malloc(size_t size) {
-    if (is_refused()) { errno = ENOMEM; return 0; }
+    if (is_refused("allocation")) { errno = ENOMEM; return 0; }
     return __libc_malloc(size);
 }
 
 void *calloc(size_t count, size_t size) {
-    if (is_refused()) { errno = ENOMEM; return 0; }
+    if (is_refused("allocation")) { errno = ENOMEM; return 0; }
     return __libc_calloc(count, size);
 }
 
 void *realloc(void *old, size_t size) {
-    if (is_refused()) { errno = ENOMEM; return 0; }
+    if (is_refused("allocation")) { errno = ENOMEM; return 0; }
     return __libc_realloc(old, size);
 }
 
 void *aligned_alloc(size_t alignment, size_t size) {
-    if (is_refused()) { errno = ENOMEM; return 0; }
+    if (is_refused("allocation")) { errno = ENOMEM; return 0; }
     return __libc_memalign(alignment, size);
 }
 
 int posix_memalign(void **given, size_t alignment, size_t size) {
-    if (is_refused()) return ENOMEM;
+    if (is_refused("allocation")) return ENOMEM;
     *given = __libc_memalign(alignment, size);
     return *given ? 0 : ENOMEM;
 }
@@ -68,15 +89,16 @@ def make_shim(folder):
     subprocess.run(["gcc", "-O1", "-shared", "-fPIC", "-o", os.path.join(folder, "shim.so"), source], check=True)
 
 
-def surroundings(folder, number):
-    """The surroundings of a run with this allocation refused, of which the allocations are counted from now on."""
+def surroundings(folder, number, kind="allocation"):
+    """The surroundings of a run with this call of the kind refused, of which those calls are counted from now on."""
     asked = os.path.join(folder, "asked")
     with open(asked, "wb") as counted:
         counted.write(bytes(8))
-    return {**os.environ, "LD_PRELOAD": os.path.join(folder, "shim.so"), "REFUSED": str(number), "ASKED": asked}
+    return {**os.environ, "LD_PRELOAD": os.path.join(folder, "shim.so"), "REFUSED": str(number), "ASKED": asked,
+            "KIND": kind}
 
 
 def asked_for(folder):
-    """How many allocations the last run asked for."""
+    """How many calls of its kind the last run made."""
     with open(os.path.join(folder, "asked"), "rb") as counted:
         return int.from_bytes(counted.read(8), sys.byteorder)

@@ -1,0 +1,191 @@
+#!/usr/bin/env python3
+"""refuse_each.py PROGRAM [INPUT..]: refuses each of the program's allocations, reads and writes in turn.
+
+An input is a bundle, or a folder with `session.json`, `report` and files `NAME.stream`. A folder is judged from its
+files, by one worker and by two, and as a bundle; its report is checked and drawn; and its streams are served, with a
+watcher. Four small sessions are run beside them: one that is judged, one with messages, one with a causal cycle, and
+one with wide levels. For each of these runs and each N, counted upward until a run meets no refusal, the program runs
+with its Nth allocation refused; then with its Nth read failing, and with its Nth write.
+
+It must end as a run that is refused nothing; or, for an allocation, with status 4, nothing on standard output and
+`monitor: memory` on standard error; for a read, with status 3 and `monitor: read`, or with what is made of a stream that
+can't be read; for a write, with status 3, a prefix of the output and `monitor: write`. A server's watcher must be shown
+what one is shown then, or a prefix of it, but for a read, whose stream it may see fail. The first allocations are the C library's own, and so are those with which it
+starts threads: a thread that can't be started is no failure. The last line says how many runs there were and how many
+ended otherwise; the status is 1 if any did. It needs gcc."""
+import concurrent.futures
+import os
+import re
+import socket
+import subprocess
+import sys
+import tempfile
+import threading
+import time
+
+from peers import free_port
+from refusals import asked_for, make_shim, surroundings
+
+# The processes of a session with their variables, its predicates, and the events of each process.
+TWO, BOTH = {"a": "x", "b": "y"}, {"both": "a.x == 1 and b.y == 1"}
+SESSIONS = {
+    "one cut alone": (TWO, BOTH, [['"set":{"x":1}', '"set":{"x":0}'], ['"set":{"y":1}', '"set":{"y":0}']]),
+    "messages": (TWO, BOTH, [['"send":"m","set":{"x":1}', '"recv":"k","set":{"x":0}'],
+                             ['"send":"k","set":{"y":1}', '"recv":"m","set":{"y":0}']]),
+    "a causal cycle": (TWO, BOTH, [['"recv":"k"', '"send":"m"'], ['"recv":"m"', '"send":"k"']]),
+    "wide levels": ({"a": "n", "b": "n", "c": "n"}, {"top": "a.n + b.n + c.n == 30", "never": "a.n == 99"},
+                    [[f'"set":{{"n":{value}}}' for value in range(1, 11)]] * 3),
+}
+KINDS = ("allocation", "read", "write")
+# What is made of a stream that can't be read: the report, what a check finds, what a watcher is shown, and what stands
+# against a picture.
+UNREAD = re.compile(rb"refused stream \d+ line \d+ read\n|refused bad\n|")
+SHOWN = re.compile(rb"(stream \d+ process \S+ events \d+ (fresh|joined|ended|faulted)\n)*")
+AGAINST = re.compile(rb"(monitor: no picture, for a check finds:\nrefused bad\n)?")
+# How long a peer waits for the server, and how long a run may take.
+PEER_SECONDS, RUN_SECONDS = 5, 60
+
+
+def write_session(folder, variables, predicates, events):
+    """Writes the document and the streams of a session, but no report."""
+    processes = ",".join(f'{{"name":"{name}","vars":{{"{variable}":0}}}}' for name, variable in variables.items())
+    texts = ",".join(f'{{"name":"{name}","text":"{text}"}}' for name, text in predicates.items())
+    with open(os.path.join(folder, "session.json"), "w") as out:
+        out.write(f'{{"processes":[{processes}],"predicates":[{texts}]}}\n')
+    for name, lines in zip(variables, events):
+        with open(os.path.join(folder, f"{name}.stream"), "w") as out:
+            out.writelines(f"{{{line}}}\n" for line in [f'"process":"{name}"', *lines, '"end":true'])
+
+
+def run(arguments, bundle, folder, number, kind):
+    """What a run with these arguments gives, and how many calls of the kind it made."""
+    ended = subprocess.run(arguments, input=bundle, capture_output=True, env=surroundings(folder, number, kind),
+                           timeout=RUN_SECONDS, check=False)
+    return (ended.returncode, ended.stdout, ended.stderr), asked_for(folder)
+
+
+def connect(port, server):
+    """A connection to the server, or nothing if it ends before it accepts one."""
+    while server.poll() is None:
+        try:
+            return socket.create_connection(("127.0.0.1", port), PEER_SECONDS)
+        except OSError:
+            time.sleep(0.002)
+    return None
+
+
+def play(port, server, streams, shown):
+    """The peers of a server: its streams connect, then its watcher, which is shown something; then bytes are sent."""
+    ends = [connect(port, server) for _ in streams]
+    watcher = connect(port + 1, server)
+    try:
+        while watcher and (part := watcher.recv(4096)):
+            shown.append(part)
+    except OSError:
+        pass
+    for end, stream in zip(ends, streams):
+        try:
+            if end:
+                end.sendall(stream)
+                end.shutdown(socket.SHUT_WR)
+        except OSError:
+            pass
+    server.wait()
+    for end in filter(None, [*ends, watcher]):
+        end.close()
+
+
+def serve(arguments, streams, folder, number, kind):
+    """What a server gives and its watcher is shown, and how many calls of the kind it made."""
+    port, shown = free_port(), []
+    server = subprocess.Popen([*arguments, "--port", str(port), "--watchers", "1"], stdout=subprocess.PIPE,
+                              stderr=subprocess.PIPE, env=surroundings(folder, number, kind))
+    peers = threading.Thread(target=play, args=(port, server, streams, shown))
+    peers.start()
+    try:
+        output, errors = server.communicate(timeout=RUN_SECONDS)
+    except subprocess.TimeoutExpired:
+        server.kill()
+        output, errors = server.communicate()
+    peers.join()
+    return (server.returncode, output, errors, b"".join(shown)), asked_for(folder)
+
+
+def contents(path):
+    with open(path, "rb") as opened:
+        return opened.read()
+
+
+def runs_of(program, path):
+    """Each run of an input: its name, what runs it, the program and its arguments, and the bytes that it is given."""
+    if not os.path.isdir(path):
+        return [("", run, [program], contents(path))]
+    names = sorted(name for name in os.listdir(path) if name.endswith(".stream"))
+    document, report = os.path.join(path, "session.json"), os.path.join(path, "report")
+    streams = [os.path.join(path, name) for name in names]
+    judge = [program, "judge", document, *streams]
+    if not os.path.exists(report):
+        with open(report, "wb") as out:
+            out.write(subprocess.run(judge, capture_output=True, check=False).stdout)
+    parts = [contents(part) for part in [document, *streams]]
+    return [("judge", run, judge, b""), ("judge by two workers", run, [*judge, "--workers", "2"], b""),
+            ("a bundle", run, [program], b"---\n".join(parts)),
+            ("check", run, [program, "check", document, report, *streams], b""),
+            ("draw", run, [program, "draw", document, report, *streams], b""),
+            ("serve", serve, [program, "serve", document], parts[1:])]
+
+
+def is_right(kind, ended, want):
+    """Whether a run that was refused a call ended as it may; what it gives with no refusal is `want`."""
+    status, output, errors, *shown = ended
+    if shown and not (SHOWN.fullmatch(shown[0]) if kind == "read" else want[3].startswith(shown[0])):
+        return False
+    if ended[:3] == want[:3]:
+        return True
+    if kind == "allocation":
+        return ended[:3] == (4, b"", b"monitor: memory\n")
+    if kind == "read":
+        is_unread = status == 1 and UNREAD.fullmatch(output) and AGAINST.fullmatch(errors)
+        return bool(is_unread) or ended[:3] == (3, b"", b"monitor: read\n")
+    if want[1].startswith(output) and output != want[1]:
+        return (status, errors) == (3, b"monitor: write\n")
+    return (status, output) == want[:2] and want[2].startswith(errors)
+
+
+def refuse_each(name, take, arguments, given, folder):
+    """How many runs there were, and those that ended otherwise than they may."""
+    runs, wrong = 0, []
+    for kind in KINDS:
+        want, _ = take(arguments, given, folder, 0, kind)
+        number, made = 0, 1
+        while number <= made:
+            number += 1
+            ended, made = take(arguments, given, folder, number, kind)
+            runs += 1
+            if not is_right(kind, ended, want):
+                wrong.append(f"{name}: {kind} {number}: {ended}")
+    return runs, wrong
+
+
+def main():
+    program = os.path.abspath(sys.argv[1])
+    with tempfile.TemporaryDirectory() as folder, concurrent.futures.ThreadPoolExecutor(os.cpu_count()) as pool:
+        make_shim(folder)
+        inputs = {path: path for path in sys.argv[2:]}
+        for name, session in SESSIONS.items():
+            inputs[name] = os.path.join(folder, name)
+            os.mkdir(inputs[name])
+            write_session(inputs[name], *session)
+        found = []
+        for name, how, *one in [(name, *one) for name, path in inputs.items() for one in runs_of(program, path)]:
+            own = tempfile.mkdtemp(dir=folder)
+            os.link(os.path.join(folder, "shim.so"), os.path.join(own, "shim.so"))
+            found.append(pool.submit(refuse_each, f"{name}: {how}".strip(": "), *one, own))
+        results = [it.result() for it in found]
+    wrong = [line for _, lines in results for line in lines]
+    print("".join(line + "\n" for line in wrong), end="")
+    print(f"refused: {sum(runs for runs, _ in results)} runs, {len(wrong)} ended otherwise than they may")
+    sys.exit(1 if wrong else 0)
+
+
+main()
