@@ -1,6 +1,6 @@
 #!/usr/bin/env python3
 """build.py [-j N]: proves and builds the program, and judges the stored session with it.
-build.py --unproved [OUT]: builds it in two minutes without its proofs, for those who want to try it first.
+build.py --unproved [OUT]: builds it in two to three minutes without its proofs, for those who want to try it first.
 
 The first proves all that the program stands on, side by side, with a line for each crate, and then builds
 crates/monitor/out/monitor. What is proved is kept, so a second call takes a minute. The second writes

@@ -1,5 +1,6 @@
 #!/usr/bin/env python3
-"""prove.py [-j N] [--for CRATE] [CRATE..]: proves crates side by side, N jobs in all (as many as there are processors).
+"""prove.py [-j N] [--for CRATE] [CRATE..]: proves crates side by side, with N jobs and one more (N is how many processors
+there are).
 
 All crates are proved if none is named; with --for those that this one stands on, and it itself. A line comes for each
 crate that is proved, with its seconds and how many are left. Runs of `rt` in one folder wait for each other, so each
