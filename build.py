@@ -18,7 +18,8 @@ CRATE = os.path.join(ROOT, "crates", "monitor")
 def judge_stored(program):
     """Judges the stored session, and says whether the report is the stored one."""
     with open(os.path.join(CRATE, "stdin"), "rb") as bundle, open(os.path.join(CRATE, "stdout"), "rb") as file:
-        report, stored = subprocess.run([program], stdin=bundle, stdout=subprocess.PIPE, check=False).stdout, file.read()
+        report = subprocess.run([program], stdin=bundle, stdout=subprocess.PIPE, check=False).stdout
+        stored = file.read()
     sys.stdout.write(report.decode())
     print("build: this is the stored report" if report == stored else "build: THIS IS NOT THE STORED REPORT")
     return report == stored

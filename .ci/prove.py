@@ -1,6 +1,6 @@
 #!/usr/bin/env python3
-"""prove.py [-j N] [--for CRATE] [CRATE..]: proves crates side by side, with N jobs and one more (N is how many processors
-there are).
+"""prove.py [-j N] [--for CRATE] [CRATE..]: proves crates side by side, with N jobs and one more (N is how many
+processors there are).
 
 All crates are proved if none is named; with --for those that this one stands on, and it itself. A line comes for each
 crate that is proved, with its seconds and how many are left. Runs of `rt` in one folder wait for each other, so each
@@ -126,7 +126,8 @@ class Run:
     def start_next(self):
         """Starts what can be proved. What has the longest chain above it comes first, and has most of the jobs: what is
         above it waits for it. One job more than there are processors keeps them busy while a check begins and ends."""
-        ready = sorted((name for name in self.waiting if self.below[name] <= self.proved), key=lambda it: -self.ranks[it])
+        ready = [name for name in self.waiting if self.below[name] <= self.proved]
+        ready.sort(key=lambda it: -self.ranks[it])
         for name in ready:
             if self.idle <= 0 or not self.free:
                 break

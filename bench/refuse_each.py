@@ -8,11 +8,11 @@ one with wide levels. For each of these runs and each N, counted upward until a 
 with its Nth allocation refused; then with its Nth read failing, and with its Nth write.
 
 It must end as a run that is refused nothing; or, for an allocation, with status 4, nothing on standard output and
-`monitor: memory` on standard error; for a read, with status 3 and `monitor: read`, or with what is made of a stream that
-can't be read; for a write, with status 3, a prefix of the output and `monitor: write`. A server's watcher must be shown
-what one is shown then, or a prefix of it, but for a read, whose stream it may see fail. The first allocations are the C library's own, and so are those with which it
-starts threads: a thread that can't be started is no failure. The last line says how many runs there were and how many
-ended otherwise; the status is 1 if any did. It needs gcc."""
+`monitor: memory` on standard error; for a read, with status 3 and `monitor: read`, or with what is made of a stream
+that can't be read; for a write, with status 3, a prefix of the output and `monitor: write`. A server's watcher must be
+shown what one is shown then, or a prefix of it, but for a read, whose stream it may see fail. The first allocations are
+the C library's own, and so are those with which it starts threads: a thread that can't be started is no failure. The
+last line says how many runs there were and how many ended otherwise; the status is 1 if any did. It needs gcc."""
 import concurrent.futures
 import os
 import re
