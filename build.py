@@ -3,7 +3,7 @@
 build.py --unproved [OUT]: builds it in two to three minutes without its proofs, for those who want to try it first.
 
 The first proves all that the program stands on, side by side, with a line for each crate, and then builds
-crates/monitor/out/monitor. What is proved is kept, so a second call takes a minute. The second writes
+crates/monitor/out/monitor. What is proved is kept, so the next call proves only what has changed. The second writes
 crates/monitor/out/monitor-unproved, or OUT: it reads and writes the same, and its help says that it isn't proved.
 """
 import argparse
