@@ -2,8 +2,9 @@
 use Rattle.std.proofs.Common.{◌≡◌, ℕ, suc, ◌+◌, ◌<◌, ◌≤◌, Bool, true, false, List, [], ◌∷◌, ◌++◌, length, length-append, refl, sym, ap, ◌∙◌, subst, append-nil, append_assoc, arith, Option, Err}
 use Rattle.std.specs.Prelude.{nat_lt, IfOk, Ok, Result, Some}
 use Rattle.pd_events.specs.Reads.{ReaderState, Reads}
-use Rattle.pd_events.specs.Views.{result_view, trace_view}
-use Rattle.pd_events.specs.declared.event.Trace.{Trace}
+use Rattle.pd_traces.specs.Views.{trace_view}
+use Rattle.pd_events.specs.Views.{result_view}
+use Rattle.pd_traces.specs.declared.event.Trace.{Trace}
 use Rattle.pd_events.specs.declared.fault.StreamFault.{StreamFault}
 use Rattle.pd_format.specs.ReadingLaws.{FitsSession}
 use Rattle.pd_format.specs.Readings.{Ended, Ending, result_of}

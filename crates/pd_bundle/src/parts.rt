@@ -12,10 +12,11 @@ ghost use Rattle.pd_spec.specs.Views.{document_view};
 ghost use Rattle.std.specs.Prelude.{◌≡◌, ◌<◌, ◌++◌, ◌∷◌, All, Err, IfOk, List, ℕ, OnOk, Option, [], false, length, true};
 
 use super::{Bundle, BundleFault};
-use pd_events::{StreamFault, Trace, TraceReader};
+use pd_events::{StreamFault, TraceReader};
 use pd_format::{DOCUMENT_BYTE_LIMIT, STREAM_COUNT_LIMIT};
 use pd_gather::{ByteSource, Gathered};
 use pd_spec::Spec;
+use pd_traces::Trace;
 use std::alloc::{AllocError, Global};
 
 /// Adds the bytes to those of a document, unless these are too many already.

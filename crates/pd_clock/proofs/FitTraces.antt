@@ -8,9 +8,9 @@ use Rattle.pd_format.specs.Limits.{event_limit, process_limit}
 use Rattle.pd_format.specs.Names.{ProcessNames, vars_of}
 use Rattle.pd_format.specs.ReadingLaws.{FitsProcess}
 use Rattle.pd_spec.specs.Sound.{IsSound, lengths, vars_of_each}
-use Rattle.pd_events.specs.SessionTraces.{AreTraces}
-use Rattle.pd_events.specs.Views.{computation_view}
-use Rattle.pd_events.specs.declared.event.Trace.{Trace}
+use Rattle.pd_traces.specs.SessionTraces.{AreTraces}
+use Rattle.pd_traces.specs.Views.{computation_view}
+use Rattle.pd_traces.specs.declared.event.Trace.{Trace}
 use Rattle.pd_clock.specs.Histories.{AreVars}
 use Rattle.pd_clock.specs.Computations.{FitsInitial, initial_view}
 use Rattle.pd_clock.specs.States.{values_at}

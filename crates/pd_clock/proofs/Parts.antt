@@ -5,8 +5,8 @@ use Rattle.std.specs.Global.{Global}
 use Rattle.std.proofs.lemmas.Option.{slice_get_read, slice_get_past}
 use Rattle.pd_model.specs.Events.{events_of}
 use Rattle.pd_model.proofs.ListPrefixes.{get_push_before, get_push_last}
-use Rattle.pd_events.specs.declared.event.Trace.{Trace}
-use Rattle.pd_events.specs.Views.{computation_view}
+use Rattle.pd_traces.specs.declared.event.Trace.{Trace}
+use Rattle.pd_traces.specs.Views.{computation_view}
 use Rattle.pd_clock.specs.States.{values_at, values_in}
 
 pub got : {A : Type 0} (xs : List A) (p : ℕ) (x : A) → p < length xs → x ≡ get_or xs p x → slice_get xs p ≡ Some x

@@ -6,8 +6,8 @@ use Rattle.pd_format.specs.Limits.{event_limit, process_limit}
 use Rattle.pd_model.specs.Predicates.{Initial, Recorded}
 use Rattle.pd_clock.specs.States.{values_at}
 use Rattle.pd_clock.specs.Histories.{AreVars, rows_after}
-use Rattle.pd_events.specs.Views.{computation_view}
-use Rattle.pd_events.specs.declared.event.Trace.{Trace}
+use Rattle.pd_traces.specs.Views.{computation_view}
+use Rattle.pd_traces.specs.declared.event.Trace.{Trace}
 
 -- the initial values of each process
 abbrev pub initial_view : List (Vec ℤ Global) → Initial

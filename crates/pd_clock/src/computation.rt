@@ -1,7 +1,7 @@
 //! A finished computation.
 ghost use Rattle.pd_clock.specs.Computations.{FitsInitial, Keeps, recorded_view};
-ghost use Rattle.pd_events.specs.SessionTraces.{AreTraces};
-ghost use Rattle.pd_events.specs.Views.{computation_view};
+ghost use Rattle.pd_traces.specs.SessionTraces.{AreTraces};
+ghost use Rattle.pd_traces.specs.Views.{computation_view};
 ghost use Rattle.pd_format.specs.Limits.{event_limit, process_limit};
 ghost use Rattle.pd_spec.specs.Views.{document_view};
 ghost use Rattle.pd_clock.specs.Orders.{cycle_view};
@@ -21,9 +21,9 @@ use super::history::history;
 use super::order::{Order, put_in_order};
 use super::state::value_in_history;
 use super::{BuildFault, Cut, State};
-use pd_events::Trace;
 use pd_match::{Matched, Place};
 use pd_spec::Spec;
+use pd_traces::Trace;
 use std::alloc::{AllocError, Global};
 use std::marker::Model;
 
@@ -41,7 +41,7 @@ pub struct Computation<'a> {
 impl<'a> Model for Computation<'a> {
     ghost use Rattle.pd_model.specs.Predicates.{Recorded};
     ghost use Rattle.pd_clock.specs.Computations.{initial_view, recorded_view, Keeps};
-    ghost use Rattle.pd_events.specs.Views.{computation_view};
+    ghost use Rattle.pd_traces.specs.Views.{computation_view};
     ghost use Rattle.pd_clock.specs.Orders.{HasClocks};
     ghost use Rattle.pd_model.specs.Messages.{IsMessageList};
     ghost use Rattle.pd_model.specs.Cuts.{full_cut};

@@ -4,7 +4,7 @@ ghost use Rattle.pd_check.specs.Views.{finding_view};
 ghost use Rattle.pd_draw.specs.Choices.{name_view};
 ghost use Rattle.pd_draw.specs.Drawn.{Comes, IsChosenPicture, IsGoodAt, IsGoodChoice, IsJudged, IsLetBy, IsPictureOf, ShowsPredicate, process_names};
 ghost use Rattle.pd_draw.specs.Exhibits.{ShowsNothing, run_title};
-ghost use Rattle.pd_events.specs.Views.{computation_view};
+ghost use Rattle.pd_traces.specs.Views.{computation_view};
 ghost use Rattle.pd_gather.specs.Views.{traces_view};
 ghost use Rattle.pd_judgement.specs.Judgements.{recorded_of};
 ghost use Rattle.pd_match.specs.Views.{pairs_view};
@@ -18,12 +18,12 @@ use super::choice::{Choice, chosen, is_chosen_bad};
 use super::exhibit::{evidence_of, title_of};
 use pd_check::{Finding, find_formed};
 use pd_clock::{Computation, Place};
-use pd_events::Trace;
 use pd_picture::{Evidence, picture};
 use pd_pred::Names;
 use pd_report::{Answer, Report};
 use pd_spec::Spec;
 use pd_svg::Drawing;
+use pd_traces::Trace;
 use std::alloc::{AllocError, Global};
 
 /// What comes of a session and a report on it.

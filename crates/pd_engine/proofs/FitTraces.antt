@@ -17,9 +17,9 @@ use Rattle.pd_format.specs.Sessions.{SessionFault, StreamResult, session}
 use Rattle.pd_format.specs.Readings as readings
 use Rattle.pd_format.specs.Reports as reports
 use Rattle.pd_format.specs.Reports.{Refusal, Refused}
-use Rattle.pd_events.specs.Views.{computation_view}
-use Rattle.pd_events.specs.declared.event.Trace.{Trace}
-use Rattle.pd_events.specs.SessionTraces.{AreTraces}
+use Rattle.pd_traces.specs.Views.{computation_view}
+use Rattle.pd_traces.specs.declared.event.Trace.{Trace}
+use Rattle.pd_traces.specs.SessionTraces.{AreTraces}
 use Rattle.pd_gather.specs.Views.{traces_view}
 use Rattle.pd_clock.specs.Computations.{recorded_view}
 use Rattle.pd_engine.specs.Computations.{AreWellFormed}

@@ -4,8 +4,8 @@ use Rattle.std.specs.Prelude.{Option}
 use Rattle.pd_model.specs.Events.{Computation, Place}
 use Rattle.pd_model.specs.Messages.{IsMessageList}
 use Rattle.pd_model.specs.Predicates.{Recorded}
-use Rattle.pd_events.specs.Views.{computation_view}
-use Rattle.pd_events.specs.declared.event.Trace.{Trace as Read}
+use Rattle.pd_traces.specs.Views.{computation_view}
+use Rattle.pd_traces.specs.declared.event.Trace.{Trace as Read}
 use Rattle.pd_gather.specs.Views.{traces_view}
 use Rattle.pd_format.specs.Documents.{Document, IsDocument}
 use Rattle.pd_format.specs.OtherTexts.{Finding, NotRead}

@@ -1,8 +1,8 @@
 //! The computation of a session.
 ghost use Rattle.pd_engine.specs.Computations.{AreWellFormed};
 ghost use Rattle.pd_engine.specs.Unanswered.{IsUnanswered};
-ghost use Rattle.pd_events.specs.SessionTraces.{AreTraces};
-ghost use Rattle.pd_events.specs.Views.{computation_view};
+ghost use Rattle.pd_traces.specs.SessionTraces.{AreTraces};
+ghost use Rattle.pd_traces.specs.Views.{computation_view};
 ghost use Rattle.pd_gather.specs.Views.{traces_view};
 ghost use Rattle.pd_judgement.specs.Judgements.{IsTracesReport};
 ghost use Rattle.pd_model.specs.Messages.{HasLawfulMessages, IsMessageList};
@@ -12,9 +12,9 @@ ghost use Rattle.std.specs.Prelude.{IfErr, IfOk};
 use super::refusal::{of_cycle, of_messages};
 use super::unanswered::Unanswered;
 use pd_clock::{BuildFault, Computation};
-use pd_events::Trace;
 use pd_match::{Matched, match_messages};
 use pd_spec::Spec;
+use pd_traces::Trace;
 use std::alloc::Global;
 use std::random::RandomSource;
 

@@ -1,6 +1,6 @@
 //! The traces of a session.
 ghost use Rattle.pd_engine.specs.Unanswered.{IsUnanswered};
-ghost use Rattle.pd_events.specs.SessionTraces.{AreTraces};
+ghost use Rattle.pd_traces.specs.SessionTraces.{AreTraces};
 ghost use Rattle.pd_format.specs.Sessions as sessions;
 ghost use Rattle.pd_gather.specs.Views.{ReadingFits, results_view, traces_view};
 ghost use Rattle.pd_judgement.specs.Judgements.{IsReportOfResults};
@@ -9,9 +9,9 @@ ghost use Rattle.std.specs.Prelude.{◌≡◌, All, IfErr, IfOk, Ok};
 
 use super::refusal::of_streams;
 use super::unanswered::Unanswered;
-use pd_events::Trace;
 use pd_gather::{Gathered, session};
 use pd_spec::Spec;
+use pd_traces::Trace;
 use std::alloc::Global;
 
 /// The traces of a session's streams, one for each process, in their order, or the refusal of the streams.

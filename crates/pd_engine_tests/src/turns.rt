@@ -1,9 +1,10 @@
 //! Streams that take turns.
 ghost use Rattle.std.specs.Prelude.{◌≡◌, length};
 
-use pd_events::{StreamFault, StreamKind, Trace};
+use pd_events::{StreamFault, StreamKind};
 use pd_gather::{Core, Input};
 use pd_spec::Spec;
+use pd_traces::Trace;
 use std::alloc::{AllocError, Global};
 use std::test::Fail;
 

@@ -1,7 +1,5 @@
 -- The modules of lemmas of this crate.
 pub mod FieldViews
-pub mod ColumnFacts
-pub mod SettingFacts
 pub mod StatementFacts
 pub mod RecordFacts
 pub mod ReaderSteps

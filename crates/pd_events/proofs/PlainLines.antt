@@ -10,7 +10,7 @@ use Rattle.pd_format.specs.Lists.{first_that_applies, unless}
 use Rattle.pd_format.specs.Names.{ProcessNames, vars_of}
 use Rattle.pd_format.specs.Records.{RecordFault, Happens, MessageId, SaysEvent, UnknownVar, Value, event_record, has_only, id_fits, record_of, sets_from, statement_of, values, whole_number}
 use Rattle.pd_format.proofs.JsonFacts.{json_value-some}
-use Rattle.pd_events.specs.Columns.{event_with}
+use Rattle.pd_traces.specs.Columns.{event_with}
 use Rattle.pd_events.specs.Parts.{event_due, sets_due}
 use Rattle.pd_events.specs.Plain.{AreSets, GivesFields, GoesOn, line_fields, settings_or_none}
 use Rattle.pd_events.proofs.PlainReading.{ends, goes_on_and_on, goes_on_from_here, object_goes_in, text_goes_in, whole_object}

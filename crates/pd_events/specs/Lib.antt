@@ -1,9 +1,7 @@
 pub mod Faults
 pub mod Statements
-pub mod Columns
 pub mod Views
 pub mod Progress
 pub mod Reads
 pub mod Parts
 pub mod Plain
-pub mod SessionTraces

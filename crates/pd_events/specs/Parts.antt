@@ -8,10 +8,10 @@ use Rattle.pd_format.specs.Lists.{first_that_applies, unless}
 use Rattle.pd_format.specs.Limits.{id_byte_limit}
 use Rattle.pd_format.specs.Records.{has_only, id_fits, sets_from, values, whole_number, UnknownVar, Value, MessageId}
 use Rattle.pd_format.specs.Records as records
-use Rattle.pd_events.specs.Columns.{event_with}
+use Rattle.pd_traces.specs.Columns.{event_with}
 use Rattle.pd_events.specs.Faults.{record_fault_view}
-use Rattle.pd_events.specs.Views.{kind_view}
-use Rattle.pd_events.specs.declared.event.EventKind.{EventKind}
+use Rattle.pd_traces.specs.Views.{kind_view}
+use Rattle.pd_traces.specs.declared.event.EventKind.{EventKind}
 use Rattle.pd_events.specs.declared.fault.RecordFault.{RecordFault}
 
 -- the answer is the value due, as this view shows it, or the fault due, or that memory ran out

@@ -1,40 +1,18 @@
--- What the program's records, traces and faults stand for.
-use Rattle.std.specs.Prelude.{◌≡◌, List, map, string_bytes, Result, Ok, Err, MatchResult, MatchOption}
-use Rattle.pd_model.specs.Events as events
+-- What the program's records and faults stand for.
+use Rattle.std.specs.Prelude.{◌≡◌, Result, Ok, Err, MatchResult, MatchOption}
 use Rattle.pd_format.specs.Records as records
 use Rattle.pd_format.specs.Readings as readings
+use Rattle.pd_traces.specs.Views.{event_view, trace_view}
+use Rattle.pd_traces.specs.declared.event.Trace.{Trace}
 use Rattle.pd_events.specs.Faults.{record_fault_view}
-use Rattle.pd_events.specs.declared.event.EventKind.{EventKind}
-use Rattle.pd_events.specs.declared.event.EventKind.TheVariants as kinds
-use Rattle.pd_events.specs.declared.event.Event.{Event}
-use Rattle.pd_events.specs.declared.event.Trace.{Trace}
-use Rattle.pd_events.specs.declared.event.LineRecord.{LineRecord}
-use Rattle.pd_events.specs.declared.event.LineRecord.TheVariants as says
+use Rattle.pd_events.specs.declared.line_record.LineRecord.{LineRecord}
+use Rattle.pd_events.specs.declared.line_record.LineRecord.TheVariants as says
 use Rattle.pd_events.specs.declared.fault.RecordFault.{RecordFault}
 use Rattle.pd_events.specs.declared.fault.StreamKind.{StreamKind}
 use Rattle.pd_events.specs.declared.fault.StreamKind.TheVariants as wrong
 use Rattle.pd_events.specs.declared.fault.StreamFault.{StreamFault}
 use Rattle.pd_events.specs.declared.fault.StreamState.{StreamState}
 use Rattle.pd_events.specs.declared.fault.StreamState.TheVariants as states
-
-abbrev pub kind_view : EventKind → events.Kind
-kind_view kinds.Local = events.Local
-kind_view (kinds.Send id) = events.Send (string_bytes id)
-kind_view (kinds.Recv id) = events.Receive (string_bytes id)
-
-abbrev pub event_view : Event → events.Event
-event_view event = record { kind = kind_view event.kind; sets = event.sets.items }
-
--- the events of each trace
-abbrev pub computation_view : List Trace → events.Computation
-computation_view traces = map (λ (process : Trace). process.events) traces
-
-abbrev pub trace_view : Trace → readings.Trace
-trace_view trace = record {
-  process = trace.process;
-  join_line = trace.join_line;
-  events = trace.events;
-}
 
 abbrev pub record_view : LineRecord → records.LineRecord
 record_view (says.Join process) = records.Joins process

@@ -7,23 +7,23 @@ ghost use Rattle.std.specs.Bool.{OnFalse, OnTrue};
 ghost use Rattle.pd_format.specs.ReadingLaws.{after_record, read_line, read_on, unless_stopped};
 ghost use Rattle.pd_format.specs.Records.{Happens};
 ghost use Rattle.pd_spec.specs.Views.{document_view};
-ghost use Rattle.pd_events.specs.Columns.{event_with, seen_kind_view};
+ghost use Rattle.pd_traces.specs.Columns.{event_with, seen_kind_view};
 ghost use Rattle.pd_events.specs.Faults.{record_fault_view};
 ghost use Rattle.pd_events.specs.Parts.{event_due};
 ghost use Rattle.pd_events.specs.Progress.{in_record, join_view, joined_of, joined_view, open_reading, reading_view, stop_of, stop_of_fault};
 ghost use Rattle.pd_events.specs.Statements.{kind_said};
 ghost use Rattle.pd_events.specs.Views.{record_view, stream_kind_view};
 
-use super::events::seen;
 use super::plain::plain_event;
 use super::record::read_record;
 use super::room::Room;
 use super::statement::Said;
-use super::{Events, Kind, LineRecord, RecordFault, StreamFault, StreamKind};
+use super::{LineRecord, RecordFault, StreamFault, StreamKind};
 use pd_format::EVENT_LIMIT;
 use pd_frames::Line;
 use pd_pred::Names;
 use pd_spec::Spec;
+use pd_traces::{Events, Kind, seen};
 use std::alloc::{AllocError, Global};
 
 /// The join of a stream's process.

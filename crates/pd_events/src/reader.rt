@@ -8,12 +8,14 @@ ghost use Rattle.pd_format.specs.ReadingLaws.{FitsSession, process_of};
 ghost use Rattle.pd_spec.specs.Views.{document_view};
 ghost use Rattle.pd_events.specs.Progress.{stop_of_fault};
 ghost use Rattle.pd_events.specs.Reads.{Reads, stop_of_frame};
-ghost use Rattle.pd_events.specs.Views.{result_view, state_view, trace_view};
+ghost use Rattle.pd_traces.specs.Views.{trace_view};
+ghost use Rattle.pd_events.specs.Views.{result_view, state_view};
 
 use super::progress::{Phase, Progress};
-use super::{Events, StreamFault, StreamKind, StreamState, Trace};
+use super::{StreamFault, StreamKind, StreamState};
 use pd_frames::{FrameFault, Framer, has_line_feed};
 use pd_spec::Spec;
+use pd_traces::{Events, Trace};
 use std::alloc::{AllocError, Global};
 use std::marker::Model;
 

@@ -11,9 +11,10 @@ ghost use Rattle.pd_events.specs.Views.{IsRecord};
 
 use super::fields::has_only_vars;
 use super::statement::{Said, Statement, has_id_length, statement_of};
-use super::{Event, EventKind, LineRecord, RecordFault};
+use super::{LineRecord, RecordFault};
 use pd_pred::Names;
 use pd_spec::{Spec, are_whole, json_value, value_at};
+use pd_traces::{Event, EventKind};
 use serde_json::{Map, Value};
 use std::alloc::{AllocError, Global};
 

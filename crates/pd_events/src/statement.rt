@@ -4,12 +4,12 @@ ghost use Rattle.serde_json.specs.View.{view, members_view};
 ghost use Rattle.pd_format.specs.Limits.{id_byte_limit};
 ghost use Rattle.pd_format.specs.Lists.{first_some};
 ghost use Rattle.pd_format.specs.Records.{end_statement, event_statement, id_fits, join_statement, kind_by_fields, settings_of, statement_of};
-ghost use Rattle.pd_events.specs.Columns.{seen_kind_view};
+ghost use Rattle.pd_traces.specs.Columns.{seen_kind_view};
 ghost use Rattle.pd_events.specs.Statements.{kind_said, settings_view, statement_view};
 
-use super::Kind;
 use super::fields::only_field;
 use pd_spec::{has_only, value_at};
+use pd_traces::Kind;
 use serde_json::{Map, Value};
 
 /// The kind of event that a line says.

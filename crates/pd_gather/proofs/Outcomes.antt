@@ -10,8 +10,9 @@ use Rattle.pd_format.specs.Sessions.{Interleaving, bytes_of, ending_of}
 use Rattle.pd_judgement.specs.Judgements.{RawStream, AreResultsOf}
 use Rattle.pd_judgement.specs.StreamResults.{OneListOfResults}
 use Rattle.pd_events.specs.Reads.{ReaderState, Reads}
-use Rattle.pd_events.specs.Views.{result_view, trace_view}
-use Rattle.pd_events.specs.declared.event.Trace.{Trace}
+use Rattle.pd_traces.specs.Views.{trace_view}
+use Rattle.pd_events.specs.Views.{result_view}
+use Rattle.pd_traces.specs.declared.event.Trace.{Trace}
 use Rattle.pd_events.specs.declared.fault.StreamFault.{StreamFault}
 use Rattle.pd_gather.specs.Taken.{HasTaken, OrderDoesntMatter, raw_streams, raw_streams_from, raw_stream_of}
 use Rattle.pd_gather.specs.Views.{ReadingFits, results_view}

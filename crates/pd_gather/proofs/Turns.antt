@@ -18,7 +18,7 @@ use Rattle.pd_format.specs.Sessions.{Input, Piece, AtEnd, Broken, StreamResult}
 use Rattle.pd_judgement.specs.Judgements.{RawStream, IsResultOf}
 use Rattle.pd_events.specs.Reads.{ReaderState, Reads}
 use Rattle.pd_events.specs.Views.{result_view}
-use Rattle.pd_events.specs.declared.event.Trace.{Trace}
+use Rattle.pd_traces.specs.declared.event.Trace.{Trace}
 use Rattle.pd_events.specs.declared.fault.StreamFault.{StreamFault}
 use Rattle.pd_gather.specs.ReadStreams.{AreReadOf, IsReadFrom, IsReadOf, IsUnbroken, StopsWhenClosed, read_byte_limit, row_of_stream}
 use Rattle.pd_judgement.proofs.StreamResults.{ended_closed}

@@ -1,6 +1,6 @@
 -- What some threads that read streams begin with, and what they leave and give.
 use Rattle.std.specs.Prelude.{◌≡◌, ℕ, Bool, false, List, All, Option, Result, length, map}
-use Rattle.pd_events.specs.declared.event.Trace.{Trace}
+use Rattle.pd_traces.specs.declared.event.Trace.{Trace}
 use Rattle.pd_events.specs.declared.fault.StreamFault.{StreamFault}
 use Rattle.pd_format.specs.Histories.{fresh_row}
 use Rattle.pd_format.specs.Names.{ProcessNames}

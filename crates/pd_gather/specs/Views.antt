@@ -5,8 +5,9 @@ use Rattle.pd_format.specs.Names.{ProcessNames}
 use Rattle.pd_format.specs.Readings as readings
 use Rattle.pd_format.specs.ReadingLaws.{FitsSession}
 use Rattle.pd_format.specs.Sessions as sessions
-use Rattle.pd_events.specs.Views.{result_view, stream_fault_view, trace_view}
-use Rattle.pd_events.specs.declared.event.Trace.{Trace}
+use Rattle.pd_traces.specs.Views.{trace_view}
+use Rattle.pd_events.specs.Views.{result_view, stream_fault_view}
+use Rattle.pd_traces.specs.declared.event.Trace.{Trace}
 use Rattle.pd_events.specs.declared.fault.StreamFault.{StreamFault}
 use Rattle.pd_gather.specs.declared.input.Input.{Input}
 use Rattle.pd_gather.specs.declared.input.Input.TheVariants as inputs

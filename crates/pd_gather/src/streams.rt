@@ -12,8 +12,9 @@ ghost use Rattle.std.specs.Bool.{OnFalse, OnTrue};
 ghost use Rattle.std.specs.Prelude.{◌≡◌, ◌<◌, ◌≤◌, ℕ, ◌++◌, ◌∷◌, [], List, All, IfOk, IsOk, OnErr, OnOk, Some, length, slice_get};
 
 use super::{Gathered, Input};
-use pd_events::{StreamFault, Trace, TraceReader};
+use pd_events::{StreamFault, TraceReader};
 use pd_spec::Spec;
+use pd_traces::Trace;
 use std::alloc::{AllocError, Global};
 use std::marker::Model;
 

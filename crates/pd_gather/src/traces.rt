@@ -1,6 +1,7 @@
 //! The traces of a session.
-ghost use Rattle.pd_events.specs.SessionTraces.{AreTraces};
-ghost use Rattle.pd_events.specs.Views.{result_view, trace_view};
+ghost use Rattle.pd_traces.specs.SessionTraces.{AreTraces};
+ghost use Rattle.pd_traces.specs.Views.{trace_view};
+ghost use Rattle.pd_events.specs.Views.{result_view};
 ghost use Rattle.pd_format.specs.Limits.{stream_count_limit};
 ghost use Rattle.pd_format.specs.Names.{ProcessNames};
 ghost use Rattle.pd_format.specs.ReadingLaws.{FitsSession};
@@ -11,10 +12,11 @@ ghost use Rattle.std.specs.List.{list_any, position};
 ghost use Rattle.std.specs.Prelude.{◌≡◌, ◌<◌, ℕ, [], List, All, IfOk, IfSome, IsOk, MatchOption, Some, Ok, Err, option_map};
 
 use super::{Gathered, SessionFault};
-use pd_events::{StreamFault, Trace};
+use pd_events::StreamFault;
 use pd_format::STREAM_COUNT_LIMIT;
 use pd_pred::Names;
 use pd_spec::Spec;
+use pd_traces::Trace;
 use std::alloc::{AllocError, Global};
 
 /// The traces of a session with this document, one for each process, in their order. Memory is taken for the traces

@@ -5,11 +5,11 @@ use Rattle.std.specs.Borrow.{Bor}
 use Rattle.std.proofs.lemmas.Option.{slice_get_read}
 use Rattle.pd_model.specs.Events.{events_of, event_count, kind_at}
 use Rattle.pd_model.specs.Events as events
-use Rattle.pd_events.specs.declared.event.Trace.{Trace}
-use Rattle.pd_events.specs.Views.{computation_view}
-use Rattle.pd_events.specs.Columns.{seen_kind_view}
-use Rattle.pd_events.specs.declared.kind.Kind.{Kind}
-use Rattle.pd_events.specs.declared.kind.Kind.TheVariants as kinds
+use Rattle.pd_traces.specs.declared.event.Trace.{Trace}
+use Rattle.pd_traces.specs.Views.{computation_view}
+use Rattle.pd_traces.specs.Columns.{seen_kind_view}
+use Rattle.pd_traces.specs.declared.kind.Kind.{Kind}
+use Rattle.pd_traces.specs.declared.kind.Kind.TheVariants as kinds
 use Rattle.pd_match.specs.Noted.{event_place}
 
 got : {A : Type 0} (xs : List A) (p : ℕ) (x : A) → p < length xs → x ≡ get_or xs p x → slice_get xs p ≡ Some x

@@ -1,5 +1,5 @@
 //! Matches sends and receipts.
-ghost use Rattle.pd_events.specs.Views.{computation_view};
+ghost use Rattle.pd_traces.specs.Views.{computation_view};
 ghost use Rattle.pd_match.specs.Noted.{HasAll, marks_set, place_noted};
 ghost use Rattle.pd_match.specs.Views.{match_fault_view};
 ghost use Rattle.pd_model.specs.Events.{Send};
@@ -10,7 +10,7 @@ use super::receiving::senders_in;
 use super::sending::sends_of;
 use super::{MatchFault, Matched, Place};
 use indexmap::IndexMap;
-use pd_events::Trace;
+use pd_traces::Trace;
 use std::alloc::Global;
 use std::hash::{BuildHasher, BuildHasherDefault, FoldHasher, RandomState};
 use std::random::RandomSource;

@@ -1,6 +1,6 @@
 //! The second pass, over the receipts.
 ghost use Rattle.indexmap.specs.IndexMap.{index_map_len};
-ghost use Rattle.pd_events.specs.Views.{computation_view};
+ghost use Rattle.pd_traces.specs.Views.{computation_view};
 ghost use Rattle.pd_match.specs.Noted.{HasAll, HasReceived, IsReportedOf, NoneBadBefore, event_place, is_marked, kept, marks_set, pairs_from, place_noted};
 ghost use Rattle.pd_match.specs.Progress.{MatchedBefore, RowTells};
 ghost use Rattle.pd_match.specs.Views.{match_fault_view, place_view};
@@ -13,7 +13,7 @@ use super::kinds::kind_of;
 use super::sender::Sender;
 use super::{MatchFault, Place};
 use indexmap::IndexMap;
-use pd_events::{Kind, Trace};
+use pd_traces::{Kind, Trace};
 use std::alloc::Global;
 use std::hash::BuildHasher;
 

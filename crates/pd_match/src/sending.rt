@@ -1,5 +1,5 @@
 //! The first pass, over the sends.
-ghost use Rattle.pd_events.specs.Views.{computation_view};
+ghost use Rattle.pd_traces.specs.Views.{computation_view};
 ghost use Rattle.pd_match.specs.Noted.{HasAll, HasBefore, event_place, place_noted};
 ghost use Rattle.pd_match.specs.Views.{match_fault_view};
 ghost use Rattle.pd_model.specs.Events.{Send, event_count};
@@ -10,7 +10,7 @@ use super::kinds::kind_of;
 use super::noting::note;
 use super::{MatchFault, Place};
 use indexmap::IndexMap;
-use pd_events::{Kind, Trace};
+use pd_traces::{Kind, Trace};
 use std::alloc::Global;
 use std::hash::BuildHasher;
 

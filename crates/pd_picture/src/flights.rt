@@ -1,5 +1,5 @@
 //! The arrows of messages in flight.
-ghost use Rattle.pd_events.specs.Views.{computation_view};
+ghost use Rattle.pd_traces.specs.Views.{computation_view};
 ghost use Rattle.pd_match.specs.Views.{place_view};
 ghost use Rattle.pd_model.specs.Events.{kind_at};
 ghost use Rattle.pd_picture.specs.Flights.{is_flight, is_received, is_send};
@@ -11,8 +11,8 @@ ghost use Rattle.std.specs.Prelude.{◌≡◌, ◌++◌, OnOk, flat_map};
 use super::shapes::push_arrow;
 use super::window::Window;
 use pd_clock::Place;
-use pd_events::{Kind, Trace};
 use pd_svg::{Class, Point, Shape};
+use pd_traces::{Kind, Trace};
 use std::alloc::AllocError;
 
 /// Whether the event at a place sends a message.

@@ -1,5 +1,5 @@
 //! The arrows of messages.
-ghost use Rattle.pd_events.specs.Views.{computation_view};
+ghost use Rattle.pd_traces.specs.Views.{computation_view};
 ghost use Rattle.pd_match.specs.Views.{pairs_view, place_view};
 ghost use Rattle.pd_picture.specs.Pictures.{flight_shapes, head_point, message_shapes, messages_shapes};
 ghost use Rattle.pd_picture.specs.Shapes.{all_seen};

@@ -1,5 +1,5 @@
 //! The picture of a run.
-ghost use Rattle.pd_events.specs.Views.{computation_view};
+ghost use Rattle.pd_traces.specs.Views.{computation_view};
 ghost use Rattle.pd_match.specs.Views.{pairs_view};
 ghost use Rattle.pd_model.specs.Messages.{IsMessageList};
 ghost use Rattle.pd_picture.specs.Columns.{AreColumns};
@@ -20,8 +20,8 @@ use super::messages::push_messages;
 use super::steps::push_steps;
 use super::window::{Window, greatest_column, lane_y, widest_column};
 use pd_clock::{Computation, Place};
-use pd_events::Trace;
 use pd_svg::{Drawing, Shape};
+use pd_traces::Trace;
 use std::alloc::{AllocError, Global};
 
 /// The column in which the evidence ends, and 0 if it has no end.

@@ -2,9 +2,10 @@
 ghost use Rattle.std.specs.Prelude.{◌≡◌, ◌<◌, length};
 
 use super::samples::{DOCUMENT, spec};
-use pd_events::{Kind, StreamFault, StreamKind, StreamState, Trace, TraceReader};
+use pd_events::{StreamFault, StreamKind, StreamState, TraceReader};
 use pd_gather::{Core, Input};
 use pd_spec::Spec;
+use pd_traces::{Kind, Trace};
 use std::alloc::{AllocError, Global};
 use std::test::Fail;
 

@@ -3,11 +3,12 @@ ghost use Rattle.std.specs.Prelude.{◌≡◌, false};
 
 use super::samples::{STREAM_A, spec};
 use super::sources::{Endless, FewBytes, Resumed};
-use pd_events::{StreamFault, StreamKind, Trace};
+use pd_events::{StreamFault, StreamKind};
 use pd_format::LINE_BYTE_LIMIT;
 use pd_gather::{ByteSource, ReadFault, WholeBytes, read_bytes, read_stream, within_limit};
 use pd_register::{Register, Row, RowState};
 use pd_spec::Spec;
+use pd_traces::Trace;
 use std::alloc::Global;
 use std::io::ErrorKind;
 use std::sync::Wait;

@@ -1,6 +1,7 @@
 //! The records of lines, and the events of a process.
 use super::samples::spec;
-use pd_events::{Event, EventKind, Events, LineRecord, RecordFault, read_record};
+use pd_events::{LineRecord, RecordFault, read_record};
+use pd_traces::{Event, EventKind, Events};
 use std::alloc::{AllocError, Global};
 use std::test::Fail;
 

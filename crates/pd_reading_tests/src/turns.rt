@@ -8,9 +8,10 @@ ghost use Rattle.pd_spec.specs.Views.{document_view};
 ghost use Rattle.std.specs.Prelude.{◌≡◌, ◌<◌, ◌≤◌, ◌++◌, ◌∷◌, [], All, IfOk, List, OnOk, length};
 
 use super::samples::{STREAM_A, STREAM_B, are_of_both, spec};
-use pd_events::{StreamFault, StreamKind, Trace};
+use pd_events::{StreamFault, StreamKind};
 use pd_gather::{Core, Gathered, Input, SessionFault, session};
 use pd_spec::Spec;
+use pd_traces::Trace;
 use std::alloc::{AllocError, Global};
 use std::test::Fail;
 

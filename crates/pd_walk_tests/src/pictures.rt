@@ -1,13 +1,13 @@
 //! Values with a character of two bytes where they are cut off in a picture. No session has such a value.
-ghost use Rattle.pd_events.specs.Views.{computation_view};
+ghost use Rattle.pd_traces.specs.Views.{computation_view};
 ghost use Rattle.pd_match.specs.Views.{pairs_view};
 ghost use Rattle.pd_model.specs.Messages.{IsMessageList};
 ghost use Rattle.std.specs.Prelude.{◌≡◌};
 
 use pd_clock::{Computation, Place};
-use pd_events::Trace;
 use pd_picture::{Evidence, columns_stand_right, picture};
 use pd_svg::{Drawing, Shape};
+use pd_traces::Trace;
 use std::alloc::{AllocError, Global};
 
 /// Values of more than 40 bytes, of which byte 37 begins or ends a character of two bytes.

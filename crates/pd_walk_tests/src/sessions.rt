@@ -1,12 +1,12 @@
 //! Sessions, and the traces of their streams.
-ghost use Rattle.pd_events.specs.SessionTraces.{AreTraces};
+ghost use Rattle.pd_traces.specs.SessionTraces.{AreTraces};
 ghost use Rattle.pd_format.specs.Limits.{stream_count_limit};
 ghost use Rattle.pd_spec.specs.Views.{document_view};
 ghost use Rattle.std.specs.Prelude.{◌≤◌, IfOk, length};
 
-use pd_events::Trace;
 use pd_gather::{Core, Input, session};
 use pd_spec::Spec;
+use pd_traces::Trace;
 use std::alloc::{AllocError, Global};
 
 /// Three processes with ten events each, whose levels have up to 91 cuts. Of the predicates the first holds at no cut

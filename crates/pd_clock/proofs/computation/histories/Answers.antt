@@ -4,8 +4,8 @@ use Rattle.std.specs.Prelude.{All}
 use Rattle.std.proofs.lemmas.Bool.{cases_lt}
 use Rattle.pd_model.specs.Events.{Event, events_of}
 use Rattle.pd_clock.specs.Histories.{AreVars, rows_after}
-use Rattle.pd_events.specs.declared.event.Trace.{Trace}
-use Rattle.pd_events.specs.Views.{computation_view}
+use Rattle.pd_traces.specs.declared.event.Trace.{Trace}
+use Rattle.pd_traces.specs.Views.{computation_view}
 use Rattle.pd_clock.specs.States.{values_at}
 use Rattle.pd_clock.proofs.Parts.{got, values_read, values_before, values_last, values_past, events_read, events_past}
 use Rattle.pd_clock.proofs.computation.histories.Goals as goal

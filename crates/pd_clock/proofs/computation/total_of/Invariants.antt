@@ -2,7 +2,7 @@
 use Rattle.std.proofs.Common.{◌≡◌, ◌≤◌, ◌*◌, take}
 use Rattle.pd_format.specs.Limits.{event_limit}
 use Rattle.pd_model.specs.Cuts.{total}
-use Rattle.pd_events.specs.Views.{computation_view}
+use Rattle.pd_traces.specs.Views.{computation_view}
 use Rattle.pd_clock.proofs.computation.total_of.Given as goal
 
 abbrev pub invariant-loop-process : goal.invariant-loop-process

@@ -5,8 +5,8 @@ use Rattle.std.proofs.lemmas.List.{length-map, map-append, length_push, drop-map
 use Rattle.std.proofs.lemmas.Result.{IfOk-weaker}
 use Rattle.pd_model.specs.Events as events
 use Rattle.pd_model.specs.Order.{IsReportedCycle}
-use Rattle.pd_events.specs.declared.event.Trace.{Trace}
-use Rattle.pd_events.specs.Views.{computation_view}
+use Rattle.pd_traces.specs.declared.event.Trace.{Trace}
+use Rattle.pd_traces.specs.Views.{computation_view}
 use Rattle.pd_match.specs.Views.{place_view}
 use Rattle.pd_clock.specs.Orders.{places_view}
 use Rattle.pd_model.proofs.StuckWay.{IsWay, way_start, way_more, way_short, way_back}

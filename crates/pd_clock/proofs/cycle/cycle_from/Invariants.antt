@@ -1,6 +1,6 @@
 -- What the loops of `cycle_from` keep.
 use Rattle.std.proofs.Common.{◌-◌, length}
-use Rattle.pd_events.specs.Views.{computation_view}
+use Rattle.pd_traces.specs.Views.{computation_view}
 use Rattle.pd_match.specs.Views.{place_view}
 use Rattle.pd_clock.specs.Orders.{places_view}
 use Rattle.pd_model.proofs.StuckWay.{IsWay}

@@ -9,8 +9,8 @@ use Rattle.pd_model.specs.Messages.{IsMessage, IsMessageList}
 use Rattle.pd_model.specs.Order.{IsStuck, IsFirstStuck}
 use Rattle.pd_model.proofs.Stuck.{stuck_receipt}
 use Rattle.pd_model.proofs.Consistency.{process_in_range}
-use Rattle.pd_events.specs.declared.event.Trace.{Trace}
-use Rattle.pd_events.specs.Views.{computation_view}
+use Rattle.pd_traces.specs.declared.event.Trace.{Trace}
+use Rattle.pd_traces.specs.Views.{computation_view}
 use Rattle.pd_match.specs.Views.{place_view}
 use Rattle.pd_match.specs.declared.place.Place.{Place}
 use Rattle.pd_model.proofs.StuckWay.{stuck_event}

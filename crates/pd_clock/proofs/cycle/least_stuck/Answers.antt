@@ -4,8 +4,8 @@ use Rattle.std.proofs.lemmas.List.{length-map}
 use Rattle.pd_model.specs.Events.{place}
 use Rattle.pd_model.specs.Order.{IsStuck}
 use Rattle.pd_model.proofs.Consistency.{process_in_range}
-use Rattle.pd_events.specs.declared.event.Trace.{Trace}
-use Rattle.pd_events.specs.Views.{computation_view}
+use Rattle.pd_traces.specs.declared.event.Trace.{Trace}
+use Rattle.pd_traces.specs.Views.{computation_view}
 use Rattle.pd_model.proofs.StuckWay.{stuck_event}
 use Rattle.pd_clock.proofs.cycle.least_stuck.Goals as goal
 

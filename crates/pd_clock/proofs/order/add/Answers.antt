@@ -7,8 +7,8 @@ use Rattle.pd_model.specs.Order.{IsClock}
 use Rattle.pd_clock.specs.Orders.{HasClocks, clocks_of, next_of}
 use Rattle.pd_clock.proofs.OrderSteps.{go_within}
 use Rattle.pd_clock.proofs.ClockRows.{clocks_more, rows_written, rows_kept, rows_read}
-use Rattle.pd_events.specs.Views.{computation_view}
-use Rattle.pd_events.specs.declared.event.Trace.{Trace}
+use Rattle.pd_traces.specs.Views.{computation_view}
+use Rattle.pd_traces.specs.declared.event.Trace.{Trace}
 use Rattle.pd_clock.proofs.order.add.Goals as goal
 
 pub returns-clause-clocks : goal.returns-clause-clocks

@@ -7,8 +7,8 @@ use Rattle.pd_model.specs.Cuts.{Includes}
 use Rattle.pd_clock.specs.Orders.{next_of, count_of}
 use Rattle.pd_clock.proofs.OrderSteps.{IsSendOf, next_found, sent_some, go_within}
 use Rattle.pd_clock.proofs.ClockRows.{IsBeforeNext, has_rows, next_clock}
-use Rattle.pd_events.specs.Views.{computation_view}
-use Rattle.pd_events.specs.declared.event.Trace.{Trace}
+use Rattle.pd_traces.specs.Views.{computation_view}
+use Rattle.pd_traces.specs.declared.event.Trace.{Trace}
 use Rattle.pd_match.specs.Views.{place_view}
 use Rattle.pd_match.specs.declared.place.Place.{Place}
 use Rattle.pd_model.specs.Events.{place}

@@ -1,7 +1,7 @@
 -- What is found of a report by the session, or why it comes to no answers.
 use Rattle.std.proofs.Common.{List, map, subst}
 use Rattle.pd_check.specs.Views.{finding_view}
-use Rattle.pd_events.specs.declared.event.Trace.{Trace}
+use Rattle.pd_traces.specs.declared.event.Trace.{Trace}
 use Rattle.pd_format.specs.Reports.{Report}
 use Rattle.pd_gather.specs.Views.{results_view, traces_view}
 use Rattle.pd_judgement.specs.Judgements.{IsJudgement, IsReportOfResults, IsTracesReport, RawStream}

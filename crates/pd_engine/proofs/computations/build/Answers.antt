@@ -7,7 +7,7 @@ use Rattle.pd_format.specs.RefusalWords.{named_place}
 use Rattle.pd_format.specs.Names.{ProcessNames}
 use Rattle.pd_gather.specs.Views.{traces_view}
 use Rattle.pd_spec.specs.Views.{document_view}
-use Rattle.pd_events.specs.Views.{computation_view}
+use Rattle.pd_traces.specs.Views.{computation_view}
 use Rattle.pd_match.specs.Views.{place_view}
 use Rattle.pd_clock.specs.Orders.{places_view}
 use Rattle.pd_clock.specs.Computations.{recorded_view}

@@ -3,7 +3,7 @@ use Rattle.std.proofs.Common.{List, sym, subst, ap, ◌∙◌}
 use Rattle.pd_model.specs.Events.{Place}
 use Rattle.pd_model.specs.Messages.{IsMessageList}
 use Rattle.pd_draw.specs.Choices.{name_view}
-use Rattle.pd_events.specs.Views.{computation_view}
+use Rattle.pd_traces.specs.Views.{computation_view}
 use Rattle.pd_match.specs.Views.{pairs_view}
 use Rattle.pd_report.specs.Views.{report_view}
 use Rattle.pd_spec.specs.Views.{document_view}

@@ -6,8 +6,8 @@ use Rattle.pd_format.specs.Names.{ProcessNames}
 use Rattle.pd_format.specs.ReadingLaws.{FitsSession}
 use Rattle.pd_format.specs.Readings as readings
 use Rattle.pd_format.specs.Sessions.{SessionFault, trace_of, traces_from}
-use Rattle.pd_events.specs.Views.{trace_view}
-use Rattle.pd_events.specs.declared.event.Trace.{Trace}
+use Rattle.pd_traces.specs.Views.{trace_view}
+use Rattle.pd_traces.specs.declared.event.Trace.{Trace}
 use Rattle.pd_gather.specs.Views.{results_view, traces_view}
 use Rattle.pd_gather.proofs.Places.{following, one_more, complete_has, dropped, is_mapped, prefix_push, at_push, trace_is_of}
 use Rattle.pd_gather.proofs.traces.in_order.Goals as goal

@@ -2,8 +2,8 @@
 use Rattle.std.proofs.Common.{◌≡◌, ◌∙◌, ◌+◌, [], add-one, ap, arith, false, length, length-append, replicate, rules, suc, subst, sym, ℕ, List}
 use Rattle.std.proofs.lemmas.List.{length-map, length-replicate}
 use Rattle.indexmap.specs.IndexMap.{index_map_len}
-use Rattle.pd_events.specs.declared.event.Trace.{Trace}
-use Rattle.pd_events.specs.Views.{computation_view}
+use Rattle.pd_traces.specs.declared.event.Trace.{Trace}
+use Rattle.pd_traces.specs.Views.{computation_view}
 use Rattle.pd_model.specs.Messages.{IsMessageList}
 use Rattle.pd_match.specs.Noted.{event_place, is_marked, marks_set, pairs_from, pairs_in, place_noted}
 use Rattle.pd_match.specs.Progress.{MatchedBefore, RowsTell}

@@ -1,7 +1,7 @@
 -- What the loops of `match_receipts` keep.
 use Rattle.std.specs.Prelude.{◌≡◌, length}
 use Rattle.indexmap.specs.IndexMap.{index_map_len}
-use Rattle.pd_events.specs.Views.{computation_view}
+use Rattle.pd_traces.specs.Views.{computation_view}
 use Rattle.pd_match.specs.Noted.{event_place, is_marked, marks_set, pairs_in}
 use Rattle.pd_match.specs.Progress.{MatchedBefore, RowsTell}
 use Rattle.pd_match.proofs.matching.match_receipts.Given as goal

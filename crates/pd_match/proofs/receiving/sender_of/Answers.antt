@@ -1,8 +1,8 @@
 -- The send of the event at index `n` of process `p`, if it is a receipt.
 use Rattle.std.proofs.Common.{arith, ◌≡◌, ◌∙◌, ℕ, Some, ap, rules, refl, subst, sym, List}
 use Rattle.std.specs.Prelude.{IfSome}
-use Rattle.pd_events.specs.Views.{computation_view}
-use Rattle.pd_events.specs.Columns.{seen_kind_view}
+use Rattle.pd_traces.specs.Views.{computation_view}
+use Rattle.pd_traces.specs.Columns.{seen_kind_view}
 use Rattle.pd_model.specs.Events.{Receive, kind_at}
 use Rattle.pd_model.specs.Messages.{IsReported}
 use Rattle.pd_match.specs.Noted.{IsReportedOf, event_place, is_marked, place_noted}

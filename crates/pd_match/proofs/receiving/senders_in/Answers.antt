@@ -1,6 +1,6 @@
 -- For each event of process `p` its send, if it is a receipt.
 use Rattle.std.proofs.Common.{◌≡◌, ◌↔◌, Some, option_map, ◌∙◌, ◌+◌, add-one, arith, ap, length, length-append, refl, suc, subst, sym}
-use Rattle.pd_events.specs.Views.{computation_view}
+use Rattle.pd_traces.specs.Views.{computation_view}
 use Rattle.pd_model.specs.Events.{event_count}
 use Rattle.pd_model.specs.Events as events
 use Rattle.pd_model.specs.Messages.{IsMessage}

@@ -1,6 +1,6 @@
 -- What the loops of `senders_in` keep.
 use Rattle.std.specs.Prelude.{◌≡◌, ◌+◌, length}
-use Rattle.pd_events.specs.Views.{computation_view}
+use Rattle.pd_traces.specs.Views.{computation_view}
 use Rattle.pd_match.specs.Noted.{event_place, is_marked, marks_set, pairs_from}
 use Rattle.pd_match.specs.Progress.{MatchedBefore, RowTells}
 use Rattle.pd_match.proofs.receiving.senders_in.Given as goal

@@ -1,5 +1,5 @@
 -- What the loops of `sends_of` keep.
-use Rattle.pd_events.specs.Views.{computation_view}
+use Rattle.pd_traces.specs.Views.{computation_view}
 use Rattle.pd_match.specs.Noted.{HasBefore, event_place, place_noted}
 use Rattle.pd_model.specs.Events.{Send}
 use Rattle.pd_match.proofs.sending.sends_of.Given as goal

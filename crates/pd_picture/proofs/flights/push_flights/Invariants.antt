@@ -1,6 +1,6 @@
 -- What the loop of `push_flights` keeps.
 use Rattle.std.proofs.Common.{◌≡◌, ◌++◌, take, flat_map}
-use Rattle.pd_events.specs.Views.{computation_view}
+use Rattle.pd_traces.specs.Views.{computation_view}
 use Rattle.pd_picture.specs.Flights.{is_flight}
 use Rattle.pd_picture.specs.Pictures.{flight_shapes}
 use Rattle.pd_picture.specs.Shapes.{all_seen}

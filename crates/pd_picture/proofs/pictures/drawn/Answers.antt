@@ -1,6 +1,6 @@
 -- The drawing is the picture.
 use Rattle.std.proofs.Common.{◌≡◌, ◌∙◌, ◌-◌, ℕ, ap, length}
-use Rattle.pd_events.specs.Views.{computation_view}
+use Rattle.pd_traces.specs.Views.{computation_view}
 use Rattle.pd_picture.specs.Layout.{lane_y}
 use Rattle.pd_picture.specs.Pictures.{texts_view}
 use Rattle.pd_picture.specs.Tables.{column_at}

@@ -3,9 +3,9 @@ use Rattle.std.proofs.Common.{◌≡◌, ℤ, List, map, Option, Some, None, ref
 use Rattle.std.specs.Prelude.{IfNone, string_bytes, Vec}
 use Rattle.std.specs.Global.{Global}
 use Rattle.pd_model.specs.Order.{HasNoCycle}
-use Rattle.pd_events.specs.Views.{computation_view}
-use Rattle.pd_events.specs.SessionTraces.{AreTraces}
-use Rattle.pd_events.specs.declared.event.Trace.{Trace}
+use Rattle.pd_traces.specs.Views.{computation_view}
+use Rattle.pd_traces.specs.SessionTraces.{AreTraces}
+use Rattle.pd_traces.specs.declared.event.Trace.{Trace}
 use Rattle.pd_spec.specs.Sound.{IsSound}
 use Rattle.pd_spec.specs.Views.{document_view}
 use Rattle.pd_spec.specs.declared.spec.Spec.{Spec}

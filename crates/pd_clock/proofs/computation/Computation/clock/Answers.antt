@@ -2,7 +2,7 @@
 use Rattle.std.proofs.Common.{◌≡◌, ◌<◌, ◌+◌, ◌-◌, ◌*◌, length, ap, sym, ◌∙◌, arith}
 use Rattle.pd_model.specs.Events.{IsEvent}
 use Rattle.pd_model.specs.Predicates.{Recorded}
-use Rattle.pd_events.specs.Views.{computation_view}
+use Rattle.pd_traces.specs.Views.{computation_view}
 use Rattle.pd_match.specs.Views.{place_view}
 use Rattle.pd_clock.proofs.PastFacts.{place_in_row, clock_read}
 use Rattle.pd_clock.proofs.computation.Computation.clock.Goals as goal

@@ -2,7 +2,7 @@
 use Rattle.std.proofs.Common.{◌≡◌, ◌↔◌, ap}
 use Rattle.pd_model.specs.Cuts.{FitsProcesses, IsConsistent}
 use Rattle.pd_model.specs.Predicates.{Recorded}
-use Rattle.pd_events.specs.Views.{computation_view}
+use Rattle.pd_traces.specs.Views.{computation_view}
 use Rattle.pd_clock.specs.Pasts.{HasPasts}
 use Rattle.pd_clock.proofs.PastFacts.{consistent_exactly}
 use Rattle.pd_clock.proofs.computation.Computation.consistent.Goals as goal

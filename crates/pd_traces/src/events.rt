@@ -1,6 +1,6 @@
 //! The events of a process, in columns.
-ghost use Rattle.pd_events.specs.Columns.{entry_with, event_with, part, places_in, seen_kind_view, tag_view, values_in};
-ghost use Rattle.pd_events.specs.Views.{event_view, kind_view};
+ghost use Rattle.pd_traces.specs.Columns.{entry_with, event_with, part, places_in, seen_kind_view, tag_view, values_in};
+ghost use Rattle.pd_traces.specs.Views.{event_view, kind_view};
 ghost use Rattle.pd_model.specs.Events as events;
 ghost use Rattle.std.specs.Prelude.{◌≡◌, ◌+◌, ◌<◌, ◌≤◌, ◌^◌, ◌++◌, [], ◌∷◌, IfOk, OnErr, OnOk, Some, length, option_map, slice_get, take};
 
@@ -21,7 +21,7 @@ pub struct Events {
 
 impl Model for Events {
     ghost use Rattle.pd_model.specs.Events as events;
-    ghost use Rattle.pd_events.specs.Columns.{columns_view, AreWithin};
+    ghost use Rattle.pd_traces.specs.Columns.{columns_view, AreWithin};
     ghost use Rattle.std.specs.Prelude.{List};
 
     ghost Value = { List events.Event };
@@ -72,7 +72,7 @@ fn tagged(kind: Kind<'_>) -> (Tag, &[u8])
 }
 
 /// The kind of event, as it is seen among others.
-pub(crate) fn seen(kind: &EventKind) -> Kind<'_>
+pub fn seen(kind: &EventKind) -> Kind<'_>
     ensures { seen_kind_view result ≡ kind_view kind.now }
 {
     match kind {
@@ -205,11 +205,7 @@ impl Events {
     ///
     /// # Errors
     /// As `push`.
-    pub(crate) fn push_parts(
-        &mut self,
-        kind: Kind<'_>,
-        sets: &[(usize, i64)],
-    ) -> Result<(), AllocError>
+    pub fn push_parts(&mut self, kind: Kind<'_>, sets: &[(usize, i64)]) -> Result<(), AllocError>
         ensures ok { OnOk result (self.new ≡ self.old ++ event_with (seen_kind_view kind.entry) sets.now ∷ []) }
         ensures err { OnErr result (self.new ≡ self.old) }
     {

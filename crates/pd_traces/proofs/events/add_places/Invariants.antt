@@ -1,7 +1,7 @@
 -- What the loop of `add_places` keeps.
 use Rattle.std.proofs.Common.{◌≡◌, ◌++◌, take}
-use Rattle.pd_events.specs.Columns.{places_in}
-use Rattle.pd_events.proofs.events.add_places.Given as goal
+use Rattle.pd_traces.specs.Columns.{places_in}
+use Rattle.pd_traces.proofs.events.add_places.Given as goal
 
 -- the column has those of the settings so far
 abbrev pub invariant-loop-setting : goal.invariant-loop-setting

@@ -1,4 +1,4 @@
-//! Events, traces and records.
+//! Events and traces.
 use super::Events;
 
 /// What kind of event it is.
@@ -31,15 +31,4 @@ pub struct Trace {
     pub join_line: u64,
     /// Its events in their order, at most 10,000.
     pub events: Events,
-}
-
-/// What a line says.
-#[derive(Debug, PartialEq, Eq, Drop)]
-pub enum LineRecord {
-    /// The stream is that of this process, counted from 0.
-    Join(usize),
-    /// An event of the process.
-    Happened(Event),
-    /// The process has no more events.
-    Finish,
 }

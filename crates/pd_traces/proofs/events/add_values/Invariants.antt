@@ -1,7 +1,7 @@
 -- What the loop of `add_values` keeps.
 use Rattle.std.proofs.Common.{◌≡◌, ◌++◌, take}
-use Rattle.pd_events.specs.Columns.{values_in}
-use Rattle.pd_events.proofs.events.add_values.Given as goal
+use Rattle.pd_traces.specs.Columns.{values_in}
+use Rattle.pd_traces.proofs.events.add_values.Given as goal
 
 -- the column has those of the settings so far
 abbrev pub invariant-loop-setting : goal.invariant-loop-setting

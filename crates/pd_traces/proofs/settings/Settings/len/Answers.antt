@@ -1,7 +1,7 @@
 -- How many variables are set.
 use Rattle.std.proofs.Common.{length, ap, sym, ◌∙◌}
-use Rattle.pd_events.proofs.SettingFacts.{length_zipped}
-use Rattle.pd_events.proofs.settings.Settings.len.Goals as goal
+use Rattle.pd_traces.proofs.SettingFacts.{length_zipped}
+use Rattle.pd_traces.proofs.settings.Settings.len.Goals as goal
 
 pub returns : goal.returns
 returns c =

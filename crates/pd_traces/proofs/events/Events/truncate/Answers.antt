@@ -1,8 +1,8 @@
 -- Keeps the first events.
 use Rattle.std.proofs.Common.{ap, sym, take, ◌∙◌}
 use Rattle.std.proofs.lemmas.List.{take-map}
-use Rattle.pd_events.specs.Columns.{columns_view, entry_view}
-use Rattle.pd_events.proofs.events.Events.truncate.Goals as goal
+use Rattle.pd_traces.specs.Columns.{columns_view, entry_view}
+use Rattle.pd_traces.proofs.events.Events.truncate.Goals as goal
 
 pub returns : goal.returns
 returns c =

@@ -2,11 +2,11 @@
 use Rattle.std.specs.Prelude.{◌≡◌, ℕ, ◌+◌, ◌≤◌, List, All, drop, length, map, take, ℤ}
 use Rattle.std.specs.List.{zip}
 use Rattle.pd_model.specs.Events as events
-use Rattle.pd_events.specs.declared.entry.Entry.{Entry}
-use Rattle.pd_events.specs.declared.entry.Tag.{Tag}
-use Rattle.pd_events.specs.declared.entry.Tag.TheVariants as tags
-use Rattle.pd_events.specs.declared.kind.Kind.{Kind}
-use Rattle.pd_events.specs.declared.kind.Kind.TheVariants as seen
+use Rattle.pd_traces.specs.declared.entry.Entry.{Entry}
+use Rattle.pd_traces.specs.declared.entry.Tag.{Tag}
+use Rattle.pd_traces.specs.declared.entry.Tag.TheVariants as tags
+use Rattle.pd_traces.specs.declared.kind.Kind.{Kind}
+use Rattle.pd_traces.specs.declared.kind.Kind.TheVariants as seen
 
 -- this many elements, from this index on
 abbrev pub part : {A : Type 0} → ℕ → ℕ → List A → List A

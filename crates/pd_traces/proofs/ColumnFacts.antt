@@ -6,9 +6,9 @@ use Rattle.std.proofs.Math.Seq.{drop-append_seam, take-length}
 use Rattle.std.proofs.lemmas.List.{drop-append-le, length-drop, length-map, length-take-le, map-append, take-append-le}
 use Rattle.std.proofs.lemmas.List.Elements.{All-head, All-tail}
 use Rattle.pd_model.specs.Events as events
-use Rattle.pd_events.specs.Columns.{IsWithin, AreWithin, columns_view, entry_view, entry_with, event_with, part, places_in, tag_view, values_in}
-use Rattle.pd_events.specs.declared.entry.Entry.{Entry}
-use Rattle.pd_events.specs.declared.entry.Tag.{Tag}
+use Rattle.pd_traces.specs.Columns.{IsWithin, AreWithin, columns_view, entry_view, entry_with, event_with, part, places_in, tag_view, values_in}
+use Rattle.pd_traces.specs.declared.entry.Entry.{Entry}
+use Rattle.pd_traces.specs.declared.entry.Tag.{Tag}
 
 part_grown : {A : Type 0} (start len : ℕ) (xs ys : List A) → start + len ≤ length xs
     → part start len (xs ++ ys) ≡ part start len xs

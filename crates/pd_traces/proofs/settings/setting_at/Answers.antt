@@ -1,8 +1,8 @@
 -- The setting at an index.
 use Rattle.std.proofs.Common.{◌≡◌, ◌∙◌, Some, get_or, of_z, sym, to_z, w64}
 use Rattle.std.proofs.lemmas.Int.{to_z-of_z}
-use Rattle.pd_events.proofs.SettingFacts.{setting_there}
-use Rattle.pd_events.proofs.settings.setting_at.Goals as goal
+use Rattle.pd_traces.proofs.SettingFacts.{setting_there}
+use Rattle.pd_traces.proofs.settings.setting_at.Goals as goal
 
 pub returns : goal.returns
 returns c =

@@ -1,10 +1,10 @@
 -- Adds an event of a kind that sets some variables.
 use Rattle.std.proofs.Common.{◌≡◌, ◌++◌, [], ◌∷◌, List, length, ap, ◌∙◌, rules}
 use Rattle.pd_model.specs.Events as events
-use Rattle.pd_events.specs.Columns.{columns_view, entry_with, event_with, seen_kind_view}
-use Rattle.pd_events.specs.declared.entry.Entry.{Entry}
-use Rattle.pd_events.proofs.ColumnFacts.{columns_pushed}
-use Rattle.pd_events.proofs.events.Events.push_parts.Goals as goal
+use Rattle.pd_traces.specs.Columns.{columns_view, entry_with, event_with, seen_kind_view}
+use Rattle.pd_traces.specs.declared.entry.Entry.{Entry}
+use Rattle.pd_traces.proofs.ColumnFacts.{columns_pushed}
+use Rattle.pd_traces.proofs.events.Events.push_parts.Goals as goal
 
 pub returns-in-Ok-clause-ok : goal.returns-in-Ok-clause-ok
 returns-in-Ok-clause-ok c =

@@ -1,7 +1,7 @@
 -- The setting at an index.
 use Rattle.std.proofs.Common.{length, ap, arith}
-use Rattle.pd_events.proofs.SettingFacts.{length_zipped}
-use Rattle.pd_events.proofs.settings.Settings.get.Goals as goal
+use Rattle.pd_traces.proofs.SettingFacts.{length_zipped}
+use Rattle.pd_traces.proofs.settings.Settings.get.Goals as goal
 
 pub setting_at-requires-clause-places : goal.setting_at-requires-clause-places
 setting_at-requires-clause-places c =

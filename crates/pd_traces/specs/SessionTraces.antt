@@ -2,8 +2,8 @@
 use Rattle.std.specs.Prelude.{◌≡◌, ℕ, List, length, Some, slice_get}
 use Rattle.pd_format.specs.Names.{ProcessNames}
 use Rattle.pd_format.specs.ReadingLaws.{FitsSession}
-use Rattle.pd_events.specs.Views.{trace_view}
-use Rattle.pd_events.specs.declared.event.Trace.{Trace}
+use Rattle.pd_traces.specs.Views.{trace_view}
+use Rattle.pd_traces.specs.declared.event.Trace.{Trace}
 
 -- one trace for each process, in the processes' order
 pub record AreTraces (names : List ProcessNames) (traces : List Trace) : Type 0 where
