@@ -8,7 +8,7 @@ use Rattle.pd_model.specs.Cuts.{IsOfLevel, one_less}
 use Rattle.pd_model.specs.Observations.{IsAvoiding}
 use Rattle.pd_model.specs.Walks.{NoneBelow}
 use Rattle.pd_model.proofs.Counts.{length_less}
-use Rattle.pd_runs.specs.Runs.{cut_at}
+use Rattle.pd_neighbors.specs.Neighbors.{cut_at}
 use Rattle.pd_runs.specs.WholeLevels.{Run, IsRunOf, AvoidsAt, rest_at}
 use Rattle.pd_runs.specs.Levels.{WholeLevel, IsWholeLevel}
 use Rattle.pd_marks.specs.RunPlaces.{run_at, key_of_run}

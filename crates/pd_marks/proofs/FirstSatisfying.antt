@@ -6,7 +6,7 @@ use Rattle.pd_model.specs.Events.{Computation}
 use Rattle.pd_model.specs.Cuts.{IsOfLevel}
 use Rattle.pd_model.specs.Answers.{IsFirstSatisfying}
 use Rattle.pd_model.specs.Walks.{NoneBelow}
-use Rattle.pd_runs.specs.Runs.{cut_at}
+use Rattle.pd_neighbors.specs.Neighbors.{cut_at}
 use Rattle.pd_runs.specs.WholeLevels.{Run, IsWhole, IsRunOf, rest_at}
 use Rattle.pd_runs.specs.Levels.{WholeLevel, IsWholeLevel}
 use Rattle.pd_marks.specs.RunPlaces.{run_at}

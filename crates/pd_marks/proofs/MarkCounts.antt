@@ -4,7 +4,7 @@ use Rattle.pd_bits.specs.Words.{has_bit, set_below}
 use Rattle.pd_model.specs.Events.{Computation}
 use Rattle.pd_model.specs.Observations.{IsAvoiding}
 use Rattle.pd_model.specs.Answers.{IsListOf}
-use Rattle.pd_runs.specs.Runs.{cut_at}
+use Rattle.pd_neighbors.specs.Neighbors.{cut_at}
 use Rattle.pd_runs.specs.WholeLevels.{Run, IsMarked, AreMarked, AvoidsAt, rest_at, marks_in, marks_of_runs, marked_of_runs, count_of_runs}
 use Rattle.pd_runs.specs.Levels.{WholeLevel, IsWholeLevel}
 use Rattle.pd_marks.specs.RunPlaces.{run_at}

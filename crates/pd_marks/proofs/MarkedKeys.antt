@@ -2,12 +2,12 @@
 use Rattle.std.proofs.Common.{◌≡◌, ℕ, zero, suc, ◌+◌, ◌-◌, ◌*◌, ◌^◌, ◌<◌, ◌≤◌, ◌⊎◌, inl, inr, Bool, true, false, cond, List, [], ◌∷◌, ◌++◌, length, map, take, Contains, append_assoc, arith, refl, sym, subst, ap, ap₂, ◌∙◌, get_or}
 use Rattle.pd_keys.specs.Keys.{count_base, key_of, digits, AreDigits, AreKeys}
 use Rattle.pd_keys.proofs.Keys.{key_below, digits-key, weight_le}
+use Rattle.pd_neighbors.specs.Neighbors.{cut_at}
 use Rattle.pd_runs.proofs.PointFacts.{key_of_two}
 use Rattle.pd_runs.proofs.RunCuts.{length_cut}
 use Rattle.pd_model.specs.Events.{Linked}
 use Rattle.pd_model.specs.Answers.{LexBelow}
 use Rattle.pd_model.proofs.OneAnswer.{lex_transitive}
-use Rattle.pd_runs.specs.Runs.{cut_at}
 use Rattle.pd_runs.specs.WholeLevels.{Run, marked_from, marked_of_runs, rest_at}
 use Rattle.pd_runs.proofs.Ascending.{in_head, in_rest, in_cons}
 use Rattle.pd_marks.specs.RunPlaces.{run_at}

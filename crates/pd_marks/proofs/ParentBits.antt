@@ -4,7 +4,7 @@ use Rattle.std.proofs.lemmas.Bool.{cases_lt, cases_order, false≢true}
 use Rattle.pd_bits.specs.Words.{has_bit}
 use Rattle.std.proofs.Math.Nat.{mul-le-mul_right}
 use Rattle.pd_keys.specs.Keys.{count_base, key_of}
-use Rattle.pd_runs.specs.Runs.{cut_at}
+use Rattle.pd_neighbors.specs.Neighbors.{cut_at}
 use Rattle.pd_runs.proofs.RunCuts.{length_cut, prefix_at}
 use Rattle.pd_runs.specs.WholeLevels.{Run}
 use Rattle.pd_marks.specs.RunPlaces.{run_at, key_of_run}

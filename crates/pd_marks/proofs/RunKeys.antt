@@ -7,7 +7,7 @@ use Rattle.pd_model.specs.Events.{Computation, Linked}
 use Rattle.pd_model.specs.Answers.{LexBelow}
 use Rattle.pd_model.specs.Cuts.{IsConsistent, one_less}
 use Rattle.pd_model.proofs.Counts.{length_less}
-use Rattle.pd_runs.specs.Runs.{cut_at}
+use Rattle.pd_neighbors.specs.Neighbors.{cut_at}
 use Rattle.pd_runs.specs.WholeLevels.{Run, IsBelowRun, IsRunOf, rest_at}
 use Rattle.pd_runs.specs.Levels.{WholeLevel, IsWholeLevel}
 use Rattle.pd_marks.specs.RunPlaces.{run_at}

@@ -4,8 +4,8 @@ use Rattle.pd_bits.specs.Words.{has_bit, set_below}
 use Rattle.pd_format.specs.Limits.{event_limit}
 use Rattle.pd_keys.specs.Keys.{count_base, key_of}
 use Rattle.pd_model.specs.Events.{Computation, event_count}
+use Rattle.pd_neighbors.specs.Neighbors.{cut_at}
 use Rattle.pd_runs.specs.WholeLevels.{Run, AvoidsAt, marked_from, rest_at}
-use Rattle.pd_runs.specs.Runs.{cut_at}
 use Rattle.pd_runs.specs.Levels.{WholeLevel, IsWholeLevel}
 use Rattle.pd_marks.specs.RunPlaces.{run_at, key_of_run}
 

@@ -1,7 +1,7 @@
 -- The runs of a level by their place, and by a number.
 use Rattle.std.specs.Prelude.{ℕ, List, [], slice_index_or}
 use Rattle.pd_keys.specs.Keys.{key_of}
-use Rattle.pd_runs.specs.Runs.{cut_at}
+use Rattle.pd_neighbors.specs.Neighbors.{cut_at}
 use Rattle.pd_runs.specs.WholeLevels.{Run}
 
 -- what stands behind the last run

@@ -3,7 +3,7 @@ use Rattle.std.specs.Prelude.{◌≡◌, ℕ, ◌<◌, Bool, false, IsTrue, List
 use Rattle.pd_bits.specs.Words.{has_bit}
 use Rattle.pd_model.specs.Events.{Computation}
 use Rattle.pd_model.specs.Cuts.{FitsProcesses}
-use Rattle.pd_runs.specs.Runs.{cut_at}
+use Rattle.pd_neighbors.specs.Neighbors.{cut_at}
 use Rattle.pd_runs.specs.WholeLevels.{Run}
 use Rattle.pd_marks.specs.RunPlaces.{run_at}
 use Rattle.pd_marks.specs.declared.skips.Skips.{Skips}

@@ -14,7 +14,8 @@ use super::run;
 use super::skips::Skips;
 use pd_bits::{BITS, least, words};
 use pd_clock::Cut;
-use pd_runs::{RunTest, Whole};
+use pd_neighbors::RunTest;
+use pd_runs::Whole;
 use std::alloc::Global;
 
 /// The least count of the last process but one in run `i` whose cut satisfies.

@@ -1,9 +1,9 @@
 //! Which cuts of a whole level satisfy.
 ghost use Rattle.pd_bits.specs.Words.{has_bit};
-ghost use Rattle.pd_runs.specs.Runs.{cut_at};
 ghost use Rattle.pd_runs.specs.Levels.{IsWholeLevel};
 ghost use Rattle.pd_marks.specs.RunPlaces.{run_at};
 ghost use Rattle.pd_marks.specs.Skips.{HaveNoHits};
+ghost use Rattle.pd_neighbors.specs.Neighbors.{cut_at};
 ghost use Rattle.pd_runs.specs.WholeLevels.{rest_at};
 ghost use Rattle.std.specs.Prelude.{◌≡◌, ◌+◌, ◌-◌, ◌<◌, ◌≤◌, ℕ, false, length};
 
@@ -12,7 +12,8 @@ use super::run;
 use super::skips::Skips;
 use pd_bits::{BITS, words};
 use pd_format::PROCESS_LIMIT;
-use pd_runs::{RunTest, Whole};
+use pd_neighbors::RunTest;
+use pd_runs::Whole;
 
 /// How many of the counts from `x` to `hi` are looked at together: all of them, but no more than a word has bits.
 pub(crate) fn block(x: u64, hi: u64) -> u64

@@ -4,10 +4,10 @@ ghost use Rattle.pd_format.specs.Limits.{process_limit};
 ghost use Rattle.pd_marks.specs.Marks.{HasWords, IsBefore, IsMarking, IsShaped, bits_in, last_word, start_of};
 ghost use Rattle.pd_model.specs.Order.{HasNoCycle};
 ghost use Rattle.pd_model.specs.Walks.{NoneBelow};
-ghost use Rattle.pd_runs.specs.Runs.{cut_at};
 ghost use Rattle.pd_runs.specs.Levels.{IsWholeLevel};
 ghost use Rattle.pd_marks.specs.RunPlaces.{run_at};
 ghost use Rattle.pd_marks.specs.Skips.{HaveNoHits};
+ghost use Rattle.pd_neighbors.specs.Neighbors.{cut_at};
 ghost use Rattle.pd_runs.specs.WholeLevels.{AvoidsAt, rest_at};
 ghost use Rattle.std.specs.Prelude.{◌≡◌, ◌+◌, ◌-◌, ◌<◌, ◌≤◌, ◌&&◌, ◌↔◌, ℕ, suc, IfOk, IsTrue, MatchOption, false, length, not, slice_index};
 
@@ -18,7 +18,8 @@ use super::run;
 use super::skips::Skips;
 use pd_bits::{BITS, lowest, without, words};
 use pd_format::PROCESS_LIMIT;
-use pd_runs::{RunTest, Whole};
+use pd_neighbors::RunTest;
+use pd_runs::Whole;
 use std::alloc::{AllocError, Global};
 
 /// A level and its marks.

@@ -5,8 +5,8 @@ use Rattle.pd_marks.specs.RunPlaces.{run_at}
 use Rattle.pd_model.specs.Cuts.{FitsProcesses}
 use Rattle.pd_model.specs.Events.{Computation}
 use Rattle.pd_model.specs.Predicates.{test_of}
+use Rattle.pd_neighbors.specs.Neighbors.{cut_at}
 use Rattle.pd_runs.specs.Levels.{IsWholeLevel, WholeLevel}
-use Rattle.pd_runs.specs.Runs.{cut_at}
 use Rattle.pd_tables.specs.Views.{CompiledView}
 
 -- the predicate holds at no cut with this prefix

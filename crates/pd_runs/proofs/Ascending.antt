@@ -4,7 +4,7 @@ use Rattle.std.proofs.Common.{◌≡◌, ℕ, zero, suc, ◌<◌, List, [], ◌�
 use Rattle.pd_model.specs.Events.{Linked}
 use Rattle.pd_model.specs.Answers.{LexBelow}
 use Rattle.pd_model.proofs.OneAnswer.{lex_transitive}
-use Rattle.pd_runs.specs.Runs.{cut_at}
+use Rattle.pd_neighbors.specs.Neighbors.{cut_at}
 use Rattle.pd_runs.specs.WholeLevels.{Run, IsBelowRun}
 
 pub nothing_in_empty : {A : Type 0} (z : A) → ¬ Contains [] z

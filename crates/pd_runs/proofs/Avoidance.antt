@@ -4,7 +4,7 @@ use Rattle.pd_model.specs.Events.{Computation}
 use Rattle.pd_model.specs.Cuts.{IsOfLevel, one_less}
 use Rattle.pd_model.specs.Observations.{IsAvoiding}
 use Rattle.pd_model.proofs.AvoidingCuts.{avoid_by_undoing}
-use Rattle.pd_runs.specs.Runs.{cut_at}
+use Rattle.pd_neighbors.specs.Neighbors.{cut_at}
 use Rattle.pd_runs.proofs.RunCuts.{which_process, prefix_at, x_at, y_at, length_cut, less_x, less_y, less_prefix}
 
 module _ (c : Computation) (test : List ℕ → Bool) (k : ℕ) (prefix : List ℕ) (x y : ℕ) where

@@ -2,6 +2,7 @@
 use Rattle.std.proofs.Common.{◌≡◌, ℕ, suc, ◌+◌, ◌-◌, ◌<◌, ◌≤◌, List, length, get_or, sum, refl, sym, ap, ◌∙◌, subst, inl, inr, ◌⊎◌, arith}
 use Rattle.std.proofs.lemmas.Bool.{cases_lt}
 use Rattle.pd_model.specs.Events.{Send, Receive, Computation, Place, place, IsEvent, event_count}
+use Rattle.pd_neighbors.specs.Neighbors.{cut_at}
 use Rattle.pd_runs.specs.Births.{HasOneSend}
 use Rattle.pd_model.specs.Messages.{IsMessage}
 use Rattle.pd_model.specs.Order.{HasNoCycle}
@@ -12,7 +13,6 @@ use Rattle.pd_model.proofs.Consistency.{dec_consistent}
 use Rattle.pd_model.proofs.Counts.{length_more, length_less, more_same, more_other, less_more, more_less, sum_more}
 use Rattle.pd_model.proofs.Decisions.{dec_both, dec_less}
 use Rattle.pd_model.proofs.Steps.{can_undo}
-use Rattle.pd_runs.specs.Runs.{cut_at}
 use Rattle.pd_runs.specs.Births.{IsInInterval, IsAlive, IsYoung, IsTop, IsLow, IsMetAt, IsCandidate, from_young, from_top, from_low, next_of}
 use Rattle.pd_runs.proofs.UndoneEvents.{add_met, kept_by_message, one_send}
 use Rattle.pd_runs.proofs.Ends.{which, at_prefix, at_x, at_y, at_past, length_at, sum_at, less_x, less_y, less_prefix, more_prefix, undo_x, undo_y}

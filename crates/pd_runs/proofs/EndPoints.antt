@@ -4,7 +4,8 @@ use Rattle.std.proofs.lemmas.Bool.{cases_eq, cases_lt}
 use Rattle.pd_model.specs.Events.{Computation}
 use Rattle.pd_model.specs.Order.{HasNoCycle}
 use Rattle.pd_model.specs.Cuts.{IsConsistent}
-use Rattle.pd_runs.specs.Runs.{cut_at, IsAliveAtSum, IsInterval}
+use Rattle.pd_neighbors.specs.Neighbors.{cut_at}
+use Rattle.pd_runs.specs.Runs.{IsAliveAtSum, IsInterval}
 use Rattle.pd_runs.proofs.Neighbors.{moved, inside, one_below}
 
 module _ (c : Computation) (acyclic : HasNoCycle c) (prefix : List ℕ) (s lo hi : ℕ)

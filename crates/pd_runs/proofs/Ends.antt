@@ -5,7 +5,7 @@ use Rattle.pd_model.specs.Events.{Computation}
 use Rattle.pd_model.specs.Order.{HasNoCycle}
 use Rattle.pd_model.specs.Cuts.{IsConsistent, one_more, one_less}
 use Rattle.pd_model.proofs.Counts.{sum_cons}
-use Rattle.pd_runs.specs.Runs.{cut_at}
+use Rattle.pd_neighbors.specs.Neighbors.{cut_at}
 use Rattle.pd_model.proofs.Undoing.{undo_some}
 
 -- where a process stands: in the prefix, last but one, last, or nowhere

@@ -7,7 +7,7 @@ use Rattle.pd_model.specs.Events.{Computation, Linked}
 use Rattle.pd_model.specs.Cuts.{IsConsistent, IsOfLevel}
 use Rattle.pd_model.specs.Answers.{LexBelow, IsFirstSatisfying}
 use Rattle.pd_model.specs.Walks.{NoneBelow}
-use Rattle.pd_runs.specs.Runs.{cut_at}
+use Rattle.pd_neighbors.specs.Neighbors.{cut_at}
 use Rattle.pd_runs.proofs.RunCuts.{length_cut, split_cut}
 use Rattle.pd_runs.specs.WholeLevels.{Run, cuts_from, cuts_of_run, cuts_of_runs, count_of_runs, IsBelowRun, IsWhole}
 use Rattle.pd_runs.proofs.Ascending.{in_cons, in_head, linked_rest, below_later, lex_prefixes, lex_in_prefix}

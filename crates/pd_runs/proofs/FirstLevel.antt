@@ -8,8 +8,8 @@ use Rattle.pd_model.specs.Events.{Computation, event_count}
 use Rattle.pd_model.specs.Cuts.{IsConsistent, IsOfLevel, empty_cut}
 use Rattle.pd_model.proofs.Counts.{sum_empty}
 use Rattle.pd_model.proofs.Steps.{empty_consistent}
+use Rattle.pd_neighbors.specs.Neighbors.{cut_at}
 use Rattle.pd_runs.specs.Births.{IsWalkable, IsCandidate}
-use Rattle.pd_runs.specs.Runs.{cut_at}
 use Rattle.pd_runs.specs.Points.{GrowsBy}
 use Rattle.pd_runs.specs.WholeLevels.{Run, IsWhole, IsMadeAt}
 use Rattle.pd_runs.specs.KeptRuns.{run_view, IsKept, AddsBirths}

@@ -7,7 +7,8 @@ use Rattle.pd_model.specs.Order.{HasNoCycle}
 use Rattle.pd_model.specs.Cuts.{Includes, IsConsistent, IsOfLevel, one_more}
 use Rattle.pd_model.proofs.Chains.{step_happens}
 use Rattle.pd_model.proofs.Counts.{length_more, more_same, more_other, sum_more}
-use Rattle.pd_runs.specs.Runs.{cut_at, IsInterval}
+use Rattle.pd_neighbors.specs.Neighbors.{cut_at}
+use Rattle.pd_runs.specs.Runs.{IsInterval}
 use Rattle.pd_runs.specs.Births.{IsInInterval, IsAlive, IsYoung, IsGreatest, IsLeast, IsTop, IsLow, IsMetAt, IsReceivedBelow, IsCandidate, from_young, from_top, from_low, next_of}
 use Rattle.pd_runs.proofs.UndoneEvents.{add_met}
 use Rattle.pd_runs.proofs.Ends.{at_prefix, at_x, at_y, length_at, sum_at, more_x, more_y, more_prefix, others_x, others_y, undo_two, same_cut}

@@ -6,7 +6,7 @@ use Rattle.pd_model.specs.Events.{Computation, Linked}
 use Rattle.pd_model.specs.Cuts.{IsConsistent, IsOfLevel}
 use Rattle.pd_model.specs.Answers.{LexBelow, IsListOf}
 use Rattle.pd_model.proofs.OneAnswer.{lex_irreflexive}
-use Rattle.pd_runs.specs.Runs.{cut_at}
+use Rattle.pd_neighbors.specs.Neighbors.{cut_at}
 use Rattle.pd_runs.proofs.RunCuts.{sum_cut, split_cut}
 use Rattle.pd_runs.specs.WholeLevels.{Run, cuts_from, cuts_of_run, cuts_of_runs, IsRunOf, IsBelowRun, HasRun, IsWhole}
 use Rattle.pd_runs.proofs.Ascending.{nothing_in_empty, in_cons, in_rest, in_head, linked_cons, linked_rest, linked_append, below_later, lex_prefixes, lex_in_prefix}

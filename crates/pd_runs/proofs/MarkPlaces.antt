@@ -3,7 +3,7 @@ use Rattle.std.proofs.Common.{◌≡◌, ℕ, zero, suc, ◌+◌, ◌-◌, ◌<�
 use Rattle.std.proofs.lemmas.Bool.{false≢true}
 use Rattle.pd_model.specs.Events.{Computation}
 use Rattle.pd_model.specs.Observations.{IsAvoiding}
-use Rattle.pd_runs.specs.Runs.{cut_at}
+use Rattle.pd_neighbors.specs.Neighbors.{cut_at}
 use Rattle.pd_runs.specs.WholeLevels.{Run, IsWhole, AvoidsAt, IsMarked, AreMarked, IsPaired}
 use Rattle.pd_runs.proofs.Ascending.{nothing_in_empty, in_cons}
 use Rattle.pd_runs.proofs.RunMarks.{level_is, mark_in_runs}

@@ -8,8 +8,8 @@ use Rattle.pd_keys.specs.Keys.{Ascending, count_base, digits, key_of}
 use Rattle.pd_keys.proofs.Keys.{length-digits, weight_le}
 use Rattle.pd_model.specs.Events.{Computation, event_count}
 use Rattle.pd_model.specs.Cuts.{IsConsistent, IsOfLevel}
+use Rattle.pd_neighbors.specs.Neighbors.{cut_at}
 use Rattle.pd_runs.specs.Births.{IsWalkable, IsAlive, IsYoung, IsCandidate}
-use Rattle.pd_runs.specs.Runs.{cut_at}
 use Rattle.pd_runs.specs.WholeLevels.{Run, HasRun, IsRunOf, IsWhole, IsMovedTo, IsBornBeside, IsNextRuns, IsMadeAt}
 use Rattle.pd_runs.specs.KeptRuns.{run_view, level_of, IsKept, AddsBirths, IsPushed, IsBornRun, gone, moved}
 use Rattle.pd_runs.specs.Levels.{IsKeptLevel, IsWholeLevel, whole_view, runs_view, keys_of, prefix_key}

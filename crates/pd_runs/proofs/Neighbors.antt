@@ -3,7 +3,8 @@ use Rattle.std.proofs.Common.{◌≡◌, ℕ, zero, suc, ◌+◌, ◌-◌, ◌<�
 use Rattle.pd_model.specs.Events.{Computation}
 use Rattle.pd_model.specs.Order.{HasNoCycle}
 use Rattle.pd_model.specs.Cuts.{IsConsistent, one_less}
-use Rattle.pd_runs.specs.Runs.{cut_at, IsAliveAtSum}
+use Rattle.pd_neighbors.specs.Neighbors.{cut_at}
+use Rattle.pd_runs.specs.Runs.{IsAliveAtSum}
 use Rattle.pd_model.proofs.MeetAndJoin.{meet_consistent, join_consistent}
 use Rattle.pd_model.proofs.Undoing.{step_down_from_sum}
 use Rattle.pd_runs.proofs.RunCuts.{prefix_at, x_at, y_at, which_process, within_cuts, sum_cut, meet_cuts, join_cuts, less_x, less_y}

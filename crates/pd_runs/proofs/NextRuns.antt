@@ -3,12 +3,13 @@ use Rattle.std.proofs.Common.{◌≡◌, ℕ, ◌+◌, ◌-◌, ◌≤◌, Bool,
 use Rattle.std.proofs.lemmas.Bool.{false≢true}
 use Rattle.pd_model.specs.Events.{Computation}
 use Rattle.pd_model.specs.Order.{HasNoCycle}
+use Rattle.pd_neighbors.specs.Neighbors.{cut_at}
 use Rattle.pd_runs.specs.Births.{IsWalkable}
 use Rattle.pd_model.specs.Cuts.{IsConsistent, IsOfLevel, empty_cut}
 use Rattle.pd_model.proofs.Counts.{empty_from_sum, sum_empty}
 use Rattle.pd_model.proofs.Consistency.{dec_consistent}
 use Rattle.pd_model.proofs.Decisions.{dec_list}
-use Rattle.pd_runs.specs.Runs.{cut_at, IsInterval}
+use Rattle.pd_runs.specs.Runs.{IsInterval}
 use Rattle.pd_runs.proofs.RunCuts.{sum_cut, same_parts}
 use Rattle.pd_runs.proofs.Neighbors.{moved}
 use Rattle.pd_runs.proofs.EndPoints.{end_points}

@@ -4,8 +4,8 @@ use Rattle.std.proofs.Math.Nat.{pow-suc}
 use Rattle.std.proofs.lemmas.Nat.{div_below}
 use Rattle.pd_keys.specs.Keys.{count_base, key_of, digits}
 use Rattle.pd_keys.proofs.Keys.{length-digits, key-digits, key_push, low_digit}
+use Rattle.pd_neighbors.specs.Neighbors.{cut_at}
 use Rattle.pd_runs.specs.Points.{point_cut}
-use Rattle.pd_runs.specs.Runs.{cut_at}
 use Rattle.pd_runs.specs.declared.point.Point.{Point}
 use Rattle.pd_runs.proofs.RunCuts.{x_at, y_at}
 

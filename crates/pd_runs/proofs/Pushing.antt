@@ -8,8 +8,9 @@ use Rattle.pd_model.specs.Messages.{IsMessage}
 use Rattle.pd_model.specs.Order.{HasNoCycle}
 use Rattle.pd_model.specs.Cuts.{IsConsistent, IsOfLevel, one_more}
 use Rattle.pd_model.proofs.Counts.{sum_more}
+use Rattle.pd_neighbors.specs.Neighbors.{cut_at}
 use Rattle.pd_runs.specs.Births.{IsYoung, IsTop, IsLow, IsMetAt, IsReceivedBelow, next_of}
-use Rattle.pd_runs.specs.Runs.{cut_at, IsInterval}
+use Rattle.pd_runs.specs.Runs.{IsInterval}
 use Rattle.pd_runs.specs.Points.{IsWanted, GrowsBy, GrowsIf}
 use Rattle.pd_runs.specs.WholeLevels.{rest_at, IsRunOf, IsMadeAt, if_young, if_top, if_low}
 use Rattle.pd_runs.specs.KeptRuns.{run_view, level_of, IsMoved, GrowsAtEnds, AddsBirths}

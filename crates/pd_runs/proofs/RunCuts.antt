@@ -5,7 +5,7 @@ use Rattle.std.proofs.Math.ListN.{get_or-append}
 use Rattle.pd_model.specs.Cuts.{one_more, one_less}
 use Rattle.pd_model.proofs.Counts.{sum_cons}
 use Rattle.pd_model.specs.Lattice.{IsWithin, meet, join}
-use Rattle.pd_runs.specs.Runs.{cut_at}
+use Rattle.pd_neighbors.specs.Neighbors.{cut_at}
 
 pub length_cut : (prefix : List ℕ) (x y : ℕ) → length (cut_at prefix x y) ≡ length prefix + 2
 length_cut [] x y = refl

@@ -4,7 +4,7 @@ use Rattle.pd_model.specs.Events.{Computation, place}
 use Rattle.pd_model.specs.Messages.{IsMessage}
 use Rattle.pd_model.specs.Order.{HasNoCycle}
 use Rattle.pd_model.specs.Cuts.{IsOfLevel, one_more}
-use Rattle.pd_runs.specs.Runs.{cut_at}
+use Rattle.pd_neighbors.specs.Neighbors.{cut_at}
 use Rattle.pd_runs.proofs.RunCuts.{sum_cut}
 use Rattle.pd_runs.specs.Births.{IsAlive, IsYoung, IsGreatest, IsLeast, IsTop, IsLow, IsReceivedBelow, IsMetAt, next_of, IsCandidate, from_young, from_top, from_low}
 use Rattle.pd_runs.proofs.Born.{born_single}

@@ -7,7 +7,8 @@ use Rattle.pd_model.specs.Cuts.{IsConsistent, IsOfLevel, one_more, empty_cut}
 use Rattle.pd_model.proofs.Decisions.{dec_both, dec_less, least_from}
 use Rattle.pd_model.proofs.Consistency.{dec_consistent}
 use Rattle.pd_model.proofs.Steps.{empty_consistent}
-use Rattle.pd_runs.specs.Runs.{cut_at, IsAliveAtSum, IsInterval}
+use Rattle.pd_neighbors.specs.Neighbors.{cut_at}
+use Rattle.pd_runs.specs.Runs.{IsAliveAtSum, IsInterval}
 use Rattle.pd_runs.proofs.RunCuts.{length_cut, sum_cut, more_x, more_y}
 use Rattle.pd_runs.proofs.Neighbors.{moved, no_gap}
 use Rattle.pd_runs.proofs.EndPoints.{end_points}

@@ -8,7 +8,7 @@ use Rattle.pd_model.specs.Observations.{IsAvoiding}
 use Rattle.pd_model.specs.Answers.{LexBelow, IsListOf}
 use Rattle.pd_model.proofs.Counts.{sum_less}
 use Rattle.pd_model.proofs.Paths.{avoiding_level}
-use Rattle.pd_runs.specs.Runs.{cut_at}
+use Rattle.pd_neighbors.specs.Neighbors.{cut_at}
 use Rattle.pd_runs.proofs.RunCuts.{sum_cut, split_cut}
 use Rattle.pd_runs.specs.WholeLevels.{Run, IsBelowRun, IsWhole, AvoidsAt, IsMarked, AreMarked, marked_from, marked_of_runs, marks_in, marks_of_runs}
 use Rattle.pd_runs.proofs.Ascending.{nothing_in_empty, in_cons, in_rest, in_head, linked_cons, linked_rest, linked_append, below_later, lex_prefixes, lex_in_prefix}

@@ -4,8 +4,8 @@ use Rattle.pd_keys.specs.Keys.{digits}
 use Rattle.pd_keys.proofs.Keys.{length-digits}
 use Rattle.pd_model.specs.Events.{Computation, event_count, place}
 use Rattle.pd_model.specs.Cuts.{IsConsistent, one_more}
+use Rattle.pd_neighbors.specs.Neighbors.{cut_at}
 use Rattle.pd_runs.specs.Births.{IsReceivedBelow}
-use Rattle.pd_runs.specs.Runs.{cut_at}
 use Rattle.pd_runs.specs.WholeLevels.{Run, rest_at, IsRunOf, IsMovedTo}
 use Rattle.pd_runs.specs.KeptRuns.{run_view, level_of, IsMoved}
 use Rattle.pd_runs.specs.declared.kept.KeptRun.{KeptRun}

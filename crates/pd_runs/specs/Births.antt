@@ -5,7 +5,7 @@ use Rattle.pd_model.specs.Events.{Computation, Place, place, IsEvent}
 use Rattle.pd_model.specs.Messages.{IsMessage}
 use Rattle.pd_model.specs.Order.{HasNoCycle}
 use Rattle.pd_model.specs.Cuts.{Includes, IsOfLevel, one_more}
-use Rattle.pd_runs.specs.Runs.{cut_at}
+use Rattle.pd_neighbors.specs.Neighbors.{cut_at}
 
 -- each receipt has one send
 abbrev pub HasOneSend : Computation → Type 0

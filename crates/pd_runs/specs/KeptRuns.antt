@@ -3,9 +3,9 @@ use Rattle.std.specs.Prelude.{◌≡◌, ◌⊎◌, ℕ, ◌+◌, ◌-◌, ◌/�
 use Rattle.pd_keys.specs.Keys.{count_base, digits, key_of}
 use Rattle.pd_model.specs.Events.{Computation, place}
 use Rattle.pd_model.specs.Cuts.{IsConsistent, IsOfLevel, one_more}
+use Rattle.pd_neighbors.specs.Neighbors.{cut_at}
 use Rattle.pd_runs.specs.Births.{IsReceivedBelow}
 use Rattle.pd_runs.specs.Points.{IsWanted}
-use Rattle.pd_runs.specs.Runs.{cut_at}
 use Rattle.pd_runs.specs.WholeLevels.{Run, IsMovedTo, IsMadeAt}
 use Rattle.pd_runs.specs.declared.kept.KeptRun.{KeptRun}
 

@@ -3,7 +3,8 @@ use Rattle.std.specs.Prelude.{◌≡◌, ℕ, ◌+◌, ◌-◌, ◌<◌, ◌≤�
 use Rattle.pd_model.specs.Events.{Computation, place}
 use Rattle.pd_model.specs.Order.{HasNoCycle}
 use Rattle.pd_model.specs.Cuts.{IsConsistent, IsOfLevel, one_more, one_less, empty_cut}
-use Rattle.pd_runs.specs.Runs.{cut_at, IsAliveAtSum, IsInterval}
+use Rattle.pd_neighbors.specs.Neighbors.{cut_at}
+use Rattle.pd_runs.specs.Runs.{IsAliveAtSum, IsInterval}
 use Rattle.pd_runs.specs.Births.{IsWalkable, IsAlive, IsYoung, IsGreatest, IsLeast, IsTop, IsLow, IsMetAt, IsReceivedBelow, IsCandidate}
 use Rattle.pd_model.specs.Observations.{IsAvoiding}
 use Rattle.pd_model.specs.Answers.{IsListOf, IsFirstSatisfying}

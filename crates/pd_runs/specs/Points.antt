@@ -4,8 +4,8 @@ use Rattle.pd_keys.specs.Keys.{digits, key_of}
 use Rattle.pd_model.specs.Events.{Computation, place}
 use Rattle.pd_model.specs.Messages.{IsMessage}
 use Rattle.pd_model.specs.Cuts.{IsConsistent, one_more}
+use Rattle.pd_neighbors.specs.Neighbors.{cut_at}
 use Rattle.pd_runs.specs.Births.{next_of}
-use Rattle.pd_runs.specs.Runs.{cut_at}
 use Rattle.pd_runs.specs.declared.point.Point.{Point}
 
 -- the cut, where the prefix has n counts

@@ -1,11 +1,8 @@
--- The cuts that agree in all counts but the last two.
-use Rattle.std.specs.Prelude.{◌≡◌, ℕ, ◌+◌, ◌≤◌, ◌↔◌, List, [], ◌∷◌, ◌++◌}
+-- Which of the cuts that agree in all counts but the last two are consistent.
+use Rattle.std.specs.Prelude.{◌≡◌, ℕ, ◌+◌, ◌≤◌, ◌↔◌, List}
 use Rattle.pd_model.specs.Events.{Computation}
 use Rattle.pd_model.specs.Cuts.{IsConsistent}
-
--- the cut with the counts of the prefix, and the counts x and y of the last two processes
-abbrev pub cut_at : List ℕ → ℕ → ℕ → List ℕ
-cut_at prefix x y = prefix ++ x ∷ y ∷ []
+use Rattle.pd_neighbors.specs.Neighbors.{cut_at}
 
 -- The prefix has a consistent cut whose last two counts have the sum s.
 abbrev pub IsAliveAtSum : Computation → List ℕ → ℕ → Type 0

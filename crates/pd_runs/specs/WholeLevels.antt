@@ -6,7 +6,8 @@ use Rattle.pd_model.specs.Messages.{IsMessage}
 use Rattle.pd_model.specs.Cuts.{IsConsistent, IsOfLevel, one_more}
 use Rattle.pd_model.specs.Observations.{IsAvoiding}
 use Rattle.pd_model.specs.Answers.{LexBelow}
-use Rattle.pd_runs.specs.Runs.{cut_at, IsInterval}
+use Rattle.pd_neighbors.specs.Neighbors.{cut_at}
+use Rattle.pd_runs.specs.Runs.{IsInterval}
 use Rattle.pd_runs.specs.Births.{IsCandidate, IsYoung, IsTop, IsLow, IsMetAt, next_of}
 
 -- the counts of all processes but the last two, and the ends of the interval

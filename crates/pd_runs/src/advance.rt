@@ -1,9 +1,9 @@
 //! A run one level on.
 ghost use Rattle.pd_keys.specs.Keys.{count_base, digits};
 ghost use Rattle.pd_model.specs.Cuts.{IsConsistent};
+ghost use Rattle.pd_neighbors.specs.Neighbors.{cut_at};
 ghost use Rattle.pd_runs.specs.Births.{IsYoung};
 ghost use Rattle.pd_runs.specs.KeptRuns.{GrowsAtEnds, IsBornRun, IsKept, IsMoved, IsPushed, level_of, run_view};
-ghost use Rattle.pd_runs.specs.Runs.{cut_at};
 ghost use Rattle.pd_runs.specs.WholeLevels.{IsMovedTo, IsRunOf, Run};
 ghost use Rattle.std.specs.Prelude.{◌≡◌, ◌-◌, ◌/◌, ◌^◌, ◌<◌, ◌≤◌, IfNone, IfOk, IfSome, length, sum};
 

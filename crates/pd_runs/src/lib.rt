@@ -26,7 +26,6 @@
 //! - `advance`: a run one level on
 //! - `birth`: the cuts that one more event of a process of the prefix makes
 //! - `births`: the births that are collected for the next level
-//! - `run_test`: a test on cuts that answers for neighboring cuts of a run at once
 #![tactic(auto)]
 
 mod advance;
@@ -36,10 +35,8 @@ mod kept;
 pub mod laws;
 mod need;
 mod point;
-mod run_test;
 mod steps;
 mod whole;
 
-pub use run_test::RunTest;
 pub use steps::Steps;
 pub use whole::Whole;

@@ -1,9 +1,9 @@
 //! A whole level.
 ghost use Rattle.pd_format.specs.Limits.{process_limit};
 ghost use Rattle.pd_keys.specs.Keys.{AreDigits, key_of};
+ghost use Rattle.pd_neighbors.specs.Neighbors.{cut_at};
 ghost use Rattle.pd_runs.specs.KeptRuns.{run_view};
 ghost use Rattle.pd_runs.specs.Levels.{IsKeptLevel, IsWholeLevel, cut_count, keys_of, prefix_key, runs_view, whole_view};
-ghost use Rattle.pd_runs.specs.Runs.{cut_at};
 ghost use Rattle.pd_runs.specs.WholeLevels.{Run, rest_at};
 ghost use Rattle.pd_runs.specs.declared.kept.KeptRun.{KeptRun};
 ghost use Rattle.std.specs.Prelude.{◌≡◌, ◌+◌, ◌<◌, ◌≤◌, ◌==◌, ℕ, Contains, IfOk, IfSome, length, slice_get, slice_index};

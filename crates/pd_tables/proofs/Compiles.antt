@@ -6,7 +6,7 @@ use Rattle.pd_model.specs.Cuts.{FitsProcesses}
 use Rattle.pd_model.specs.Predicates.{Recorded, Sign, Term, state_at, sum_value}
 use Rattle.pd_pred.specs.Trees.{comparison_view}
 use Rattle.pd_tables.specs.Parts.{IsRowOf, SpeakBelow, numbers_value, part_of_difference, row_at}
-use Rattle.pd_runs.specs.Runs.{cut_at}
+use Rattle.pd_neighbors.specs.Neighbors.{cut_at}
 use Rattle.pd_tables.specs.Tables.{HaveParts, IsTableOf, columns_value, compares_at, table_at}
 use Rattle.pd_tables.specs.declared.linear.Column.{Column}
 use Rattle.pd_pred.specs.declared.tree.Comparison.{Comparison}

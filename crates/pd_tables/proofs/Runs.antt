@@ -3,7 +3,7 @@ use Rattle.std.proofs.Common.{◌≡◌, ℕ, ◌+◌, ◌≤◌, List, [], ◌�
 use Rattle.std.proofs.lemmas.List.{get_or_at, get_or-append-add}
 use Rattle.pd_model.specs.Events.{Computation, event_count}
 use Rattle.pd_model.specs.Cuts.{FitsProcesses}
-use Rattle.pd_runs.specs.Runs.{cut_at}
+use Rattle.pd_neighbors.specs.Neighbors.{cut_at}
 
 pub across_at : (prefix : List ℕ) (x y : ℕ) → get_or (cut_at prefix x y) (length prefix) 0 ≡ x
 across_at prefix x y = get_or_at prefix x (y ∷ []) 0 (length prefix) (λ i. length prefix)

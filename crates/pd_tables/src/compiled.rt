@@ -1,16 +1,16 @@
 //! The compiled predicate that callers see.
 ghost use Rattle.pd_model.specs.Cuts.{FitsProcesses};
 ghost use Rattle.pd_model.specs.Predicates.{test_of};
+ghost use Rattle.pd_neighbors.specs.Neighbors.{cut_at};
 ghost use Rattle.pd_pred.specs.Views.{predicate_view};
-ghost use Rattle.pd_runs.specs.Runs.{cut_at};
 ghost use Rattle.std.specs.Prelude.{◌≡◌, ℕ, ◌+◌, ◌-◌, ◌<◌, ◌≤◌, IfNone, IfOk, IfSome, false, length};
 
 use super::compile::{Rest, compile};
 use super::node::{Node, holds, mask, may};
 use super::size::comparisons;
 use pd_clock::Computation;
+use pd_neighbors::RunTest;
 use pd_pred::Pred;
-use pd_runs::RunTest;
 use std::alloc::{AllocError, Global};
 use std::marker::Model;
 

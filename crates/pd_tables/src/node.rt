@@ -5,10 +5,10 @@ ghost use Rattle.pd_model.specs.Predicates.{test_of};
 ghost use Rattle.pd_pred.specs.Trees.{tree_view};
 ghost use Rattle.pd_tables.specs.Clauses.{clauses_hold};
 ghost use Rattle.pd_tables.specs.Nodes.{node_holds};
-ghost use Rattle.pd_runs.specs.Runs.{cut_at};
 ghost use Rattle.pd_tables.specs.Tables.{linear_holds};
 ghost use Rattle.pd_tables.specs.Zero.{turned};
 ghost use Rattle.pd_model.specs.Predicates.{Recorded};
+ghost use Rattle.pd_neighbors.specs.Neighbors.{cut_at};
 ghost use Rattle.std.specs.Prelude.{◌≡◌, ℕ, ◌+◌, ◌-◌, ◌<◌, ◌≤◌, false, true};
 
 use super::bits::{all_or_none, put};

@@ -1,7 +1,7 @@
 //! The state at a cut of a run.
 ghost use Rattle.pd_model.specs.Cuts.{FitsProcesses};
 ghost use Rattle.pd_model.specs.Predicates.{state_at};
-ghost use Rattle.pd_runs.specs.Runs.{cut_at};
+ghost use Rattle.pd_neighbors.specs.Neighbors.{cut_at};
 ghost use Rattle.std.specs.Prelude.{◌≡◌, slice_index};
 
 use pd_clock::Computation;

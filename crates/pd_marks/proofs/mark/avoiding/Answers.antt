@@ -4,7 +4,7 @@ use Rattle.pd_bits.specs.Words.{has_bit}
 use Rattle.pd_model.specs.Order.{HasNoCycle}
 use Rattle.pd_model.specs.Walks.{NoneBelow}
 use Rattle.pd_marks.specs.Marks.{IsBefore}
-use Rattle.pd_runs.specs.Runs.{cut_at}
+use Rattle.pd_neighbors.specs.Neighbors.{cut_at}
 use Rattle.pd_marks.specs.RunPlaces.{run_at}
 use Rattle.pd_runs.specs.WholeLevels.{rest_at}
 use Rattle.pd_marks.proofs.RunKeys.{keys_ascend, prefix_length}

@@ -5,8 +5,8 @@ use Rattle.pd_format.specs.Limits.{event_limit}
 use Rattle.pd_keys.specs.Keys.{digits}
 use Rattle.pd_model.specs.Events.{event_count, place}
 use Rattle.pd_model.specs.Cuts.{IsConsistent}
+use Rattle.pd_neighbors.specs.Neighbors.{cut_at}
 use Rattle.pd_runs.specs.Births.{IsReceivedBelow}
-use Rattle.pd_runs.specs.Runs.{cut_at}
 use Rattle.pd_runs.proofs.RunSteps.{KeptEnds, kept_ends, last_counts, more_last, is_moved, never_moved}
 use Rattle.pd_runs.proofs.advance.move_run.Goals as goal
 use Rattle.pd_runs.proofs.advance.move_run.Goals.{then-stays, else-stays, then-goes, else-goes, then-goes-2, else-goes-2}

@@ -4,9 +4,9 @@ use Rattle.pd_format.specs.Limits.{event_limit}
 use Rattle.pd_keys.specs.Keys.{count_base, digits}
 use Rattle.pd_model.specs.Events.{event_count}
 use Rattle.pd_model.specs.Cuts.{IsConsistent}
+use Rattle.pd_neighbors.specs.Neighbors.{cut_at}
 use Rattle.pd_runs.specs.Births.{IsYoung}
 use Rattle.pd_runs.specs.Points.{point_cut}
-use Rattle.pd_runs.specs.Runs.{cut_at}
 use Rattle.pd_runs.proofs.Pushing.{births_of_born}
 use Rattle.pd_runs.proofs.RunCuts.{sum_cut}
 use Rattle.pd_runs.proofs.RunSteps.{last_counts}

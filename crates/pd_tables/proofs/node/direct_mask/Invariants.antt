@@ -3,7 +3,7 @@ use Rattle.std.proofs.Common.{◌≡◌, ℕ, ◌+◌, ◌-◌, ◌<◌, ◌≤�
 use Rattle.pd_bits.specs.Words.{has_bit}
 use Rattle.pd_model.specs.Predicates.{test_of}
 use Rattle.pd_pred.specs.Trees.{tree_view}
-use Rattle.pd_runs.specs.Runs.{cut_at}
+use Rattle.pd_neighbors.specs.Neighbors.{cut_at}
 use Rattle.pd_tables.specs.Zero.{turned}
 use Rattle.pd_tables.proofs.node.direct_mask.Given as goal
 

@@ -3,9 +3,9 @@ use Rattle.std.proofs.Common.{◌≡◌, ℕ, ◌+◌, ◌-◌, List, [], ◌∷
 use Rattle.std.specs.Prelude.{None}
 use Rattle.pd_keys.specs.Keys.{digits}
 use Rattle.pd_keys.proofs.Keys.{weight_pos}
+use Rattle.pd_neighbors.specs.Neighbors.{cut_at}
 use Rattle.pd_runs.specs.Levels.{IsKeptLevel, IsWholeLevel, cut_count, runs_view, whole_view}
 use Rattle.pd_runs.specs.Points.{GrowsBy}
-use Rattle.pd_runs.specs.Runs.{cut_at}
 use Rattle.pd_runs.specs.declared.kept.KeptRun.{KeptRun}
 use Rattle.pd_runs.proofs.FirstLevel.{first_consistent, first_run, first_level, first_kept}
 use Rattle.pd_runs.proofs.whole.Whole.first.Goals as goal

@@ -5,9 +5,9 @@ use Rattle.std.proofs.lemmas.List.{length-map}
 use Rattle.std.proofs.lemmas.List.Elements.{Contains-get_or}
 use Rattle.pd_keys.specs.Keys.{count_base, digits, key_of}
 use Rattle.pd_keys.proofs.Keys.{weight_le, key-digits}
+use Rattle.pd_neighbors.specs.Neighbors.{cut_at}
 use Rattle.pd_runs.specs.KeptRuns.{run_view}
 use Rattle.pd_runs.specs.Levels.{WholeLevel, runs_view}
-use Rattle.pd_runs.specs.Runs.{cut_at}
 use Rattle.pd_runs.specs.WholeLevels.{Run}
 use Rattle.pd_runs.specs.declared.kept.KeptRun.{KeptRun}
 use Rattle.pd_runs.proofs.KeyLists.{run_read}

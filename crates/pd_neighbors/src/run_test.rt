@@ -2,7 +2,7 @@
 ghost use Rattle.pd_bits.specs.Words.{has_bit};
 ghost use Rattle.pd_model.specs.Cuts.{FitsProcesses};
 ghost use Rattle.pd_model.specs.Events.{Computation};
-ghost use Rattle.pd_runs.specs.Runs.{cut_at};
+ghost use Rattle.pd_neighbors.specs.Neighbors.{cut_at};
 ghost use Rattle.std.specs.Prelude.{◌≡◌, ◌+◌, ◌-◌, ◌<◌, ◌≤◌, ℕ, Bool, List, false};
 
 /// A test on the cuts of a computation.

@@ -1,0 +1,2 @@
+-- The cuts that a test answers for at once.
+pub mod Neighbors
