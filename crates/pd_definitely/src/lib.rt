@@ -12,5 +12,5 @@
 
 mod question;
 
-pub use pd_walk::DefinitelyAnswer;
+pub use pd_lists::DefinitelyAnswer;
 pub use question::{definitely, definitely_counted};

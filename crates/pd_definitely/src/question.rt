@@ -1,18 +1,19 @@
 //! The question and its answer.
 ghost use Rattle.pd_expand.specs.Limits.{worker_limit};
 ghost use Rattle.pd_format.specs.Limits.{width_limit};
+ghost use Rattle.pd_lists.specs.Answers.{IsLeastRoot, IsPastFirst, definitely_answer_view};
 ghost use Rattle.pd_model.specs.Answers.{IsDefinitelyAnswer};
 ghost use Rattle.pd_model.specs.Cuts.{total};
 ghost use Rattle.pd_model.specs.Predicates.{test_of};
 ghost use Rattle.pd_pred.specs.Views.{predicate_view};
-ghost use Rattle.pd_walk.specs.Answers.{IsLeastRoot, IsPastFirst, definitely_answer_view};
 ghost use Rattle.std.specs.Prelude.{◌≡◌, ◌+◌, ◌*◌, ◌≤◌, ℕ, IfOk};
 
 use pd_clock::Computation;
 use pd_expand::Crew;
 use pd_level::Gate;
+use pd_lists::DefinitelyAnswer;
 use pd_pred::Pred;
-use pd_walk::{DefinitelyAnswer, answer_one};
+use pd_walk::answer_one;
 use std::alloc::{AllocError, Global};
 use std::sync::Wait;
 use std::thread::Threads;

@@ -6,9 +6,9 @@ use Rattle.std.proofs.lemmas.List.Elements.{All-cons}
 use Rattle.pd_model.specs.Events.{Computation, Event}
 use Rattle.pd_model.specs.Cuts.{full_cut, one_less}
 use Rattle.pd_model.specs.Answers.{IsUndoing, IsPrintedPath, IsDefinitelyAnswer}
-use Rattle.pd_walk.specs.Answers.{definitely_answer_view}
-use Rattle.pd_walk.specs.declared.definitely_answer.DefinitelyAnswer.{DefinitelyAnswer}
-use Rattle.pd_walk.specs.declared.definitely_answer.DefinitelyAnswer.TheVariants.{Yes, No, Unknown}
+use Rattle.pd_lists.specs.Answers.{definitely_answer_view}
+use Rattle.pd_lists.specs.declared.definitely_answer.DefinitelyAnswer.{DefinitelyAnswer}
+use Rattle.pd_lists.specs.declared.definitely_answer.DefinitelyAnswer.TheVariants.{Yes, No, Unknown}
 use Rattle.pd_engine.specs.Paths.{HasProcessesBelow}
 use Rattle.pd_engine.proofs.RefusedPlaces.{all_ahead, all_after}
 

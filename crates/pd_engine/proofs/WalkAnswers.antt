@@ -5,9 +5,9 @@ use Rattle.pd_model.specs.Predicates.{Predicate, Recorded, test_of}
 use Rattle.pd_pred.specs.Views.{predicate_view}
 use Rattle.pd_pred.specs.declared.predicate.Pred.{Pred}
 use Rattle.pd_spec.specs.declared.named.NamedPred.{NamedPred}
-use Rattle.pd_walk.specs.Answers.{AreAnswers, definitely_answer_view, possibly_answer_view}
+use Rattle.pd_lists.specs.Answers.{AreAnswers, definitely_answer_view, possibly_answer_view}
 use Rattle.pd_walk.specs.Stages.{AllAnswered}
-use Rattle.pd_walk.specs.declared.answers.Answers.{Answers}
+use Rattle.pd_lists.specs.declared.answers.Answers.{Answers}
 use Rattle.pd_engine.specs.Paths.{ArePreds}
 
 -- an element of a list that isn't empty

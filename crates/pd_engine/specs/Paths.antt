@@ -3,8 +3,8 @@ use Rattle.std.specs.Borrow.{Bor}
 use Rattle.std.specs.Prelude.{◌≡◌, ℕ, ◌<◌, All, List, length, slice_index_or}
 use Rattle.pd_pred.specs.declared.predicate.Pred.{Pred}
 use Rattle.pd_spec.specs.declared.named.NamedPred.{NamedPred}
-use Rattle.pd_walk.specs.declared.definitely_answer.DefinitelyAnswer.{DefinitelyAnswer}
-use Rattle.pd_walk.specs.declared.definitely_answer.DefinitelyAnswer.TheVariants.{Yes, No, Unknown}
+use Rattle.pd_lists.specs.declared.definitely_answer.DefinitelyAnswer.{DefinitelyAnswer}
+use Rattle.pd_lists.specs.declared.definitely_answer.DefinitelyAnswer.TheVariants.{Yes, No, Unknown}
 
 -- each process of the observation is one of this many
 abbrev pub HasProcessesBelow : ℕ → DefinitelyAnswer → Type 0

@@ -9,5 +9,5 @@
 
 mod question;
 
-pub use pd_walk::PossiblyAnswer;
+pub use pd_lists::PossiblyAnswer;
 pub use question::possibly;

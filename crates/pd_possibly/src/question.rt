@@ -1,16 +1,17 @@
 //! The question and its answer.
 ghost use Rattle.pd_expand.specs.Limits.{worker_limit};
+ghost use Rattle.pd_lists.specs.Answers.{possibly_answer_view};
 ghost use Rattle.pd_model.specs.Answers.{IsPossiblyAnswer};
 ghost use Rattle.pd_model.specs.Predicates.{test_of};
 ghost use Rattle.pd_pred.specs.Views.{predicate_view};
-ghost use Rattle.pd_walk.specs.Answers.{possibly_answer_view};
 ghost use Rattle.std.specs.Prelude.{◌≤◌, IfOk};
 
 use pd_clock::Computation;
 use pd_expand::Crew;
 use pd_level::Gate;
+use pd_lists::PossiblyAnswer;
 use pd_pred::Pred;
-use pd_walk::{PossiblyAnswer, answer_possibly};
+use pd_walk::answer_possibly;
 use std::alloc::{AllocError, Global};
 use std::sync::Wait;
 use std::thread::Threads;

@@ -14,9 +14,10 @@ use Rattle.pd_model.specs.Laws.{AllAvoid}
 use Rattle.pd_runs.specs.Laws.{CountOfRuns, CutsOfWhole}
 use Rattle.pd_runs.specs.Levels.{IsWholeLevel, WholeLevel}
 use Rattle.pd_runs.specs.WholeLevels.{count_of_runs, cuts_of_runs}
-use Rattle.pd_walk.specs.Answers.{possibly_answer_view}
-use Rattle.pd_walk.specs.Stages.{AreKeptBelow, IsOpenBelow, IsSplitBelow}
-use Rattle.pd_walk.specs.declared.split.Split.{Split}
+use Rattle.pd_lists.specs.Answers.{possibly_answer_view}
+use Rattle.pd_lists.specs.Splits.{AreKeptBelow, IsSplitBelow}
+use Rattle.pd_walk.specs.Stages.{IsOpenBelow}
+use Rattle.pd_lists.specs.declared.split.Split.{Split}
 
 -- ---- a whole level by its count
 

@@ -13,9 +13,11 @@ use Rattle.pd_marks.specs.declared.skips.Skips.{Skips}
 use Rattle.pd_refusals.specs.Refusals.{AreRefusals}
 use Rattle.pd_runs.specs.Levels.{IsWholeLevel, WholeLevel}
 use Rattle.pd_tables.specs.Views.{CompiledView}
-use Rattle.pd_walk.specs.Answers.{AreAnswers}
-use Rattle.pd_walk.specs.Stages.{AllStand, AreBeside, AreCompiled, HasComeTo, HasEnded, OneStands, Stands, events_of, meaning_of}
-use Rattle.pd_walk.specs.declared.answers.Answers.{Answers}
+use Rattle.pd_lists.specs.Answers.{AreAnswers}
+use Rattle.pd_lists.specs.Splits.{AreBeside}
+use Rattle.pd_avoiding.specs.CompiledTests.{events_of, meaning_of}
+use Rattle.pd_walk.specs.Stages.{AllStand, AreCompiled, HasComeTo, HasEnded, OneStands, Stands}
+use Rattle.pd_lists.specs.declared.answers.Answers.{Answers}
 use Rattle.pd_walk.specs.declared.stage.Stage.{Stage}
 use Rattle.pd_walk.specs.declared.stage.Stage.TheVariants.{Open}
 

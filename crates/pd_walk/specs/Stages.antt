@@ -2,72 +2,27 @@
 -- satisfies.
 use Rattle.std.specs.Borrow.{Bor}
 use Rattle.std.specs.Prelude.{◌≡◌, ℕ, All, ◌+◌, ◌*◌, ◌<◌, ◌≤◌, Bool, List, [], ◌∷◌, length, slice_index_or}
-use Rattle.pd_model.specs.Answers.{IsPossiblyAnswer}
 use Rattle.pd_model.specs.Cuts.{total}
 use Rattle.pd_model.specs.Events.{Computation}
-use Rattle.pd_model.specs.Predicates.{Predicate, Recorded, test_of}
-use Rattle.pd_model.specs.Walks.{IsAvoidedBelow, IsNarrowBelow, IsNarrowlyAvoidedBelow, NoneBelow}
-use Rattle.pd_back.specs.Ways.{AreAvoidingLevels, IsAvoidingLevel, IsWithinGap, last_number}
-use Rattle.pd_level.specs.Levels.{Levelled}
+use Rattle.pd_model.specs.Predicates.{Recorded, test_of}
+use Rattle.pd_model.specs.Walks.{IsNarrowBelow, NoneBelow}
 use Rattle.pd_marks.specs.Marks.{IsMarking}
 use Rattle.pd_pred.specs.Views.{predicate_view}
 use Rattle.pd_pred.specs.declared.predicate.Pred.{Pred}
 use Rattle.pd_refusals.specs.Refusals.{AreRefusals}
 use Rattle.pd_runs.specs.Levels.{IsWholeLevel, WholeLevel}
 use Rattle.pd_tables.specs.Views.{CompiledView}
-use Rattle.pd_walk.specs.Answers.{AreAnswers, possibly_answer_view}
-use Rattle.pd_walk.specs.declared.answers.Answers.{Answers}
-use Rattle.pd_walk.specs.declared.split.Split.{Split}
+use Rattle.pd_lists.specs.Answers.{AreAnswers}
+use Rattle.pd_lists.specs.Splits.{AreBeside, IsSplitBelow}
+use Rattle.pd_lists.specs.declared.answers.Answers.{Answers}
+use Rattle.pd_avoiding.specs.CompiledTests.{events_of, meaning_of}
 use Rattle.pd_walk.specs.declared.stage.Stage.{Stage}
 use Rattle.pd_walk.specs.declared.stage.Stage.TheVariants.{Open, Marked, Answered}
-
--- the computation that a predicate was compiled for, and the predicate as a test
-abbrev pub events_of : CompiledView → Computation
-events_of compiled = compiled.recorded.events
-
-abbrev pub meaning_of : CompiledView → List ℕ → Bool
-meaning_of compiled = test_of compiled.recorded compiled.predicate
-
--- the predicate compiled for a computation of at least two processes
-pub record IsTestOf (recorded : Recorded) (predicate : Predicate) (test : Bor CompiledView) : Type 0 where
-  pub two : 2 ≤ length recorded.events
-  pub same : test.now ≡ record { recorded = recorded; predicate = predicate }
 
 -- no cut below level k satisfies, and no level there is too wide
 pub record IsOpenBelow (c : Computation) (test : List ℕ → Bool) (width k : ℕ) : Type 0 where
   pub none : NoneBelow c test k
   pub narrow : IsNarrowBelow c width k
-
--- Of the levels below k those of the avoiding cuts are kept whose number is the first one's or comes a gap after that
--- of the one before it.
-pub record AreKeptBelow (c : Computation) (test : List ℕ → Bool) (first gap k : ℕ)
-    (levels : List Levelled) : Type 0 where
-  pub lists : AreAvoidingLevels c test levels
-  pub begins : (d : Levelled) → 0 < length levels → (slice_index_or levels 0 d).number ≡ first
-  pub steps : (i : ℕ) (d : Levelled) → i + 1 < length levels
-      → IsWithinGap gap (slice_index_or levels i d) (slice_index_or levels (i + 1) d)
-  pub near : 0 < length levels → (last_number levels < k) × (k ≤ last_number levels + gap)
-  pub count : 0 < length levels → length levels * gap + first ≡ last_number levels + gap
-  pub none : length levels ≡ 0 → k ≡ first
-
--- Possibly is answered, and each level below k has avoiding cuts, no more than the width.
-pub record IsSplitBelow (c : Computation) (test : List ℕ → Bool) (width gap k : ℕ) (split : Split) : Type 0 where
-  pub possibly : IsPossiblyAnswer c test width (possibly_answer_view split.possibly)
-  pub none : NoneBelow c test split.first
-  pub narrow : IsNarrowlyAvoidedBelow c test width k
-  pub avoided : IsAvoidedBelow c test k
-  pub kept : AreKeptBelow c test split.first gap k split.held.levels.items
-  pub few : split.held.most ≤ gap
-
--- beside the levels that are kept so many were held at once up to this level: two at least above level 0
-pub record AreBeside (gap number beside : ℕ) : Type 0 where
-  pub some : 1 ≤ beside
-  pub few : beside ≤ gap + 2
-  pub two : 0 < number → 2 ≤ beside
-
--- only the avoiding cuts of level k are held
-abbrev pub IsAt : Computation → (List ℕ → Bool) → ℕ → List Levelled → Type 0
-IsAt c test k levels = (level : Levelled) × (levels ≡ level ∷ []) × IsAvoidingLevel c test level × (level.number ≡ k)
 
 -- what is known after this level
 abbrev pub Stands : Computation → (List ℕ → Bool) → ℕ → ℕ → WholeLevel → Stage → Type 0

@@ -5,7 +5,8 @@ use Rattle.pd_model.specs.Predicates.{Recorded}
 use Rattle.pd_refusals.specs.Refusals.{AreRefusals}
 use Rattle.pd_runs.specs.Levels.{IsWholeLevel, WholeLevel}
 use Rattle.pd_tables.specs.Views.{CompiledView}
-use Rattle.pd_walk.specs.Stages.{AreBeside, AreFor, OneStands}
+use Rattle.pd_lists.specs.Splits.{AreBeside}
+use Rattle.pd_walk.specs.Stages.{AreFor, OneStands}
 use Rattle.pd_walk.specs.declared.stage.Stage.{Stage}
 use Rattle.pd_walk.specs.declared.turns.Turn.{Turn}
 

@@ -1,19 +1,18 @@
 //! The answers for all predicates.
 ghost use Rattle.pd_format.specs.Limits.{width_limit};
+ghost use Rattle.pd_lists.specs.Answers.{IsLeastRoot};
 ghost use Rattle.pd_model.specs.Cuts.{total};
-ghost use Rattle.pd_walk.specs.Answers.{IsLeastRoot};
 ghost use Rattle.pd_walk.specs.Stages.{AllAnswered};
 ghost use Rattle.std.specs.Prelude.{◌≡◌, ◌+◌, ◌*◌, ◌<◌, ◌≤◌, ℕ, IfOk, length};
 
-use super::Answers;
-use super::by_lists::answers_by_lists;
 use super::finish::finish_all;
-use super::root::least_root;
 use super::walk::walk_up;
+use pd_avoiding::answers_by_lists;
 use pd_back::Held;
 use pd_clock::Computation;
 use pd_expand::Crew;
 use pd_level::Gate;
+use pd_lists::{Answers, least_root};
 use pd_pred::Pred;
 use std::alloc::{AllocError, Global};
 use std::sync::Wait;

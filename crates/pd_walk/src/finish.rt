@@ -1,21 +1,22 @@
 //! The answers after the last whole level.
+ghost use Rattle.pd_lists.specs.Answers.{AreAnswers};
+ghost use Rattle.pd_lists.specs.Splits.{AreBeside};
 ghost use Rattle.pd_model.specs.Cuts.{total};
 ghost use Rattle.pd_model.specs.Predicates.{test_of};
 ghost use Rattle.pd_pred.specs.Views.{predicate_view};
 ghost use Rattle.pd_runs.specs.Levels.{IsWholeLevel};
-ghost use Rattle.pd_walk.specs.Answers.{AreAnswers};
-ghost use Rattle.pd_walk.specs.Stages.{AllAnswered, AreBeside, HasEnded, IsOpenBelow, Stands};
+ghost use Rattle.pd_walk.specs.Stages.{AllAnswered, HasEnded, IsOpenBelow, Stands};
 ghost use Rattle.pd_walk.specs.declared.stage.Stage.TheVariants.{Open};
 ghost use Rattle.std.specs.Prelude.{◌≡◌, ◌+◌, ◌*◌, ◌<◌, ◌≤◌, IfOk, length};
 
-use super::listed::walk_listed;
 use super::stage::Stage;
 use super::walk::TABLE_BYTES;
-use super::{Answers, DefinitelyAnswer, PossiblyAnswer};
+use pd_avoiding::walk_listed;
 use pd_back::{Held, way_back};
 use pd_clock::Computation;
 use pd_expand::Crew;
 use pd_level::Gate;
+use pd_lists::{Answers, DefinitelyAnswer, PossiblyAnswer};
 use pd_pred::Pred;
 use pd_runs::Whole;
 use pd_tables::Compiled;

@@ -1,5 +1,8 @@
 //! How a predicate goes on from one level to the next.
+ghost use Rattle.pd_avoiding.specs.CompiledTests.{events_of, meaning_of};
 ghost use Rattle.pd_format.specs.Limits.{event_limit};
+ghost use Rattle.pd_lists.specs.Answers.{possibly_answer_view};
+ghost use Rattle.pd_lists.specs.Splits.{AreBeside, IsSplitBelow};
 ghost use Rattle.pd_marks.specs.Marks.{IsMarking};
 ghost use Rattle.pd_marks.specs.Skips.{HaveNoHits};
 ghost use Rattle.pd_model.specs.Answers.{IsFirstSatisfying, IsPossiblyAnswer};
@@ -8,16 +11,14 @@ ghost use Rattle.pd_model.specs.Events.{event_count};
 ghost use Rattle.pd_model.specs.Order.{HasNoCycle};
 ghost use Rattle.pd_model.specs.Walks.{NoneBelow};
 ghost use Rattle.pd_runs.specs.Levels.{IsWholeLevel};
-ghost use Rattle.pd_walk.specs.Answers.{possibly_answer_view};
-ghost use Rattle.pd_walk.specs.Stages.{AreBeside, IsOpenBelow, IsSplitBelow, Stands, events_of, meaning_of};
+ghost use Rattle.pd_walk.specs.Stages.{IsOpenBelow, Stands};
 ghost use Rattle.std.specs.Prelude.{◌≡◌, ◌+◌, ◌*◌, ◌<◌, ◌≤◌, ℕ, IfNone, IfOk, IfSome, List, false, true};
 
-use super::PossiblyAnswer;
 use super::settle::settle;
-use super::split::Split;
 use super::stage::Stage;
 use pd_back::Held;
 use pd_clock::Cut;
+use pd_lists::{PossiblyAnswer, Split};
 use pd_marks::{
     Marks, Skips, first_hit, first_hit_by_threads, next, next_by_threads, unsatisfying,
 };

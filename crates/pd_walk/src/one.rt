@@ -1,24 +1,22 @@
 //! The answers for one predicate.
 ghost use Rattle.pd_format.specs.Limits.{width_limit};
+ghost use Rattle.pd_lists.specs.Answers.{AreAnswers, IsLeastRoot, possibly_answer_view};
 ghost use Rattle.pd_model.specs.Answers.{IsPossiblyAnswer};
 ghost use Rattle.pd_model.specs.Cuts.{total};
 ghost use Rattle.pd_model.specs.Predicates.{test_of};
 ghost use Rattle.pd_pred.specs.Views.{predicate_view};
-ghost use Rattle.pd_walk.specs.Answers.{AreAnswers, IsLeastRoot, possibly_answer_view};
 ghost use Rattle.pd_walk.specs.Stages.{Stands};
 ghost use Rattle.pd_walk.specs.declared.stage.Stage.TheVariants.{Open};
 ghost use Rattle.std.specs.Prelude.{◌≡◌, ◌+◌, ◌*◌, ◌≤◌, ℕ, IfOk};
 
 use super::all::answer_all;
-use super::by_lists::possibly_by_lists;
-use super::root::least_root;
 use super::stage::Stage;
 use super::walk::walk_up;
-use super::{Answers, PossiblyAnswer};
 use pd_back::Held;
 use pd_clock::Computation;
 use pd_expand::Crew;
 use pd_level::Gate;
+use pd_lists::{Answers, PossiblyAnswer, least_root, possibly_by_lists};
 use pd_pred::Pred;
 use pd_runs::Whole;
 use std::alloc::{AllocError, Global};

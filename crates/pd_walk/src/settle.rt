@@ -1,17 +1,16 @@
 //! What the marks of a level decide.
-ghost use Rattle.pd_back.specs.Ways.{last_number};
+ghost use Rattle.pd_avoiding.specs.CompiledTests.{events_of, meaning_of};
 ghost use Rattle.pd_format.specs.Limits.{event_limit};
+ghost use Rattle.pd_lists.specs.Splits.{AreBeside, AreKeptBelow, IsSplitBelow};
 ghost use Rattle.pd_marks.specs.Marks.{IsMarking};
 ghost use Rattle.pd_model.specs.Cuts.{total};
 ghost use Rattle.pd_model.specs.Events.{event_count};
 ghost use Rattle.pd_runs.specs.Levels.{IsWholeLevel};
-ghost use Rattle.pd_walk.specs.Answers.{IsEndAt, definitely_answer_view};
-ghost use Rattle.pd_walk.specs.Stages.{AreBeside, AreKeptBelow, IsSplitBelow, Stands, events_of, meaning_of};
-ghost use Rattle.std.specs.Prelude.{◌≡◌, ◌+◌, ◌*◌, ◌<◌, ◌≤◌, ◌⊎◌, ◌↔◌, ℕ, IfNone, IfOk, IfSome, IsTrue, length};
+ghost use Rattle.pd_walk.specs.Stages.{Stands};
+ghost use Rattle.std.specs.Prelude.{◌≡◌, ◌+◌, ◌*◌, ◌<◌, ◌≤◌, ℕ, IfOk};
 
-use super::DefinitelyAnswer;
-use super::split::Split;
 use super::stage::Stage;
+use pd_lists::{Split, end_at, is_due};
 use pd_marks::Marks;
 use pd_runs::Whole;
 use pd_tables::Compiled;
@@ -51,21 +50,6 @@ pub(crate) fn settle(
     }
 }
 
-/// The answer if the walk ends at level `k`, which has so many avoiding cuts: yes exactly if it has none, and unknown
-/// exactly if it has more than the bound. It takes no memory.
-pub(crate) fn end_at(count: u64, k: u64, width: u64) -> Option<DefinitelyAnswer>
-    ensures ends { IfSome result (λ answer. IsEndAt count k width (definitely_answer_view answer)) }
-    ensures goes_on { IfNone result ((1 ≤ count) × (count ≤ width)) }
-{
-    if count == 0 {
-        return Some(DefinitelyAnswer::Yes(k));
-    }
-    if count > width {
-        return Some(DefinitelyAnswer::Unknown(k));
-    }
-    None
-}
-
 /// Keeps the level's avoiding cuts if it is the first one or comes a gap after the one kept last.
 fn keep(
     alloc: Global,
@@ -95,13 +79,4 @@ fn keep(
     }
     split.held.push(marks.to_level(alloc, level)?)?;
     Ok(split)
-}
-
-/// Whether level `k` is kept: if none is yet, or the last one was a gap before it.
-pub(crate) fn is_due(split: &Split, k: u64, gap: u64) -> bool
-    requires { 0 < length split.now.held.levels.items → last_number split.now.held.levels.items < k }
-    ensures { IsTrue result ↔ ((length split.now.held.levels.items ≡ 0)
-        ⊎ (last_number split.now.held.levels.items + gap ≡ k)) }
-{
-    split.held.len() == 0 || k - split.held.last().number() == gap
 }

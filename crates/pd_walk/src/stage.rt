@@ -1,7 +1,6 @@
 //! How far the answers for a predicate have come.
 
-use super::Answers;
-use super::split::Split;
+use pd_lists::{Answers, Split};
 use pd_marks::Marks;
 
 /// How far the answers for a predicate have come.

@@ -1,12 +1,13 @@
 //! The walk up the whole levels.
 ghost use Rattle.pd_format.specs.Limits.{event_limit};
+ghost use Rattle.pd_lists.specs.Splits.{AreBeside};
+ghost use Rattle.pd_marks.specs.Skips.{HaveNoHits};
 ghost use Rattle.pd_model.specs.Cuts.{total};
 ghost use Rattle.pd_model.specs.Events.{event_count};
 ghost use Rattle.pd_model.specs.Order.{HasNoCycle};
-ghost use Rattle.pd_marks.specs.Skips.{HaveNoHits};
 ghost use Rattle.pd_refusals.specs.Refusals.{AreRefusals};
 ghost use Rattle.pd_runs.specs.Levels.{IsWholeLevel};
-ghost use Rattle.pd_walk.specs.Stages.{AllStand, AreBeside, AreCompiled, AreFor, HasComeTo, HasEnded, Stands, events_of, meaning_of};
+ghost use Rattle.pd_walk.specs.Stages.{AllStand, AreCompiled, AreFor, HasComeTo, HasEnded, Stands};
 ghost use Rattle.pd_walk.specs.declared.stage.Stage.{Stage};
 ghost use Rattle.pd_walk.specs.declared.stage.Stage.TheVariants.{Open};
 ghost use Rattle.std.specs.Prelude.{◌≡◌, ◌+◌, ◌*◌, ◌<◌, ◌≤◌, ℕ, IfOk, IsTrue, [], false, length, slice_index_or};

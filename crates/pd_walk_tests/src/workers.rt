@@ -2,10 +2,11 @@
 use pd_clock::Computation;
 use pd_expand::Crew;
 use pd_level::{Gate, NoGate};
+use pd_lists::{Answers, DefinitelyAnswer, PossiblyAnswer};
 use pd_possibly::possibly;
 use pd_pred::Pred;
 use pd_spec::Spec;
-use pd_walk::{Answers, DefinitelyAnswer, PossiblyAnswer, answer_within};
+use pd_walk::answer_within;
 use std::alloc::{AllocError, Global};
 use std::sync::Wait;
 use std::sync::atomic::{AtomicU64, Ordering};

@@ -4,7 +4,7 @@ use Rattle.pd_model.specs.Predicates.{test_of}
 use Rattle.pd_judgement.specs.Judgements.{printed_definitely}
 use Rattle.pd_format.specs.Names.{ProcessNames}
 use Rattle.pd_pred.specs.Views.{predicate_view}
-use Rattle.pd_walk.specs.Answers.{definitely_answer_view, possibly_answer_view}
+use Rattle.pd_lists.specs.Answers.{definitely_answer_view, possibly_answer_view}
 use Rattle.pd_report.specs.Views as views
 use Rattle.pd_spec.specs.Views.{document_view}
 use Rattle.pd_engine.proofs.PrintedPaths.{answer_reported}

@@ -12,7 +12,7 @@ use Rattle.pd_pred.specs.declared.predicate.Pred.{Pred}
 use Rattle.pd_spec.specs.Named.{named_view}
 use Rattle.pd_spec.specs.Views.{document_view}
 use Rattle.pd_spec.specs.declared.named.NamedPred.{NamedPred}
-use Rattle.pd_walk.specs.Answers.{definitely_answer_view, possibly_answer_view}
+use Rattle.pd_lists.specs.Answers.{definitely_answer_view, possibly_answer_view}
 use Rattle.pd_walk.specs.Stages.{AllAnswered}
 use Rattle.pd_engine.proofs.WalkAnswers.{answers_at}
 use Rattle.pd_engine.proofs.Zips.{all_zip_push}

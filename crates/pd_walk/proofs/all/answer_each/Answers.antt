@@ -4,8 +4,8 @@ use Rattle.std.proofs.lemmas.List.{get_or_default}
 use Rattle.pd_model.specs.Predicates.{test_of}
 use Rattle.pd_pred.specs.Views.{predicate_view}
 use Rattle.pd_pred.specs.declared.predicate.Pred.{Pred}
-use Rattle.pd_walk.specs.Answers.{AreAnswers}
-use Rattle.pd_walk.specs.declared.answers.Answers.{Answers}
+use Rattle.pd_lists.specs.Answers.{AreAnswers}
+use Rattle.pd_lists.specs.declared.answers.Answers.{Answers}
 use Rattle.pd_walk.proofs.Standing.{each_more}
 use Rattle.pd_walk.proofs.all.answer_each.Goals as goal
 

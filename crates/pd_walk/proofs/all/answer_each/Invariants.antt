@@ -3,8 +3,8 @@ use Rattle.std.proofs.Common.{◌≡◌, ◌<◌, ◌*◌, ◌+◌, ℕ, Bor, ge
 use Rattle.pd_model.specs.Predicates.{test_of}
 use Rattle.pd_pred.specs.Views.{predicate_view}
 use Rattle.pd_pred.specs.declared.predicate.Pred.{Pred}
-use Rattle.pd_walk.specs.Answers.{AreAnswers}
-use Rattle.pd_walk.specs.declared.answers.Answers.{Answers}
+use Rattle.pd_lists.specs.Answers.{AreAnswers}
+use Rattle.pd_lists.specs.declared.answers.Answers.{Answers}
 use Rattle.pd_walk.proofs.all.answer_each.Given as goal
 
 abbrev pub invariant-loop-i : goal.invariant-loop-i

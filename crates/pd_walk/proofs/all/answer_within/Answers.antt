@@ -1,9 +1,9 @@
 -- The answers, whichever way they are found.
 use Rattle.std.proofs.Common.{ℕ, ◌+◌, ◌*◌, subst}
 use Rattle.pd_model.specs.Cuts.{total}
-use Rattle.pd_walk.specs.Answers.{IsLeastRoot}
+use Rattle.pd_lists.specs.Answers.{IsLeastRoot}
 use Rattle.pd_walk.specs.Stages.{AllAnswered}
-use Rattle.pd_walk.proofs.Roots.{one_root}
+use Rattle.pd_lists.proofs.Roots.{one_root}
 use Rattle.pd_walk.proofs.all.answer_within.Goals as goal
 
 pub returns-then-processes-lt2-clause-few : goal.returns-then-processes-lt2-clause-few

@@ -3,7 +3,7 @@ use Rattle.std.proofs.Common.{ap, length, ◌+◌, arith}
 use Rattle.pd_model.specs.Cuts.{total}
 use Rattle.pd_model.specs.Predicates.{test_of}
 use Rattle.pd_pred.specs.Views.{predicate_view}
-use Rattle.pd_walk.proofs.Going.{full_avoids}
+use Rattle.pd_avoiding.proofs.Going.{full_avoids}
 use Rattle.pd_walk.proofs.Opening.{open_avoided, open_narrow}
 use Rattle.pd_walk.proofs.finish.answer_none.Goals as goal
 

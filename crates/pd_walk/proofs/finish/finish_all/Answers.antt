@@ -7,9 +7,10 @@ use Rattle.pd_model.specs.Predicates.{test_of}
 use Rattle.pd_pred.specs.Views.{predicate_view}
 use Rattle.pd_pred.specs.declared.predicate.Pred.{Pred}
 use Rattle.pd_runs.specs.Levels.{IsWholeLevel, WholeLevel}
-use Rattle.pd_walk.specs.Answers.{AreAnswers}
-use Rattle.pd_walk.specs.Stages.{AreBeside, Stands}
-use Rattle.pd_walk.specs.declared.answers.Answers.{Answers}
+use Rattle.pd_lists.specs.Answers.{AreAnswers}
+use Rattle.pd_lists.specs.Splits.{AreBeside}
+use Rattle.pd_walk.specs.Stages.{Stands}
+use Rattle.pd_lists.specs.declared.answers.Answers.{Answers}
 use Rattle.pd_walk.specs.declared.stage.Stage.{Stage}
 use Rattle.pd_walk.proofs.Standing.{HaveFinished, none_finished, one_finished, only_whole}
 use Rattle.pd_walk.proofs.finish.finish_all.Goals as goal

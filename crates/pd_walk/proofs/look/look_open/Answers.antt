@@ -1,5 +1,5 @@
 -- What is known where Possibly was answered.
-use Rattle.pd_walk.specs.Stages.{events_of, meaning_of}
+use Rattle.pd_avoiding.specs.CompiledTests.{events_of, meaning_of}
 use Rattle.pd_walk.proofs.Opening.{split_here}
 use Rattle.pd_walk.proofs.look.look_open.Goals as goal
 

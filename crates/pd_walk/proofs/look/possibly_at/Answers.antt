@@ -1,6 +1,6 @@
 -- What the level decides.
 use Rattle.std.proofs.Common.{arith}
-use Rattle.pd_walk.specs.Stages.{events_of, meaning_of}
+use Rattle.pd_avoiding.specs.CompiledTests.{events_of, meaning_of}
 use Rattle.pd_walk.proofs.Opening.{decided_yes, level_narrow, level_wide, still_open, unknown_here}
 use Rattle.pd_walk.proofs.look.possibly_at.Goals as goal
 

@@ -2,8 +2,8 @@
 use Rattle.std.proofs.Common.{sym, subst, arith}
 use Rattle.pd_model.specs.Predicates.{test_of}
 use Rattle.pd_pred.specs.Views.{predicate_view}
-use Rattle.pd_walk.specs.Answers.{AreAnswers}
-use Rattle.pd_walk.specs.declared.answers.Answers.{Answers}
+use Rattle.pd_lists.specs.Answers.{AreAnswers}
+use Rattle.pd_lists.specs.declared.answers.Answers.{Answers}
 use Rattle.pd_walk.proofs.one.answer_one.Goals as goal
 
 pub returns-clause-right : goal.returns-clause-right

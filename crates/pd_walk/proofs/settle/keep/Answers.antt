@@ -4,8 +4,9 @@ use Rattle.pd_model.specs.Answers.{IsListOf}
 use Rattle.pd_model.specs.Observations.{IsAvoiding}
 use Rattle.pd_back.specs.Ways.{last_number}
 use Rattle.pd_level.specs.Levels.{Levelled}
-use Rattle.pd_walk.specs.Stages.{AreKeptBelow, events_of, meaning_of}
-use Rattle.pd_walk.proofs.Keeping.{kept_more, some_gap}
+use Rattle.pd_lists.specs.Splits.{AreKeptBelow}
+use Rattle.pd_avoiding.specs.CompiledTests.{events_of, meaning_of}
+use Rattle.pd_lists.proofs.Keeping.{kept_more, some_gap}
 use Rattle.pd_walk.proofs.settle.keep.Goals as goal
 
 pub to_level-requires : goal.to_level-requires

@@ -2,9 +2,9 @@
 use Rattle.std.proofs.Common.{◌≡◌, ℕ, length, List, sym, arith}
 use Rattle.pd_model.specs.Answers.{IsListOf}
 use Rattle.pd_model.specs.Observations.{IsAvoiding}
-use Rattle.pd_walk.specs.Answers.{definitely_answer_view}
-use Rattle.pd_walk.specs.Stages.{events_of, meaning_of}
-use Rattle.pd_walk.proofs.Ending.{both_ended, end_here, gone_on}
+use Rattle.pd_lists.specs.Answers.{definitely_answer_view}
+use Rattle.pd_avoiding.specs.CompiledTests.{events_of, meaning_of}
+use Rattle.pd_lists.proofs.Ending.{both_ended, end_here, gone_on}
 use Rattle.pd_walk.proofs.settle.settle.Goals as goal
 
 pub returns-in-Some : goal.returns-in-Some

@@ -4,7 +4,8 @@ use Rattle.pd_model.specs.Events.{Computation}
 use Rattle.pd_refusals.specs.Refusals.{AreRefusals}
 use Rattle.pd_runs.specs.Levels.{IsWholeLevel, WholeLevel}
 use Rattle.pd_tables.specs.Views.{CompiledView}
-use Rattle.pd_walk.specs.Stages.{AllStand, AreBeside}
+use Rattle.pd_lists.specs.Splits.{AreBeside}
+use Rattle.pd_walk.specs.Stages.{AllStand}
 use Rattle.pd_walk.specs.declared.stage.Stage.{Stage}
 use Rattle.pd_walk.proofs.Standing.{beside_one, come_first, come_to_end, only_whole}
 use Rattle.pd_walk.proofs.walk.walk_up.Goals as goal

@@ -1,0 +1,56 @@
+-- The answers, if the full cut avoids.
+use Rattle.std.proofs.Common.{◌+◌, ◌≤◌, sym, subst, arith}
+use Rattle.pd_model.specs.Answers.{IsDefinitelyAnswer, IsPossiblyAnswer}
+use Rattle.pd_model.specs.Cuts.{total}
+use Rattle.pd_model.specs.Predicates.{test_of}
+use Rattle.pd_pred.specs.Views.{predicate_view}
+use Rattle.pd_lists.specs.Answers.{definitely_answer_view, possibly_answer_view}
+use Rattle.pd_lists.specs.declared.definitely_answer.DefinitelyAnswer.{DefinitelyAnswer}
+use Rattle.pd_lists.specs.declared.possibly_answer.PossiblyAnswer.{PossiblyAnswer}
+use Rattle.pd_lists.proofs.Ending.{no_past}
+use Rattle.pd_avoiding.proofs.Going.{full_avoids}
+use Rattle.pd_avoiding.proofs.listed.answer_no.Goals as goal
+
+pub way_back-requires-clause-full : goal.way_back-requires-clause-full
+way_back-requires-clause-full g c _ _ =
+    full_avoids c.avoiding_levels.ensures.level c.levels.ensures.full c.args.computation.now.events
+    (test_of c.args.computation.now (predicate_view c.args.pred.now)) c.requires.split.avoided
+
+pub returns : goal.returns
+returns g c =
+    record {
+      possibly_right = subst (λ (a : PossiblyAnswer). IsPossiblyAnswer c.args.computation.now.events
+          (test_of c.args.computation.now (predicate_view c.args.pred.now)) c.args._width (possibly_answer_view a))
+          (sym c.answered.ensures.possibly) c.requires.split.possibly;
+      definitely_right = subst (λ (a : DefinitelyAnswer). IsDefinitelyAnswer c.args.computation.now.events
+          (test_of c.args.computation.now (predicate_view c.args.pred.now)) c.args._width (definitely_answer_view a))
+          (sym c.answered.ensures.definitely)
+          (c.definitely_walk.ensures.path c.args.computation.now.events
+          (test_of c.args.computation.now (predicate_view c.args.pred.now)) c.args._width
+          (total c.args.computation.now.events + 1) c.requires.split.narrow (omega arith) c.in_ok-path.path.items
+          c.in_ok-path.ensures.path);
+      few = omega (
+        arith,
+        c.answered.ensures.held,
+        c.max-held.ensures,
+        c.saturating_add-before.ensures,
+        c.saturating_add.ensures,
+        c.most.ensures,
+        c.in_ok-path.ensures.most,
+        c.args.split.held.enough,
+        c.requires.split.few,
+        c.requires.most.few,
+      );
+      some = omega (
+        arith,
+        c.answered.ensures.held,
+        c.max-held.ensures,
+        c.saturating_add-before.ensures,
+        c.requires.most.some,
+      );
+      past_first = λ past.
+          let two : 2 ≤ c.args.most =
+          c.requires.most.two (no_past c.args.computation.now.events c.in_ok-path.path c.answered.result.definitely
+          c.answered.ensures.definitely past) in
+          omega (arith, c.answered.ensures.held, c.max-held.ensures, c.saturating_add-before.ensures);
+    }

@@ -1,0 +1,2 @@
+pub mod CompiledTests
+pub mod Listed

@@ -1,0 +1,72 @@
+//! Both answers for one predicate by lists of cuts, which serve any computation.
+ghost use Rattle.pd_lists.specs.Answers.{AreAnswers};
+ghost use Rattle.pd_model.specs.Cuts.{total};
+ghost use Rattle.pd_model.specs.Predicates.{test_of};
+ghost use Rattle.pd_pred.specs.Views.{predicate_view};
+ghost use Rattle.std.specs.Prelude.{◌+◌, ◌*◌, ◌<◌, ◌≤◌, IfOk};
+
+use super::listed::{settle_listed, walk_listed};
+use pd_back::{Held, first_avoiding};
+use pd_clock::Computation;
+use pd_expand::Crew;
+use pd_level::Gate;
+use pd_lists::{Answers, Split, possibly_by_lists};
+use pd_pred::Pred;
+use std::alloc::{AllocError, Global};
+use std::sync::Wait;
+use std::thread::Threads;
+
+/// How many levels the walk for Possibly holds at once, at most.
+const POSSIBLY_LEVELS: u64 = 2;
+
+/// Both answers for one predicate, under a width from 1 on. From one level that is kept to the next are `gap` levels,
+/// and the square of that number is above the number of events.
+///
+/// # Errors
+/// An allocation was refused, or there might be more cuts than a `u64` counts.
+pub fn answers_by_lists<T: Threads + Wait + Sync, G: Gate + Sync>(
+    crew: &Crew<'_, '_, T, G>,
+    alloc: Global,
+    computation: &Computation<'_>,
+    pred: &Pred,
+    width: u64,
+    gap: u64,
+) -> Result<Answers, AllocError>
+    requires wide { 1 ≤ width }
+    requires root { total computation.now.events < gap * gap }
+    ensures { IfOk result (AreAnswers computation.now.events (test_of computation.now (predicate_view pred.now)) width
+        (2 * gap + 2)) }
+{
+    let possibly = possibly_by_lists(crew, alloc, computation, pred, width)?;
+    let level = first_avoiding(alloc, computation, pred)?;
+    let split = Split {
+        possibly,
+        first: 0,
+        held: Held::new(alloc),
+    };
+    match settle_listed(
+        alloc,
+        computation,
+        pred,
+        width,
+        gap,
+        split,
+        &level,
+        POSSIBLY_LEVELS,
+    )? {
+        Ok(on) => walk_listed(
+            crew,
+            alloc,
+            computation,
+            pred,
+            None,
+            width,
+            gap,
+            on,
+            level,
+            0,
+            POSSIBLY_LEVELS,
+        ),
+        Err(answers) => Ok(answers),
+    }
+}
