@@ -18,8 +18,8 @@ use Rattle.pd_spec.specs.declared.fault.SpecFault.TheVariants as kinds
 use Rattle.pd_cli.specs.Faults.{ending_view, is_out_of_memory}
 use Rattle.pd_cli.specs.declared.service_fault.ServiceFault.{ServiceFault}
 use Rattle.pd_cli.specs.declared.service_fault.ServiceFault.TheVariants.{Engine}
-use Rattle.pd_engine.specs.declared.fault.EngineFault.{EngineFault}
-use Rattle.pd_engine.specs.declared.fault.EngineFault.TheVariants.{Memory, Write}
+use Rattle.pd_sessions.specs.declared.fault.EngineFault.{EngineFault}
+use Rattle.pd_sessions.specs.declared.fault.EngineFault.TheVariants.{Memory, Write}
 use Rattle.pd_cli.specs.FileSources.{SameOutline, StandsFor}
 use Rattle.pd_cli.proofs.DocumentPrefixes.{same_document, same_refusal, same_report_text}
 use Rattle.pd_cli.proofs.FilesRead.{of_document, up_to_weaker}

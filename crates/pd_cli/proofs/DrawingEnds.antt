@@ -5,11 +5,11 @@ use Rattle.std.specs.Io.KnownBytes.{Keeps}
 use Rattle.pd_format.specs.Limits.{report_byte_limit}
 use Rattle.pd_judgement.specs.Statuses.{OfFiles}
 use Rattle.pd_judgement.specs.Writes.{Writes}
-use Rattle.pd_engine.specs.Drawings.{IsDrawingTextOf, ShowsEnd, drawing_end}
-use Rattle.pd_engine.specs.declared.drawings.Drawing.{Drawing}
-use Rattle.pd_engine.specs.declared.drawings.Drawing.TheVariants.{Written, Refused, NoPredicate}
-use Rattle.pd_engine.specs.declared.fault.EngineFault.{EngineFault}
-use Rattle.pd_engine.specs.declared.fault.EngineFault.TheVariants.{Memory, Write, Read, BundleLong}
+use Rattle.pd_claims.specs.Drawings.{IsDrawingTextOf, ShowsEnd, drawing_end}
+use Rattle.pd_claims.specs.declared.drawings.Drawing.{Drawing}
+use Rattle.pd_claims.specs.declared.drawings.Drawing.TheVariants.{Written, Refused, NoPredicate}
+use Rattle.pd_sessions.specs.declared.fault.EngineFault.{EngineFault}
+use Rattle.pd_sessions.specs.declared.fault.EngineFault.TheVariants.{Memory, Write, Read, BundleLong}
 use Rattle.pd_cli.specs.Drawings.{DrawLeaves, Finishes, IsNoticeOf}
 use Rattle.pd_cli.proofs.WrittenSoFar.{appends_kept}
 

@@ -7,11 +7,11 @@ use Rattle.pd_format.specs.Limits.{report_byte_limit}
 use Rattle.pd_judgement.specs.Statuses.{OfFiles, WritesUpTo}
 use Rattle.pd_judgement.specs.Writes.{IsWholeInput, Whole, Writes}
 use Rattle.pd_judgement.proofs.Writing.{writes_weaker}
-use Rattle.pd_engine.specs.Drawings.{IsDrawingTextOf, IsRefusalTextOf, LacksPredicate}
-use Rattle.pd_engine.specs.declared.drawings.Drawing.{Drawing}
-use Rattle.pd_engine.specs.declared.drawings.Drawing.TheVariants.{Written, Refused, NoPredicate}
-use Rattle.pd_engine.specs.declared.fault.EngineFault.{EngineFault}
-use Rattle.pd_engine.specs.declared.fault.EngineFault.TheVariants.{Memory, Write, Read, BundleLong}
+use Rattle.pd_claims.specs.Drawings.{IsDrawingTextOf, IsRefusalTextOf, LacksPredicate}
+use Rattle.pd_claims.specs.declared.drawings.Drawing.{Drawing}
+use Rattle.pd_claims.specs.declared.drawings.Drawing.TheVariants.{Written, Refused, NoPredicate}
+use Rattle.pd_sessions.specs.declared.fault.EngineFault.{EngineFault}
+use Rattle.pd_sessions.specs.declared.fault.EngineFault.TheVariants.{Memory, Write, Read, BundleLong}
 use Rattle.pd_cli.specs.Drawings.{DrawLeaves, IsNoticeOf}
 use Rattle.pd_cli.specs.FileSources.{HasWholeFile, SameOutline, StandsFor}
 use Rattle.pd_cli.proofs.DocumentPrefixes.{same_finding, same_session}

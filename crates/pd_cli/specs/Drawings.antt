@@ -4,11 +4,11 @@ use Rattle.std.specs.Io.KnownBytes.{Keeps}
 use Rattle.clap.specs.Words.{Text}
 use Rattle.pd_judgement.specs.Statuses.{EndsAsAsked, OfFiles, WritesUpTo, line_of_failure, status_of_failure}
 use Rattle.pd_judgement.specs.Writes.{Whole, Writes}
-use Rattle.pd_engine.specs.Drawings.{IsDrawingTextOf, IsRefusalTextOf, LacksPredicate}
-use Rattle.pd_engine.specs.declared.drawings.Drawing.{Drawing}
-use Rattle.pd_engine.specs.declared.drawings.Drawing.TheVariants.{Written, Refused, NoPredicate}
-use Rattle.pd_engine.specs.declared.fault.EngineFault.{EngineFault}
-use Rattle.pd_engine.specs.declared.fault.EngineFault.TheVariants.{Memory, Write, Read, BundleLong}
+use Rattle.pd_claims.specs.Drawings.{IsDrawingTextOf, IsRefusalTextOf, LacksPredicate}
+use Rattle.pd_claims.specs.declared.drawings.Drawing.{Drawing}
+use Rattle.pd_claims.specs.declared.drawings.Drawing.TheVariants.{Written, Refused, NoPredicate}
+use Rattle.pd_sessions.specs.declared.fault.EngineFault.{EngineFault}
+use Rattle.pd_sessions.specs.declared.fault.EngineFault.TheVariants.{Memory, Write, Read, BundleLong}
 use Rattle.pd_cli.specs.Arguments.{AsksFor, AsksToDraw}
 use Rattle.pd_cli.specs.Faults.{failure_view}
 

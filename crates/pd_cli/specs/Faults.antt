@@ -3,10 +3,10 @@ use Rattle.std.specs.Prelude.{◌≡◌, ℕ, Bool, true, false, List, codes, Re
 use Rattle.pd_judgement.specs.Statuses.{Failure, MemoryFailure, ReadFailure, WriteFailure, BundleFailure, NetworkFailure, Ending, Success, Negative, Failed}
 use Rattle.pd_cli.specs.declared.service_fault.ServiceFault.{ServiceFault}
 use Rattle.pd_cli.specs.declared.service_fault.ServiceFault.TheVariants.{Engine, Network}
-use Rattle.pd_engine.specs.declared.fault.EngineFault.{EngineFault}
+use Rattle.pd_sessions.specs.declared.fault.EngineFault.{EngineFault}
 use Rattle.pd_spec.specs.declared.fault.SpecFault.{SpecFault}
 use Rattle.pd_spec.specs.declared.fault.SpecFault.TheVariants as spec_faults
-use Rattle.pd_engine.specs.declared.fault.EngineFault.TheVariants.{Memory, Write, Read, BundleLong}
+use Rattle.pd_sessions.specs.declared.fault.EngineFault.TheVariants.{Memory, Write, Read, BundleLong}
 
 abbrev pub failure_view : EngineFault → Failure
 failure_view Memory = MemoryFailure

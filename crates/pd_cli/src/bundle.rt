@@ -5,7 +5,8 @@ ghost use Rattle.std.specs.Prelude.{◌≡◌, false};
 
 use super::outcomes::is_judged;
 use super::workers::Workers;
-use pd_engine::{ByteSource, EngineFault, NoGate, judge_bundle};
+use pd_engine::{ByteSource, NoGate, judge_bundle};
+use pd_sessions::EngineFault;
 use std::alloc::Global;
 use std::io::Write;
 use std::random::RandomSource;

@@ -8,8 +8,10 @@ ghost use Rattle.std.specs.Prelude.{◌≡◌, ◌≤◌, ◌⊎◌, All, IfErr,
 use super::file_source::FileSource;
 use super::request::SessionNames;
 use super::session_files::{open_streams, read_document};
-use pd_engine::{ByteSource, EngineFault, check, read_upto, within_limit};
+use pd_claims::check;
+use pd_engine::{ByteSource, within_limit};
 use pd_format::REPORT_BYTE_LIMIT;
+use pd_sessions::{EngineFault, read_upto};
 use std::alloc::Global;
 use std::io::Write;
 use std::random::RandomSource;

@@ -1,5 +1,6 @@
 //! Where files are read.
-use pd_engine::{ByteSource, EngineFault};
+use pd_engine::ByteSource;
+use pd_sessions::EngineFault;
 use std::fs;
 use std::rt::Files;
 
@@ -7,7 +8,7 @@ use std::rt::Files;
 /// system's files nothing is known.
 pub trait FileSource {
     ghost use Rattle.pd_cli.specs.FileSources.{HasWholeFile};
-    ghost use Rattle.pd_engine.specs.declared.fault.EngineFault.TheVariants as faults;
+    ghost use Rattle.pd_sessions.specs.declared.fault.EngineFault.TheVariants as faults;
     ghost use Rattle.std.specs.Prelude.{◌≡◌, IfOk, IsOkUnless, ℕ, List, Option, false};
 
     type File: ByteSource + Send + Drop;

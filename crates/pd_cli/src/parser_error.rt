@@ -11,7 +11,7 @@ use super::line::write_line;
 use super::status::{MISUSED, SUCCESS, report_fault};
 use clap::Error;
 use clap::error::ErrorKind;
-use pd_engine::EngineFault;
+use pd_sessions::EngineFault;
 use std::io;
 use std::io::{ErrorKind as IoErrorKind, Write};
 

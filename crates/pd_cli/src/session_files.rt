@@ -4,8 +4,9 @@ ghost use Rattle.std.specs.List.{AllZip};
 ghost use Rattle.std.specs.Prelude.{◌≡◌, ◌⊎◌, All, IfErr, IfOk, false, map};
 
 use super::file_source::FileSource;
-use pd_engine::{ByteSource, EngineFault, read_upto};
+use pd_engine::ByteSource;
 use pd_format::DOCUMENT_BYTE_LIMIT;
+use pd_sessions::{EngineFault, read_upto};
 use std::alloc::Global;
 
 /// Opens these files in their order.

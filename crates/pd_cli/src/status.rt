@@ -5,7 +5,7 @@ ghost use Rattle.std.specs.Prelude.{◌≡◌};
 
 use super::line::write_line;
 use super::service_fault::ServiceFault;
-use pd_engine::EngineFault;
+use pd_sessions::EngineFault;
 use std::io::Write;
 
 /// The session is judged, nothing that a check found is bad, or the help that was asked for is written.

@@ -1,6 +1,6 @@
 //! The files of a small session, and what the program makes of them.
 use pd_cli::FileSource;
-use pd_engine::EngineFault;
+use pd_sessions::EngineFault;
 
 /// The session as a bundle.
 pub(crate) const BUNDLE: &str =

@@ -11,13 +11,13 @@ use Rattle.pd_format.specs.Sessions.{StreamResult}
 use Rattle.pd_judgement.specs.Judgements.{IsJudgement, IsReportOfParts, IsReportOfResults, RawStream, ended_streams}
 use Rattle.pd_report.specs.Views.{report_view}
 use Rattle.pd_report.specs.declared.report.Report.{Report as Judged}
-use Rattle.pd_engine.specs.Faults.{engine_bundle_fault}
+use Rattle.pd_sessions.specs.Faults.{engine_bundle_fault}
 use Rattle.pd_engine.specs.SessionReports.{IsReportOfRead}
-use Rattle.pd_engine.specs.Unanswered.{IsUnanswered, refused_report, settled_report}
-use Rattle.pd_engine.specs.declared.fault.EngineFault.{EngineFault}
-use Rattle.pd_engine.specs.declared.fault.EngineFault.TheVariants as engine
-use Rattle.pd_engine.specs.declared.unanswered.Unanswered.{Unanswered}
-use Rattle.pd_engine.proofs.SessionReports.{judged_of_results, of_given}
+use Rattle.pd_sessions.specs.Unanswered.{IsUnanswered, refused_report, settled_report}
+use Rattle.pd_sessions.specs.declared.fault.EngineFault.{EngineFault}
+use Rattle.pd_sessions.specs.declared.fault.EngineFault.TheVariants as engine
+use Rattle.pd_sessions.specs.declared.unanswered.Unanswered.{Unanswered}
+use Rattle.pd_sessions.proofs.SessionReports.{judged_of_results, of_given}
 
 -- the report of the streams that were read after the document
 pub streams_read : (input : Option (List ℕ)) (bytes : List ℕ) (document : Document) (count : ℕ)

@@ -10,7 +10,7 @@ use Rattle.pd_lists.specs.Answers.{definitely_answer_view}
 use Rattle.pd_lists.specs.declared.definitely_answer.DefinitelyAnswer.{DefinitelyAnswer}
 use Rattle.pd_lists.specs.declared.definitely_answer.DefinitelyAnswer.TheVariants.{Yes, No, Unknown}
 use Rattle.pd_engine.specs.Paths.{HasProcessesBelow}
-use Rattle.pd_engine.proofs.RefusedPlaces.{all_ahead, all_after}
+use Rattle.pd_sessions.proofs.RefusedPlaces.{all_ahead, all_after}
 
 -- a process with a count is there
 counted_process : (cut : List ℕ) (p : ℕ) → 0 < get_or cut p 0 → p < length cut

@@ -7,9 +7,11 @@ use Rattle.pd_judgement.specs.Judgements.{IsJudgement, IsReportOfBundle, IsRepor
 use Rattle.pd_judgement.specs.Writes.{IsReportTextOf, IsTextOfBundle, IsTextOfStreams, IsWholeInput, Writes, WritesTruth, WritesTruthOfBundle}
 use Rattle.pd_judgement.proofs.TextsOwed.{parts_are_some, report_text_of, truth_of_bundle_text, truth_of_text}
 use Rattle.pd_judgement.proofs.Writing.{writes_weaker}
-use Rattle.pd_engine.specs.Ends.{IsTextAs, call_end, judged_as, outcome_view}
-use Rattle.pd_engine.specs.SessionReports.{IsReportOfInputs, IsReportOfWhole}
-use Rattle.pd_engine.specs.declared.fault.EngineFault.{EngineFault}
+use Rattle.pd_engine.specs.Ends.{IsTextAs, judged_as, outcome_view}
+use Rattle.pd_sessions.specs.Ends.{call_end}
+use Rattle.pd_sessions.specs.SessionReports.{IsReportOfInputs}
+use Rattle.pd_engine.specs.SessionReports.{IsReportOfWhole}
+use Rattle.pd_sessions.specs.declared.fault.EngineFault.{EngineFault}
 use Rattle.pd_engine.specs.declared.outcome.Outcome.{Outcome}
 use Rattle.pd_engine.specs.declared.outcome.Outcome.TheVariants.{Judged}
 use Rattle.pd_engine.proofs.Ends.{outcome_judged}

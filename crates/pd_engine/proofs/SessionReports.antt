@@ -1,33 +1,18 @@
--- The report of the results that readers gave is that of the document's bytes and of the streams that they gave.
-use Rattle.std.proofs.Common.{◌≡◌, ℕ, List, [], ◌∷◌, map, refl, sym, subst, Some, None, Option, Ok, Err}
-use Rattle.std.specs.Prelude.{IfErr, IfSome, IsErrAnd, Result}
-use Rattle.std.specs.List.{AllZip}
+-- The report of all bytes that readers have left, if these are known, and a refusal that is the report.
+use Rattle.std.proofs.Common.{◌≡◌, ℕ, List, map, sym, subst, Some, Option, Ok, Err}
+use Rattle.std.specs.Prelude.{IfSome, IsErrAnd, Result}
 use Rattle.pd_format.specs.Documents.{Document, IsDocument}
-use Rattle.pd_format.specs.Readings.{Failed, Trace}
 use Rattle.pd_format.specs.Reports.{Report}
-use Rattle.pd_format.specs.Sessions.{SessionFault, StreamResult, session}
+use Rattle.pd_format.specs.Sessions.{StreamResult}
 use Rattle.pd_gather.specs.ReadStreams.{ComesTo}
-use Rattle.pd_judgement.specs.Judgements.{IsJudgement, IsReportOfResults, IsReportOfSession, IsTracesReport, RawStream, ended_streams, of_read}
-use Rattle.pd_judgement.specs.Writes.{IsGivenBy}
+use Rattle.pd_judgement.specs.Judgements.{IsJudgement, IsReportOfResults, RawStream, ended_streams}
 use Rattle.pd_report.specs.declared.report.Report.{Report as Judged}
-use Rattle.pd_engine.specs.SessionReports.{IsReportOfInputs, IsReportOfWhole}
-use Rattle.pd_engine.specs.Unanswered.{IsUnanswered, given_report, refused_report}
-use Rattle.pd_engine.specs.declared.unanswered.Unanswered.{Unanswered}
+use Rattle.pd_engine.specs.SessionReports.{IsReportOfWhole}
+use Rattle.pd_sessions.specs.Unanswered.{IsUnanswered, given_report, refused_report}
+use Rattle.pd_sessions.specs.declared.unanswered.Unanswered.{Unanswered}
+use Rattle.pd_sessions.proofs.SessionReports.{judged_of_results, of_given}
 
--- what holds of a report that is given
-pub of_given : {A : Type 0} (given : Option A) (P Q : A → Type 0) → ((x : A) → P x → Q x) → IfSome given P
-    → IfSome given Q
-of_given None P Q f p = tt
-of_given (Some x) P Q f p = f x p
-
--- what holds of a refusal, if it is handed on
-pub refusal_given : {A : Type 0} (result : Result A Unanswered) (unanswered : Unanswered) (P Q : Report → Type 0)
-    → ((report : Report) → P report → Q report) → IsErrAnd result (λ u. u ≡ unanswered) → IsUnanswered P unanswered
-    → IfErr result (IsUnanswered Q)
-refusal_given (Ok x) unanswered P Q f same p = tt
-refusal_given (Err u) unanswered P Q f same p =
-    subst (IsUnanswered Q) (sym same) (of_given (refused_report unanswered) P Q f p)
-
+-- what holds of a refusal, if it is the report
 pub refusal_reported : (result : Result Judged Unanswered) (unanswered : Unanswered) (P Q : Report → Type 0)
     → ((report : Report) → P report → Q report) → IsErrAnd result (λ u. u ≡ unanswered) → IsUnanswered P unanswered
     → IfSome (given_report result) Q
@@ -35,56 +20,11 @@ refusal_reported (Ok x) unanswered P Q f same p = absurd same
 refusal_reported (Err u) unanswered P Q f same p =
     subst (IsUnanswered Q) (sym same) (of_given (refused_report unanswered) P Q f p)
 
--- ---- streams that aren't read
-
--- a stream of which nothing was given
-nothing : RawStream
-nothing = record { ending = Failed; bytes = [] }
-
-nothing_given : (input : Option (List ℕ)) → IsGivenBy input nothing
-unfolding nothing
-nothing_given None = record { stopped = λ e. absurd (cc); prefix = tt; whole = λ e. tt }
-nothing_given (Some bytes) = record { stopped = λ e. absurd (cc); prefix = (bytes, refl); whole = λ e. absurd (cc) }
-
-pub none_given : List (Option (List ℕ)) → List RawStream
-none_given [] = []
-none_given (input ∷ inputs) = nothing ∷ none_given inputs
-
-pub all_none_given : (inputs : List (Option (List ℕ))) → AllZip IsGivenBy inputs (none_given inputs)
-unfolding none_given
-all_none_given [] = tt
-all_none_given (input ∷ inputs) = (nothing_given input, all_none_given inputs)
-
--- ---- streams that are read
-
-pub judged_of_results : (bytes : List ℕ) (streams : List RawStream) (document : Document) (count : ℕ)
-    (results : List StreamResult) (report : Report) → IsDocument bytes document
-    → ComesTo document.names streams count results → IsReportOfResults document count results report
-    → IsJudgement bytes streams report
-judged_of_results bytes streams document count results report is comes right =
-    of_read document comes.given_results is comes.are_results
-    (subst (λ (r : Result (List Trace) SessionFault). IsReportOfSession document r report) comes.same_session right)
-
--- what the readers gave comes to these results
-abbrev pub AreGiven : Document → List (Option (List ℕ)) → ℕ → List StreamResult → Type 0
-AreGiven document inputs count results =
-    (streams : List RawStream) × AllZip IsGivenBy inputs streams × ComesTo document.names streams count results
-
--- so do all bytes that they have left, if these are known
+-- all bytes that the readers have left come to these results, if these are known
 abbrev pub AreWhole : Document → List (Option (List ℕ)) → ℕ → List StreamResult → Type 0
 AreWhole document inputs count results =
     (streams : List (List ℕ)) → inputs ≡ map Some streams
     → ComesTo document.names (ended_streams streams) count results
-
-pub inputs_report : (bytes : List ℕ) (inputs : List (Option (List ℕ))) (document : Document) (count : ℕ)
-    (results : List StreamResult) (report : Report) → IsDocument bytes document
-    → AreGiven document inputs count results → IsReportOfResults document count results report
-    → IsReportOfInputs bytes inputs report
-inputs_report bytes inputs document count results report is given right = record {
-  streams = given.0;
-  are_given = given.1;
-  right = judged_of_results bytes given.0 document count results report is given.2 right;
-}
 
 pub whole_report : (bytes : List ℕ) (inputs : List (Option (List ℕ))) (document : Document) (count : ℕ)
     (results : List StreamResult) (report : Report) → IsDocument bytes document
@@ -93,23 +33,6 @@ pub whole_report : (bytes : List ℕ) (inputs : List (Option (List ℕ))) (docum
 whole_report bytes inputs document count results report is whole right = λ streams same.
     judged_of_results bytes (ended_streams streams) document count results report is (whole streams same) right
 
--- ---- a document that is refused
-
-pub refused_inputs_report : (bytes : List ℕ) (inputs : List (Option (List ℕ))) (report : Report)
-    → ((streams : List RawStream) → IsJudgement bytes streams report) → IsReportOfInputs bytes inputs report
-refused_inputs_report bytes inputs report any = record {
-  streams = none_given inputs;
-  are_given = all_none_given inputs;
-  right = any (none_given inputs);
-}
-
 pub refused_whole_report : (bytes : List ℕ) (inputs : List (Option (List ℕ))) (report : Report)
     → ((streams : List RawStream) → IsJudgement bytes streams report) → IsReportOfWhole bytes inputs report
 refused_whole_report bytes inputs report any = λ streams same. any (ended_streams streams)
-
--- the report of traces is that of the streams that make them
-pub traces_report : (document : Document) (count : ℕ) (results : List StreamResult) (traces : List Trace)
-    (report : Report) → session document.names count results ≡ Ok traces → IsTracesReport document traces report
-    → IsReportOfResults document count results report
-traces_report document count results traces report joined right =
-    subst (λ (r : Result (List Trace) SessionFault). IsReportOfSession document r report) (sym joined) right

@@ -1,10 +1,4 @@
 -- The modules of definitions of this crate.
-pub mod Refusals
-pub mod Unanswered
-pub mod Computations
 pub mod SessionReports
-pub mod Checks
-pub mod Drawings
 pub mod Ends
 pub mod Paths
-pub mod Faults

@@ -1,16 +1,9 @@
--- The report of a session that readers gave.
+-- The report of all bytes that readers have left, and of a bundle that a reader gave.
 use Rattle.std.specs.Prelude.{◌≡◌, ◌≤◌, ℕ, length, List, Option, Some, map}
-use Rattle.std.specs.List.{AllZip}
 use Rattle.pd_format.specs.Limits.{bundle_byte_limit}
 use Rattle.pd_format.specs.Reports.{Report}
-use Rattle.pd_judgement.specs.Judgements.{IsJudgement, IsReportOfBundle, RawStream, ended_streams}
-use Rattle.pd_judgement.specs.Writes.{IsGivenBy, IsWholeInput}
-
--- the report of a document's bytes and of the streams that readers with this left gave
-pub record IsReportOfInputs (document : List ℕ) (inputs : List (Option (List ℕ))) (report : Report) : Type 0 where
-  pub streams : List RawStream
-  pub are_given : AllZip IsGivenBy inputs streams
-  pub right : IsJudgement document streams report
+use Rattle.pd_judgement.specs.Judgements.{IsJudgement, IsReportOfBundle, ended_streams}
+use Rattle.pd_judgement.specs.Writes.{IsWholeInput}
 
 -- if the bytes that readers have left are known, the report of a document's bytes and of all these
 abbrev pub IsReportOfWhole : List ℕ → List (Option (List ℕ)) → Report → Type 0

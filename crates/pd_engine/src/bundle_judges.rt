@@ -1,8 +1,9 @@
 //! Judges a bundle, and writes its report.
 ghost use Rattle.pd_bundle.specs.PartsRead.{IsKept};
-ghost use Rattle.pd_engine.specs.Ends.{call_end, judged_as};
+ghost use Rattle.pd_sessions.specs.Ends.{call_end};
+ghost use Rattle.pd_engine.specs.Ends.{judged_as};
 ghost use Rattle.pd_engine.specs.SessionReports.{IsReportOfRead};
-ghost use Rattle.pd_engine.specs.Unanswered.{IsUnanswered};
+ghost use Rattle.pd_sessions.specs.Unanswered.{IsUnanswered};
 ghost use Rattle.pd_engine.specs.declared.outcome.Outcome.TheVariants as outcomes;
 ghost use Rattle.pd_expand.specs.Limits.{worker_limit};
 ghost use Rattle.pd_format.specs.Documents.{IsDocument};
@@ -13,17 +14,15 @@ ghost use Rattle.pd_spec.specs.Views.{document_view};
 ghost use Rattle.pd_bundle.specs.Steps.{HasParts};
 ghost use Rattle.std.specs.Prelude.{◌≡◌, ◌≢◌, ◌≤◌, ◌∷◌, [], ℕ, Err, IfErr, IfOk, List, Option, false, true};
 
-use super::document::read_document;
+use super::Outcome;
 use super::judges::write_report;
-use super::refusal::of_document;
 use super::reports::report_of;
-use super::unanswered::{Unanswered, settled};
-use super::{EngineFault, Outcome};
 use pd_bundle::{Bundle, read_document_part, read_stream_parts, skip_parts};
 use pd_format::DOCUMENT_BYTE_LIMIT;
 use pd_gather::ByteSource;
 use pd_level::Gate;
 use pd_report::Report;
+use pd_sessions::{EngineFault, Unanswered, of_document, read_document, settled};
 use pd_spec::{Spec, SpecFault};
 use std::alloc::Global;
 use std::io::Write;

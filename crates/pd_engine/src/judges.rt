@@ -1,5 +1,6 @@
 //! Judges a session, and writes its report.
-ghost use Rattle.pd_engine.specs.Ends.{IsTextAs, call_end, judged_as};
+ghost use Rattle.pd_engine.specs.Ends.{IsTextAs, judged_as};
+ghost use Rattle.pd_sessions.specs.Ends.{call_end};
 ghost use Rattle.pd_engine.specs.declared.outcome.Outcome.TheVariants as outcomes;
 ghost use Rattle.pd_expand.specs.Limits.{worker_limit};
 ghost use Rattle.pd_judgement.specs.Judgements.{ended_streams};
@@ -7,12 +8,13 @@ ghost use Rattle.pd_judgement.specs.Writes.{IsReportTextOf, IsTextOfStreams, Wri
 ghost use Rattle.pd_report.specs.Views.{report_view};
 ghost use Rattle.std.specs.Prelude.{◌≡◌, ◌⊎◌, ◌≤◌, ℕ, All, IfErr, IfOk, List, Some, false, map, true};
 
+use super::Outcome;
 use super::outcome::report_outcome;
 use super::reports::streams_report;
-use super::{EngineFault, Outcome};
 use pd_gather::{ByteSource, NoObserver, Observer};
 use pd_level::Gate;
 use pd_report::{Report, write};
+use pd_sessions::EngineFault;
 use std::alloc::Global;
 use std::io::Write;
 use std::random::RandomSource;

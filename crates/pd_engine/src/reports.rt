@@ -1,6 +1,7 @@
 //! The report of a session.
-ghost use Rattle.pd_engine.specs.SessionReports.{IsReportOfInputs, IsReportOfWhole};
-ghost use Rattle.pd_engine.specs.Unanswered.{given_report};
+ghost use Rattle.pd_sessions.specs.SessionReports.{IsReportOfInputs};
+ghost use Rattle.pd_engine.specs.SessionReports.{IsReportOfWhole};
+ghost use Rattle.pd_sessions.specs.Unanswered.{given_report};
 ghost use Rattle.pd_expand.specs.Limits.{worker_limit};
 ghost use Rattle.pd_format.specs.Readings as readings;
 ghost use Rattle.pd_format.specs.Sessions.{session};
@@ -12,15 +13,11 @@ ghost use Rattle.pd_report.specs.Views.{report_view};
 ghost use Rattle.pd_spec.specs.Views.{document_view};
 ghost use Rattle.std.specs.Prelude.{◌≡◌, ◌≤◌, All, IfOk, IfSome, IsOkUnless, List, Ok, false, map, true};
 
-use super::EngineFault;
 use super::answers::answers_of;
-use super::computations::computation_of;
-use super::document::read_document;
-use super::sessions::traces_of;
-use super::unanswered::{Unanswered, settled};
 use pd_gather::{ByteSource, Gathered, Observer, read_streams_watched};
 use pd_level::Gate;
 use pd_report::Report;
+use pd_sessions::{EngineFault, Unanswered, computation_of, read_document, settled, traces_of};
 use pd_spec::Spec;
 use std::alloc::Global;
 use std::random::RandomSource;

@@ -1,7 +1,9 @@
 //! Calls of the engine, and in which word each ends.
 use super::readers::Reader;
 use super::writers::Writer;
-use pd_engine::{EngineFault, NoGate, Outcome, check, judge, judge_bundle};
+use pd_claims::check;
+use pd_engine::{NoGate, Outcome, judge, judge_bundle};
+use pd_sessions::EngineFault;
 use std::alloc::Global;
 use std::random::RandomSource;
 use std::sync::Wait;

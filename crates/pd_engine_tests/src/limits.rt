@@ -1,7 +1,8 @@
 //! Reads up to a limit, and the words of faults.
 use super::readers::{Reader, Signs};
-use pd_engine::{EngineFault, read_upto, within_limit};
+use pd_engine::within_limit;
 use pd_gather::WholeBytes;
+use pd_sessions::{EngineFault, read_upto};
 use std::alloc::Global;
 use std::io::ErrorKind;
 use std::test::Fail;

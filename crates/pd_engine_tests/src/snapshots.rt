@@ -2,7 +2,8 @@
 use super::ends::{due_word, fault_word};
 use super::sessions::DOCUMENT;
 use super::writers::{Full, Writer};
-use pd_engine::{Row, RowState, Snapshot, Spec, write_snapshot};
+use pd_engine::{Row, RowState, Snapshot, Spec};
+use pd_sessions::write_snapshot;
 use std::alloc::{AllocError, Global};
 use std::test::Fail;
 

@@ -4,9 +4,9 @@ use Rattle.pd_bundle.specs.PartsRead.{IsKept}
 use Rattle.pd_format.specs.Reports.{Report}
 use Rattle.pd_judgement.specs.Judgements.{IsJudgement, RawStream}
 use Rattle.pd_report.specs.declared.report.Report.{Report as Judged}
-use Rattle.pd_engine.specs.Unanswered.{IsUnanswered, refused_report}
+use Rattle.pd_sessions.specs.Unanswered.{IsUnanswered, refused_report}
 use Rattle.pd_engine.proofs.BundleReads.{long_handed_on, report_weaker}
-use Rattle.pd_engine.proofs.SessionReports.{of_given}
+use Rattle.pd_sessions.proofs.SessionReports.{of_given}
 use Rattle.pd_engine.proofs.bundle_judges.bundle_report.Goals as goal
 
 pub returns-in_err-document-clause-long : goal.returns-in_err-document-clause-long

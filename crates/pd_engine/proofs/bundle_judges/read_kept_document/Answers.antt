@@ -7,7 +7,7 @@ use Rattle.pd_report.specs.Views.{refusal_view}
 use Rattle.pd_spec.proofs.DocumentFacts.{long_bytes}
 use Rattle.pd_spec.specs.declared.fault.SpecFault.TheVariants as faults
 use Rattle.pd_engine.proofs.BundleReads.{refusal_weaker}
-use Rattle.pd_engine.proofs.DocumentRefusals.{refused_judged}
+use Rattle.pd_sessions.proofs.DocumentRefusals.{refused_judged}
 use Rattle.pd_engine.proofs.bundle_judges.read_kept_document.Goals as goal
 
 pub returns-then-kept-gt-DOCUMENT_BYTE_LIMIT-clause-refused :

@@ -4,8 +4,8 @@ use Rattle.pd_traces.specs.declared.event.Trace.{Trace}
 use Rattle.pd_gather.specs.Views.{results_view, traces_view}
 use Rattle.pd_report.specs.Views.{answer_view}
 use Rattle.pd_spec.specs.Views.{document_view}
-use Rattle.pd_engine.specs.Computations.{AreWellFormed}
-use Rattle.pd_engine.proofs.FitTraces.{answered_report}
+use Rattle.pd_sessions.specs.Computations.{AreWellFormed}
+use Rattle.pd_engine.proofs.AnsweredTraces.{answered_report}
 use Rattle.pd_engine.proofs.reports.answered.Goals as goal
 
 pub returns : goal.returns

@@ -4,9 +4,11 @@ use Rattle.pd_format.specs.Reports.{Report}
 use Rattle.pd_gather.specs.Views.{results_view}
 use Rattle.pd_judgement.specs.Judgements.{IsJudgement, IsReportOfResults, RawStream}
 use Rattle.pd_spec.specs.Views.{document_view}
-use Rattle.pd_engine.specs.SessionReports.{IsReportOfInputs, IsReportOfWhole}
-use Rattle.pd_engine.specs.Unanswered.{given_report}
-use Rattle.pd_engine.proofs.SessionReports.{inputs_report, of_given, refusal_reported, refused_inputs_report, refused_whole_report, whole_report}
+use Rattle.pd_sessions.specs.SessionReports.{IsReportOfInputs}
+use Rattle.pd_engine.specs.SessionReports.{IsReportOfWhole}
+use Rattle.pd_sessions.specs.Unanswered.{given_report}
+use Rattle.pd_sessions.proofs.SessionReports.{inputs_report, of_given, refused_inputs_report}
+use Rattle.pd_engine.proofs.SessionReports.{refusal_reported, refused_whole_report, whole_report}
 use Rattle.pd_engine.proofs.reports.session_report.Goals as goal
 
 pub returns-in_err-spec-clause-given : goal.returns-in_err-spec-clause-given

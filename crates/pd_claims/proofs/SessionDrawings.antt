@@ -1,0 +1,128 @@
+-- What is drawn of a report by the session that readers gave.
+use Rattle.std.proofs.Common.{◌≡◌, ℕ, List, map, length, sym, ap, ◌∙◌, subst, refl, true, Ok}
+use Rattle.std.specs.Prelude.{Option}
+use Rattle.pd_model.specs.Events.{Computation, Place}
+use Rattle.pd_model.specs.Messages.{IsMessageList}
+use Rattle.pd_model.specs.Predicates.{Recorded}
+use Rattle.pd_traces.specs.Views.{computation_view}
+use Rattle.pd_traces.specs.declared.event.Trace.{Trace as Read}
+use Rattle.pd_gather.specs.Views.{traces_view}
+use Rattle.pd_format.specs.Documents.{Document, IsDocument}
+use Rattle.pd_format.specs.OtherTexts.{Finding, NotRead}
+use Rattle.pd_format.specs.Readings.{Trace}
+use Rattle.pd_format.specs.Reports.{IsNoReport, IsReport, Refusal, Refused, Report}
+use Rattle.pd_format.specs.Sessions.{StreamResult, session}
+use Rattle.pd_judgement.specs.Findings.{IsSessionOf}
+use Rattle.pd_check.specs.Found.{IsFoundOfRefused, of_refused_session}
+use Rattle.pd_check.specs.Views.{finding_view}
+use Rattle.pd_check.proofs.SessionFindings.{finding_of_session}
+use Rattle.pd_draw.specs.Choices.{stands_against}
+use Rattle.pd_draw.specs.Drawn.{Comes}
+use Rattle.pd_draw.specs.declared.drawn.Drawn.{Drawn}
+use Rattle.pd_draw.specs.declared.drawn.Drawn.TheVariants as drawn
+use Rattle.pd_sessions.specs.Computations.{AreWellFormed}
+use Rattle.pd_claims.specs.Drawings.{Draws, DrawsOf, DrawsTraces, IsAgainst}
+use Rattle.pd_sessions.specs.SessionReports.{IsReportOfInputs}
+use Rattle.pd_sessions.proofs.FitTraces.{same_events}
+use Rattle.pd_claims.proofs.SessionFindings.{refusal_found, unread_found}
+use Rattle.pd_sessions.proofs.SessionReports.{AreGiven}
+
+-- the events of the traces are those that are recorded
+pub events_recorded : (document : Document) (traces : List Read) (recorded : Recorded) (count : ℕ)
+    → AreWellFormed document (traces_view traces) recorded count → computation_view traces ≡ recorded.events
+events_recorded document traces recorded count well =
+    same_events traces ∙ ap (λ (r : Recorded). r.events) (sym well.same)
+
+-- the messages of the traces are those of what is recorded
+pub messages_recorded : (document : Document) (traces : List Read) (recorded : Recorded) (count : ℕ)
+    (messages : List (Place × Place)) → AreWellFormed document (traces_view traces) recorded count
+    → IsMessageList (computation_view traces) messages → IsMessageList recorded.events messages
+messages_recorded document traces recorded count messages well list =
+    subst (λ (c : Computation). IsMessageList c messages) (events_recorded document traces recorded count well) list
+
+-- what comes of a session's traces
+pub traces_drawn : (document : Document) (traces : List Read) (recorded : Recorded) (count : ℕ)
+    (messages : List (Place × Place)) (claimed : Report) (name : Option (List ℕ)) (given : Drawn)
+    → AreWellFormed document (traces_view traces) recorded count
+    → IsMessageList (computation_view traces) messages
+    → Comes document (traces_view traces) messages claimed name given
+    → DrawsTraces document (traces_view traces) claimed name given
+traces_drawn document traces recorded count messages claimed name given well list comes = record {
+  messages = messages;
+  formed = well.formed;
+  are_messages = subst (λ (c : Computation). IsMessageList c messages) (same_events traces) list;
+  comes = comes;
+}
+
+-- a well-formed session
+module _ (bytes : List ℕ) (inputs : List (Option (List ℕ))) (document : Document) (count : ℕ)
+    (results : List StreamResult) (traces : List Trace) (claimed : Report) (name : Option (List ℕ))
+    (is : IsDocument bytes document) (read : AreGiven document inputs count results)
+    (joined : session document.names count results ≡ Ok traces) where
+  held : (given : Drawn) → (draws : DrawsTraces document traces claimed name given)
+      → IsSessionOf bytes read.0 document traces draws.messages
+  held given draws = record {
+    read = is;
+    results = read.2.given_results;
+    are_results = read.2.are_results;
+    joined = sym read.2.same_session ∙ joined;
+    formed = draws.formed;
+    are_messages = draws.are_messages;
+  }
+
+  pub session_drawn : (given : Drawn) → DrawsTraces document traces claimed name given
+      → DrawsOf bytes claimed inputs name given
+  session_drawn (drawn.Picture picture) draws report is_report = record {
+    streams = read.0;
+    are_given = read.1;
+    document = document;
+    traces = traces;
+    messages = draws.messages;
+    held = held (drawn.Picture picture) draws;
+    claimed = claimed;
+    read = is_report;
+    drawn = draws.comes;
+  }
+  session_drawn (drawn.Bad finding) draws report is_report = record {
+    streams = read.0;
+    are_given = read.1;
+    right = finding_of_session bytes report read.0 document traces draws.messages claimed (finding_view finding)
+        is_report (held (drawn.Bad finding) draws) draws.comes.found;
+    stands = draws.comes.stands;
+  }
+  session_drawn drawn.NoPredicate draws report is_report = record {
+    streams = read.0;
+    are_given = read.1;
+    checked = draws.comes.checked;
+    right = finding_of_session bytes report read.0 document traces draws.messages claimed _
+        is_report (held drawn.NoPredicate draws) draws.comes.found;
+    is_unknown = draws.comes.is_unknown;
+  }
+
+-- a refused session
+refusal_stands : (refusal : Refusal) (claimed : Report) (name : Option (List ℕ)) (finding : Finding)
+    → IsFoundOfRefused refusal claimed finding → stands_against name finding ≡ true
+refusal_stands refusal claimed name finding (of_refused_session good right) = refl
+
+pub refusal_drawn : (bytes : List ℕ) (inputs : List (Option (List ℕ))) (refusal : Refusal) (claimed : Report)
+    (name : Option (List ℕ)) (finding : Finding) → IsReportOfInputs bytes inputs (Refused refusal)
+    → IsFoundOfRefused refusal claimed finding → (report : List ℕ) → IsReport report claimed
+    → IsAgainst bytes report inputs name finding
+refusal_drawn bytes inputs refusal claimed name finding refused found report is_report =
+    let finds = refusal_found bytes inputs refusal claimed finding refused found in record {
+      streams = finds.streams;
+      are_given = finds.are_given;
+      right = finds.right report is_report;
+      stands = refusal_stands refusal claimed name finding found;
+    }
+
+-- a report that isn't read
+pub unread_drawn : (bytes report : List ℕ) (inputs : List (Option (List ℕ))) (name : Option (List ℕ)) (line : ℕ)
+    → IsNoReport report line → IsAgainst bytes report inputs name (NotRead line)
+unread_drawn bytes report inputs name line none =
+    let finds = unread_found bytes report inputs line none in record {
+      streams = finds.streams;
+      are_given = finds.are_given;
+      right = finds.right;
+      stands = refl;
+    }

@@ -1,0 +1,182 @@
+//! Draws a report's evidence.
+ghost use Rattle.pd_draw.specs.Choices.{name_view};
+ghost use Rattle.pd_claims.specs.Drawings.{Draws, DrawsOf, DrawsTraces, IsDrawingTextOf, ShowsEnd, drawing_end};
+ghost use Rattle.pd_sessions.specs.SessionReports.{IsReportOfInputs};
+ghost use Rattle.pd_sessions.specs.Unanswered.{IsUnanswered};
+ghost use Rattle.pd_events.specs.SessionTraces.{AreTraces};
+ghost use Rattle.pd_gather.specs.Views.{traces_view};
+ghost use Rattle.pd_judgement.specs.Judgements.{IsTracesReport};
+ghost use Rattle.pd_judgement.specs.Writes.{Writes};
+ghost use Rattle.pd_report.specs.Views.{report_view};
+ghost use Rattle.pd_spec.specs.Views.{document_view};
+ghost use Rattle.pd_svg.specs.Svg.{drawing_text};
+ghost use Rattle.std.specs.Prelude.{◌≡◌, ◌⊎◌, All, IfErr, IfOk, IsOkUnless, false, map};
+
+use pd_check::{Finding, find_refused, text};
+use pd_draw::Drawn;
+use pd_gather::{ByteSource, read_streams};
+use pd_report::{Report, ReportFault, WriteFault};
+use pd_sessions::{EngineFault, Unanswered, build, messages_of, read_document, traces_of};
+use pd_spec::Spec;
+use pd_traces::Trace;
+use std::alloc::Global;
+use std::io::Write;
+use std::random::RandomSource;
+use std::sync::Wait;
+use std::thread::Threads;
+
+/// What a call to draw came to, if nothing failed.
+#[derive(Debug, Drop)]
+pub enum Drawing {
+    /// The picture is written.
+    Written,
+    /// No picture is written: something in what a check finds, of which this is the text, stands against it.
+    Refused(Vec<u8>),
+    /// No picture is written: there is no predicate of the name that was asked for.
+    NoPredicate,
+}
+
+/// What is drawn of a session's traces and a report on it, or the refusal of the messages or of a causal cycle.
+fn draw_traces<S: RandomSource>(
+    rt: &S,
+    alloc: Global,
+    spec: &Spec,
+    claimed: &Report,
+    traces: &[Trace],
+    name: Option<&str>,
+) -> Result<Drawn, Unanswered>
+    requires { AreTraces (document_view spec.now).names traces.now }
+    ensures drawn { IfOk result (DrawsTraces (document_view spec.now) (traces_view traces.now)
+        (report_view claimed.now) (name_view name.entry)) }
+    ensures refused { IfErr result (IsUnanswered (IsTracesReport (document_view spec.now)
+        (traces_view traces.now))) }
+{
+    let matched = messages_of(rt, alloc, spec, traces)?;
+    let messages = matched.pairs(alloc)?;
+    let (computation, _count) = build(alloc, spec, traces, matched)?;
+    let drawn = pd_draw::draw(alloc, spec, claimed, &computation, traces, &messages, name)?;
+    Ok(drawn)
+}
+
+/// What is drawn, if the session is well formed, or why it comes to no answers.
+fn draw_session<S: RandomSource + Threads + Wait + Sync, R: ByteSource + Send + Drop>(
+    rt: &S,
+    alloc: Global,
+    claimed: &Report,
+    document: &[u8],
+    streams: Vec<R>,
+    name: Option<&str>,
+) -> Result<Drawn, Unanswered>
+    requires open { All (λ r. R.has_ended r ≡ false) streams.items }
+    ensures drawn { IfOk result (DrawsOf document.now (report_view claimed.now)
+        (map R.remaining streams.items) (name_view name.entry)) }
+    ensures refused { IfErr result (IsUnanswered
+        (IsReportOfInputs document.now (map R.remaining streams.items))) }
+{
+    let spec = read_document(alloc, document)?;
+    let gathered = read_streams(rt, alloc, &spec, streams)?;
+    let traces = traces_of(alloc, &spec, gathered)?;
+    let drawn = draw_traces(rt, alloc, &spec, claimed, &traces, name)?;
+    Ok(drawn)
+}
+
+/// What is drawn of a session and a report on it.
+fn draw_claimed<S: RandomSource + Threads + Wait + Sync, R: ByteSource + Send + Drop>(
+    rt: &S,
+    alloc: Global,
+    claimed: &Report,
+    document: &[u8],
+    streams: Vec<R>,
+    name: Option<&str>,
+) -> Result<Drawn, EngineFault>
+    requires open { All (λ r. R.has_ended r ≡ false) streams.items }
+    ensures drawn { IfOk result (DrawsOf document.now (report_view claimed.now)
+        (map R.remaining streams.items) (name_view name.entry)) }
+    ensures err { IsOkUnless result EngineFault.Memory }
+{
+    match draw_session(rt, alloc, claimed, document, streams, name) {
+        Ok(drawn) => Ok(drawn),
+        Err(unanswered) => match unanswered {
+            Unanswered::Refused(refusal) => Ok(Drawn::Bad(find_refused(claimed, &refusal))),
+            Unanswered::Memory => Err(EngineFault::Memory),
+        },
+    }
+}
+
+/// What is drawn of a session and of a report's bytes.
+fn draw_read<S: RandomSource + Threads + Wait + Sync, R: ByteSource + Send + Drop>(
+    rt: &S,
+    alloc: Global,
+    document: &[u8],
+    report: &[u8],
+    streams: Vec<R>,
+    name: Option<&str>,
+) -> Result<Drawn, EngineFault>
+    requires open { All (λ r. R.has_ended r ≡ false) streams.items }
+    ensures drawn { IfOk result (Draws document.now report.now (map R.remaining streams.items)
+        (name_view name.entry)) }
+    ensures err { IsOkUnless result EngineFault.Memory }
+{
+    match pd_report::read(alloc, report) {
+        Ok(claimed) => draw_claimed(rt, alloc, &claimed, document, streams, name),
+        Err(ReportFault::Line(line)) => Ok(Drawn::Bad(Finding::NotRead(line))),
+        Err(ReportFault::Memory) => Err(EngineFault::Memory),
+    }
+}
+
+/// Writes a picture's text.
+///
+/// # Errors
+/// `Memory` leaves nothing written. `Write` leaves a prefix of the text written, and not all of it.
+fn write_picture<W: Write>(
+    alloc: Global,
+    picture: &pd_svg::Drawing,
+    writer: &mut W,
+) -> Result<Drawing, EngineFault>
+    ensures written { Writes (λ text. text ≡ drawing_text picture.now) (drawing_end result)
+        (W.contents writer.old) (W.contents writer.new) }
+    ensures whole { IfOk result (λ drawing. drawing ≡ Drawing.Written) }
+    ensures err { IfErr result (λ fault. (fault ≡ EngineFault.Memory) ⊎ (fault ≡ EngineFault.Write)) }
+{
+    match pd_svg::write(alloc, picture, writer) {
+        Ok(()) => Ok(Drawing::Written),
+        Err(fault) => match fault {
+            WriteFault::Memory => Err(EngineFault::Memory),
+            WriteFault::Write => Err(EngineFault::Write),
+        },
+    }
+}
+
+/// Draws a session and a report on it, and writes the picture as SVG: the run, and the evidence of the predicate of this
+/// name, or without a name of the first predicate that has evidence. It reads and judges both as `check` does. If
+/// something in what a check finds stands against the picture, nothing is written, and the text of what it finds is
+/// given: the report isn't read, or it is a refusal or the session is refused, or the counts or the names are wrong, or
+/// the evidence that would be drawn is bad.
+///
+/// # Errors
+/// `Memory` leaves nothing written. `Write` leaves a prefix of the picture's text written, and not all of it. A read
+/// that fails is a fault of its stream.
+pub fn draw<S: RandomSource + Threads + Wait + Sync, R: ByteSource + Send + Drop, W: Write>(
+    rt: &S,
+    alloc: Global,
+    spec: &[u8],
+    report: &[u8],
+    streams: Vec<R>,
+    name: Option<&str>,
+    writer: &mut W,
+) -> Result<Drawing, EngineFault>
+    requires open { All (λ r. R.has_ended r ≡ false) streams.items }
+    // The picture's text is written whole, or a write fails and a prefix of it is; else nothing is.
+    ensures written { Writes (IsDrawingTextOf spec.now report.now (map R.remaining streams.items)
+        (name_view name.entry)) (drawing_end result) (W.contents writer.old) (W.contents writer.new) }
+    // What stands against a picture is what a check finds, or that there is no predicate of this name.
+    ensures shown { IfOk result (ShowsEnd spec.now report.now (map R.remaining streams.items)
+        (name_view name.entry)) }
+    ensures err { IfErr result (λ fault. (fault ≡ EngineFault.Memory) ⊎ (fault ≡ EngineFault.Write)) }
+{
+    match draw_read(rt, alloc, spec, report, streams, name)? {
+        Drawn::Picture(picture) => write_picture(alloc, &picture, writer),
+        Drawn::Bad(finding) => Ok(Drawing::Refused(text(alloc, &finding)?)),
+        Drawn::NoPredicate => Ok(Drawing::NoPredicate),
+    }
+}

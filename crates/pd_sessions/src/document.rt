@@ -1,0 +1,26 @@
+//! Reads the document of a session.
+ghost use Rattle.pd_sessions.specs.Unanswered.{IsUnanswered};
+ghost use Rattle.pd_format.specs.Documents.{IsDocument};
+ghost use Rattle.pd_judgement.specs.Judgements.{IsJudgement, RawStream};
+ghost use Rattle.pd_spec.specs.Views.{document_view};
+ghost use Rattle.std.specs.Prelude.{IfErr, IfOk, List};
+
+use super::refusal::of_document;
+use super::unanswered::Unanswered;
+use pd_spec::Spec;
+use std::alloc::Global;
+
+/// The document in these bytes, or its refusal, which is the report of the session whatever its streams are.
+///
+/// # Errors
+/// `Refused` if the document is refused, and `Memory`.
+pub fn read_document(alloc: Global, bytes: &[u8]) -> Result<Spec, Unanswered>
+    ensures read { IfOk result (λ spec. IsDocument bytes.now (document_view spec)) }
+    ensures refused { IfErr result (IsUnanswered (λ report. (streams : List RawStream)
+        → IsJudgement bytes.now streams report)) }
+{
+    match Spec::read(alloc, bytes) {
+        Ok(spec) => Ok(spec),
+        Err(fault) => Err(Unanswered::Refused(of_document(alloc, fault)?)),
+    }
+}

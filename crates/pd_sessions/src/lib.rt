@@ -1,0 +1,33 @@
+//! What is read of a session before anything is walked: its document, its traces and its computation, or its refusal.
+//!
+//! Both the judgement of a session and the check of a report on it begin here. A session that is refused is refused in
+//! the words of a report. Beside it stand the faults of the engine, a read up to a limit, and the text of what is shown
+//! of the streams while they are read.
+//!
+//! - `document`: reads the document of a session
+//! - `sessions`: the traces of a session
+//! - `computations`: the computation of a session
+//! - `snapshots`: writes what is shown of the streams while they are read
+//! - `input`: reads a source up to a limit
+//! - `refusal`: refusals in the words of a report
+//! - `unanswered`: why a session comes to no answers
+//! - `fault`: why the engine gives no report
+#![tactic(auto)]
+
+mod computations;
+mod document;
+mod fault;
+mod input;
+mod refusal;
+mod sessions;
+mod snapshots;
+mod unanswered;
+
+pub use computations::{build, computation_of, messages_of};
+pub use document::read_document;
+pub use fault::EngineFault;
+pub use input::read_upto;
+pub use refusal::of_document;
+pub use sessions::traces_of;
+pub use snapshots::write_snapshot;
+pub use unanswered::{Unanswered, settled};
