@@ -5,8 +5,8 @@ use Rattle.clap.specs.Walk.{Text}
 use Rattle.pd_judgement.specs.Statuses.{Ending, Success, Negative, Misuse, Failed, MemoryFailure, ReadFailure, WriteFailure, BundleFailure, NetworkFailure, Ends, EndsAsAsked, JudgeInput, JudgementLeaves, status_of}
 use Rattle.pd_judgement.specs.Writes.{WritesTruthOfBundle}
 use Rattle.pd_judgement.proofs.TextsOwed.{truth_of_bundle_text}
-use Rattle.pd_cli.specs.Arguments.{AsksFor, of_input}
-use Rattle.pd_cli.proofs.Parsed.{nothing_is_no_command, nothing_is_taken}
+use Rattle.pd_arguments.specs.Arguments.{AsksFor, of_input}
+use Rattle.pd_arguments.proofs.Parsed.{nothing_is_no_command, nothing_is_taken}
 
 none_asks : AsksFor [] JudgeInput
 none_asks = of_input nothing_is_taken (λ found. let is = found.1 in let none = nothing_is_no_command in cc)

@@ -4,9 +4,6 @@ mod BundleEnds
 mod DocumentPrefixes
 mod FilesRead
 mod FlushedTexts
-mod Numbers
-mod Parsed
-mod ParserEnds
 mod WrittenSoFar
 mod DrawingEnds
 mod DrawingsRead

@@ -9,7 +9,7 @@ use Rattle.pd_claims.specs.declared.drawings.Drawing.{Drawing}
 use Rattle.pd_claims.specs.declared.drawings.Drawing.TheVariants.{Written, Refused, NoPredicate}
 use Rattle.pd_sessions.specs.declared.fault.EngineFault.{EngineFault}
 use Rattle.pd_sessions.specs.declared.fault.EngineFault.TheVariants.{Memory, Write, Read, BundleLong}
-use Rattle.pd_cli.specs.Arguments.{AsksFor, AsksToDraw}
+use Rattle.pd_arguments.specs.Arguments.{AsksFor, AsksToDraw}
 use Rattle.pd_cli.specs.Faults.{failure_view}
 
 -- the line above what a check finds

@@ -4,7 +4,7 @@ ghost use Rattle.pd_judgement.specs.Statuses.{JudgementLeaves};
 ghost use Rattle.std.specs.Prelude.{◌≡◌, false};
 
 use super::outcomes::is_judged;
-use super::workers::Workers;
+use pd_arguments::Workers;
 use pd_engine::{ByteSource, NoGate, judge_bundle};
 use pd_sessions::EngineFault;
 use std::alloc::Global;

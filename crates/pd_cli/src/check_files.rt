@@ -6,8 +6,8 @@ ghost use Rattle.pd_judgement.specs.Writes.{IsWholeInput};
 ghost use Rattle.std.specs.Prelude.{◌≡◌, ◌≤◌, ◌⊎◌, All, IfErr, IfOk, Some, false, length, map, vec_len};
 
 use super::file_source::FileSource;
-use super::request::SessionNames;
 use super::session_files::{open_streams, read_document};
+use pd_arguments::SessionNames;
 use pd_claims::check;
 use pd_engine::{ByteSource, within_limit};
 use pd_format::REPORT_BYTE_LIMIT;

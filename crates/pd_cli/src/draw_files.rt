@@ -8,9 +8,9 @@ ghost use Rattle.std.specs.Prelude.{◌≡◌, ◌≤◌, ◌++◌, All, IfOk, S
 use super::check_files::read_report;
 use super::file_source::FileSource;
 use super::line::write_line;
-use super::request::SessionNames;
 use super::session_files::{open_streams, read_document};
 use super::status::{MISUSED, REFUSED, SUCCESS, report_fault};
+use pd_arguments::SessionNames;
 use pd_claims::{Drawing, draw};
 use pd_engine::ByteSource;
 use pd_sessions::EngineFault;

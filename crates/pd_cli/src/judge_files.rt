@@ -7,9 +7,8 @@ ghost use Rattle.std.specs.Prelude.{◌≡◌, ◌⊎◌, ℕ, List, All, IfErr,
 
 use super::file_source::FileSource;
 use super::outcomes::is_judged;
-use super::request::SessionNames;
 use super::session_files::{open_streams, read_document};
-use super::workers::Workers;
+use pd_arguments::{SessionNames, Workers};
 use pd_engine::{ByteSource, NoGate, judge};
 use pd_sessions::EngineFault;
 use std::alloc::Global;

@@ -2,17 +2,15 @@
 //!
 //! With no argument beyond the program's name a bundle is read from the input, judged, and its report written to the
 //! output. If the status is 0 or 1, what was written is the text of the report that the input's bytes make: judged at
-//! 0, refused at 1. Further arguments go to the command line's parser. `judge` with the names of files does the same
-//! with a session document and streams that stand in files. `check` with the names of files checks a report's evidence:
-//! at status 0 nothing that it found is bad, and at 1 something is. `draw` with the names of files draws a report: at
-//! status 0 the picture is written, and at 1 something that a check finds stands against it. `serve` with a port judges
-//! streams that come by connections to that port. Whatever fails is reported in one line on the errors. What each status
-//! says stands in `specs/Drawings.antt` for `draw`, and for the others in
+//! 0, refused at 1. Further arguments go to the command line's parser (`pd_arguments`). `judge` with the names of files
+//! does the same with a session document and streams that stand in files. `check` with the names of files checks a
+//! report's evidence: at status 0 nothing that it found is bad, and at 1 something is. `draw` with the names of files
+//! draws a report: at status 0 the picture is written, and at 1 something that a check finds stands against it. `serve`
+//! with a port judges streams that come by connections to that port. Whatever fails is reported in one line on the
+//! errors. What each status says stands in `specs/Drawings.antt` for `draw`, and for the others in
 //! `pd_judgement/specs/Statuses.antt`.
 //!
 //! - `program`: one run of the program, from its arguments to its exit status
-//! - `arguments`: the command line
-//! - `request`: what the program is asked for
 //! - `parser_error`: reports what the command line's parser has to say
 //! - `bundle`: judges the bundle on the input
 //! - `judge_files`: judges the session in files
@@ -20,7 +18,6 @@
 //! - `draw_files`: draws a report with the session in files
 //! - `server`: judges a session whose streams come by connections
 //! - `watchers`: shows watchers how far the streams are read
-//! - `workers`: how many workers share the work on a session
 //! - `network`: where connections come from
 //! - `service_fault`: why a server gives no report
 //! - `session_files`: opens and reads the files of a session
@@ -30,7 +27,6 @@
 //! - `line`: writes a line to the errors
 #![tactic(auto)]
 
-mod arguments;
 mod bundle;
 mod check_files;
 mod draw_files;
@@ -41,13 +37,11 @@ mod network;
 mod outcomes;
 mod parser_error;
 mod program;
-mod request;
 mod server;
 mod service_fault;
 mod session_files;
 mod status;
 mod watchers;
-mod workers;
 
 pub use file_source::FileSource;
 pub use network::Network;

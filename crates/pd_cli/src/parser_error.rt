@@ -1,6 +1,6 @@
 //! Reports what the command line's parser has to say.
 ghost use Rattle.clap.specs.Values.{kind_of};
-ghost use Rattle.pd_cli.specs.Arguments.{IsShownKind};
+ghost use Rattle.pd_arguments.specs.Arguments.{IsShownKind};
 ghost use Rattle.pd_cli.specs.Faults.{IsUnreadLine};
 ghost use Rattle.pd_judgement.specs.Statuses.{Ends, HelpLeaves, MisuseLeaves, IsLineOf, MemoryFailure, Failed, WritesUpTo};
 ghost use Rattle.std.specs.IoError.{error_kind};

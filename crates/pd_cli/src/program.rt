@@ -5,7 +5,6 @@ ghost use Rattle.pd_judgement.specs.Statuses.{CheckLeaves, Ends, FilesJudgementL
 ghost use Rattle.pd_judgement.specs.Writes.{WritesTruthOfBundle};
 ghost use Rattle.std.specs.Prelude.{◌≡◌, ◌≤◌, drop, false, length, map, vec_len};
 
-use super::arguments::parse;
 use super::bundle::judge_input;
 use super::check_files::check_files;
 use super::draw_files::{draw_files, report_drawing};
@@ -13,10 +12,9 @@ use super::file_source::FileSource;
 use super::judge_files::judge_files;
 use super::network::Network;
 use super::parser_error::report_parser_error;
-use super::request::{Request, Service, SessionNames};
 use super::server::serve;
 use super::status::{report_end, report_service_end};
-use super::workers::Workers;
+use pd_arguments::{Request, Service, SessionNames, Workers, parse};
 use pd_engine::ByteSource;
 use std::alloc::Global;
 use std::io::Write;

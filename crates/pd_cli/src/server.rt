@@ -1,5 +1,5 @@
 //! Judges a session whose streams come by connections.
-ghost use Rattle.pd_cli.specs.Arguments.{port_limit};
+ghost use Rattle.pd_arguments.specs.Arguments.{port_limit};
 ghost use Rattle.pd_cli.specs.Faults.{ending_view, is_out_of_memory, service_ending_view};
 ghost use Rattle.pd_cli.specs.declared.service_fault.ServiceFault.TheVariants as faults;
 ghost use Rattle.pd_format.specs.Documents.{IsDocument};
@@ -11,11 +11,10 @@ use super::file_source::FileSource;
 use super::judge_files::judge_read;
 use super::network::Network;
 use super::outcomes::is_judged;
-use super::request::Service;
 use super::service_fault::ServiceFault;
 use super::session_files::read_document;
 use super::watchers::Watchers;
-use super::workers::Workers;
+use pd_arguments::{Service, Workers};
 use pd_engine::{ByteSource, NoGate, Observer, Spec, SpecFault, judge_watched};
 use pd_judgement::one_document;
 use pd_sessions::EngineFault;

@@ -1,13 +1,19 @@
 -- What is done is what the arguments ask for.
-use Rattle.std.proofs.Common.{inl, inr, map, subst, sym, List, ℕ, Option, Bor}
+use Rattle.std.proofs.Common.{◌≡◌, inl, inr, map, option_map, refl, subst, sym, List, ℕ, Option, Some, None, Bor}
 use Rattle.pd_judgement.specs.Statuses.{CheckFiles, CheckLeaves, FilesJudgementLeaves, JudgeFiles, ServeStreams}
 use Rattle.pd_cli.proofs.FilesRead.{files_of_names}
 use Rattle.clap.specs.Values.{kind_of}
 use Rattle.pd_draw.specs.Choices.{name_view}
 use Rattle.pd_cli.specs.Drawings.{EndsDrawn}
-use Rattle.pd_cli.specs.Views.{IsAsked, session_view}
-use Rattle.pd_cli.proofs.ParserEnds.{error_as_asked}
+use Rattle.pd_arguments.specs.Arguments.{AsksToDraw}
+use Rattle.pd_arguments.specs.Views.{IsAsked, session_view}
+use Rattle.pd_arguments.proofs.ParserEnds.{error_as_asked}
 use Rattle.pd_cli.proofs.program.run_arguments.Goals as goal
+
+-- the name that is asked for, in the words of the arguments and in those of the picture
+named : (found : Option (Bor (List ℕ))) → option_map (λ (name : Bor (List ℕ)). name.now) found ≡ name_view found
+named None = refl
+named (Some name) = refl
 
 pub returns-in-Ok-Judge : goal.returns-in-Ok-Judge
 returns-in-Ok-Judge g c = record {
@@ -71,8 +77,11 @@ returns-in-Ok-Draw g c = record {
     report = c.in-Ok-Draw.report.now;
     streams = (session_view c.in-Ok-Draw.names).1;
     name = name_view c.in-Ok-Draw.predicate;
-    asked = subst (IsAsked (map (λ argument. argument.bytes.items) c.args.arguments.now)) c.in-Ok-Draw.field-0-is
-        c.in-Ok-Draw.ensures.asked;
+    asked = subst (λ (name : Option (List ℕ)). AsksToDraw (map (λ argument. argument.bytes.items) c.args.arguments.now)
+        (session_view c.in-Ok-Draw.names).0 c.in-Ok-Draw.report.now (session_view c.in-Ok-Draw.names).1 name)
+        (named c.in-Ok-Draw.predicate)
+        (subst (IsAsked (map (λ argument. argument.bytes.items) c.args.arguments.now)) c.in-Ok-Draw.field-0-is
+        c.in-Ok-Draw.ensures.asked);
     ends = subst (λ (streams : List (Option (List ℕ))). EndsDrawn
         (g.F.FileSource.bytes_of c.args.files.now c.in-Ok-Draw.names.spec.now)
         (g.F.FileSource.bytes_of c.args.files.now c.in-Ok-Draw.report.now) streams (name_view c.in-Ok-Draw.predicate)

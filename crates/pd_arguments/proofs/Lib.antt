@@ -1,0 +1,4 @@
+-- The modules of lemmas of this crate.
+pub mod Numbers
+pub mod Parsed
+pub mod ParserEnds

@@ -1,0 +1,27 @@
+-- The names of a session's files and a number of workers ask to judge it.
+use Rattle.std.proofs.Common.{codes, inl, option_map, refl, subst, Option}
+use Rattle.clap.specs.Matches.{found_of}
+use Rattle.clap.specs.Walk.{rows_of}
+use Rattle.pd_arguments.specs.Arguments.{FindsSession, of_judge, of_missing, of_missing_workers}
+use Rattle.pd_arguments.specs.Views.{session_view}
+use Rattle.pd_arguments.specs.declared.request.SessionNames.{SessionNames}
+use Rattle.pd_arguments.proofs.Numbers.{lacks_workers}
+use Rattle.pd_arguments.proofs.arguments.judge_request.Goals as goal
+
+pub returns-in_default : goal.returns-in_default
+returns-in_default c arguments taken are =
+    let rows = rows_of (found_of c.args.matches.now) in
+    of_missing_workers (codes "judge") rows (inl refl) are
+    (lacks_workers rows (c.workers_of.ensures.none c.in_default.is))
+
+pub returns-in_default-2 : goal.returns-in_default-2
+returns-in_default-2 c arguments taken are =
+    of_missing (codes "judge") (rows_of (found_of c.args.matches.now)) (inl refl) are
+    (subst (λ (names : Option SessionNames). FindsSession (rows_of (found_of c.args.matches.now))
+    (option_map session_view names)) c.in_default-2.is c.in_ok-names.ensures)
+
+pub returns : goal.returns
+returns c arguments taken are =
+    of_judge (rows_of (found_of c.args.matches.now)) _ _ _ taken are
+    (subst (λ (names : Option SessionNames). FindsSession (rows_of (found_of c.args.matches.now))
+    (option_map session_view names)) c.in-Some-2.is c.in_ok-names.ensures) c.in-Some.ensures.some

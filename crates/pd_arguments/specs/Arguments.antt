@@ -1,0 +1,231 @@
+-- What the arguments after the program's name ask for, as the command line's parser takes them.
+use Rattle.std.specs.Prelude.{◌≡◌, ◌≢◌, ◌⊎◌, ◌<◌, ◌≤◌, ◌^◌, ℕ, true, List, [], ◌∷◌, codes, Option, Some, None}
+use Rattle.std.specs.Str.Parse.{IsNumeral, digits_value, without_leading_plus}
+use Rattle.clap.specs.Lexer.{usize_max}
+use Rattle.clap.specs.Words.{App, Row, Rule, Shape, Text, IsAmong, all_of, fault_of, first_of, new_app, new_rule, subcommand_of, with_rule, with_subcommand}
+use Rattle.clap.specs.declared.builder.value_parser.ValueParser.TheVariants.{Unsigned}
+use Rattle.clap.specs.declared.error.kind.ErrorKind.{ErrorKind}
+use Rattle.clap.specs.declared.error.kind.ErrorKind.TheVariants.{DisplayHelp, DisplayVersion, OutOfMemory}
+use Rattle.pd_judgement.specs.Statuses.{Request, JudgeInput, JudgeFiles, CheckFiles, ServeStreams, ShowHelp, Unclear}
+
+-- ---- limits
+
+-- the greatest port next to which there is one more
+abbrev pub port_limit : ℕ
+port_limit = 65534
+
+-- how many watchers there are at most
+abbrev pub watcher_limit : ℕ
+watcher_limit = 64
+
+-- how many workers there are at most
+abbrev pub worker_limit : ℕ
+worker_limit = 16
+
+-- ---- the command line
+
+-- an argument that must be given, and has its place among them and no option's name
+abbrev pub required_rule : Text → Rule
+required_rule id = record (new_rule id) { required = true }
+
+-- one name or more
+abbrev pub stream_rule : Rule
+stream_rule = record (required_rule (codes "STREAM")) {
+  range = Some (record { start_inclusive = 1; end_inclusive = usize_max });
+}
+
+-- an option of this name with a number in this range
+abbrev pub number_rule : (id name : Text) (least most : ℕ) → Rule
+number_rule id name least most = record (new_rule id) { long = Some name; parser = Some (Unsigned least most) }
+
+-- the port of the streams
+abbrev pub port_rule : Rule
+port_rule = record (number_rule (codes "PORT") (codes "port") 1 port_limit) { required = true }
+
+-- the number of watchers
+abbrev pub watchers_rule : Rule
+watchers_rule = record (number_rule (codes "WATCHERS") (codes "watchers") 0 watcher_limit) { defaults = codes "0" ∷ [] }
+
+-- the number of workers
+abbrev pub workers_rule : Rule
+workers_rule = record (number_rule (codes "WORKERS") (codes "workers") 1 worker_limit) { defaults = codes "1" ∷ [] }
+
+-- `judge SPEC STREAM... [--workers WORKERS]`
+abbrev pub judge_app : App
+judge_app = with_rule (with_rule (with_rule (new_app (codes "judge")) (required_rule (codes "SPEC"))) stream_rule)
+    workers_rule
+
+-- `check SPEC REPORT STREAM...`
+abbrev pub check_app : App
+check_app = with_rule (with_rule (with_rule (new_app (codes "check")) (required_rule (codes "SPEC")))
+    (required_rule (codes "REPORT"))) stream_rule
+
+-- the name of a predicate
+abbrev pub predicate_rule : Rule
+predicate_rule = record (new_rule (codes "PREDICATE")) { long = Some (codes "predicate") }
+
+-- the document and the report of a picture
+abbrev pub drawn_app : App
+drawn_app = with_rule (with_rule (new_app (codes "draw")) (required_rule (codes "SPEC"))) (required_rule (codes "REPORT"))
+
+-- `draw SPEC REPORT STREAM... [--predicate PREDICATE]`
+abbrev pub draw_app : App
+draw_app = with_rule (with_rule drawn_app stream_rule) predicate_rule
+
+-- the document and the port of a server
+abbrev pub port_app : App
+port_app = with_rule (with_rule (new_app (codes "serve")) (required_rule (codes "SPEC"))) port_rule
+
+-- `serve SPEC --port PORT [--watchers WATCHERS] [--workers WORKERS]`
+abbrev pub serve_app : App
+serve_app = with_rule (with_rule port_app watchers_rule) workers_rule
+
+-- the program alone: its name isn't among the arguments that are parsed
+abbrev pub plain_shape : Shape
+plain_shape =
+    record (new_app (codes "monitor")).top { no_binary_name = true; disable_help_subcommand = true }
+
+abbrev pub plain_app : App
+plain_app = record { top = plain_shape; subs = [] }
+
+-- with the commands `judge` and `check`
+abbrev pub files_app : App
+files_app = with_subcommand (with_subcommand plain_app judge_app.top) check_app.top
+
+-- with the commands `draw` and `serve` too
+abbrev pub monitor_app : App
+monitor_app =
+    with_subcommand (with_subcommand files_app draw_app.top) serve_app.top
+
+-- ---- what the parser found
+
+-- the text that such an error has is asked for, and reports nothing wrong
+abbrev pub IsShownKind : ErrorKind → Type 0
+IsShownKind kind = (kind ≡ DisplayHelp) ⊎ (kind ≡ DisplayVersion)
+
+-- the parser finds nothing wrong
+abbrev pub AreTaken : List Text → Type 0
+AreTaken arguments = fault_of monitor_app arguments ≡ []
+
+-- the parser finds this wrong, or something else
+abbrev pub HasFault : List Text → ErrorKind → Type 0
+HasFault arguments kind = IsAmong kind (fault_of monitor_app arguments)
+
+-- the arguments are those of the command of this name, and the parser found these rows in them
+abbrev pub AreOf : (command : Text) → List Text → List Row → Type 0
+AreOf command arguments rows = subcommand_of monitor_app arguments ≡ Some (command, rows)
+
+-- the names of the files of a session document and of its streams
+abbrev pub NamesSession : List Row → (document : Text) (streams : List Text) → Type 0
+NamesSession rows document streams =
+    (first_of (codes "SPEC") rows ≡ Some document) × (all_of (codes "STREAM") rows ≡ Some streams)
+
+-- one of these names is missing
+abbrev pub LacksSession : List Row → Type 0
+LacksSession rows = ¬ ((document : Text) × (streams : List Text) × NamesSession rows document streams)
+
+-- the name of a report's file
+abbrev pub NamesReport : List Row → (report : Text) → Type 0
+NamesReport rows report = first_of (codes "REPORT") rows ≡ Some report
+
+-- the text is a decimal number of 64 bits
+abbrev pub IsNumberText : Text → ℕ → Type 0
+IsNumberText text n = (IsNumeral 10 (without_leading_plus text)
+    × (digits_value 10 (without_leading_plus text) < 2 ^ 64)) × (n ≡ digits_value 10 (without_leading_plus text))
+
+-- the option of this id has this number
+abbrev pub NamesNumber : List Row → (id : Text) → ℕ → Type 0
+NamesNumber rows id n = (text : Text) × (first_of id rows ≡ Some text) × IsNumberText text n
+
+-- a port that isn't the last one
+abbrev pub IsPort : ℕ → Type 0
+IsPort port = (1 ≤ port) × (port ≤ port_limit)
+
+-- some workers, and not too many
+abbrev pub IsWorkers : ℕ → Type 0
+IsWorkers workers = (1 ≤ workers) × (workers ≤ worker_limit)
+
+-- the number of workers
+abbrev pub NamesWorkers : List Row → (workers : ℕ) → Type 0
+NamesWorkers rows workers = NamesNumber rows (codes "WORKERS") workers × IsWorkers workers
+
+-- it is missing, or isn't in its range
+abbrev pub LacksWorkers : List Row → Type 0
+LacksWorkers rows = ¬ ((workers : ℕ) × NamesWorkers rows workers)
+
+-- the name of a session document's file, the port of the streams, and the number of watchers
+pub record NamesService (rows : List Row) (document : Text) (port watchers : ℕ) : Type 0 where
+  pub names_document : first_of (codes "SPEC") rows ≡ Some document
+  pub names_port : NamesNumber rows (codes "PORT") port
+  pub is_port : IsPort port
+  pub names_watchers : NamesNumber rows (codes "WATCHERS") watchers
+  pub few_watchers : watchers ≤ watcher_limit
+
+-- one of these is missing, or a number isn't in its range
+abbrev pub LacksService : List Row → Type 0
+LacksService rows =
+    ¬ ((document : Text) × (port : ℕ) × (watchers : ℕ) × NamesService rows document port watchers)
+
+-- ---- what is asked for
+
+-- the commands that take the names of streams' files
+abbrev pub TakesStreams : (command : Text) → Type 0
+TakesStreams command = (command ≡ codes "judge") ⊎ (command ≡ codes "check") ⊎ (command ≡ codes "draw")
+
+-- the commands that take the name of a report's file
+abbrev pub TakesReport : (command : Text) → Type 0
+TakesReport command = (command ≡ codes "check") ⊎ (command ≡ codes "draw")
+
+-- the commands that take a number of workers
+abbrev pub TakesWorkers : (command : Text) → Type 0
+TakesWorkers command = (command ≡ codes "judge") ⊎ (command ≡ codes "serve")
+
+-- What the arguments ask for. If they are taken, it is what their command is for, and with no command the bundle on the
+-- input is judged. Arguments that are not taken ask for a text that is shown, or have some other fault; and so have
+-- those of a command that lacks a name or a number. How many workers there are changes nothing of what is asked for.
+pub data AsksFor (arguments : List Text) : Request → Type 0 where
+  of_input : AreTaken arguments → ¬ ((rows : List Row) × AreOf (codes "judge") arguments rows)
+      → ¬ ((rows : List Row) × AreOf (codes "check") arguments rows)
+      → ¬ ((rows : List Row) × AreOf (codes "draw") arguments rows)
+      → ¬ ((rows : List Row) × AreOf (codes "serve") arguments rows) → AsksFor arguments JudgeInput
+  of_judge : (rows : List Row) (document : Text) (streams : List Text) (workers : ℕ) → AreTaken arguments
+      → AreOf (codes "judge") arguments rows → NamesSession rows document streams → NamesWorkers rows workers
+      → AsksFor arguments (JudgeFiles document streams)
+  of_check : (rows : List Row) (document report : Text) (streams : List Text) → AreTaken arguments
+      → AreOf (codes "check") arguments rows → NamesSession rows document streams → NamesReport rows report
+      → AsksFor arguments (CheckFiles document report streams)
+  of_serve : (rows : List Row) (document : Text) (port watchers workers : ℕ) → AreTaken arguments
+      → AreOf (codes "serve") arguments rows → NamesService rows document port watchers → NamesWorkers rows workers
+      → AsksFor arguments (ServeStreams document port watchers)
+  of_help : (kind : ErrorKind) → IsShownKind kind → HasFault arguments kind → AsksFor arguments ShowHelp
+  of_fault : (kind : ErrorKind) → ¬ IsShownKind kind → HasFault arguments kind → AsksFor arguments Unclear
+  of_missing : (command : Text) (rows : List Row) → TakesStreams command → AreOf command arguments rows
+      → LacksSession rows → AsksFor arguments Unclear
+  of_missing_report : (command : Text) (rows : List Row) → TakesReport command → AreOf command arguments rows
+      → ¬ ((report : Text) × NamesReport rows report) → AsksFor arguments Unclear
+  of_missing_service : (rows : List Row) → AreOf (codes "serve") arguments rows → LacksService rows
+      → AsksFor arguments Unclear
+  of_missing_workers : (command : Text) (rows : List Row) → TakesWorkers command → AreOf command arguments rows
+      → LacksWorkers rows → AsksFor arguments Unclear
+
+-- The arguments ask for a picture of a session in files of these names, and of the evidence of the predicate of this
+-- name, or without a name of the first that has evidence.
+pub record AsksToDraw (arguments : List Text) (document report : Text) (streams : List Text) (name : Option Text) :
+    Type 0 where
+  pub rows : List Row
+  pub are_taken : AreTaken arguments
+  pub are_of : AreOf (codes "draw") arguments rows
+  pub names_session : NamesSession rows document streams
+  pub names_report : NamesReport rows report
+  pub names_predicate : first_of (codes "PREDICATE") rows ≡ name
+
+-- A parse that gives no request says so: its error has a text to show, or one that reports what is wrong; or memory ran
+-- out.
+abbrev pub IsErrorOf : List Text → ErrorKind → Type 0
+IsErrorOf arguments kind = kind ≢ OutOfMemory → (IsShownKind kind → AsksFor arguments ShowHelp)
+    × (¬ IsShownKind kind → AsksFor arguments Unclear)
+
+-- the names of a session's files, or that one is missing
+abbrev pub FindsSession : List Row → Option (Text × List Text) → Type 0
+FindsSession rows None = LacksSession rows
+FindsSession rows (Some names) = NamesSession rows names.0 names.1

@@ -1,0 +1,31 @@
+-- What the program is asked for, as the definitions name it.
+use Rattle.std.specs.Prelude.{List, ℕ, map, option_map, Option, Some, None}
+use Rattle.std.specs.Borrow.{Bor}
+use Rattle.pd_judgement.specs.Statuses as asked
+use Rattle.clap.specs.Words.{Text}
+use Rattle.pd_arguments.specs.Arguments.{AsksFor, AsksToDraw}
+use Rattle.pd_arguments.specs.declared.request.Request.{Request}
+use Rattle.pd_arguments.specs.declared.request.Request.TheVariants.{Bundle, Judge, Check, Draw, Serve}
+use Rattle.pd_arguments.specs.declared.request.SessionNames.{SessionNames}
+
+-- the names of the document's file and of the streams' files
+abbrev pub session_view : SessionNames → List ℕ × List (List ℕ)
+session_view names = (names.spec.now, map (λ name. name.now) names.streams.items)
+
+-- the arguments ask for this
+abbrev pub IsAsked : List Text → Request → Type 0
+IsAsked arguments Bundle = AsksFor arguments asked.JudgeInput
+IsAsked arguments (Judge names workers) =
+    AsksFor arguments (asked.JudgeFiles (session_view names).0 (session_view names).1)
+IsAsked arguments (Check report names) =
+    AsksFor arguments (asked.CheckFiles (session_view names).0 report.now (session_view names).1)
+IsAsked arguments (Draw report predicate names) =
+    AsksToDraw arguments (session_view names).0 report.now (session_view names).1
+    (option_map (λ (name : Bor (List ℕ)). name.now) predicate)
+IsAsked arguments (Serve service) =
+    AsksFor arguments (asked.ServeStreams service.spec.now service.port service.watchers)
+
+-- the same of a request; with none the arguments ask for nothing that can be done
+abbrev pub IsAskedIf : List Text → Option Request → Type 0
+IsAskedIf arguments None = AsksFor arguments asked.Unclear
+IsAskedIf arguments (Some request) = IsAsked arguments request

@@ -1,0 +1,222 @@
+//! What the arguments ask for, by what the command line's parser finds in them.
+ghost use Rattle.clap.specs.Matches.{found_of};
+ghost use Rattle.clap.specs.Simple.{subcommand_of, subcommand_rows_of};
+ghost use Rattle.clap.specs.Values.{kind_of};
+ghost use Rattle.clap.specs.Walk.{Text, rows_of};
+ghost use Rattle.pd_arguments.specs.Arguments.{AreOf, AreTaken, AsksFor, AsksToDraw, FindsSession, IsErrorOf, IsNumberText, IsPort, NamesNumber, NamesWorkers, monitor_app};
+ghost use Rattle.pd_arguments.specs.Views.{IsAsked, IsAskedIf, session_view};
+ghost use Rattle.std.specs.Prelude.{◌≡◌, ◌≢◌, ℕ, IfErr, IfOk, IfSome, List, None, codes, map, option_map};
+
+use super::commands::{PORT_LIMIT, WATCHER_LIMIT, program_command};
+use super::request::{Request, Service, SessionNames};
+use super::workers::Workers;
+use clap::error::ErrorKind;
+use clap::{ArgMatches, Command, Error};
+use std::alloc::{AllocError, Global};
+
+/// The names of a session's files, if all are there.
+fn session_names<'a>(
+    alloc: Global,
+    matches: &ArgMatches<'a>,
+) -> Result<Option<SessionNames<'a>>, AllocError>
+    ensures { IfOk result (λ names. FindsSession (rows_of (found_of matches.now)) (option_map session_view names)) }
+{
+    let (Some(spec), Some(streams)) = (matches.get_str("SPEC"), matches.get_strs("STREAM")) else {
+        return Ok(None);
+    };
+    Ok(Some(SessionNames {
+        spec,
+        streams: streams.to_vec(alloc)?,
+    }))
+}
+
+/// What the arguments of `judge` ask for, if all names are there.
+fn judge_request<'a>(
+    alloc: Global,
+    matches: &ArgMatches<'a>,
+) -> Result<Option<Request<'a>>, AllocError>
+    ensures { IfOk result (λ request. (arguments : List Text) → AreTaken arguments
+        → AreOf (codes "judge") arguments (rows_of (found_of matches.now))
+        → IsAskedIf arguments request) }
+{
+    let Some(workers) = workers_of(matches) else {
+        return Ok(None);
+    };
+    let Some(names) = session_names(alloc, matches)? else {
+        return Ok(None);
+    };
+    Ok(Some(Request::Judge(names, workers)))
+}
+
+/// What the arguments of `check` ask for, if all names are there.
+fn check_request<'a>(
+    alloc: Global,
+    matches: &ArgMatches<'a>,
+) -> Result<Option<Request<'a>>, AllocError>
+    ensures { IfOk result (λ request. (arguments : List Text) → AreTaken arguments
+        → AreOf (codes "check") arguments (rows_of (found_of matches.now))
+        → IsAskedIf arguments request) }
+{
+    let Some(report) = matches.get_str("REPORT") else {
+        return Ok(None);
+    };
+    let Some(names) = session_names(alloc, matches)? else {
+        return Ok(None);
+    };
+    Ok(Some(Request::Check(report, names)))
+}
+
+/// What the arguments of `draw` ask for, if all names of files are there.
+fn draw_request<'a>(
+    alloc: Global,
+    matches: &ArgMatches<'a>,
+) -> Result<Option<Request<'a>>, AllocError>
+    ensures { IfOk result (λ request. (arguments : List Text) → AreTaken arguments
+        → AreOf (codes "draw") arguments (rows_of (found_of matches.now))
+        → IsAskedIf arguments request) }
+{
+    let predicate = matches.get_str("PREDICATE");
+    let Some(report) = matches.get_str("REPORT") else {
+        return Ok(None);
+    };
+    let Some(names) = session_names(alloc, matches)? else {
+        return Ok(None);
+    };
+    Ok(Some(Request::Draw(report, predicate, names)))
+}
+
+/// The number that this text is, if it is one of 64 bits.
+fn number_in(text: &str) -> Option<u64>
+    ensures some { IfSome result (IsNumberText text.now) }
+    ensures none { result ≡ None → (n : ℕ) → ¬ IsNumberText text.now n }
+{
+    match u64::from_str_radix(text, 10) {
+        Ok(number) => Some(number),
+        Err(_) => None,
+    }
+}
+
+/// The number of an option, if it has one.
+fn number_of(matches: &ArgMatches<'_>, id: &str) -> Option<u64>
+    ensures some { IfSome result (NamesNumber (rows_of (found_of matches.now)) id.now) }
+    ensures none { result ≡ None → (n : ℕ) → ¬ NamesNumber (rows_of (found_of matches.now)) id.now n }
+{
+    let Some(text) = matches.get_str(id) else {
+        return None;
+    };
+    number_in(text)
+}
+
+/// The number of workers, if it is one from 1 to 16.
+fn workers_of(matches: &ArgMatches<'_>) -> Option<Workers>
+    ensures some { IfSome result (λ workers. NamesWorkers (rows_of (found_of matches.now)) workers.number) }
+    ensures none { result ≡ None → (n : ℕ) → ¬ NamesWorkers (rows_of (found_of matches.now)) n }
+{
+    let Some(number) = number_of(matches, "WORKERS") else {
+        return None;
+    };
+    Workers::of(number)
+}
+
+/// The port of this number, unless it is 0 or the last one.
+fn port_of(number: u64) -> Option<u16>
+    ensures same { IfSome result (λ port. port ≡ number) }
+    ensures in_range { IfSome result IsPort }
+    ensures none { result ≡ None → ¬ IsPort number }
+{
+    if number < 1 || number > PORT_LIMIT {
+        return None;
+    }
+    Some(number as u16)
+}
+
+/// What the arguments of `serve` ask for, if all are there.
+fn serve_request<'a>(matches: &ArgMatches<'a>) -> Option<Request<'a>>
+    ensures { (arguments : List Text) → AreTaken arguments
+        → AreOf (codes "serve") arguments (rows_of (found_of matches.now))
+        → IsAskedIf arguments result }
+{
+    let Some(spec) = matches.get_str("SPEC") else {
+        return None;
+    };
+    let Some(number) = number_of(matches, "PORT") else {
+        return None;
+    };
+    let Some(port) = port_of(number) else {
+        return None;
+    };
+    let Some(watchers) = number_of(matches, "WATCHERS") else {
+        return None;
+    };
+    if watchers > WATCHER_LIMIT {
+        return None;
+    }
+    let Some(workers) = workers_of(matches) else {
+        return None;
+    };
+    Some(Request::Serve(Service {
+        spec,
+        port,
+        watchers,
+        workers,
+    }))
+}
+
+/// What is asked for, by what the parser found, if no name of a file and no number is missing.
+fn request_of<'a>(
+    alloc: Global,
+    matches: &ArgMatches<'a>,
+) -> Result<Option<Request<'a>>, AllocError>
+    ensures { IfOk result (λ request. (arguments : List Text) → AreTaken arguments
+        → subcommand_rows_of matches.now ≡ subcommand_of monitor_app arguments
+        → IsAskedIf arguments request) }
+{
+    if let Some(found) = matches.subcommand_matches("judge") {
+        return judge_request(alloc, found);
+    }
+    if let Some(found) = matches.subcommand_matches("check") {
+        return check_request(alloc, found);
+    }
+    if let Some(found) = matches.subcommand_matches("draw") {
+        return draw_request(alloc, found);
+    }
+    if let Some(found) = matches.subcommand_matches("serve") {
+        return Ok(serve_request(found));
+    }
+    Ok(Some(Request::Bundle))
+}
+
+/// The error of a command if a name of a file or a number lacks.
+fn missing_argument(command: &mut Command<'_>) -> Error
+    ensures { kind_of result ≢ ErrorKind.OutOfMemory → kind_of result ≡ ErrorKind.MissingRequiredArgument }
+{
+    match command.error(
+        ErrorKind::MissingRequiredArgument,
+        "a name of a file or a number is missing",
+    ) {
+        Ok(error) => error,
+        Err(refused) => Error::from(refused),
+    }
+}
+
+/// Parses the arguments after the program's name.
+///
+/// # Errors
+/// What the parser has to say: the help that was asked for, what is wrong with the arguments, or that an allocation was
+/// refused.
+pub fn parse<'a>(alloc: Global, arguments: &'a [String]) -> Result<Request<'a>, Error>
+    ensures asked { IfOk result (λ request.
+        IsAsked (map (λ argument. argument.bytes.items) arguments.entry.now) request) }
+    ensures refused { IfErr result (λ error.
+        IsErrorOf (map (λ argument. argument.bytes.items) arguments.entry.now) (kind_of error)) }
+{
+    let mut command = program_command(alloc)?;
+    let matches = match command.try_get_matches_from_mut(arguments) {
+        Ok(matches) => matches,
+        Err(error) => return Err(error),
+    };
+    let Some(request) = request_of(alloc, &matches)? else {
+        return Err(missing_argument(&mut command));
+    };
+    Ok(request)
+}

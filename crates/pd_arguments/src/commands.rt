@@ -1,0 +1,239 @@
+//! The program's commands, with their arguments, options and help texts, as its parser takes them.
+ghost use Rattle.clap.specs.Simple.{app_of};
+ghost use Rattle.clap.specs.Walk.{rule_of};
+ghost use Rattle.clap.specs.declared.builder.command.Command.TheViews.{out-Command};
+ghost use Rattle.pd_arguments.specs.Arguments.{check_app, draw_app, drawn_app, files_app, judge_app, monitor_app, number_rule, port_app, port_rule, predicate_rule, required_rule, serve_app, stream_rule, watchers_rule, workers_rule};
+ghost use Rattle.std.specs.Prelude.{◌≡◌, IfOk, false};
+
+use super::workers::WORKER_LIMIT;
+use clap::builder::ValueParser;
+use clap::{Arg, Command};
+use std::alloc::{AllocError, Global};
+
+/// What the program's help says of it.
+const ABOUT: &str =
+    "Judges predicates on a distributed computation. The command `judge` reads a session document, and one stream of \
+events for each process, from files. With no command they are read from the standard input, as one bundle. \
+A report is written to the standard output. The command `check` checks the evidence in such a report, and `draw` \
+draws it. \
+The command `serve` judges streams that processes send over TCP while they run.";
+
+/// What the help says of `judge`.
+const JUDGE_ABOUT: &str = "Judges predicates on a computation that is recorded in files";
+
+/// What the help of `judge` ends with.
+const JUDGE_AFTER: &str =
+    "A report is written to the standard output. The status is 0 if the session is judged, 1 if it is refused, \
+also because a stream can't be read, 2 if the arguments are refused, 3 if a file can't be opened, the document \
+can't be read or the output can't be written, and 4 if memory runs out.\n\n\
+The formats are described in docs/SPECIFICATION.md. An example, at the top of the repository:\n  \
+crates/monitor/out/monitor judge examples/ten-lines/session.json examples/ten-lines/left.stream \
+examples/ten-lines/right.stream";
+
+/// What the help says of `check`.
+const CHECK_ABOUT: &str =
+    "Checks whether the cuts and paths in a report show what they are printed for";
+
+/// What the help of `check` ends with.
+const CHECK_AFTER: &str =
+    "What is found is written to the standard output. The status is 0 if nothing in it is bad, 1 if something is, 2 if the \
+arguments are refused, 3 if a file can't be opened or read or the output can't be written, and 4 if memory runs out.\n\n\
+The formats are described in docs/SPECIFICATION.md. An example, at the top of the repository:\n  \
+crates/monitor/out/monitor check examples/ten-lines/session.json examples/ten-lines/report \
+examples/ten-lines/left.stream examples/ten-lines/right.stream";
+
+/// What the help says of `draw`.
+const DRAW_ABOUT: &str =
+    "Draws a computation with the cut or the observation that a report shows of a predicate";
+
+/// What the help of `draw` ends with.
+const DRAW_AFTER: &str =
+    "A picture is written to the standard output, as SVG. The report is read and held against the document and the \
+streams as `check` does. The status is 0 if the picture is written, 1 if something that a check finds stands against \
+it, which is then written to the standard error, 2 if the arguments are refused or there is no predicate of the name \
+that is asked for, 3 if a file can't be opened or read or the output can't be written, and 4 if memory runs out.\n\n\
+The formats are described in docs/SPECIFICATION.md. An example, at the top of the repository:\n  \
+crates/monitor/out/monitor draw examples/ten-lines/session.json examples/ten-lines/report \
+examples/ten-lines/left.stream examples/ten-lines/right.stream > picture.svg";
+
+/// What the help says of `serve`.
+const SERVE_ABOUT: &str =
+    "Judges predicates on a computation whose processes send their events over TCP";
+
+/// What the help of `serve` ends with.
+const SERVE_AFTER: &str =
+    "As many connections to the port, on this machine alone, as the document has processes are the streams. A report \
+is written to the standard output once all of them have ended and all watchers were answered. The status is 0 if \
+the session is judged, 1 if it is refused, 2 if the arguments are refused, 3 if the document can't be read, a port \
+can't be bound, a stream can't be accepted or the output can't be written, and 4 if memory runs out.\n\n\
+The formats are described in docs/SPECIFICATION.md. An example, at the top of the repository:\n  \
+crates/monitor/out/monitor serve examples/live/session.json --port 7411\nand then, from another terminal:\n  \
+cat examples/live/left.stream > /dev/tcp/127.0.0.1/7411 & cat examples/live/right.stream > /dev/tcp/127.0.0.1/7411";
+
+/// The greatest port of streams: the next one is that of the watchers.
+pub(crate) const PORT_LIMIT: u64 = 65_534;
+
+/// The greatest number of watchers.
+pub(crate) const WATCHER_LIMIT: u64 = 64;
+
+/// An argument that must be given, the name of one file.
+fn file_argument<'a>(alloc: Global, id: &'a str, help: &'a str) -> Arg<'a>
+    ensures rule { rule_of result ≡ required_rule id.now }
+    ensures local { result.global ≡ false }
+{
+    Arg::new(alloc, id).required(true).help(help)
+}
+
+/// The argument that names the streams.
+fn streams_argument<'a>(alloc: Global) -> Arg<'a>
+    ensures rule { rule_of result ≡ stream_rule }
+    ensures local { result.global ≡ false }
+{
+    file_argument(alloc, "STREAM", "The streams of events, one file for each").num_args(1..)
+}
+
+/// The option that names a predicate.
+fn predicate_option<'a>(alloc: Global) -> Arg<'a>
+    ensures rule { rule_of result ≡ predicate_rule }
+    ensures local { result.global ≡ false }
+{
+    Arg::new(alloc, "PREDICATE").long("predicate").help(
+        "The predicate whose evidence is drawn; without it the first one that has evidence",
+    )
+}
+
+/// An option with a number in this range.
+fn number_option<'a>(alloc: Global, id: &'a str, name: &'a str, least: u64, most: u64) -> Arg<'a>
+    ensures rule { rule_of result ≡ number_rule id.now name.now least most }
+    ensures local { result.global ≡ false }
+{
+    Arg::new(alloc, id)
+        .long(name)
+        .value_parser(ValueParser::Unsigned(least, most))
+}
+
+/// The option that names the streams' port.
+fn port_option<'a>(alloc: Global) -> Arg<'a>
+    ensures rule { rule_of result ≡ port_rule }
+    ensures local { result.global ≡ false }
+{
+    number_option(alloc, "PORT", "port", 1, PORT_LIMIT)
+        .required(true)
+        .help("The port, from 1 to 65534, on which the streams are accepted")
+}
+
+/// The option that says how many watchers there are.
+fn watchers_option<'a>(alloc: Global) -> Arg<'a>
+    ensures rule { rule_of result ≡ watchers_rule }
+    ensures local { result.global ≡ false }
+{
+    number_option(alloc, "WATCHERS", "watchers", 0, WATCHER_LIMIT)
+        .default_value("0")
+        .help(
+            "How many connections to the next port, at most 64, are shown how far the streams are read",
+        )
+}
+
+/// The option that says how many workers there are.
+fn workers_option<'a>(alloc: Global) -> Arg<'a>
+    ensures rule { rule_of result ≡ workers_rule }
+    ensures local { result.global ≡ false }
+{
+    number_option(alloc, "WORKERS", "workers", 1, WORKER_LIMIT)
+        .default_value("1")
+        .help(
+            "How many threads, at most 16, share the work on levels with many cuts; they change no byte of the report",
+        )
+}
+
+/// The command line of a judgement.
+fn judge_command<'a>(alloc: Global) -> Result<Command<'a>, AllocError>
+    ensures app { IfOk result (λ command. app_of command ≡ judge_app) }
+    ensures local { IfOk result (λ command. (out-Command command).has_globals ≡ false) }
+{
+    Command::new(alloc, "judge")
+        .about(JUDGE_ABOUT)
+        .after_help(JUDGE_AFTER)
+        .arg(file_argument(alloc, "SPEC", "The session document"))?
+        .arg(streams_argument(alloc))?
+        .arg(workers_option(alloc))
+}
+
+/// The command line of a check.
+fn check_command<'a>(alloc: Global) -> Result<Command<'a>, AllocError>
+    ensures app { IfOk result (λ command. app_of command ≡ check_app) }
+    ensures local { IfOk result (λ command. (out-Command command).has_globals ≡ false) }
+{
+    Command::new(alloc, "check")
+        .about(CHECK_ABOUT)
+        .after_help(CHECK_AFTER)
+        .arg(file_argument(alloc, "SPEC", "The session document"))?
+        .arg(file_argument(alloc, "REPORT", "The report"))?
+        .arg(streams_argument(alloc))
+}
+
+/// The command line of a picture with the document and the report.
+fn drawn_command<'a>(alloc: Global) -> Result<Command<'a>, AllocError>
+    ensures app { IfOk result (λ command. app_of command ≡ drawn_app) }
+    ensures local { IfOk result (λ command. (out-Command command).has_globals ≡ false) }
+{
+    Command::new(alloc, "draw")
+        .about(DRAW_ABOUT)
+        .after_help(DRAW_AFTER)
+        .arg(file_argument(alloc, "SPEC", "The session document"))?
+        .arg(file_argument(alloc, "REPORT", "The report"))
+}
+
+/// The command line of a picture.
+fn draw_command<'a>(alloc: Global) -> Result<Command<'a>, AllocError>
+    ensures app { IfOk result (λ command. app_of command ≡ draw_app) }
+    ensures local { IfOk result (λ command. (out-Command command).has_globals ≡ false) }
+{
+    drawn_command(alloc)?
+        .arg(streams_argument(alloc))?
+        .arg(predicate_option(alloc))
+}
+
+/// The command line of a server with what must be given.
+fn port_command<'a>(alloc: Global) -> Result<Command<'a>, AllocError>
+    ensures app { IfOk result (λ command. app_of command ≡ port_app) }
+    ensures local { IfOk result (λ command. (out-Command command).has_globals ≡ false) }
+{
+    Command::new(alloc, "serve")
+        .about(SERVE_ABOUT)
+        .after_help(SERVE_AFTER)
+        .arg(file_argument(alloc, "SPEC", "The session document"))?
+        .arg(port_option(alloc))
+}
+
+/// The command line of a server.
+fn serve_command<'a>(alloc: Global) -> Result<Command<'a>, AllocError>
+    ensures app { IfOk result (λ command. app_of command ≡ serve_app) }
+    ensures local { IfOk result (λ command. (out-Command command).has_globals ≡ false) }
+{
+    port_command(alloc)?
+        .arg(watchers_option(alloc))?
+        .arg(workers_option(alloc))
+}
+
+/// The program's command line with the commands that judge and check files.
+fn files_command<'a>(alloc: Global) -> Result<Command<'a>, AllocError>
+    ensures { IfOk result (λ command. app_of command ≡ files_app) }
+{
+    Command::new(alloc, "monitor")
+        .about(ABOUT)
+        .no_binary_name(true)
+        .bin_name("monitor")?
+        .disable_help_subcommand(true)
+        .subcommand(judge_command(alloc)?)?
+        .subcommand(check_command(alloc)?)
+}
+
+/// The program's command line.
+pub(crate) fn program_command<'a>(alloc: Global) -> Result<Command<'a>, AllocError>
+    ensures { IfOk result (λ command. app_of command ≡ monitor_app) }
+{
+    files_command(alloc)?
+        .subcommand(draw_command(alloc)?)?
+        .subcommand(serve_command(alloc)?)
+}

@@ -1,0 +1,41 @@
+//! What the program is asked for.
+
+use super::workers::Workers;
+
+/// The names of the files of a session.
+#[derive(Drop)]
+pub struct SessionNames<'a> {
+    /// Of the session document.
+    pub spec: &'a str,
+    /// Of the streams of events, in their order.
+    pub streams: Vec<&'a str>,
+}
+
+/// What a server is asked for.
+#[derive(Drop)]
+pub struct Service<'a> {
+    /// The name of the session document's file.
+    pub spec: &'a str,
+    /// The port on which the streams are accepted, from 1 to 65,534.
+    pub port: u16,
+    /// How many watchers are accepted on the next port, at most 64.
+    pub watchers: u64,
+    /// How many workers share the work.
+    pub workers: Workers,
+}
+
+/// What the program is asked for.
+#[derive(Drop)]
+pub enum Request<'a> {
+    /// To judge the bundle on the input.
+    Bundle,
+    /// To judge a session document and streams by this many workers.
+    Judge(SessionNames<'a>, Workers),
+    /// To check the report in the file of this name against a session document and streams.
+    Check(&'a str, SessionNames<'a>),
+    /// To draw the report in the file of this name with a session document and streams: the evidence of the predicate of
+    /// this name, if there is one, or else of the first predicate that has evidence.
+    Draw(&'a str, Option<&'a str>, SessionNames<'a>),
+    /// To judge a session document and streams that come by connections.
+    Serve(Service<'a>),
+}
