@@ -1,6 +1,5 @@
 //! The computation of a session, and what is asked about it.
 use crate::definite::are_answers;
-use crate::levels::are_levels;
 use crate::limits::are_same;
 use crate::messages::are_messages;
 use crate::order::is_ordered;
@@ -9,12 +8,10 @@ use crate::refusals::are_skipped;
 use crate::runs::{
     FOUR, FOUR_COUNTS, FOUR_RUNS, FOUR_STREAMS, TWO, TWO_COUNTS, TWO_STREAMS, are_whole,
 };
-use crate::sessions::{SIX, SIX_STREAMS, THREE, THREE_STREAMS, traces_of};
-use crate::workers::are_known;
 use crate::{order, refusals};
 use pd_clock::Computation;
-use pd_level::{Gate, NoGate};
 use pd_match::match_messages;
+use pd_samples::{THREE, THREE_STREAMS, traces_of};
 use pd_spec::Spec;
 use std::alloc::Global;
 use std::random::RandomSource;
@@ -28,26 +25,21 @@ pub(crate) enum Question<'a> {
     Order,
     /// Whether values are cut off between characters in a picture.
     Picture,
-    /// Whether this many workers give the levels that a single thread gives, and marks are those of the predicate.
-    Levels(&'a [u64]),
     /// Whether the whole levels have these numbers of cuts, and level 8 these runs.
     Runs(&'a [u64], &'a [(usize, [u64; 5])]),
     /// Whether runs are skipped for each predicate.
     Skips,
     /// Whether each limit gives the same answers.
     Limits,
-    /// Whether this many workers give the known answers, and all of several expand blocks.
-    Workers(&'a [u64]),
     /// Whether the answers for Definitely are the known ones.
     Definite,
 }
 
 /// Whether the session answers the question as it should. Nothing if memory was refused before. If it was refused in a
 /// call that is made again, `again` is set.
-pub(crate) fn is_right<K: RandomSource, T: Threads + Wait + Sync, G: Gate + Sync>(
+pub(crate) fn is_right<K: RandomSource, T: Threads + Wait + Sync>(
     rt: &T,
     keys: &K,
-    gate: &G,
     alloc: Global,
     document: &str,
     streams: &[[&str; 2]],
@@ -81,16 +73,9 @@ pub(crate) fn is_right<K: RandomSource, T: Threads + Wait + Sync, G: Gate + Sync
     match question {
         Question::Order => is_ordered(alloc, &computation),
         Question::Picture => are_cut_off(alloc, &computation, &traces, &pairs),
-        Question::Levels(workers) => {
-            let Some(aside) = spec.predicates().get(3) else {
-                return Some(false);
-            };
-            are_levels(rt, alloc, &computation, &aside.pred, workers, gate, again).ok()
-        }
         Question::Runs(counts, runs) => are_whole(alloc, &computation, counts, runs).ok(),
         Question::Skips => are_skipped(rt, alloc, &computation, &spec),
         Question::Limits => are_same(rt, alloc, &computation, &spec),
-        Question::Workers(workers) => are_known(rt, alloc, &computation, &spec, workers),
         Question::Definite => are_answers(rt, alloc, &computation, &spec, again),
     }
 }
@@ -117,11 +102,6 @@ fn sessions_answer_as_they_should(rt: HostRuntime) {
             question: Question::Picture,
         },
         Row {
-            document: THREE,
-            streams: &THREE_STREAMS,
-            question: Question::Levels(&[1, 2, 16]),
-        },
-        Row {
             document: TWO,
             streams: &TWO_STREAMS,
             question: Question::Runs(&TWO_COUNTS, &[]),
@@ -141,11 +121,6 @@ fn sessions_answer_as_they_should(rt: HostRuntime) {
             streams: &THREE_STREAMS,
             question: Question::Limits,
         },
-        Row {
-            document: SIX,
-            streams: &SIX_STREAMS,
-            question: Question::Workers(&[1, 2, 3, 16]),
-        },
     ];
     let mut number: u64 = 0;
     for row in &rows {
@@ -153,7 +128,6 @@ fn sessions_answer_as_they_should(rt: HostRuntime) {
         let right = is_right(
             &rt,
             &rt,
-            &NoGate,
             rt.alloc(),
             row.document,
             row.streams,

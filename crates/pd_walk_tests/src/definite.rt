@@ -1,12 +1,12 @@
 //! Answers for Definitely, how many levels are held for them, and what is found of evidence: `definitely_counted`,
 //! `check_path` and `check_cut`.
 use crate::asked::{Question, is_right};
-use crate::sessions::{THREE, THREE_STREAMS};
 use pd_clock::{Computation, Cut};
 use pd_definitely::{DefinitelyAnswer, definitely_counted};
 use pd_evidence::{check_cut, check_path};
 use pd_level::NoGate;
 use pd_pred::Pred;
+use pd_samples::{THREE, THREE_STREAMS};
 use pd_spec::Spec;
 use std::alloc::Global;
 use std::sync::Wait;
@@ -127,7 +127,6 @@ fn answers_come_again(rt: HostRuntime) -> Result<(), Fail> {
             right = is_right(
                 &rt,
                 &rt,
-                &NoGate,
                 alloc,
                 THREE,
                 &THREE_STREAMS,

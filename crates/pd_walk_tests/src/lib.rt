@@ -1,33 +1,24 @@
-//! Tests of the calls between the streams and the answers that no file shows: messages, clocks, levels by threads,
-//! whole levels, and answers that are asked for again after memory was refused.
+//! Tests of the calls between the streams and the answers that no file shows: messages, clocks, whole levels, and
+//! answers that are asked for again after memory was refused. `pd_thread_tests` has those of work by several threads.
 //!
-//! A test whose name ends in `_again` makes each of its calls once more if it meets a refusal, and expects what the call
-//! gives with memory. So it passes with ample memory, and if any one of its allocations is refused:
+//! The test whose name ends in `_again` makes each of its calls once more if it meets a refusal, and expects what the
+//! call gives with memory. So it passes with ample memory, and if any one of its allocations is refused:
 //! `bench/refuse_calls.py` refuses them in turn.
 //!
-//! - `sessions`: sessions, and the traces of their streams
 //! - `asked`: the computation of a session, and what is asked about it
 //! - `messages`: the messages of a session, with random keys and without
 //! - `order`: which event happened before which, clocks, cuts and values
 //! - `pictures`: values with a character of two bytes where they are cut off in a picture
-//! - `levels`: the next level by several workers, beside the one that a single thread finds
 //! - `runs`: whole levels as runs, and how many cuts they have
 //! - `refusals`: runs that are skipped
 //! - `limits`: the answers, whatever the width of a whole level at which the walk goes on by lists
-//! - `workers`: the answers, whatever the number of workers
 //! - `definite`: answers for Definitely, how many levels are held for them, and what is found of evidence
-//! - `claims`: the numbers that seats draw, alone and in three threads
-//! - `values`: the values of numbers, by none, one and several threads
 #![tactic(auto)]
 
 #[cfg(test)]
 mod asked;
 #[cfg(test)]
-mod claims;
-#[cfg(test)]
 mod definite;
-#[cfg(test)]
-mod levels;
 #[cfg(test)]
 mod limits;
 #[cfg(test)]
@@ -40,9 +31,3 @@ mod pictures;
 mod refusals;
 #[cfg(test)]
 mod runs;
-#[cfg(test)]
-mod sessions;
-#[cfg(test)]
-mod values;
-#[cfg(test)]
-mod workers;

@@ -1,7 +1,6 @@
 //! The messages of a session, with random keys and without: `match_messages` and `Matched`.
 use crate::asked::{Question, is_right};
 use crate::order::{DOCUMENT, STREAMS};
-use pd_level::NoGate;
 use pd_match::{Matched, Place};
 use std::io;
 use std::random::RandomSource;
@@ -52,7 +51,6 @@ fn keys_of_the_system_are_not_needed(rt: HostRuntime) {
         is_right(
             &rt,
             &NoKeys,
-            &NoGate,
             alloc,
             DOCUMENT,
             &STREAMS,

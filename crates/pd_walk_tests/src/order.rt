@@ -2,6 +2,7 @@
 use crate::messages::{At, place};
 use pd_clock::{BuildFault, Computation, Cut, Place};
 use pd_pred::Values;
+use pd_samples::{A, B, C};
 use std::alloc::Global;
 use std::test::Fail;
 
@@ -13,14 +14,14 @@ pub(crate) const DOCUMENT: &str = r#"{
 /// Two processes that send to each other, with a message in flight, and one that does nothing.
 pub(crate) const STREAMS: [[&str; 2]; 3] = [
     [
-        crate::sessions::A,
+        A,
         "{\"set\":{\"n\":7}}\n{\"send\":\"m\"}\n{\"send\":\"in flight\"}\n{\"recv\":\"n\"}\n{\"end\":true}\n",
     ],
     [
-        crate::sessions::B,
+        B,
         "{}\n{\"recv\":\"m\"}\n{}\n{\"send\":\"n\"}\n{\"end\":true}\n",
     ],
-    [crate::sessions::C, "{\"end\":true}\n"],
+    [C, "{\"end\":true}\n"],
 ];
 
 /// Two events, and whether the first happened before the second.

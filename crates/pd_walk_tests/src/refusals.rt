@@ -6,11 +6,11 @@ ghost use Rattle.pd_runs.specs.Levels.{IsWholeLevel};
 ghost use Rattle.std.specs.Prelude.{◌<◌, ◌≤◌, IfOk, length};
 
 use crate::runs::level_after;
-use crate::sessions::{A, B, C, D};
 use pd_clock::Computation;
 use pd_marks::Skips;
 use pd_refusals::Refusals;
 use pd_runs::{Steps, Whole};
+use pd_samples::{A, B, C, D};
 use pd_spec::Spec;
 use pd_tables::Compiled;
 use std::alloc::{AllocError, Global};

@@ -2,9 +2,9 @@
 ghost use Rattle.pd_runs.specs.Levels.{IsWholeLevel};
 ghost use Rattle.std.specs.Prelude.{◌≤◌, IfOk, length};
 
-use crate::sessions::{A, B, C, D};
 use pd_clock::Computation;
 use pd_runs::{Steps, Whole};
+use pd_samples::{A, B, C, D};
 use std::alloc::{AllocError, Global};
 
 pub(crate) const TWO: &str =
