@@ -3,7 +3,7 @@ ghost use Rattle.pd_draw.specs.Choices.{name_view};
 ghost use Rattle.pd_claims.specs.Drawings.{Draws, DrawsOf, DrawsTraces, IsDrawingTextOf, ShowsEnd, drawing_end};
 ghost use Rattle.pd_sessions.specs.SessionReports.{IsReportOfInputs};
 ghost use Rattle.pd_sessions.specs.Unanswered.{IsUnanswered};
-ghost use Rattle.pd_events.specs.SessionTraces.{AreTraces};
+ghost use Rattle.pd_traces.specs.SessionTraces.{AreTraces};
 ghost use Rattle.pd_gather.specs.Views.{traces_view};
 ghost use Rattle.pd_judgement.specs.Judgements.{IsTracesReport};
 ghost use Rattle.pd_judgement.specs.Writes.{Writes};

@@ -1,8 +1,8 @@
 //! The computation of a session.
 ghost use Rattle.pd_sessions.specs.Computations.{AreWellFormed};
 ghost use Rattle.pd_sessions.specs.Unanswered.{IsUnanswered};
-ghost use Rattle.pd_events.specs.SessionTraces.{AreTraces};
-ghost use Rattle.pd_events.specs.Views.{computation_view};
+ghost use Rattle.pd_traces.specs.SessionTraces.{AreTraces};
+ghost use Rattle.pd_traces.specs.Views.{computation_view};
 ghost use Rattle.pd_gather.specs.Views.{traces_view};
 ghost use Rattle.pd_judgement.specs.Judgements.{IsTracesReport};
 ghost use Rattle.pd_model.specs.Messages.{HasLawfulMessages, IsMessageList};

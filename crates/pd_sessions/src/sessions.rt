@@ -1,6 +1,6 @@
 //! The traces of a session.
 ghost use Rattle.pd_sessions.specs.Unanswered.{IsUnanswered};
-ghost use Rattle.pd_events.specs.SessionTraces.{AreTraces};
+ghost use Rattle.pd_traces.specs.SessionTraces.{AreTraces};
 ghost use Rattle.pd_format.specs.Sessions as sessions;
 ghost use Rattle.pd_gather.specs.Views.{ReadingFits, results_view, traces_view};
 ghost use Rattle.pd_judgement.specs.Judgements.{IsReportOfResults};

@@ -1,6 +1,6 @@
 //! A document, and a stream for each of its processes.
-use pd_events::Trace;
 use pd_spec::Spec;
+use pd_traces::Trace;
 use std::alloc::Global;
 use std::test::Fail;
 
