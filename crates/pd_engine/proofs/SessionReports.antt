@@ -1,16 +1,17 @@
 -- The report of the results that readers gave is that of the document's bytes and of the streams that they gave.
-use Rattle.std.proofs.Common.{◌≡◌, ℕ, List, [], ◌∷◌, map, refl, sym, subst, Some, None, Option, Ok, Err}
-use Rattle.std.specs.Prelude.{IfErr, IfSome, IsErrAnd, Result}
+use Rattle.std.proofs.Common.{◌≡◌, ℕ, true, List, map, sym, subst, Some, None, Option, Ok, Err}
+use Rattle.std.specs.Prelude.{Bool, IfErr, IfSome, IsErrAnd, Result}
 use Rattle.std.specs.List.{AllZip}
 use Rattle.pd_format.specs.Documents.{Document, IsDocument}
-use Rattle.pd_format.specs.Readings.{Failed, Trace}
+use Rattle.pd_format.specs.Readings.{Trace}
 use Rattle.pd_format.specs.Reports.{Report}
 use Rattle.pd_format.specs.Sessions.{SessionFault, StreamResult, session}
 use Rattle.pd_gather.specs.ReadStreams.{ComesTo}
 use Rattle.pd_judgement.specs.Judgements.{IsJudgement, IsReportOfResults, IsReportOfSession, IsTracesReport, RawStream, ended_streams, of_read}
-use Rattle.pd_judgement.specs.Writes.{IsGivenBy}
+use Rattle.pd_judgement.specs.Writes.{IsGivenAs}
+use Rattle.pd_judgement.proofs.WholeStreams.{all_left_unread, all_unread_given, given_whole}
 use Rattle.pd_report.specs.declared.report.Report.{Report as Judged}
-use Rattle.pd_engine.specs.SessionReports.{IsReportOfInputs, IsReportOfWhole}
+use Rattle.pd_engine.specs.SessionReports.{IsReportOfInputs}
 use Rattle.pd_engine.specs.Unanswered.{IsUnanswered, given_report, refused_report}
 use Rattle.pd_engine.specs.declared.unanswered.Unanswered.{Unanswered}
 
@@ -35,26 +36,6 @@ refusal_reported (Ok x) unanswered P Q f same p = absurd same
 refusal_reported (Err u) unanswered P Q f same p =
     subst (IsUnanswered Q) (sym same) (of_given (refused_report unanswered) P Q f p)
 
--- ---- streams that aren't read
-
--- a stream of which nothing was given
-nothing : RawStream
-nothing = record { ending = Failed; bytes = [] }
-
-nothing_given : (input : Option (List ℕ)) → IsGivenBy input nothing
-unfolding nothing
-nothing_given None = record { stopped = λ e. absurd (cc); prefix = tt; whole = λ e. tt }
-nothing_given (Some bytes) = record { stopped = λ e. absurd (cc); prefix = (bytes, refl); whole = λ e. absurd (cc) }
-
-pub none_given : List (Option (List ℕ)) → List RawStream
-none_given [] = []
-none_given (input ∷ inputs) = nothing ∷ none_given inputs
-
-pub all_none_given : (inputs : List (Option (List ℕ))) → AllZip IsGivenBy inputs (none_given inputs)
-unfolding none_given
-all_none_given [] = tt
-all_none_given (input ∷ inputs) = (nothing_given input, all_none_given inputs)
-
 -- ---- streams that are read
 
 pub judged_of_results : (bytes : List ℕ) (streams : List RawStream) (document : Document) (count : ℕ)
@@ -66,46 +47,45 @@ judged_of_results bytes streams document count results report is comes right =
     (subst (λ (r : Result (List Trace) SessionFault). IsReportOfSession document r report) comes.same_session right)
 
 -- what the readers gave comes to these results
-abbrev pub AreGiven : Document → List (Option (List ℕ)) → ℕ → List StreamResult → Type 0
-AreGiven document inputs count results =
-    (streams : List RawStream) × AllZip IsGivenBy inputs streams × ComesTo document.names streams count results
+abbrev pub AreGiven : Document → List (Option (List ℕ)) → Bool → ℕ → List StreamResult → Type 0
+AreGiven document inputs never_fails count results =
+    (streams : List RawStream) × AllZip (IsGivenAs never_fails) inputs streams
+    × ComesTo document.names streams count results
 
--- so do all bytes that they have left, if these are known
-abbrev pub AreWhole : Document → List (Option (List ℕ)) → ℕ → List StreamResult → Type 0
-AreWhole document inputs count results =
-    (streams : List (List ℕ)) → inputs ≡ map Some streams
-    → ComesTo document.names (ended_streams streams) count results
-
-pub inputs_report : (bytes : List ℕ) (inputs : List (Option (List ℕ))) (document : Document) (count : ℕ)
-    (results : List StreamResult) (report : Report) → IsDocument bytes document
-    → AreGiven document inputs count results → IsReportOfResults document count results report
-    → IsReportOfInputs bytes inputs report
-inputs_report bytes inputs document count results report is given right = record {
+pub inputs_report : (bytes : List ℕ) (inputs : List (Option (List ℕ))) (never_fails : Bool) (document : Document)
+    (count : ℕ) (results : List StreamResult) (report : Report) → IsDocument bytes document
+    → AreGiven document inputs never_fails count results → IsReportOfResults document count results report
+    → IsReportOfInputs bytes inputs never_fails report
+inputs_report bytes inputs never_fails document count results report is given right = record {
   streams = given.0;
   are_given = given.1;
   right = judged_of_results bytes given.0 document count results report is given.2 right;
 }
 
-pub whole_report : (bytes : List ℕ) (inputs : List (Option (List ℕ))) (document : Document) (count : ℕ)
-    (results : List StreamResult) (report : Report) → IsDocument bytes document
-    → AreWhole document inputs count results → IsReportOfResults document count results report
-    → IsReportOfWhole bytes inputs report
-whole_report bytes inputs document count results report is whole right = λ streams same.
-    judged_of_results bytes (ended_streams streams) document count results report is (whole streams same) right
+-- if the bytes that readers have left are known, the report of a document's bytes and of all these
+abbrev pub IsReportOfWhole : List ℕ → List (Option (List ℕ)) → Report → Type 0
+IsReportOfWhole document inputs report =
+    (streams : List (List ℕ)) → inputs ≡ map Some streams → IsJudgement document (ended_streams streams) report
+
+-- the report of readers of which no read fails is that of all bytes that they have left
+pub whole_report : (bytes : List ℕ) (inputs : List (Option (List ℕ))) (never_fails : Bool) (report : Report)
+    → never_fails ≡ true → IsReportOfInputs bytes inputs never_fails report → IsReportOfWhole bytes inputs report
+whole_report bytes inputs never_fails report never right = λ streams same.
+    let given : AllZip (IsGivenAs never_fails) (map Some streams) right.streams =
+    subst (λ (l : List (Option (List ℕ))). AllZip (IsGivenAs never_fails) l right.streams) same right.are_given in
+    subst (λ (all : List RawStream). IsJudgement bytes all report)
+    (given_whole never_fails streams right.streams never given) right.right
 
 -- ---- a document that is refused
 
-pub refused_inputs_report : (bytes : List ℕ) (inputs : List (Option (List ℕ))) (report : Report)
-    → ((streams : List RawStream) → IsJudgement bytes streams report) → IsReportOfInputs bytes inputs report
-refused_inputs_report bytes inputs report any = record {
-  streams = none_given inputs;
-  are_given = all_none_given inputs;
-  right = any (none_given inputs);
+pub refused_inputs_report : (bytes : List ℕ) (inputs : List (Option (List ℕ))) (never_fails : Bool)
+    (report : Report) → ((streams : List RawStream) → IsJudgement bytes streams report)
+    → IsReportOfInputs bytes inputs never_fails report
+refused_inputs_report bytes inputs never_fails report any = record {
+  streams = all_left_unread inputs;
+  are_given = all_unread_given never_fails inputs;
+  right = any (all_left_unread inputs);
 }
-
-pub refused_whole_report : (bytes : List ℕ) (inputs : List (Option (List ℕ))) (report : Report)
-    → ((streams : List RawStream) → IsJudgement bytes streams report) → IsReportOfWhole bytes inputs report
-refused_whole_report bytes inputs report any = λ streams same. any (ended_streams streams)
 
 -- the report of traces is that of the streams that make them
 pub traces_report : (document : Document) (count : ℕ) (results : List StreamResult) (traces : List Trace)
