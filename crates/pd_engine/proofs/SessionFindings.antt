@@ -18,13 +18,13 @@ use Rattle.pd_engine.proofs.SessionReports.{AreGiven}
 
 -- a well-formed session
 pub session_found : (bytes : List ℕ) (inputs : List (Option (List ℕ))) (never_fails : Bool) (document : Document)
-    (count : ℕ)
-    (results : List StreamResult) (traces : List Trace) (recorded : Recorded) (messages : ℕ) (claimed : Report)
-    (finding : Finding) → IsDocument bytes document → AreGiven document inputs never_fails count results
+    (count : ℕ) (results : List StreamResult) (traces : List Trace) (recorded : Recorded) (messages : ℕ)
+    (claimed : Report) (finding : Finding) → IsDocument bytes document → AreGiven document inputs never_fails count results
     → session document.names count results ≡ Ok traces
     → (well : AreWellFormed document traces recorded messages)
     → IsFoundOf document traces well.messages claimed finding → FindsOf bytes claimed inputs never_fails finding
-session_found bytes inputs never_fails document count results traces recorded messages claimed finding is given joined well found =
+session_found bytes inputs never_fails document count results traces recorded messages claimed finding is given joined well
+    found =
     record {
       streams = given.0;
       are_given = given.1;
@@ -42,10 +42,8 @@ session_found bytes inputs never_fails document count results traces recorded me
 
 -- a refused session
 pub refusal_found : (bytes : List ℕ) (inputs : List (Option (List ℕ))) (never_fails : Bool) (refusal : Refusal)
-    (claimed : Report)
-    (finding : Finding) → IsReportOfInputs bytes inputs never_fails (Refused refusal)
-    → IsFoundOfRefused refusal claimed finding
-    → FindsOf bytes claimed inputs never_fails finding
+    (claimed : Report) (finding : Finding) → IsReportOfInputs bytes inputs never_fails (Refused refusal)
+    → IsFoundOfRefused refusal claimed finding → FindsOf bytes claimed inputs never_fails finding
 refusal_found bytes inputs never_fails refusal claimed finding refused found = record {
   streams = refused.streams;
   are_given = refused.are_given;

@@ -33,7 +33,8 @@ returns-in_err-traces-clause-refused g c =
     let results = results_view c.in_ok-gathered.gathered.readings.items in
     refusal_given c.from_residual-in_err-traces.result c.in_err-traces.field-0.0
     (IsReportOfResults document count results) (IsReportOfInputs bytes inputs g.R.ByteSource.never_fails)
-    (λ report right. inputs_report bytes inputs g.R.ByteSource.never_fails document count results report c.in_ok-spec.ensures.read
+    (λ report right. inputs_report bytes inputs g.R.ByteSource.never_fails document count results report
+    c.in_ok-spec.ensures.read
     c.in_ok-gathered.ensures.given right)
     c.from_residual-in_err-traces.ensures.1 c.in_err-traces.ensures.refused
 
@@ -47,7 +48,8 @@ returns-in_err-drawn-clause-refused g c =
     let traces = traces_view c.in_ok-traces.traces.items in
     refusal_given c.from_residual-in_err-drawn.result c.in_err-drawn.field-0.0
     (IsTracesReport document traces) (IsReportOfInputs bytes inputs g.R.ByteSource.never_fails)
-    (λ report right. inputs_report bytes inputs g.R.ByteSource.never_fails document count results report c.in_ok-spec.ensures.read
+    (λ report right. inputs_report bytes inputs g.R.ByteSource.never_fails document count results report
+    c.in_ok-spec.ensures.read
     c.in_ok-gathered.ensures.given
     (traces_report document count results traces report c.in_ok-traces.ensures.joined right))
     c.from_residual-in_err-drawn.ensures.1
