@@ -10,3 +10,4 @@ mod ParserEnds
 mod WrittenSoFar
 mod DrawingEnds
 mod DrawingsRead
+mod ServicePorts

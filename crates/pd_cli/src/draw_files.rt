@@ -2,8 +2,8 @@
 ghost use Rattle.pd_cli.specs.Drawings.{DrawLeaves, Finishes, draw_notice, draw_status, refusal_heading};
 ghost use Rattle.pd_draw.specs.Choices.{name_view};
 ghost use Rattle.pd_format.specs.Limits.{report_byte_limit};
-ghost use Rattle.pd_judgement.specs.Statuses.{WritesUpTo};
-ghost use Rattle.std.specs.Prelude.{◌≡◌, ◌≤◌, ◌++◌, All, IfOk, Some, false, length, map};
+ghost use Rattle.pd_judgement.specs.Statuses.{IsLongReport, WritesUpTo};
+ghost use Rattle.std.specs.Prelude.{◌≡◌, ◌⊎◌, ◌≤◌, ◌++◌, All, IfOk, Some, false, length, map, true};
 
 use super::check_files::read_report;
 use super::file_source::FileSource;
@@ -58,8 +58,8 @@ fn draw_read<S: RandomSource + Threads + Wait + Sync, R: ByteSource + Send + Dro
 ) -> Result<Drawing, EngineFault>
     requires open { All (λ stream. R.has_ended stream ≡ false) streams.items }
     requires short { length report.now ≤ report_byte_limit }
-    ensures { DrawLeaves (Some spec.now) (Some report.now) (map R.remaining streams.items) (name_view predicate.entry)
-        result (O.contents output.old) (O.contents output.new) }
+    ensures { DrawLeaves (Some spec.now) (Some report.now) (map R.remaining streams.items) R.never_fails ⊥
+        (name_view predicate.entry) result (O.contents output.old) (O.contents output.new) }
 {
     let drawing = draw(rt, alloc, spec, report, streams, predicate, output)?;
     finish(alloc, drawing, output)
@@ -83,8 +83,9 @@ pub(crate) fn draw_files<S: RandomSource + Threads + Wait + Sync, F: FileSource,
     output: &mut O,
 ) -> Result<Drawing, EngineFault>
     ensures { DrawLeaves (F.bytes_of files.now names.now.spec.now) (F.bytes_of files.now report.now)
-        (map (λ name. F.bytes_of files.now name.now) names.now.streams.items) (name_view predicate.entry) result
-        (O.contents output.old) (O.contents output.new) }
+        (map (λ name. F.bytes_of files.now name.now) names.now.streams.items) F.File.never_fails
+        ((F.always_opens ≡ true → F.File.never_fails ≡ true → ⊥) ⊎ IsLongReport (F.bytes_of files.now report.now))
+        (name_view predicate.entry) result (O.contents output.old) (O.contents output.new) }
 {
     let spec = files.open(names.spec)?;
     let report = files.open(report)?;

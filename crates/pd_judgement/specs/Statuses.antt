@@ -37,6 +37,15 @@ pub record Reliance : Type 0 where
   -- no read of a connection
   pub connections_are_read : Bool
 
+abbrev pub reliance : (input_is_read files_open files_are_read network_serves connections_are_read : Bool) → Reliance
+reliance input_is_read files_open files_are_read network_serves connections_are_read = record {
+  input_is_read = input_is_read;
+  files_open = files_open;
+  files_are_read = files_are_read;
+  network_serves = network_serves;
+  connections_are_read = connections_are_read;
+}
+
 -- there may be a file that can't be opened or read
 abbrev pub FilesMayFail : Reliance → Type 0
 FilesMayFail on = on.files_open ≡ true → on.files_are_read ≡ true → ⊥
