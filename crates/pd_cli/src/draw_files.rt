@@ -46,7 +46,8 @@ fn finish<O: Write>(alloc: Global, drawing: Drawing, output: &mut O) -> Result<D
 /// Draws a report by its bytes, a document's bytes and the streams, writes the picture, and flushes the output.
 ///
 /// # Errors
-/// `Memory` leaves nothing written. `Write` leaves a part of the picture written, or all of it if only the flush failed.
+/// `Memory` leaves nothing written. `Write` leaves a part of the picture written, or all of it if only the flush
+/// failed.
 fn draw_read<S: RandomSource + Threads + Wait + Sync, R: ByteSource + Send + Drop, O: Write>(
     rt: &S,
     alloc: Global,
@@ -65,14 +66,14 @@ fn draw_read<S: RandomSource + Threads + Wait + Sync, R: ByteSource + Send + Dro
     finish(alloc, drawing, output)
 }
 
-/// Opens the files of a picture, the document, the report and then the streams, reads the document and the report, draws
-/// the report with the document and the streams, writes the picture, and flushes the output. All files are opened before
-/// one is read.
+/// Opens the files of a picture, the document, the report and then the streams, reads the document and the report,
+/// draws the report with the document and the streams, writes the picture, and flushes the output. All files are opened
+/// before one is read.
 ///
 /// # Errors
 /// `Read`, if a file can't be opened, or the document or the report can't be read, or the report has more than
-/// `REPORT_BYTE_LIMIT` bytes, and `Memory` leave nothing written. `Write` leaves a part of the picture written, or all of
-/// it if only the flush failed.
+/// `REPORT_BYTE_LIMIT` bytes, and `Memory` leave nothing written. `Write` leaves a part of the picture written, or all
+/// of it if only the flush failed.
 pub(crate) fn draw_files<S: RandomSource + Threads + Wait + Sync, F: FileSource, O: Write>(
     rt: &S,
     files: &F,

@@ -17,7 +17,8 @@ returns-then-is_err-clause-written g c =
       holds = flushed_up_to (IsTextOfStreams c.args.spec.now inputs never_fails judged)
           (IsTextOfStreams c.args.spec.now inputs never_fails None) (g.O.Write.contents c.args.output.now)
           (g.O.Write.contents c.judge.new.writer) (g.O.Write.contents c.flush.new.self)
-          (unsaid_of_streams c.args.spec.now inputs never_fails judged) c.in_ok-outcome.ensures.written c.flush.ensures.bytes;
+          (unsaid_of_streams c.args.spec.now inputs never_fails judged)
+          c.in_ok-outcome.ensures.written c.flush.ensures.bytes;
     }
 
 pub returns-clause-headline : goal.returns-clause-headline

@@ -16,5 +16,6 @@ returns-then-is_err-clause-written g c =
       holds = flushed_up_to (IsTextOfStreams c.args.document.now inputs never_fails judged)
           (IsTextOfStreams c.args.document.now inputs never_fails None) (g.O.Write.contents c.args.output.now)
           (g.O.Write.contents c.judge_watched.new.writer) (g.O.Write.contents c.flush.new.self)
-          (unsaid_of_streams c.args.document.now inputs never_fails judged) c.in_ok-outcome.ensures.written c.flush.ensures.bytes;
+          (unsaid_of_streams c.args.document.now inputs never_fails judged)
+          c.in_ok-outcome.ensures.written c.flush.ensures.bytes;
     }
