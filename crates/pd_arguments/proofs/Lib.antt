@@ -2,3 +2,4 @@
 pub mod Numbers
 pub mod Parsed
 pub mod ParserEnds
+pub mod ServicePorts

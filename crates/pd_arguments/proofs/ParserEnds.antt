@@ -4,7 +4,7 @@ use Rattle.std.specs.Io.KnownBytes.{Keeps}
 use Rattle.clap.specs.Walk.{Text}
 use Rattle.clap.specs.declared.error.kind.ErrorKind.{ErrorKind}
 use Rattle.clap.specs.declared.error.kind.ErrorKind.TheVariants as kind
-use Rattle.pd_judgement.specs.Statuses.{Failed, MemoryFailure, Ends, EndsAsAsked, HelpLeaves, MisuseLeaves, ShowHelp, Unclear}
+use Rattle.pd_judgement.specs.Statuses.{Failed, MemoryFailure, Ends, EndsAsAsked, HelpLeaves, MisuseLeaves, Reliance, ShowHelp, Unclear}
 use Rattle.pd_arguments.specs.Arguments.{AsksFor, IsErrorOf, IsShownKind}
 
 data KindCase (k : ErrorKind) : Type 0 where
@@ -32,7 +32,7 @@ case_of kind.Format = other (λ e. cc) (λ h. elim h [ inl e ↦ cc | inr e ↦ 
 case_of kind.OutOfMemory = memory refl
 
 -- from an end by the kind of the error, one by what is asked for
-as_asked : (arguments : List Text) (input : Option (List ℕ)) (files : List ℕ → Option (List ℕ))
+as_asked : (arguments : List Text) (on : Reliance) (input : Option (List ℕ)) (files : List ℕ → Option (List ℕ))
     (connections : ℕ → Option (List ℕ) → Type 0) (status : ℕ) (old new errors_old errors_new : Option (List ℕ))
     (k : ErrorKind) → KindCase k → IsErrorOf arguments k
     → (k ≡ kind.OutOfMemory
@@ -40,12 +40,12 @@ as_asked : (arguments : List Text) (input : Option (List ℕ)) (files : List ℕ
     → (IsShownKind k → Ends (λ ending. HelpLeaves ending old new) status errors_old errors_new)
     → (k ≢ kind.OutOfMemory → ¬ IsShownKind k
     → Ends (λ ending. MisuseLeaves ending old new) status errors_old errors_new)
-    → EndsAsAsked (AsksFor arguments) input files connections status old new errors_old errors_new
-as_asked arguments input files connections status old new errors_old errors_new k (memory is)
+    → EndsAsAsked (AsksFor arguments) on input files connections status old new errors_old errors_new
+as_asked arguments on input files connections status old new errors_old errors_new k (memory is)
     is_error out shows misused =
     let h = out is in
     record { ending = h.ending; is_status = h.is_status; output = inl h.output; errors = h.errors }
-as_asked arguments input files connections status old new errors_old errors_new k (shown is is_not)
+as_asked arguments on input files connections status old new errors_old errors_new k (shown is is_not)
     is_error out shows misused =
     let h = shows is in
     record {
@@ -54,7 +54,7 @@ as_asked arguments input files connections status old new errors_old errors_new 
       output = inr (ShowHelp, (is_error is_not).0 is, h.output);
       errors = h.errors;
     }
-as_asked arguments input files connections status old new errors_old errors_new k (other is_not un)
+as_asked arguments on input files connections status old new errors_old errors_new k (other is_not un)
     is_error out shows misused =
     let h = misused is_not un in
     record {
@@ -64,7 +64,8 @@ as_asked arguments input files connections status old new errors_old errors_new 
       errors = h.errors;
     }
 
-pub error_as_asked : (arguments : List Text) (input : Option (List ℕ)) (files : List ℕ → Option (List ℕ))
+pub error_as_asked : (arguments : List Text) (on : Reliance) (input : Option (List ℕ)) (files : List ℕ → Option
+    (List ℕ))
     (connections : ℕ → Option (List ℕ) → Type 0) (status : ℕ) (old new errors_old errors_new : Option (List ℕ))
     (k : ErrorKind) → IsErrorOf arguments k
     → (k ≡ kind.OutOfMemory
@@ -72,6 +73,6 @@ pub error_as_asked : (arguments : List Text) (input : Option (List ℕ)) (files 
     → (IsShownKind k → Ends (λ ending. HelpLeaves ending old new) status errors_old errors_new)
     → (k ≢ kind.OutOfMemory → ¬ IsShownKind k
     → Ends (λ ending. MisuseLeaves ending old new) status errors_old errors_new)
-    → EndsAsAsked (AsksFor arguments) input files connections status old new errors_old errors_new
-error_as_asked arguments input files connections status old new errors_old errors_new k =
-    as_asked arguments input files connections status old new errors_old errors_new k (case_of k)
+    → EndsAsAsked (AsksFor arguments) on input files connections status old new errors_old errors_new
+error_as_asked arguments on input files connections status old new errors_old errors_new k =
+    as_asked arguments on input files connections status old new errors_old errors_new k (case_of k)

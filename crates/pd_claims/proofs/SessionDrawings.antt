@@ -1,6 +1,6 @@
 -- What is drawn of a report by the session that readers gave.
 use Rattle.std.proofs.Common.{◌≡◌, ℕ, List, map, length, sym, ap, ◌∙◌, subst, refl, true, Ok}
-use Rattle.std.specs.Prelude.{Option}
+use Rattle.std.specs.Prelude.{Bool, Option}
 use Rattle.pd_model.specs.Events.{Computation, Place}
 use Rattle.pd_model.specs.Messages.{IsMessageList}
 use Rattle.pd_model.specs.Predicates.{Recorded}
@@ -55,9 +55,9 @@ traces_drawn document traces recorded count messages claimed name given well lis
 }
 
 -- a well-formed session
-module _ (bytes : List ℕ) (inputs : List (Option (List ℕ))) (document : Document) (count : ℕ)
+module _ (bytes : List ℕ) (inputs : List (Option (List ℕ))) (never_fails : Bool) (document : Document) (count : ℕ)
     (results : List StreamResult) (traces : List Trace) (claimed : Report) (name : Option (List ℕ))
-    (is : IsDocument bytes document) (read : AreGiven document inputs count results)
+    (is : IsDocument bytes document) (read : AreGiven document inputs never_fails count results)
     (joined : session document.names count results ≡ Ok traces) where
   held : (given : Drawn) → (draws : DrawsTraces document traces claimed name given)
       → IsSessionOf bytes read.0 document traces draws.messages
@@ -71,7 +71,7 @@ module _ (bytes : List ℕ) (inputs : List (Option (List ℕ))) (document : Docu
   }
 
   pub session_drawn : (given : Drawn) → DrawsTraces document traces claimed name given
-      → DrawsOf bytes claimed inputs name given
+      → DrawsOf bytes claimed inputs never_fails name given
   session_drawn (drawn.Picture picture) draws report is_report = record {
     streams = read.0;
     are_given = read.1;
@@ -104,12 +104,13 @@ refusal_stands : (refusal : Refusal) (claimed : Report) (name : Option (List ℕ
     → IsFoundOfRefused refusal claimed finding → stands_against name finding ≡ true
 refusal_stands refusal claimed name finding (of_refused_session good right) = refl
 
-pub refusal_drawn : (bytes : List ℕ) (inputs : List (Option (List ℕ))) (refusal : Refusal) (claimed : Report)
-    (name : Option (List ℕ)) (finding : Finding) → IsReportOfInputs bytes inputs (Refused refusal)
+pub refusal_drawn : (bytes : List ℕ) (inputs : List (Option (List ℕ))) (never_fails : Bool) (refusal : Refusal)
+    (claimed : Report)
+    (name : Option (List ℕ)) (finding : Finding) → IsReportOfInputs bytes inputs never_fails (Refused refusal)
     → IsFoundOfRefused refusal claimed finding → (report : List ℕ) → IsReport report claimed
-    → IsAgainst bytes report inputs name finding
-refusal_drawn bytes inputs refusal claimed name finding refused found report is_report =
-    let finds = refusal_found bytes inputs refusal claimed finding refused found in record {
+    → IsAgainst bytes report inputs never_fails name finding
+refusal_drawn bytes inputs never_fails refusal claimed name finding refused found report is_report =
+    let finds = refusal_found bytes inputs never_fails refusal claimed finding refused found in record {
       streams = finds.streams;
       are_given = finds.are_given;
       right = finds.right report is_report;
@@ -117,10 +118,11 @@ refusal_drawn bytes inputs refusal claimed name finding refused found report is_
     }
 
 -- a report that isn't read
-pub unread_drawn : (bytes report : List ℕ) (inputs : List (Option (List ℕ))) (name : Option (List ℕ)) (line : ℕ)
-    → IsNoReport report line → IsAgainst bytes report inputs name (NotRead line)
-unread_drawn bytes report inputs name line none =
-    let finds = unread_found bytes report inputs line none in record {
+pub unread_drawn : (bytes report : List ℕ) (inputs : List (Option (List ℕ))) (never_fails : Bool) (name : Option
+    (List ℕ)) (line : ℕ)
+    → IsNoReport report line → IsAgainst bytes report inputs never_fails name (NotRead line)
+unread_drawn bytes report inputs never_fails name line none =
+    let finds = unread_found bytes report inputs never_fails line none in record {
       streams = finds.streams;
       are_given = finds.are_given;
       right = finds.right;

@@ -1,5 +1,5 @@
 -- What is drawn by a document's bytes, a report's bytes and the streams that readers gave.
-use Rattle.std.specs.Prelude.{◌≡◌, ℕ, true, false, List, Option, Some, Result, Ok, Err}
+use Rattle.std.specs.Prelude.{◌≡◌, ℕ, Bool, true, false, List, Option, Some, Result, Ok, Err}
 use Rattle.std.specs.List.{AllZip}
 use Rattle.pd_model.specs.Events.{Place}
 use Rattle.pd_model.specs.Messages.{IsMessageList}
@@ -10,7 +10,7 @@ use Rattle.pd_format.specs.Readings.{Trace}
 use Rattle.pd_format.specs.Reports.{IsReport, Report}
 use Rattle.pd_judgement.specs.Findings.{IsFinding, IsSessionOf}
 use Rattle.pd_judgement.specs.Judgements.{RawStream, events_of_traces}
-use Rattle.pd_judgement.specs.Writes.{CallEnd, IsGivenBy, Silent, Whole}
+use Rattle.pd_judgement.specs.Writes.{CallEnd, IsGivenAs, Silent, Whole}
 use Rattle.pd_check.specs.Views.{finding_view}
 use Rattle.pd_svg.specs.Svg.{drawing_text}
 use Rattle.pd_svg.specs.declared.drawing.Drawing.{Drawing as Picture}
@@ -31,11 +31,12 @@ pub record DrawsTraces (document : Document) (traces : List Trace) (claimed : Re
   pub are_messages : IsMessageList (events_of_traces traces) messages
   pub comes : Comes document traces messages claimed name given
 
--- the picture of the session that the streams hold, and of the report in these bytes
-pub record IsPictureOf (bytes report : List ℕ) (inputs : List (Option (List ℕ))) (name : Option (List ℕ))
-    (picture : Picture) : Type 0 where
+-- the picture of the session that the streams hold, which readers with this left gave, of which no read ever fails, if
+-- that is said; and of the report in these bytes
+pub record IsPictureOf (bytes report : List ℕ) (inputs : List (Option (List ℕ))) (never_fails : Bool)
+    (name : Option (List ℕ)) (picture : Picture) : Type 0 where
   pub streams : List RawStream
-  pub are_given : AllZip IsGivenBy inputs streams
+  pub are_given : AllZip (IsGivenAs never_fails) inputs streams
   pub document : Document
   pub traces : List Trace
   pub messages : List (Place × Place)
@@ -45,47 +46,50 @@ pub record IsPictureOf (bytes report : List ℕ) (inputs : List (Option (List �
   pub drawn : IsDrawn document traces messages claimed name picture
 
 -- what a check finds, which stands against a picture
-pub record IsAgainst (bytes report : List ℕ) (inputs : List (Option (List ℕ))) (name : Option (List ℕ))
-    (finding : Finding) : Type 0 where
+pub record IsAgainst (bytes report : List ℕ) (inputs : List (Option (List ℕ))) (never_fails : Bool)
+    (name : Option (List ℕ)) (finding : Finding) : Type 0 where
   pub streams : List RawStream
-  pub are_given : AllZip IsGivenBy inputs streams
+  pub are_given : AllZip (IsGivenAs never_fails) inputs streams
   pub right : IsFinding bytes report streams finding
   pub stands : stands_against name finding ≡ true
 
 -- a check finds verdicts on predicates of which none has this name
-pub record LacksPredicate (bytes report : List ℕ) (inputs : List (Option (List ℕ))) (name : Option (List ℕ)) :
-    Type 0 where
+pub record LacksPredicate (bytes report : List ℕ) (inputs : List (Option (List ℕ))) (never_fails : Bool)
+    (name : Option (List ℕ)) : Type 0 where
   pub streams : List RawStream
-  pub are_given : AllZip IsGivenBy inputs streams
+  pub are_given : AllZip (IsGivenAs never_fails) inputs streams
   pub checked : List Checked
   pub right : IsFinding bytes report streams (OfSession true (Some checked))
   pub is_unknown : LacksName name checked
 
-abbrev pub Draws : (bytes report : List ℕ) (inputs : List (Option (List ℕ))) (name : Option (List ℕ)) → Drawn → Type 0
-Draws bytes report inputs name (drawn.Picture picture) = IsPictureOf bytes report inputs name picture
-Draws bytes report inputs name (drawn.Bad finding) = IsAgainst bytes report inputs name (finding_view finding)
-Draws bytes report inputs name drawn.NoPredicate = LacksPredicate bytes report inputs name
+abbrev pub Draws : (bytes report : List ℕ) (inputs : List (Option (List ℕ))) (never_fails : Bool)
+    (name : Option (List ℕ)) → Drawn → Type 0
+Draws bytes report inputs never_fails name (drawn.Picture picture) =
+    IsPictureOf bytes report inputs never_fails name picture
+Draws bytes report inputs never_fails name (drawn.Bad finding) =
+    IsAgainst bytes report inputs never_fails name (finding_view finding)
+Draws bytes report inputs never_fails name drawn.NoPredicate = LacksPredicate bytes report inputs never_fails name
 
 -- the same of any bytes that are this report
-abbrev pub DrawsOf : (bytes : List ℕ) (claimed : Report) (inputs : List (Option (List ℕ))) (name : Option (List ℕ))
-    → Drawn → Type 0
-DrawsOf bytes claimed inputs name given =
-    (report : List ℕ) → IsReport report claimed → Draws bytes report inputs name given
+abbrev pub DrawsOf : (bytes : List ℕ) (claimed : Report) (inputs : List (Option (List ℕ))) (never_fails : Bool)
+    (name : Option (List ℕ)) → Drawn → Type 0
+DrawsOf bytes claimed inputs never_fails name given =
+    (report : List ℕ) → IsReport report claimed → Draws bytes report inputs never_fails name given
 
 -- ---- what is written, and what is given
 
 -- the text of the picture
-pub record IsDrawingTextOf (bytes report : List ℕ) (inputs : List (Option (List ℕ))) (name : Option (List ℕ))
-    (text : List ℕ) : Type 0 where
+pub record IsDrawingTextOf (bytes report : List ℕ) (inputs : List (Option (List ℕ))) (never_fails : Bool)
+    (name : Option (List ℕ)) (text : List ℕ) : Type 0 where
   pub picture : Picture
-  pub is_picture : IsPictureOf bytes report inputs name picture
+  pub is_picture : IsPictureOf bytes report inputs never_fails name picture
   pub is_text : text ≡ drawing_text picture
 
 -- the text of what a check finds, which stands against a picture
-pub record IsRefusalTextOf (bytes report : List ℕ) (inputs : List (Option (List ℕ))) (name : Option (List ℕ))
-    (text : List ℕ) : Type 0 where
+pub record IsRefusalTextOf (bytes report : List ℕ) (inputs : List (Option (List ℕ))) (never_fails : Bool)
+    (name : Option (List ℕ)) (text : List ℕ) : Type 0 where
   pub finding : Finding
-  pub is_against : IsAgainst bytes report inputs name finding
+  pub is_against : IsAgainst bytes report inputs never_fails name finding
   pub is_text : text ≡ check_text finding
 
 -- how far the call came with the picture's text
@@ -96,8 +100,9 @@ drawing_end (Ok NoPredicate) = Silent
 drawing_end (Err fault) = fault_end fault
 
 -- what stands against the picture, if none is written
-abbrev pub ShowsEnd : (bytes report : List ℕ) (inputs : List (Option (List ℕ))) (name : Option (List ℕ)) → Drawing
-    → Type 0
-ShowsEnd bytes report inputs name Written = Unit {0}
-ShowsEnd bytes report inputs name (Refused text) = IsRefusalTextOf bytes report inputs name text.items
-ShowsEnd bytes report inputs name NoPredicate = LacksPredicate bytes report inputs name
+abbrev pub ShowsEnd : (bytes report : List ℕ) (inputs : List (Option (List ℕ))) (never_fails : Bool)
+    (name : Option (List ℕ)) → Drawing → Type 0
+ShowsEnd bytes report inputs never_fails name Written = Unit {0}
+ShowsEnd bytes report inputs never_fails name (Refused text) =
+    IsRefusalTextOf bytes report inputs never_fails name text.items
+ShowsEnd bytes report inputs never_fails name NoPredicate = LacksPredicate bytes report inputs never_fails name

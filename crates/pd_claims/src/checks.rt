@@ -28,9 +28,9 @@ fn find_in_session<S: RandomSource + Threads + Wait + Sync, R: ByteSource + Send
 ) -> Result<Finding, Unanswered>
     requires open { All (λ r. R.has_ended r ≡ false) streams.items }
     ensures found { IfOk result (λ finding. FindsOf document.now (report_view claimed.now)
-        (map R.remaining streams.items) (finding_view finding)) }
+        (map R.remaining streams.items) R.never_fails (finding_view finding)) }
     ensures refused { IfErr result (IsUnanswered
-        (IsReportOfInputs document.now (map R.remaining streams.items))) }
+        (IsReportOfInputs document.now (map R.remaining streams.items) R.never_fails)) }
 {
     let spec = read_document(alloc, document)?;
     let gathered = read_streams(rt, alloc, &spec, streams)?;
@@ -49,7 +49,7 @@ fn find_claimed<S: RandomSource + Threads + Wait + Sync, R: ByteSource + Send + 
 ) -> Result<Finding, EngineFault>
     requires open { All (λ r. R.has_ended r ≡ false) streams.items }
     ensures found { IfOk result (λ finding. FindsOf document.now (report_view claimed.now)
-        (map R.remaining streams.items) (finding_view finding)) }
+        (map R.remaining streams.items) R.never_fails (finding_view finding)) }
     ensures err { IsOkUnless result EngineFault.Memory }
 {
     match find_in_session(rt, alloc, claimed, document, streams) {
@@ -71,7 +71,7 @@ fn find<S: RandomSource + Threads + Wait + Sync, R: ByteSource + Send + Drop>(
 ) -> Result<Finding, EngineFault>
     requires open { All (λ r. R.has_ended r ≡ false) streams.items }
     ensures found { IfOk result (λ finding. Finds document.now report.now (map R.remaining streams.items)
-        (finding_view finding)) }
+        R.never_fails (finding_view finding)) }
     ensures err { IsOkUnless result EngineFault.Memory }
 {
     match pd_report::read(alloc, report) {
@@ -103,8 +103,8 @@ pub fn check<S: RandomSource + Threads + Wait + Sync, R: ByteSource + Send + Dro
     // The text of what the check finds is written whole, and true is reported exactly if no line of it ends with the
     // word `bad` and none says that the report isn't read; a write that fails leaves a prefix of that text, and out of
     // memory leaves nothing.
-    ensures written { Writes (IsFindingTextOf spec.now report.now (map R.remaining streams.items) (good_as result))
-        (call_end result) (W.contents writer.old) (W.contents writer.new) }
+    ensures written { Writes (IsFindingTextOf spec.now report.now (map R.remaining streams.items) R.never_fails
+        (good_as result)) (call_end result) (W.contents writer.old) (W.contents writer.new) }
     ensures err { IfErr result (λ fault. (fault ≡ EngineFault.Memory) ⊎ (fault ≡ EngineFault.Write)) }
 {
     pd_judgement::clean_is_clean();

@@ -69,9 +69,9 @@ fn draw_session<S: RandomSource + Threads + Wait + Sync, R: ByteSource + Send + 
 ) -> Result<Drawn, Unanswered>
     requires open { All (λ r. R.has_ended r ≡ false) streams.items }
     ensures drawn { IfOk result (DrawsOf document.now (report_view claimed.now)
-        (map R.remaining streams.items) (name_view name.entry)) }
+        (map R.remaining streams.items) R.never_fails (name_view name.entry)) }
     ensures refused { IfErr result (IsUnanswered
-        (IsReportOfInputs document.now (map R.remaining streams.items))) }
+        (IsReportOfInputs document.now (map R.remaining streams.items) R.never_fails)) }
 {
     let spec = read_document(alloc, document)?;
     let gathered = read_streams(rt, alloc, &spec, streams)?;
@@ -91,7 +91,7 @@ fn draw_claimed<S: RandomSource + Threads + Wait + Sync, R: ByteSource + Send + 
 ) -> Result<Drawn, EngineFault>
     requires open { All (λ r. R.has_ended r ≡ false) streams.items }
     ensures drawn { IfOk result (DrawsOf document.now (report_view claimed.now)
-        (map R.remaining streams.items) (name_view name.entry)) }
+        (map R.remaining streams.items) R.never_fails (name_view name.entry)) }
     ensures err { IsOkUnless result EngineFault.Memory }
 {
     match draw_session(rt, alloc, claimed, document, streams, name) {
@@ -114,7 +114,7 @@ fn draw_read<S: RandomSource + Threads + Wait + Sync, R: ByteSource + Send + Dro
 ) -> Result<Drawn, EngineFault>
     requires open { All (λ r. R.has_ended r ≡ false) streams.items }
     ensures drawn { IfOk result (Draws document.now report.now (map R.remaining streams.items)
-        (name_view name.entry)) }
+        R.never_fails (name_view name.entry)) }
     ensures err { IsOkUnless result EngineFault.Memory }
 {
     match pd_report::read(alloc, report) {
@@ -168,10 +168,10 @@ pub fn draw<S: RandomSource + Threads + Wait + Sync, R: ByteSource + Send + Drop
     requires open { All (λ r. R.has_ended r ≡ false) streams.items }
     // The picture's text is written whole, or a write fails and a prefix of it is; else nothing is.
     ensures written { Writes (IsDrawingTextOf spec.now report.now (map R.remaining streams.items)
-        (name_view name.entry)) (drawing_end result) (W.contents writer.old) (W.contents writer.new) }
+        R.never_fails (name_view name.entry)) (drawing_end result) (W.contents writer.old) (W.contents writer.new) }
     // What stands against a picture is what a check finds, or that there is no predicate of this name.
     ensures shown { IfOk result (ShowsEnd spec.now report.now (map R.remaining streams.items)
-        (name_view name.entry)) }
+        R.never_fails (name_view name.entry)) }
     ensures err { IfErr result (λ fault. (fault ≡ EngineFault.Memory) ⊎ (fault ≡ EngineFault.Write)) }
 {
     match draw_read(rt, alloc, spec, report, streams, name)? {

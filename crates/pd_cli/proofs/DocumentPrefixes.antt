@@ -105,9 +105,10 @@ same_finding a b report streams finding e (of_session processes events matched a
     (same_session a b streams document traces messages e held) counted answered
 
 -- what is found by the one is what is found by the other
-pub same_text : (a b report : List ℕ) (inputs : List (Option (List ℕ))) (good : Option Bool) (text : List ℕ)
-    → SameOutline a b → IsFindingTextOf a report inputs good text → IsFindingTextOf b report inputs good text
-same_text a b report inputs good text e h = record {
+pub same_text : (a b report : List ℕ) (inputs : List (Option (List ℕ))) (never_fails : Bool) (good : Option Bool)
+    (text : List ℕ) → SameOutline a b → IsFindingTextOf a report inputs never_fails good text
+    → IsFindingTextOf b report inputs never_fails good text
+same_text a b report inputs never_fails good text e h = record {
   streams = h.streams;
   are_given = h.are_given;
   finding = h.finding;
@@ -117,9 +118,10 @@ same_text a b report inputs good text e h = record {
 }
 
 -- the report of the one is that of the other
-pub same_report_text : (a b : List ℕ) (inputs : List (Option (List ℕ))) (judged : Option Bool) (text : List ℕ)
-    → SameOutline a b → IsTextOfStreams a inputs judged text → IsTextOfStreams b inputs judged text
-same_report_text a b inputs judged text e h = record {
+pub same_report_text : (a b : List ℕ) (inputs : List (Option (List ℕ))) (never_fails : Bool) (judged : Option Bool)
+    (text : List ℕ) → SameOutline a b → IsTextOfStreams a inputs never_fails judged text
+    → IsTextOfStreams b inputs never_fails judged text
+same_report_text a b inputs never_fails judged text e h = record {
   streams = h.streams;
   are_given = h.are_given;
   is_report_text = record {

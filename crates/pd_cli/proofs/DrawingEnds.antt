@@ -1,6 +1,6 @@
 -- What a run that draws leaves by the bytes that were read, before and after the flush.
 use Rattle.std.proofs.Common.{◌≡◌, ◌≤◌, ◌⊎◌, ◌∙◌, ℕ, List, length, refl, sym, subst, Some, None, Option, Ok, Err, inl, inr}
-use Rattle.std.specs.Prelude.{Result}
+use Rattle.std.specs.Prelude.{Bool, Result}
 use Rattle.std.specs.Io.KnownBytes.{Keeps}
 use Rattle.pd_format.specs.Limits.{report_byte_limit}
 use Rattle.pd_judgement.specs.Statuses.{OfFiles}
@@ -20,7 +20,7 @@ kept_on (Some old) None c first then = absurd first
 kept_on (Some old) (Some mid) None first then = absurd then
 kept_on (Some old) (Some mid) (Some new) first then = then ∙ first
 
-module _ (document report : List ℕ) (inputs : List (Option (List ℕ))) (name : Option (List ℕ))
+module _ (document report : List ℕ) (inputs : List (Option (List ℕ))) (never_fails : Bool) (name : Option (List ℕ))
     (short : length report ≤ report_byte_limit) where
   -- what holds of the bytes that were read
   of_read : (P : List ℕ → List ℕ → Type 0) → P document report → OfFiles (Some document) (Some report) P
@@ -35,8 +35,8 @@ module _ (document report : List ℕ) (inputs : List (Option (List ℕ))) (name 
 
   -- the call failed
   pub drawing_failed : (fault : EngineFault) (old new : Option (List ℕ)) → (fault ≡ Memory) ⊎ (fault ≡ Write)
-      → Writes (IsDrawingTextOf document report inputs name) (drawing_end (Err fault)) old new
-      → DrawLeaves (Some document) (Some report) inputs name (Err fault) old new
+      → Writes (IsDrawingTextOf document report inputs never_fails name) (drawing_end (Err fault)) old new
+      → DrawLeaves (Some document) (Some report) inputs never_fails ⊥ name (Err fault) old new
   drawing_failed Memory old new is written = written
   drawing_failed Write old new is written = of_read _ (inr written)
   drawing_failed Read old new (inl is) written = absurd (cc)
@@ -46,28 +46,32 @@ module _ (document report : List ℕ) (inputs : List (Option (List ℕ))) (name 
 
   -- the call came to an end, and then the output was flushed
   pub drawing_finished : (drawing : Drawing) (result : Result Drawing EngineFault) (old middle new : Option (List ℕ))
-      → Writes (IsDrawingTextOf document report inputs name) (drawing_end (Ok drawing)) old middle
-      → ShowsEnd document report inputs name drawing → Finishes drawing result middle new
-      → DrawLeaves (Some document) (Some report) inputs name result old new
+      → Writes (IsDrawingTextOf document report inputs never_fails name) (drawing_end (Ok drawing)) old middle
+      → ShowsEnd document report inputs never_fails name drawing → Finishes drawing result middle new
+      → DrawLeaves (Some document) (Some report) inputs never_fails ⊥ name result old new
   drawing_finished Written result old middle new written shows (inl is, keeps) =
-      subst (λ (r : Result Drawing EngineFault). DrawLeaves (Some document) (Some report) inputs name r old new)
+      subst (λ (r : Result Drawing EngineFault). DrawLeaves (Some document)
+      (Some report) inputs never_fails ⊥ name r old new)
       (sym is)
       (of_read _ (written.0, written.1, appends_kept old middle new written.0 written.2 keeps))
   drawing_finished Written result old middle new written shows (inr is, keeps) =
-      subst (λ (r : Result Drawing EngineFault). DrawLeaves (Some document) (Some report) inputs name r old new)
+      subst (λ (r : Result Drawing EngineFault). DrawLeaves (Some document)
+      (Some report) inputs never_fails ⊥ name r old new)
       (sym is)
       (of_read _ (inl (written.0, written.1, appends_kept old middle new written.0 written.2 keeps)))
   drawing_finished (Refused found) result old middle new written shows (inl is, keeps) =
-      subst (λ (r : Result Drawing EngineFault). DrawLeaves (Some document) (Some report) inputs name r old new)
+      subst (λ (r : Result Drawing EngineFault). DrawLeaves (Some document)
+      (Some report) inputs never_fails ⊥ name r old new)
       (sym is) (kept_on old middle new written keeps)
   drawing_finished (Refused found) (Ok Written) old middle new written shows (inr is, keeps) = absurd is
   drawing_finished (Refused found) (Ok NoPredicate) old middle new written shows (inr is, keeps) = absurd is
   drawing_finished (Refused found) (Ok (Refused notice)) old middle new written shows (inr is, keeps) = (
-    of_read (λ d r. IsNoticeOf d r inputs name notice.items)
+    of_read (λ d r. IsNoticeOf d r inputs never_fails name notice.items)
         (record { found = found.items; is_against = shows; is_notice = is }),
     kept_on old middle new written keeps,
   )
   drawing_finished (Refused found) (Err fault) old middle new written shows (inr is, keeps) = absurd is
   drawing_finished NoPredicate result old middle new written shows (is, keeps) =
-      subst (λ (r : Result Drawing EngineFault). DrawLeaves (Some document) (Some report) inputs name r old new)
+      subst (λ (r : Result Drawing EngineFault). DrawLeaves (Some document)
+      (Some report) inputs never_fails ⊥ name r old new)
       (sym is) (of_read _ shows, kept_on old middle new written keeps)

@@ -1,6 +1,6 @@
 -- What a run that draws leaves by the bytes that were read is what it leaves by all that the files hold.
 use Rattle.std.proofs.Common.{◌≡◌, ◌≤◌, ℕ, List, length, refl, Some, Option, Ok, Err, inl, inr}
-use Rattle.std.specs.Prelude.{Result}
+use Rattle.std.specs.Prelude.{Bool, Result}
 use Rattle.std.specs.List.{AllZip}
 use Rattle.std.specs.Io.KnownBytes.{Keeps}
 use Rattle.pd_format.specs.Limits.{report_byte_limit}
@@ -15,18 +15,18 @@ use Rattle.pd_sessions.specs.declared.fault.EngineFault.TheVariants.{Memory, Wri
 use Rattle.pd_cli.specs.Drawings.{DrawLeaves, IsNoticeOf}
 use Rattle.pd_cli.specs.FileSources.{HasWholeFile, SameOutline, StandsFor}
 use Rattle.pd_cli.proofs.DocumentPrefixes.{same_finding, same_session}
-use Rattle.pd_cli.proofs.FilesRead.{given_by_files, of_files, up_to_weaker}
+use Rattle.pd_cli.proofs.FilesRead.{given_as_files, of_files, up_to_weaker}
 
-module _ (read document report : List ℕ) (files lefts : List (Option (List ℕ))) (name : Option (List ℕ))
-    (same : SameOutline read document) (are : AllZip HasWholeFile files lefts) where
-  drawing_of_files : (text : List ℕ) → IsDrawingTextOf read report lefts name text
-      → IsDrawingTextOf document report files name text
+module _ (read document report : List ℕ) (files lefts : List (Option (List ℕ))) (never_fails : Bool)
+    (name : Option (List ℕ)) (same : SameOutline read document) (are : AllZip HasWholeFile files lefts) where
+  drawing_of_files : (text : List ℕ) → IsDrawingTextOf read report lefts never_fails name text
+      → IsDrawingTextOf document report files never_fails name text
   drawing_of_files text h =
       let is = h.is_picture in record {
         picture = h.picture;
         is_picture = record {
           streams = is.streams;
-          are_given = given_by_files files lefts is.streams are is.are_given;
+          are_given = given_as_files never_fails files lefts is.streams are is.are_given;
           document = is.document;
           traces = is.traces;
           messages = is.messages;
@@ -38,8 +38,8 @@ module _ (read document report : List ℕ) (files lefts : List (Option (List ℕ
         is_text = h.is_text;
       }
 
-  notice_of_files : (notice : List ℕ) → IsNoticeOf read report lefts name notice
-      → IsNoticeOf document report files name notice
+  notice_of_files : (notice : List ℕ) → IsNoticeOf read report lefts never_fails name notice
+      → IsNoticeOf document report files never_fails name notice
   notice_of_files notice h =
       let is = h.is_against.is_against in record {
         found = h.found;
@@ -47,7 +47,7 @@ module _ (read document report : List ℕ) (files lefts : List (Option (List ℕ
           finding = h.is_against.finding;
           is_against = record {
             streams = is.streams;
-            are_given = given_by_files files lefts is.streams are is.are_given;
+            are_given = given_as_files never_fails files lefts is.streams are is.are_given;
             right = same_finding read document report is.streams h.is_against.finding same is.right;
             stands = is.stands;
           };
@@ -56,37 +56,40 @@ module _ (read document report : List ℕ) (files lefts : List (Option (List ℕ
         is_notice = h.is_notice;
       }
 
-  lack_of_files : LacksPredicate read report lefts name → LacksPredicate document report files name
+  lack_of_files : LacksPredicate read report lefts never_fails name
+      → LacksPredicate document report files never_fails name
   lack_of_files h = record {
     streams = h.streams;
-    are_given = given_by_files files lefts h.streams are h.are_given;
+    are_given = given_as_files never_fails files lefts h.streams are h.are_given;
     checked = h.checked;
     right = same_finding read document report h.streams _ same h.right;
     is_unknown = h.is_unknown;
   }
 
 module _ (file report_file : Option (List ℕ)) (read claimed : List ℕ) (files lefts : List (Option (List ℕ)))
-    (name : Option (List ℕ)) (old new : Option (List ℕ)) (stands : StandsFor read file)
+    (never_fails : Bool) (MayBeUnread : Type 0) (name : Option (List ℕ)) (old new : Option (List ℕ))
+    (stands : StandsFor read file)
     (whole : IsWholeInput report_file claimed) (are : AllZip HasWholeFile files lefts) where
   pub drawn_of_files : (result : Result Drawing EngineFault)
-      → DrawLeaves (Some read) (Some claimed) lefts name result old new
-      → DrawLeaves file report_file files name result old new
+      → DrawLeaves (Some read) (Some claimed) lefts never_fails ⊥ name result old new
+      → DrawLeaves file report_file files never_fails MayBeUnread name result old new
   drawn_of_files (Ok Written) left =
       of_files file report_file read claimed _ _ stands whole (λ document report same.
-      writes_weaker _ _ Whole old new (drawing_of_files read document report files lefts name same are)) left
+      writes_weaker _ _ Whole old new
+      (drawing_of_files read document report files lefts never_fails name same are)) left
   drawn_of_files (Ok (Refused notice)) left = (
     of_files file report_file read claimed _ _ stands whole (λ document report same.
-        notice_of_files read document report files lefts name same are notice.items) left.0,
+        notice_of_files read document report files lefts never_fails name same are notice.items) left.0,
     left.1,
   )
   drawn_of_files (Ok NoPredicate) left = (
     of_files file report_file read claimed _ _ stands whole (λ document report same.
-        lack_of_files read document report files lefts name same are) left.0,
+        lack_of_files read document report files lefts never_fails name same are) left.0,
     left.1,
   )
   drawn_of_files (Err Memory) left = left
-  drawn_of_files (Err Read) left = left
+  drawn_of_files (Err Read) left = absurd left.0
   drawn_of_files (Err Write) left =
       of_files file report_file read claimed _ _ stands whole (λ document report same.
-      up_to_weaker _ _ old new (drawing_of_files read document report files lefts name same are)) left
+      up_to_weaker _ _ old new (drawing_of_files read document report files lefts never_fails name same are)) left
   drawn_of_files (Err BundleLong) left = left

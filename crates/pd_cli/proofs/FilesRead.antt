@@ -1,10 +1,10 @@
 -- What is left written by the bytes that were read holds of all that the files hold.
-use Rattle.std.proofs.Common.{◌≡◌, ℕ, suc, ◌+◌, ◌≤◌, ◌<◌, List, [], ◌∷◌, ◌++◌, length, take, map, refl, sym, ap, ap₂, subst, ◌∙◌, arith, None, Some, Option, true, false, inl, inr}
+use Rattle.std.proofs.Common.{◌≡◌, ℕ, suc, ◌+◌, ◌≤◌, ◌<◌, List, [], ◌∷◌, ◌++◌, length, length-take, take, map, refl, sym, ap, ap₂, subst, ◌∙◌, arith, None, Some, Option, true, false, inl, inr}
 use Rattle.std.specs.Prelude.{Bool, IfSome}
 use Rattle.std.specs.List.{AllZip}
 use Rattle.pd_judgement.specs.Judgements.{RawStream}
 use Rattle.pd_format.specs.Limits.{document_byte_limit}
-use Rattle.pd_judgement.specs.Writes.{Whole, Partial, IsGivenBy, IsWholeInput, IsFindingTextOf, IsTextOfStreams, WritesTruth}
+use Rattle.pd_judgement.specs.Writes.{Whole, Partial, IsGivenAs, IsWholeInput, IsFindingTextOf, IsTextOfStreams, WritesTruth}
 use Rattle.pd_judgement.proofs.Writing.{writes_weaker}
 use Rattle.pd_judgement.specs.Statuses.{Ending, Success, Negative, Misuse, Failed, MemoryFailure, ReadFailure, WriteFailure, BundleFailure, NetworkFailure, CheckLeaves, FilesJudgementLeaves, OfDocument, OfFiles, WritesUpTo}
 use Rattle.pd_cli.specs.FileSources.{HasWholeFile, SameOutline, StandsFor}
@@ -21,6 +21,15 @@ pub if_all_left : (known : Option (List ℕ)) (bytes kept : List ℕ) (n : ℕ) 
     → IfSome known (λ input. bytes ≡ take (n + 1) input) → length bytes ≤ n → IfSome known (λ input. kept ≡ input)
 if_all_left None bytes kept n same prefix le = tt
 if_all_left (Some input) bytes kept n same prefix le = same ∙ whole_input input bytes n prefix le
+
+-- more was left than was read within the limit
+pub if_more_left : (known : Option (List ℕ)) (bytes : List ℕ) (n : ℕ) → IfSome known (λ input. bytes ≡ take
+    (n + 1) input)
+    → n < length bytes → IfSome known (λ input. n < length input)
+if_more_left None bytes n prefix lt = tt
+if_more_left (Some input) bytes n prefix lt =
+    let shorter : length bytes ≡ length (take (n + 1) input) = ap length prefix in
+    omega (arith, lt, shorter, length-take (n + 1) input)
 
 -- the first bytes of a document, up to one more than its limit, stand for all
 pub prefix_stands : (input : Option (List ℕ)) (read : List ℕ)
@@ -57,19 +66,24 @@ opened_on bytes_of remaining names files i d file lt all one =
     (subst (λ ys. AllZip HasWholeFile (map bytes_of (take i names) ++ bytes_of (slice_index_or names i d) ∷ []) ys)
     (sym files_are) (zip_on HasWholeFile _ _ _ _ all one))
 
-given_by_file : (file left : Option (List ℕ)) (given : RawStream) → HasWholeFile file left → IsGivenBy left given
-    → IsGivenBy file given
-given_by_file None left given is h = record { stopped = h.stopped; prefix = tt; whole = λ _. tt }
-given_by_file (Some bytes) left given is h = subst (λ (l : Option (List ℕ)). IsGivenBy l given) is h
+given_as_file : (never_fails : Bool) (file left : Option (List ℕ)) (given : RawStream) → HasWholeFile file left
+    → IsGivenAs never_fails left given → IsGivenAs never_fails file given
+given_as_file never_fails None left given is h = record {
+  given_by = record { stopped = h.given_by.stopped; prefix = tt; whole = λ _. tt };
+  sure = λ _. tt;
+}
+given_as_file never_fails (Some bytes) left given is h =
+    subst (λ (l : Option (List ℕ)). IsGivenAs never_fails l given) is h
 
-pub given_by_files : (files lefts : List (Option (List ℕ))) (streams : List RawStream) → AllZip HasWholeFile files lefts
-    → AllZip IsGivenBy lefts streams → AllZip IsGivenBy files streams
-given_by_files [] [] streams are given = given
-given_by_files [] (l ∷ lefts) streams are given = absurd are
-given_by_files (f ∷ files) [] streams are given = absurd are
-given_by_files (f ∷ files) (l ∷ lefts) [] are given = absurd given
-given_by_files (f ∷ files) (l ∷ lefts) (s ∷ streams) are given =
-    (given_by_file f l s are.0 given.0, given_by_files files lefts streams are.1 given.1)
+pub given_as_files : (never_fails : Bool) (files lefts : List (Option (List ℕ))) (streams : List RawStream)
+    → AllZip HasWholeFile files lefts → AllZip (IsGivenAs never_fails) lefts streams
+    → AllZip (IsGivenAs never_fails) files streams
+given_as_files never_fails [] [] streams are given = given
+given_as_files never_fails [] (l ∷ lefts) streams are given = absurd are
+given_as_files never_fails (f ∷ files) [] streams are given = absurd are
+given_as_files never_fails (f ∷ files) (l ∷ lefts) [] are given = absurd given
+given_as_files never_fails (f ∷ files) (l ∷ lefts) (s ∷ streams) are given =
+    (given_as_file never_fails f l s are.0 given.0, given_as_files never_fails files lefts streams are.1 given.1)
 
 -- what holds of all that a reader had left holds of its file
 pub of_file : (P : List ℕ → Type 0) (file left : Option (List ℕ)) → HasWholeFile file left → IfSome left P
@@ -79,23 +93,24 @@ of_file P (Some bytes) left is h = subst (λ (l : Option (List ℕ)). IfSome l P
 
 -- ---- the texts that are owed
 
-report_text_of_files : (read document : List ℕ) (files lefts : List (Option (List ℕ))) (judged : Option Bool)
-    (text : List ℕ) → SameOutline read document → AllZip HasWholeFile files lefts
-    → IsTextOfStreams read lefts judged text → IsTextOfStreams document files judged text
-report_text_of_files read document files lefts judged text same are h =
-    same_report_text read document files judged text same (record {
+report_text_of_files : (read document : List ℕ) (files lefts : List (Option (List ℕ))) (never_fails : Bool)
+    (judged : Option Bool) (text : List ℕ) → SameOutline read document → AllZip HasWholeFile files lefts
+    → IsTextOfStreams read lefts never_fails judged text → IsTextOfStreams document files never_fails judged text
+report_text_of_files read document files lefts never_fails judged text same are h =
+    same_report_text read document files never_fails judged text same (record {
       streams = h.streams;
-      are_given = given_by_files files lefts h.streams are h.are_given;
+      are_given = given_as_files never_fails files lefts h.streams are h.are_given;
       is_report_text = h.is_report_text;
     })
 
-finding_text_of_files : (read document report : List ℕ) (files lefts : List (Option (List ℕ))) (good : Option Bool)
-    (text : List ℕ) → SameOutline read document → AllZip HasWholeFile files lefts
-    → IsFindingTextOf read report lefts good text → IsFindingTextOf document report files good text
-finding_text_of_files read document report files lefts good text same are h =
-    same_text read document report files good text same (record {
+finding_text_of_files : (read document report : List ℕ) (files lefts : List (Option (List ℕ))) (never_fails : Bool)
+    (good : Option Bool) (text : List ℕ) → SameOutline read document → AllZip HasWholeFile files lefts
+    → IsFindingTextOf read report lefts never_fails good text
+    → IsFindingTextOf document report files never_fails good text
+finding_text_of_files read document report files lefts never_fails good text same are h =
+    same_text read document report files never_fails good text same (record {
       streams = h.streams;
-      are_given = given_by_files files lefts h.streams are h.are_given;
+      are_given = given_as_files never_fails files lefts h.streams are h.are_given;
       finding = h.finding;
       right = h.right;
       clean = h.clean;
@@ -125,22 +140,23 @@ of_document (Some bytes) read P Q stands go h = record {
 
 -- what is left written by the bytes that were read is what is to be left by the files
 pub judgement_of_files : (file : Option (List ℕ)) (read : List ℕ) (files lefts : List (Option (List ℕ)))
-    (ending : Ending) (old new : Option (List ℕ)) → StandsFor read file → AllZip HasWholeFile files lefts
-    → FilesJudgementLeaves (Some read) lefts ending old new → FilesJudgementLeaves file files ending old new
-judgement_of_files file read files lefts Success old new stands are left =
+    (never_fails : Bool) (MayBeUnread : Type 0) (ending : Ending) (old new : Option (List ℕ)) → StandsFor read file
+    → AllZip HasWholeFile files lefts → FilesJudgementLeaves (Some read) lefts never_fails ⊥ ending old new
+    → FilesJudgementLeaves file files never_fails MayBeUnread ending old new
+judgement_of_files file read files lefts never_fails M Success old new stands are left =
     of_document file read _ _ stands (λ document same. writes_weaker _ _ Whole old new (λ text.
-    report_text_of_files read document files lefts (Some true) text same are)) left
-judgement_of_files file read files lefts Negative old new stands are left =
+    report_text_of_files read document files lefts never_fails (Some true) text same are)) left
+judgement_of_files file read files lefts never_fails M Negative old new stands are left =
     of_document file read _ _ stands (λ document same. writes_weaker _ _ Whole old new (λ text.
-    report_text_of_files read document files lefts (Some false) text same are)) left
-judgement_of_files file read files lefts Misuse old new stands are left = left
-judgement_of_files file read files lefts (Failed MemoryFailure) old new stands are left = left
-judgement_of_files file read files lefts (Failed ReadFailure) old new stands are left = left
-judgement_of_files file read files lefts (Failed WriteFailure) old new stands are left =
+    report_text_of_files read document files lefts never_fails (Some false) text same are)) left
+judgement_of_files file read files lefts never_fails M Misuse old new stands are left = left
+judgement_of_files file read files lefts never_fails M (Failed MemoryFailure) old new stands are left = left
+judgement_of_files file read files lefts never_fails M (Failed ReadFailure) old new stands are left = absurd left.0
+judgement_of_files file read files lefts never_fails M (Failed WriteFailure) old new stands are left =
     of_document file read _ _ stands (λ document same. up_to_weaker _ _ old new (λ text.
-    report_text_of_files read document files lefts None text same are)) left
-judgement_of_files file read files lefts (Failed BundleFailure) old new stands are left = left
-judgement_of_files file read files lefts (Failed NetworkFailure) old new stands are left = left
+    report_text_of_files read document files lefts never_fails None text same are)) left
+judgement_of_files file read files lefts never_fails M (Failed BundleFailure) old new stands are left = left
+judgement_of_files file read files lefts never_fails M (Failed NetworkFailure) old new stands are left = left
 
 -- files whose bytes are known have readers with these bytes left
 pub lefts_of_known : (files lefts : List (Option (List ℕ))) (known : List (List ℕ)) → AllZip HasWholeFile files lefts
@@ -187,25 +203,31 @@ of_files (Some bytes) report_file read claimed P Q stands whole go h = record {
 
 -- what is left written by the bytes that were read is what is to be left by the files
 pub check_of_files : (file report_file : Option (List ℕ)) (read claimed : List ℕ)
-    (files lefts : List (Option (List ℕ))) (ending : Ending) (old new : Option (List ℕ)) → StandsFor read file
-    → IsWholeInput report_file claimed → AllZip HasWholeFile files lefts
-    → CheckLeaves (Some read) (Some claimed) lefts ending old new → CheckLeaves file report_file files ending old new
-check_of_files file report_file read claimed files lefts Success old new stands whole are left =
+    (files lefts : List (Option (List ℕ))) (never_fails : Bool) (MayBeUnread : Type 0) (ending : Ending)
+    (old new : Option (List ℕ)) → StandsFor read file → IsWholeInput report_file claimed
+    → AllZip HasWholeFile files lefts → CheckLeaves (Some read) (Some claimed) lefts never_fails ⊥ ending old new
+    → CheckLeaves file report_file files never_fails MayBeUnread ending old new
+check_of_files file report_file read claimed files lefts never_fails M Success old new stands whole are left =
     of_files file report_file read claimed _ _ stands whole (λ document report same.
     writes_weaker _ _ Whole old new (λ text.
-    finding_text_of_files read document report files lefts (Some true) text same are)) left
-check_of_files file report_file read claimed files lefts Negative old new stands whole are left =
+    finding_text_of_files read document report files lefts never_fails (Some true) text same are)) left
+check_of_files file report_file read claimed files lefts never_fails M Negative old new stands whole are left =
     of_files file report_file read claimed _ _ stands whole (λ document report same.
     writes_weaker _ _ Whole old new (λ text.
-    finding_text_of_files read document report files lefts (Some false) text same are)) left
-check_of_files file report_file read claimed files lefts Misuse old new stands whole are left = left
-check_of_files file report_file read claimed files lefts (Failed MemoryFailure) old new stands whole are left = left
-check_of_files file report_file read claimed files lefts (Failed ReadFailure) old new stands whole are left = left
-check_of_files file report_file read claimed files lefts (Failed WriteFailure) old new stands whole are left =
+    finding_text_of_files read document report files lefts never_fails (Some false) text same are)) left
+check_of_files file report_file read claimed files lefts never_fails M Misuse old new stands whole are left = left
+check_of_files file report_file read claimed files lefts never_fails M
+    (Failed MemoryFailure) old new stands whole are left = left
+check_of_files file report_file read claimed files lefts never_fails M
+    (Failed ReadFailure) old new stands whole are left = absurd left.0
+check_of_files file report_file read claimed files lefts never_fails M
+    (Failed WriteFailure) old new stands whole are left =
     of_files file report_file read claimed _ _ stands whole (λ document report same. up_to_weaker _ _ old new (λ text.
-    finding_text_of_files read document report files lefts None text same are)) left
-check_of_files file report_file read claimed files lefts (Failed BundleFailure) old new stands whole are left = left
-check_of_files file report_file read claimed files lefts (Failed NetworkFailure) old new stands whole are left = left
+    finding_text_of_files read document report files lefts never_fails None text same are)) left
+check_of_files file report_file read claimed files lefts never_fails M
+    (Failed BundleFailure) old new stands whole are left = left
+check_of_files file report_file read claimed files lefts never_fails M
+    (Failed NetworkFailure) old new stands whole are left = left
 
 -- the files of names, one after another
 pub files_of_names : {N : Type 0} (files : List ℕ → Option (List ℕ)) (name_of : N → List ℕ) (names : List N)

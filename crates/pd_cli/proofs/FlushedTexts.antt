@@ -40,9 +40,10 @@ unsaid document streams judged text h = record {
   is_text = h.is_text;
 }
 
-pub unsaid_of_streams : (document : List ℕ) (inputs : List (Option (List ℕ))) (judged : Option Bool) (text : List ℕ)
-    → IsTextOfStreams document inputs judged text → IsTextOfStreams document inputs None text
-unsaid_of_streams document inputs judged text h = record {
+pub unsaid_of_streams : (document : List ℕ) (inputs : List (Option (List ℕ))) (never_fails : Bool)
+    (judged : Option Bool) (text : List ℕ) → IsTextOfStreams document inputs never_fails judged text
+    → IsTextOfStreams document inputs never_fails None text
+unsaid_of_streams document inputs never_fails judged text h = record {
   streams = h.streams;
   are_given = h.are_given;
   is_report_text = unsaid document h.streams judged text h.is_report_text;
@@ -60,10 +61,10 @@ unsaid_of_bundle input judged text h = record {
   is_report_text = unsaid h.document _ judged text h.is_report_text;
 }
 
-pub unsaid_of_finding : (document report : List ℕ) (inputs : List (Option (List ℕ))) (good : Option Bool)
-    (text : List ℕ) → IsFindingTextOf document report inputs good text
-    → IsFindingTextOf document report inputs None text
-unsaid_of_finding document report inputs good text h = record {
+pub unsaid_of_finding : (document report : List ℕ) (inputs : List (Option (List ℕ))) (never_fails : Bool)
+    (good : Option Bool) (text : List ℕ) → IsFindingTextOf document report inputs never_fails good text
+    → IsFindingTextOf document report inputs never_fails None text
+unsaid_of_finding document report inputs never_fails good text h = record {
   streams = h.streams;
   are_given = h.are_given;
   finding = h.finding;
@@ -74,11 +75,11 @@ unsaid_of_finding document report inputs good text h = record {
 
 -- ---- the ends of a check by bytes that were read
 
-pub check_ends : (document report : List ℕ) (inputs : List (Option (List ℕ))) (good : Bool)
+pub check_ends : (document report : List ℕ) (inputs : List (Option (List ℕ))) (never_fails good : Bool)
     (old middle new : Option (List ℕ)) → length report ≤ report_byte_limit
-    → Writes (IsFindingTextOf document report inputs (Some good)) Whole old middle → Keeps middle new
-    → CheckLeaves (Some document) (Some report) inputs (ending_view (Ok good)) old new
-check_ends document report inputs true old middle new short written keeps = record {
+    → Writes (IsFindingTextOf document report inputs never_fails (Some good)) Whole old middle → Keeps middle new
+    → CheckLeaves (Some document) (Some report) inputs never_fails ⊥ (ending_view (Ok good)) old new
+check_ends document report inputs never_fails true old middle new short written keeps = record {
   document_bytes = document;
   report_bytes = report;
   whole_document = refl;
@@ -86,7 +87,7 @@ check_ends document report inputs true old middle new short written keeps = reco
   fits = short;
   holds = (written.0, written.1, appends_kept old middle new written.0 written.2 keeps);
 }
-check_ends document report inputs false old middle new short written keeps = record {
+check_ends document report inputs never_fails false old middle new short written keeps = record {
   document_bytes = document;
   report_bytes = report;
   whole_document = refl;

@@ -1,8 +1,8 @@
 -- What a run that draws leaves on its output and on its errors.
-use Rattle.std.specs.Prelude.{◌≡◌, ◌⊎◌, ℕ, List, [], ◌++◌, codes, map, Option, Result, Ok, Err, IsOkAnd}
+use Rattle.std.specs.Prelude.{◌≡◌, ◌⊎◌, ℕ, Bool, List, [], ◌++◌, codes, map, Option, Result, Ok, Err, IsOkAnd}
 use Rattle.std.specs.Io.KnownBytes.{Keeps}
 use Rattle.clap.specs.Words.{Text}
-use Rattle.pd_judgement.specs.Statuses.{EndsAsAsked, OfFiles, WritesUpTo, line_of_failure, status_of_failure}
+use Rattle.pd_judgement.specs.Statuses.{EndsAsAsked, FilesMayFail, IsLongReport, OfFiles, Reliance, WritesUpTo, line_of_failure, status_of_failure}
 use Rattle.pd_judgement.specs.Writes.{Whole, Writes}
 use Rattle.pd_claims.specs.Drawings.{IsDrawingTextOf, IsRefusalTextOf, LacksPredicate}
 use Rattle.pd_claims.specs.declared.drawings.Drawing.{Drawing}
@@ -17,10 +17,10 @@ abbrev pub refusal_heading : List ℕ
 refusal_heading = codes "monitor: no picture, for a check finds:\n"
 
 -- what is reported of a check's finding that stands against the picture: a line, and the text of what it finds
-pub record IsNoticeOf (document report : List ℕ) (streams : List (Option (List ℕ))) (name : Option (List ℕ))
-    (notice : List ℕ) : Type 0 where
+pub record IsNoticeOf (document report : List ℕ) (streams : List (Option (List ℕ))) (never_fails : Bool)
+    (name : Option (List ℕ)) (notice : List ℕ) : Type 0 where
   pub found : List ℕ
-  pub is_against : IsRefusalTextOf document report streams name found
+  pub is_against : IsRefusalTextOf document report streams never_fails name found
   pub is_notice : notice ≡ refusal_heading ++ found
 
 -- the notice of this finding
@@ -31,19 +31,19 @@ IsNoticed found NoPredicate = ⊥
 
 -- The picture is written: its whole text. The output fails: that text or a prefix of it. Something stands against the
 -- picture, or another failure: nothing.
-abbrev pub DrawLeaves : (document report : Option (List ℕ)) (streams : List (Option (List ℕ)))
-    (name : Option (List ℕ)) → Result Drawing EngineFault → (old new : Option (List ℕ)) → Type 0
-DrawLeaves document report streams name (Ok Written) old new =
-    OfFiles document report (λ d r. Writes (IsDrawingTextOf d r streams name) Whole old new)
-DrawLeaves document report streams name (Ok (Refused notice)) old new =
-    OfFiles document report (λ d r. IsNoticeOf d r streams name notice.items) × Keeps old new
-DrawLeaves document report streams name (Ok NoPredicate) old new =
-    OfFiles document report (λ d r. LacksPredicate d r streams name) × Keeps old new
-DrawLeaves document report streams name (Err Memory) old new = Keeps old new
-DrawLeaves document report streams name (Err Read) old new = Keeps old new
-DrawLeaves document report streams name (Err Write) old new =
-    OfFiles document report (λ d r. WritesUpTo (IsDrawingTextOf d r streams name) old new)
-DrawLeaves document report streams name (Err BundleLong) old new = ⊥
+abbrev pub DrawLeaves : (document report : Option (List ℕ)) (streams : List (Option (List ℕ))) (never_fails : Bool)
+    (MayBeUnread : Type 0) (name : Option (List ℕ)) → Result Drawing EngineFault → (old new : Option (List ℕ)) → Type 0
+DrawLeaves document report streams never_fails MayBeUnread name (Ok Written) old new =
+    OfFiles document report (λ d r. Writes (IsDrawingTextOf d r streams never_fails name) Whole old new)
+DrawLeaves document report streams never_fails MayBeUnread name (Ok (Refused notice)) old new =
+    OfFiles document report (λ d r. IsNoticeOf d r streams never_fails name notice.items) × Keeps old new
+DrawLeaves document report streams never_fails MayBeUnread name (Ok NoPredicate) old new =
+    OfFiles document report (λ d r. LacksPredicate d r streams never_fails name) × Keeps old new
+DrawLeaves document report streams never_fails MayBeUnread name (Err Memory) old new = Keeps old new
+DrawLeaves document report streams never_fails MayBeUnread name (Err Read) old new = MayBeUnread × Keeps old new
+DrawLeaves document report streams never_fails MayBeUnread name (Err Write) old new =
+    OfFiles document report (λ d r. WritesUpTo (IsDrawingTextOf d r streams never_fails name) old new)
+DrawLeaves document report streams never_fails MayBeUnread name (Err BundleLong) old new = ⊥
 
 -- how a drawing ends after the flush: a picture stays written, and of a finding its notice is made
 abbrev pub Finishes : Drawing → Result Drawing EngineFault → (middle new : Option (List ℕ)) → Type 0
@@ -67,27 +67,29 @@ draw_notice (Ok NoPredicate) = codes "monitor: no predicate of this name\n"
 draw_notice (Err fault) = line_of_failure (failure_view fault)
 
 -- A run that draws came to some end, by which this is left on the output and on the errors.
-pub record EndsDrawn (document report : Option (List ℕ)) (streams : List (Option (List ℕ))) (name : Option (List ℕ))
-    (status : ℕ) (old new errors_old errors_new : Option (List ℕ)) : Type 0 where
+pub record EndsDrawn (document report : Option (List ℕ)) (streams : List (Option (List ℕ))) (never_fails : Bool)
+    (MayBeUnread : Type 0) (name : Option (List ℕ)) (status : ℕ) (old new errors_old errors_new : Option (List ℕ)) :
+    Type 0 where
   pub ending : Result Drawing EngineFault
   pub is_status : status ≡ draw_status ending
-  pub output : DrawLeaves document report streams name ending old new
+  pub output : DrawLeaves document report streams never_fails MayBeUnread name ending old new
   pub errors : WritesUpTo (λ text. text ≡ draw_notice ending) errors_old errors_new
 
 -- the arguments ask for a picture, and the run came to such an end
-pub record DrawsAsAsked (arguments : List Text) (files : List ℕ → Option (List ℕ)) (status : ℕ)
+pub record DrawsAsAsked (arguments : List Text) (on : Reliance) (files : List ℕ → Option (List ℕ)) (status : ℕ)
     (old new errors_old errors_new : Option (List ℕ)) : Type 0 where
   pub document : Text
   pub report : Text
   pub streams : List Text
   pub name : Option Text
   pub asked : AsksToDraw arguments document report streams name
-  pub ends : EndsDrawn (files document) (files report) (map files streams) name status old new errors_old errors_new
+  pub ends : EndsDrawn (files document) (files report) (map files streams) on.files_are_read
+      (FilesMayFail on ⊎ IsLongReport (files report)) name status old new errors_old errors_new
 
 -- A run did what its arguments ask for.
-abbrev pub RunsAsAsked : List Text → (input : Option (List ℕ)) (files : List ℕ → Option (List ℕ))
+abbrev pub RunsAsAsked : List Text → (on : Reliance) (input : Option (List ℕ)) (files : List ℕ → Option (List ℕ))
     (connections : ℕ → Option (List ℕ) → Type 0) (status : ℕ) (old new errors_old errors_new : Option (List ℕ))
     → Type 0
-RunsAsAsked arguments input files connections status old new errors_old errors_new =
-    EndsAsAsked (AsksFor arguments) input files connections status old new errors_old errors_new
-    ⊎ DrawsAsAsked arguments files status old new errors_old errors_new
+RunsAsAsked arguments on input files connections status old new errors_old errors_new =
+    EndsAsAsked (AsksFor arguments) on input files connections status old new errors_old errors_new
+    ⊎ DrawsAsAsked arguments on files status old new errors_old errors_new

@@ -25,7 +25,8 @@ pub(crate) fn judge_input<S: RandomSource + Threads + Wait + Sync, I: ByteSource
     output: &mut O,
 ) -> Result<bool, EngineFault>
     requires { I.has_ended input ≡ false }
-    ensures { JudgementLeaves (I.remaining input) (ending_view result) (O.contents output.old) (O.contents output.new) }
+    ensures { JudgementLeaves (I.remaining input) I.never_fails (ending_view result) (O.contents output.old)
+        (O.contents output.new) }
 {
     let outcome = judge_bundle(rt, alloc, input, Workers::one().count(), &NoGate, output)?;
     if output.flush().is_err() {

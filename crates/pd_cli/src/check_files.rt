@@ -1,9 +1,9 @@
 //! Checks a report against the session in files.
 ghost use Rattle.pd_cli.specs.Faults.{ending_view};
 ghost use Rattle.pd_format.specs.Limits.{report_byte_limit};
-ghost use Rattle.pd_judgement.specs.Statuses.{CheckLeaves};
+ghost use Rattle.pd_judgement.specs.Statuses.{CheckLeaves, IsLongReport};
 ghost use Rattle.pd_judgement.specs.Writes.{IsWholeInput};
-ghost use Rattle.std.specs.Prelude.{◌≡◌, ◌≤◌, ◌⊎◌, All, IfErr, IfOk, Some, false, length, map, vec_len};
+ghost use Rattle.std.specs.Prelude.{◌≡◌, ◌≤◌, ◌⊎◌, All, Err, IfErr, IfOk, Some, false, length, map, true, vec_len};
 
 use super::file_source::FileSource;
 use super::session_files::{open_streams, read_document};
@@ -29,6 +29,7 @@ pub(crate) fn read_report<R: ByteSource + Drop>(
     requires { R.has_ended reader ≡ false }
     ensures whole { IfOk result (λ bytes. IsWholeInput (R.remaining reader) bytes.items) }
     ensures short { IfOk result (λ bytes. vec_len bytes ≤ report_byte_limit) }
+    ensures unread { R.never_fails ≡ true → result ≡ Err EngineFault.Read → IsLongReport (R.remaining reader) }
     ensures err { IfErr result (λ fault. (fault ≡ EngineFault.Memory) ⊎ (fault ≡ EngineFault.Read)) }
 {
     let bytes = read_upto(alloc, reader, REPORT_BYTE_LIMIT)?;
@@ -50,8 +51,8 @@ fn check_read<S: RandomSource + Threads + Wait + Sync, R: ByteSource + Send + Dr
 ) -> Result<bool, EngineFault>
     requires open { All (λ stream. R.has_ended stream ≡ false) streams.items }
     requires short { length report.now ≤ report_byte_limit }
-    ensures { CheckLeaves (Some spec.now) (Some report.now) (map R.remaining streams.items) (ending_view result)
-        (O.contents output.old) (O.contents output.new) }
+    ensures { CheckLeaves (Some spec.now) (Some report.now) (map R.remaining streams.items) R.never_fails ⊥
+        (ending_view result) (O.contents output.old) (O.contents output.new) }
 {
     let good = check(rt, alloc, spec, report, streams, output)?;
     if output.flush().is_err() {
@@ -77,8 +78,9 @@ pub(crate) fn check_files<S: RandomSource + Threads + Wait + Sync, F: FileSource
     output: &mut O,
 ) -> Result<bool, EngineFault>
     ensures { CheckLeaves (F.bytes_of files.now names.now.spec.now) (F.bytes_of files.now report.now)
-        (map (λ name. F.bytes_of files.now name.now) names.now.streams.items) (ending_view result)
-        (O.contents output.old) (O.contents output.new) }
+        (map (λ name. F.bytes_of files.now name.now) names.now.streams.items) F.File.never_fails
+        ((F.always_opens ≡ true → F.File.never_fails ≡ true → ⊥) ⊎ IsLongReport (F.bytes_of files.now report.now))
+        (ending_view result) (O.contents output.old) (O.contents output.new) }
 {
     let spec = files.open(names.spec)?;
     let report = files.open(report)?;

@@ -2,8 +2,8 @@
 ghost use Rattle.pd_cli.specs.Drawings.{DrawLeaves, Finishes, draw_notice, draw_status, refusal_heading};
 ghost use Rattle.pd_draw.specs.Choices.{name_view};
 ghost use Rattle.pd_format.specs.Limits.{report_byte_limit};
-ghost use Rattle.pd_judgement.specs.Statuses.{WritesUpTo};
-ghost use Rattle.std.specs.Prelude.{◌≡◌, ◌≤◌, ◌++◌, All, IfOk, Some, false, length, map};
+ghost use Rattle.pd_judgement.specs.Statuses.{IsLongReport, WritesUpTo};
+ghost use Rattle.std.specs.Prelude.{◌≡◌, ◌⊎◌, ◌≤◌, ◌++◌, All, IfOk, Some, false, length, map, true};
 
 use super::check_files::read_report;
 use super::file_source::FileSource;
@@ -48,7 +48,8 @@ fn finish<O: Write>(alloc: Global, drawing: Drawing, output: &mut O) -> Result<D
 /// Draws a report by its bytes, a document's bytes and the streams, writes the picture, and flushes the output.
 ///
 /// # Errors
-/// `Memory` leaves nothing written. `Write` leaves a part of the picture written, or all of it if only the flush failed.
+/// `Memory` leaves nothing written. `Write` leaves a part of the picture written, or all of it if only the flush
+/// failed.
 fn draw_read<S: RandomSource + Threads + Wait + Sync, R: ByteSource + Send + Drop, O: Write>(
     rt: &S,
     alloc: Global,
@@ -60,21 +61,21 @@ fn draw_read<S: RandomSource + Threads + Wait + Sync, R: ByteSource + Send + Dro
 ) -> Result<Drawing, EngineFault>
     requires open { All (λ stream. R.has_ended stream ≡ false) streams.items }
     requires short { length report.now ≤ report_byte_limit }
-    ensures { DrawLeaves (Some spec.now) (Some report.now) (map R.remaining streams.items) (name_view predicate.entry)
-        result (O.contents output.old) (O.contents output.new) }
+    ensures { DrawLeaves (Some spec.now) (Some report.now) (map R.remaining streams.items) R.never_fails ⊥
+        (name_view predicate.entry) result (O.contents output.old) (O.contents output.new) }
 {
     let drawing = draw(rt, alloc, spec, report, streams, predicate, output)?;
     finish(alloc, drawing, output)
 }
 
-/// Opens the files of a picture, the document, the report and then the streams, reads the document and the report, draws
-/// the report with the document and the streams, writes the picture, and flushes the output. All files are opened before
-/// one is read.
+/// Opens the files of a picture, the document, the report and then the streams, reads the document and the report,
+/// draws the report with the document and the streams, writes the picture, and flushes the output. All files are opened
+/// before one is read.
 ///
 /// # Errors
 /// `Read`, if a file can't be opened, or the document or the report can't be read, or the report has more than
-/// `REPORT_BYTE_LIMIT` bytes, and `Memory` leave nothing written. `Write` leaves a part of the picture written, or all of
-/// it if only the flush failed.
+/// `REPORT_BYTE_LIMIT` bytes, and `Memory` leave nothing written. `Write` leaves a part of the picture written, or all
+/// of it if only the flush failed.
 pub(crate) fn draw_files<S: RandomSource + Threads + Wait + Sync, F: FileSource, O: Write>(
     rt: &S,
     files: &F,
@@ -85,8 +86,9 @@ pub(crate) fn draw_files<S: RandomSource + Threads + Wait + Sync, F: FileSource,
     output: &mut O,
 ) -> Result<Drawing, EngineFault>
     ensures { DrawLeaves (F.bytes_of files.now names.now.spec.now) (F.bytes_of files.now report.now)
-        (map (λ name. F.bytes_of files.now name.now) names.now.streams.items) (name_view predicate.entry) result
-        (O.contents output.old) (O.contents output.new) }
+        (map (λ name. F.bytes_of files.now name.now) names.now.streams.items) F.File.never_fails
+        ((F.always_opens ≡ true → F.File.never_fails ≡ true → ⊥) ⊎ IsLongReport (F.bytes_of files.now report.now))
+        (name_view predicate.entry) result (O.contents output.old) (O.contents output.new) }
 {
     let spec = files.open(names.spec)?;
     let report = files.open(report)?;

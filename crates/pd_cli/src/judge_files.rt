@@ -35,8 +35,8 @@ pub(crate) fn judge_read<
     output: &mut O,
 ) -> Result<bool, EngineFault>
     requires { All (λ stream. R.has_ended stream ≡ false) streams.items }
-    ensures written { FilesJudgementLeaves (Some spec.now) (map R.remaining streams.items) (ending_view result)
-        (O.contents output.old) (O.contents output.new) }
+    ensures written { FilesJudgementLeaves (Some spec.now) (map R.remaining streams.items) R.never_fails ⊥
+        (ending_view result) (O.contents output.old) (O.contents output.new) }
     ensures headline { R.never_fails ≡ true → IfOk result (λ judged. (known : List (List ℕ))
         → map R.remaining streams.items ≡ map Some known → WritesTruth spec.now (ended_streams known) (judged ≡ true)
         (O.contents output.old) (O.contents output.new)) }
@@ -65,8 +65,9 @@ pub(crate) fn judge_files<S: RandomSource + Threads + Wait + Sync, F: FileSource
     output: &mut O,
 ) -> Result<bool, EngineFault>
     ensures written { FilesJudgementLeaves (F.bytes_of files.now names.now.spec.now)
-        (map (λ name. F.bytes_of files.now name.now) names.now.streams.items) (ending_view result)
-        (O.contents output.old) (O.contents output.new) }
+        (map (λ name. F.bytes_of files.now name.now) names.now.streams.items) F.File.never_fails
+        (F.always_opens ≡ true → F.File.never_fails ≡ true → ⊥) (ending_view result) (O.contents output.old)
+        (O.contents output.new) }
     // If the bytes of the files are known and no read of them fails: if they hold a well-formed session, it is judged,
     // and with no level over the width, what is written tells the truth of each predicate.
     ensures headline { F.File.never_fails ≡ true → IfOk result (λ judged. (document : List ℕ)

@@ -1,9 +1,10 @@
 //! One run of the program.
+ghost use Rattle.pd_cli.specs.Arguments.{port_limit};
 ghost use Rattle.pd_cli.specs.Drawings.{EndsDrawn, RunsAsAsked};
 ghost use Rattle.pd_draw.specs.Choices.{name_view};
-ghost use Rattle.pd_judgement.specs.Statuses.{CheckLeaves, Ends, FilesJudgementLeaves, JudgementLeaves, ServiceLeaves};
+ghost use Rattle.pd_judgement.specs.Statuses.{CheckLeaves, Ends, FilesJudgementLeaves, IsLongReport, JudgementLeaves, ServiceLeaves, reliance};
 ghost use Rattle.pd_judgement.specs.Writes.{WritesTruthOfBundle};
-ghost use Rattle.std.specs.Prelude.{◌≡◌, ◌≤◌, drop, false, length, map, vec_len};
+ghost use Rattle.std.specs.Prelude.{◌≡◌, ◌⊎◌, ◌≤◌, drop, false, length, map, true, vec_len};
 
 use super::bundle::judge_input;
 use super::check_files::check_files;
@@ -34,8 +35,10 @@ fn run_check<S: RandomSource + Threads + Wait + Sync, F: FileSource, O: Write, E
 ) -> u8
     ensures { Ends (λ ending. CheckLeaves (F.bytes_of files.now names.now.spec.now)
         (F.bytes_of files.now report.now)
-        (map (λ name. F.bytes_of files.now name.now) names.now.streams.items) ending
-        (O.contents output.old) (O.contents output.new)) result (E.contents errors.old) (E.contents errors.new) }
+        (map (λ name. F.bytes_of files.now name.now) names.now.streams.items) F.File.never_fails
+        ((F.always_opens ≡ true → F.File.never_fails ≡ true → ⊥) ⊎ IsLongReport (F.bytes_of files.now report.now))
+        ending (O.contents output.old) (O.contents output.new)) result (E.contents errors.old)
+        (E.contents errors.new) }
 {
     let end = check_files(rt, files, alloc, report, names, output);
     report_end(&end, errors)
@@ -53,8 +56,10 @@ fn run_draw<S: RandomSource + Threads + Wait + Sync, F: FileSource, O: Write, E:
     errors: &mut E,
 ) -> u8
     ensures { EndsDrawn (F.bytes_of files.now names.now.spec.now) (F.bytes_of files.now report.now)
-        (map (λ name. F.bytes_of files.now name.now) names.now.streams.items) (name_view predicate.entry) result
-        (O.contents output.old) (O.contents output.new) (E.contents errors.old) (E.contents errors.new) }
+        (map (λ name. F.bytes_of files.now name.now) names.now.streams.items) F.File.never_fails
+        ((F.always_opens ≡ true → F.File.never_fails ≡ true → ⊥) ⊎ IsLongReport (F.bytes_of files.now report.now))
+        (name_view predicate.entry) result (O.contents output.old) (O.contents output.new) (E.contents errors.old)
+        (E.contents errors.new) }
 {
     let end = draw_files(rt, files, alloc, report, predicate, names, output);
     report_drawing(&end, errors)
@@ -76,9 +81,11 @@ fn run_service<
     output: &mut O,
     errors: &mut E,
 ) -> u8
+    requires { service.now.port ≤ port_limit }
     ensures { Ends (λ ending. ServiceLeaves (F.bytes_of files.now service.now.spec.now)
-        (N.may_give network.now service.now.port) ending (O.contents output.old) (O.contents output.new))
-        result (E.contents errors.old) (E.contents errors.new) }
+        (N.may_give network.now service.now.port) N.Connection.never_fails
+        (F.always_opens ≡ true → F.File.never_fails ≡ true → ⊥) (N.never_fails ≡ true → ⊥) ending
+        (O.contents output.old) (O.contents output.new)) result (E.contents errors.old) (E.contents errors.new) }
 {
     let end = serve(rt, files, network, alloc, service, output);
     report_service_end(&end, errors)
@@ -95,8 +102,9 @@ fn run_files<S: RandomSource + Threads + Wait + Sync, F: FileSource, O: Write, E
     errors: &mut E,
 ) -> u8
     ensures { Ends (λ ending. FilesJudgementLeaves (F.bytes_of files.now names.now.spec.now)
-        (map (λ name. F.bytes_of files.now name.now) names.now.streams.items) ending
-        (O.contents output.old) (O.contents output.new)) result (E.contents errors.old) (E.contents errors.new) }
+        (map (λ name. F.bytes_of files.now name.now) names.now.streams.items) F.File.never_fails
+        (F.always_opens ≡ true → F.File.never_fails ≡ true → ⊥) ending (O.contents output.old)
+        (O.contents output.new)) result (E.contents errors.old) (E.contents errors.new) }
 {
     let end = judge_files(rt, files, alloc, names, workers, output);
     report_end(&end, errors)
@@ -111,7 +119,7 @@ fn run_bundle<S: RandomSource + Threads + Wait + Sync, I: ByteSource + Drop, O: 
     errors: &mut E,
 ) -> u8
     requires { I.has_ended input ≡ false }
-    ensures { Ends (λ ending. JudgementLeaves (I.remaining input) ending (O.contents output.old)
+    ensures { Ends (λ ending. JudgementLeaves (I.remaining input) I.never_fails ending (O.contents output.old)
         (O.contents output.new)) result (E.contents errors.old) (E.contents errors.new) }
 {
     let end = judge_input(rt, alloc, input, output);
@@ -138,6 +146,7 @@ fn run_arguments<
 ) -> u8
     requires { I.has_ended input ≡ false }
     ensures ends { RunsAsAsked (map (λ argument. argument.bytes.items) arguments.now)
+        (reliance I.never_fails F.always_opens F.File.never_fails N.never_fails N.Connection.never_fails)
         (I.remaining input) (F.bytes_of files.now) (N.may_give network.now) result
         (O.contents output.old) (O.contents output.new)
         (E.contents errors.old) (E.contents errors.new) }
@@ -197,12 +206,14 @@ pub fn run<
 ) -> u8
     requires open { I.has_ended input ≡ false }
     // The exit status says what is left on the output and on the errors, by what the arguments after the first ask for.
+    // Where nothing that is read can fail, all bytes of the input, the files and the connections are judged.
     ensures ends { RunsAsAsked (drop 1 (map (λ argument. argument.bytes.items) arguments.items))
+        (reliance I.never_fails F.always_opens F.File.never_fails N.never_fails N.Connection.never_fails)
         (I.remaining input) (F.bytes_of files.now) (N.may_give network.now) result
         (O.contents output.old) (O.contents output.new)
         (E.contents errors.old) (E.contents errors.new) }
     // With no further argument that is the report of the bundle on the input.
-    ensures bundle { vec_len arguments ≤ 1 → Ends (λ ending. JudgementLeaves (I.remaining input) ending
+    ensures bundle { vec_len arguments ≤ 1 → Ends (λ ending. JudgementLeaves (I.remaining input) I.never_fails ending
         (O.contents output.old) (O.contents output.new)) result (E.contents errors.old) (E.contents errors.new) }
     // If the input holds a well-formed session, status 0 or 1 is 0; and with no level over the width, that report says
     // the truth of each predicate.

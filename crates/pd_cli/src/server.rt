@@ -119,8 +119,8 @@ fn judge_accepted<
     output: &mut O,
 ) -> Result<bool, EngineFault>
     requires { All (λ stream. R.has_ended stream ≡ false) streams.items }
-    ensures written { FilesJudgementLeaves (Some document.now) (map R.remaining streams.items) (ending_view result)
-        (O.contents output.old) (O.contents output.new) }
+    ensures written { FilesJudgementLeaves (Some document.now) (map R.remaining streams.items) R.never_fails ⊥
+        (ending_view result) (O.contents output.old) (O.contents output.new) }
     ensures err { IfErr result (λ fault. (fault ≡ EngineFault.Memory) ⊎ (fault ≡ EngineFault.Write)) }
 {
     let outcome = judge_watched(
@@ -153,11 +153,11 @@ fn serve_session<S: RandomSource + Threads + Wait + Sync, N: Network + Sync, O: 
     service: &Service<'_>,
     output: &mut O,
 ) -> Result<bool, ServiceFault>
-    requires { IsDocument document.now (document_view spec.now) }
+    requires document { IsDocument document.now (document_view spec.now) }
+    requires port { service.now.port ≤ port_limit }
     ensures written { ServiceLeaves (Some document.now) (N.may_give network.now service.now.port)
-        (service_ending_view result) (O.contents output.old) (O.contents output.new) }
-    // It is a network failure only if a port can't be bound or a stream not be accepted.
-    ensures sure { N.never_fails ≡ true → service.now.port ≤ port_limit → result ≢ Err faults.Network }
+        N.Connection.never_fails ⊥ (N.never_fails ≡ true → ⊥) (service_ending_view result) (O.contents output.old)
+        (O.contents output.new) }
     ensures err { IfErr result (λ fault. (fault ≡ faults.Network) ⊎ (fault ≡ faults.Engine EngineFault.Memory)
         ⊎ (fault ≡ faults.Engine EngineFault.Write)) }
 {
@@ -192,7 +192,7 @@ fn judge_no_streams<S: RandomSource + Threads + Wait + Sync, N: Network, O: Writ
     document: &[u8],
     output: &mut O,
 ) -> Result<bool, EngineFault>
-    ensures written { FilesJudgementLeaves (Some document.now) [] (ending_view result)
+    ensures written { FilesJudgementLeaves (Some document.now) [] N.Connection.never_fails ⊥ (ending_view result)
         (O.contents output.old) (O.contents output.new) }
     ensures err { IfErr result (λ fault. (fault ≡ EngineFault.Memory) ⊎ (fault ≡ EngineFault.Write)) }
 {
@@ -239,7 +239,8 @@ fn refuse_document<S: RandomSource + Threads + Wait + Sync, N: Network, O: Write
 ) -> Result<bool, ServiceFault>
     requires { IsFaultOf document.now fault.now }
     ensures written { (port : ℕ) → ServiceLeaves (Some document.now) (N.may_give _network.now port)
-        (service_ending_view result) (O.contents output.old) (O.contents output.new) }
+        N.Connection.never_fails ⊥ (N.never_fails ≡ true → ⊥) (service_ending_view result) (O.contents output.old)
+        (O.contents output.new) }
     // Its refusal is the report that is written whole, or the call fails.
     ensures refused { IfOk result (λ judged. judged ≡ false) }
     ensures err { IfErr result (λ fault. (fault ≡ faults.Engine EngineFault.Memory)
@@ -274,11 +275,10 @@ pub(crate) fn serve<
     service: &Service<'_>,
     output: &mut O,
 ) -> Result<bool, ServiceFault>
-    ensures written { ServiceLeaves (F.bytes_of files.now service.now.spec.now)
-        (N.may_give network.now service.now.port) (service_ending_view result) (O.contents output.old)
-        (O.contents output.new) }
-    // It is a network failure only if a port can't be bound or a stream not be accepted.
-    ensures sure { N.never_fails ≡ true → service.now.port ≤ port_limit → result ≢ Err faults.Network }
+    requires { service.now.port ≤ port_limit }
+    ensures { ServiceLeaves (F.bytes_of files.now service.now.spec.now) (N.may_give network.now service.now.port)
+        N.Connection.never_fails (F.always_opens ≡ true → F.File.never_fails ≡ true → ⊥) (N.never_fails ≡ true → ⊥)
+        (service_ending_view result) (O.contents output.old) (O.contents output.new) }
 {
     let file = files.open(service.spec)?;
     let document = read_document(alloc, file)?;

@@ -1,7 +1,7 @@
 //! Opens and reads the files of a session.
 ghost use Rattle.pd_cli.specs.FileSources.{HasWholeFile, StandsFor};
 ghost use Rattle.std.specs.List.{AllZip};
-ghost use Rattle.std.specs.Prelude.{◌≡◌, ◌⊎◌, All, IfErr, IfOk, false, map};
+ghost use Rattle.std.specs.Prelude.{◌≡◌, ◌⊎◌, All, IfErr, IfOk, false, map, true};
 
 use super::file_source::FileSource;
 use pd_engine::ByteSource;
@@ -21,6 +21,7 @@ pub(crate) fn open_streams<F: FileSource>(
     ensures whole { IfOk result (λ streams. AllZip HasWholeFile
         (map (λ name. F.bytes_of files.now name.now) names.now) (map F.File.remaining streams.items)) }
     ensures open { IfOk result (λ streams. All (λ stream. F.File.has_ended stream ≡ false) streams.items) }
+    ensures sure { F.always_opens ≡ true → IfErr result (λ fault. fault ≡ EngineFault.Memory) }
     ensures err { IfErr result (λ fault. (fault ≡ EngineFault.Memory) ⊎ (fault ≡ EngineFault.Read)) }
 {
     let mut streams = Vec::new(alloc);
@@ -41,6 +42,7 @@ pub(crate) fn read_document<R: ByteSource + Drop>(
 ) -> Result<Vec<u8>, EngineFault>
     requires { R.has_ended reader ≡ false }
     ensures same { IfOk result (λ bytes. StandsFor bytes.items (R.remaining reader)) }
+    ensures sure { R.never_fails ≡ true → IfErr result (λ fault. fault ≡ EngineFault.Memory) }
     ensures err { IfErr result (λ fault. (fault ≡ EngineFault.Memory) ⊎ (fault ≡ EngineFault.Read)) }
 {
     read_upto(alloc, reader, DOCUMENT_BYTE_LIMIT)

@@ -35,11 +35,13 @@ const WRONG_CUT: &str =
 pub(crate) struct Files;
 
 impl FileSource for Files {
-    ghost use Rattle.std.specs.Prelude.{None};
+    ghost use Rattle.std.specs.Prelude.{None, false};
 
     type File = &'static [u8];
 
     ghost bytes_of = { λ _ _. None };
+
+    ghost always_opens = { false };
 
     fn open(&self, name: &str) -> Result<&'static [u8], EngineFault> {
         match name {

@@ -10,11 +10,11 @@ use Rattle.pd_judgement.proofs.Writing.{writes_weaker}
 use Rattle.pd_engine.specs.Ends.{IsTextAs, judged_as, outcome_view}
 use Rattle.pd_sessions.specs.Ends.{call_end}
 use Rattle.pd_sessions.specs.SessionReports.{IsReportOfInputs}
-use Rattle.pd_engine.specs.SessionReports.{IsReportOfWhole}
 use Rattle.pd_sessions.specs.declared.fault.EngineFault.{EngineFault}
 use Rattle.pd_engine.specs.declared.outcome.Outcome.{Outcome}
 use Rattle.pd_engine.specs.declared.outcome.Outcome.TheVariants.{Judged}
 use Rattle.pd_engine.proofs.Ends.{outcome_judged}
+use Rattle.pd_engine.proofs.SessionReports.{IsReportOfWhole}
 
 -- ---- what is owed
 
@@ -24,10 +24,11 @@ text_owed document streams report judged text right owed =
     subst (IsReportTextOf document streams judged) (sym owed.is_text)
     (report_text_of document streams report right judged owed.said)
 
-streams_text : (document : List ℕ) (inputs : List (Option (List ℕ))) (report : Report) (judged : Option Bool)
-    (text : List ℕ) → IsReportOfInputs document inputs report → IsTextAs report judged text
-    → IsTextOfStreams document inputs judged text
-streams_text document inputs report judged text right owed = record {
+streams_text : (document : List ℕ) (inputs : List (Option (List ℕ))) (never_fails : Bool) (report : Report)
+    (judged : Option Bool)
+    (text : List ℕ) → IsReportOfInputs document inputs never_fails report → IsTextAs report judged text
+    → IsTextOfStreams document inputs never_fails judged text
+streams_text document inputs never_fails report judged text right owed = record {
   streams = right.streams;
   are_given = right.are_given;
   is_report_text = text_owed document right.streams report judged text right.right owed;
@@ -52,13 +53,15 @@ bundle_text input bundle report judged text whole fits right owed =
 
 -- ---- what is written
 
-pub streams_written : (document : List ℕ) (inputs : List (Option (List ℕ))) (report : Report)
-    (result : Result Outcome EngineFault) (old new : Option (List ℕ)) → IsReportOfInputs document inputs report
+pub streams_written : (document : List ℕ) (inputs : List (Option (List ℕ))) (never_fails : Bool) (report : Report)
+    (result : Result Outcome EngineFault) (old new : Option (List ℕ))
+    → IsReportOfInputs document inputs never_fails report
     → Writes (IsTextAs report (judged_as result)) (call_end result) old new
-    → Writes (IsTextOfStreams document inputs (judged_as result)) (call_end result) old new
-streams_written document inputs report result old new right written =
-    writes_weaker (IsTextAs report (judged_as result)) (IsTextOfStreams document inputs (judged_as result))
-    (call_end result) old new (λ text owed. streams_text document inputs report (judged_as result) text right owed)
+    → Writes (IsTextOfStreams document inputs never_fails (judged_as result)) (call_end result) old new
+streams_written document inputs never_fails report result old new right written =
+    writes_weaker (IsTextAs report (judged_as result)) (IsTextOfStreams document inputs never_fails (judged_as result))
+    (call_end result) old new (λ text owed. streams_text document inputs never_fails report
+    (judged_as result) text right owed)
     written
 
 pub whole_written : (document : List ℕ) (inputs : List (Option (List ℕ))) (report : Report)

@@ -62,8 +62,8 @@ pub fn judge<
     // The text of the report of the document and of the streams that the readers gave is written whole, judged or
     // refused as is reported, and it is true; a write that fails leaves a prefix of it, out of memory nothing, and no
     // other fault comes.
-    ensures written { Writes (IsTextOfStreams spec.now (map R.remaining readers.items) (judged_as result))
-        (call_end result) (W.contents writer.old) (W.contents writer.new) }
+    ensures written { Writes (IsTextOfStreams spec.now (map R.remaining readers.items) R.never_fails
+        (judged_as result)) (call_end result) (W.contents writer.old) (W.contents writer.new) }
     // If the streams' bytes are known and no read fails, it is the report of these bytes,
     ensures whole { R.never_fails ≡ true → (streams : List (List ℕ)) → map R.remaining readers.items ≡ map Some streams
         → Writes (IsReportTextOf spec.now (ended_streams streams) (judged_as result)) (call_end result)
@@ -107,8 +107,8 @@ pub fn judge_watched<
     requires some_workers { 1 ≤ workers }
     requires few_workers { workers ≤ worker_limit }
     // What is written is what `judge` writes of what the readers gave.
-    ensures written { Writes (IsTextOfStreams spec.now (map R.remaining readers.items) (judged_as result))
-        (call_end result) (W.contents writer.old) (W.contents writer.new) }
+    ensures written { Writes (IsTextOfStreams spec.now (map R.remaining readers.items) R.never_fails
+        (judged_as result)) (call_end result) (W.contents writer.old) (W.contents writer.new) }
     ensures whole { R.never_fails ≡ true → (streams : List (List ℕ)) → map R.remaining readers.items ≡ map Some streams
         → Writes (IsReportTextOf spec.now (ended_streams streams) (judged_as result)) (call_end result)
         (W.contents writer.old) (W.contents writer.new) }

@@ -1,6 +1,5 @@
 //! The report of a session.
 ghost use Rattle.pd_sessions.specs.SessionReports.{IsReportOfInputs};
-ghost use Rattle.pd_engine.specs.SessionReports.{IsReportOfWhole};
 ghost use Rattle.pd_sessions.specs.Unanswered.{given_report};
 ghost use Rattle.pd_expand.specs.Limits.{worker_limit};
 ghost use Rattle.pd_format.specs.Readings as readings;
@@ -11,7 +10,7 @@ ghost use Rattle.pd_judgement.specs.Judgements.{IsReportOfResults, events_of_tra
 ghost use Rattle.pd_model.specs.Order.{IsWellFormed};
 ghost use Rattle.pd_report.specs.Views.{report_view};
 ghost use Rattle.pd_spec.specs.Views.{document_view};
-ghost use Rattle.std.specs.Prelude.{◌≡◌, ◌≤◌, All, IfOk, IfSome, IsOkUnless, List, Ok, false, map, true};
+ghost use Rattle.std.specs.Prelude.{◌≡◌, ◌≤◌, All, IfOk, IfSome, IsOkUnless, List, Ok, false, map};
 
 use super::answers::answers_of;
 use pd_gather::{ByteSource, Gathered, Observer, read_streams_watched};
@@ -103,9 +102,7 @@ fn session_report<
     requires some_workers { 1 ≤ workers }
     requires few_workers { workers ≤ worker_limit }
     ensures given { IfSome (given_report result)
-        (IsReportOfInputs document.now (map R.remaining readers.items)) }
-    ensures whole { R.never_fails ≡ true → IfSome (given_report result)
-        (IsReportOfWhole document.now (map R.remaining readers.items)) }
+        (IsReportOfInputs document.now (map R.remaining readers.items) R.never_fails) }
 {
     let spec = read_document(alloc, document)?;
     let gathered = read_streams_watched(rt, alloc, &spec, readers, observer)?;
@@ -136,9 +133,7 @@ pub(crate) fn streams_report<
     requires some_workers { 1 ≤ workers }
     requires few_workers { workers ≤ worker_limit }
     ensures given { IfOk result (λ report.
-        IsReportOfInputs document.now (map R.remaining readers.items) (report_view report)) }
-    ensures whole { R.never_fails ≡ true → IfOk result (λ report.
-        IsReportOfWhole document.now (map R.remaining readers.items) (report_view report)) }
+        IsReportOfInputs document.now (map R.remaining readers.items) R.never_fails (report_view report)) }
     ensures err { IsOkUnless result EngineFault.Memory }
 {
     settled(session_report(rt, alloc, document, readers, workers, gate, observer))

@@ -12,30 +12,13 @@ use Rattle.pd_format.specs.Histories.{Row}
 use Rattle.pd_format.specs.Readings.{Ending, Open, Ended, Failed, IsClosed, reading, result_of}
 use Rattle.pd_format.specs.Sessions.{StreamResult, session, TooManyStreams}
 use Rattle.pd_format.proofs.ReadingFacts.{closed_stays_lem}
-use Rattle.pd_judgement.specs.Judgements.{AreResultsOf, RawStream, ended_streams}
-use Rattle.pd_judgement.specs.Writes.{IsGivenBy}
-use Rattle.pd_judgement.proofs.StreamResults.{ended_have_results, ended_streams_ended, given_ended}
+use Rattle.pd_judgement.specs.Judgements.{AreResultsOf, IsResultOf, RawStream, ended_stream}
+use Rattle.pd_judgement.specs.Writes.{IsGivenAs, IsGivenBy}
+use Rattle.pd_judgement.proofs.StreamResults.{ended_have_results, given_ended}
+use Rattle.pd_judgement.proofs.WholeStreams.{all_left_unread, all_unread_given, given_by_readers, whole_given}
 use Rattle.pd_gather.specs.ReadStreams.{AreReadOf, ComesTo, IsUnbroken}
 
 -- ---- too many streams
-
--- a stream of which nothing was reported
-nothing : RawStream
-nothing = record { ending = Failed; bytes = [] }
-
-nothing_reported : (input : Option (List ℕ)) → IsGivenBy input nothing
-unfolding nothing
-nothing_reported None = record { stopped = λ e. absurd (cc); prefix = tt; whole = λ e. tt }
-nothing_reported (Some bytes) = record { stopped = λ e. absurd (cc); prefix = (bytes, refl); whole = λ e. absurd (cc) }
-
-none_reported : List (Option (List ℕ)) → List RawStream
-none_reported [] = []
-none_reported (input ∷ inputs) = nothing ∷ none_reported inputs
-
-all_none_reported : (inputs : List (Option (List ℕ))) → AllZip IsGivenBy inputs (none_reported inputs)
-unfolding none_reported
-all_none_reported [] = tt
-all_none_reported (input ∷ inputs) = (nothing_reported input, all_none_reported inputs)
 
 too_many : (names : List ProcessNames) (count : ℕ) (results : List StreamResult) → stream_count_limit < count
     → session names count results ≡ Err TooManyStreams
@@ -57,33 +40,23 @@ unread names streams count results given over long are = record {
 }
 
 -- what some readers gave comes to this
-abbrev pub GivesSession : List ProcessNames → List (Option (List ℕ)) → ℕ → List StreamResult → Type 0
-GivesSession names inputs count results =
-    (streams : List RawStream) × AllZip IsGivenBy inputs streams × ComesTo names streams count results
+abbrev pub GivesSession : List ProcessNames → Bool → List (Option (List ℕ)) → ℕ → List StreamResult → Type 0
+GivesSession names never_fails inputs count results =
+    (streams : List RawStream) × AllZip (IsGivenAs never_fails) inputs streams × ComesTo names streams count results
 
-pub unread_given : (names : List ProcessNames) (inputs : List (Option (List ℕ))) (count : ℕ)
+pub unread_comes : (names : List ProcessNames) (never_fails : Bool) (inputs : List (Option (List ℕ))) (count : ℕ)
     (results : List StreamResult) → stream_count_limit < count → length inputs ≡ count
-    → GivesSession names inputs count results
-unread_given names inputs count results over long =
-    let given = all_none_reported inputs in
-    let streams = none_reported inputs in
-    let some = ended_have_results names streams (given_ended inputs streams given) in (
+    → GivesSession names never_fails inputs count results
+unread_comes names never_fails inputs count results over long =
+    let streams = all_left_unread inputs in
+    let given = all_unread_given never_fails inputs in
+    let ended = given_ended inputs streams (given_by_readers never_fails inputs streams given) in
+    let some = ended_have_results names streams ended in (
       streams,
       given,
-      unread names streams count results some.0 over (AllZip-long IsGivenBy inputs streams given ∙ long) some.1,
+      unread names streams count results some.0 over
+          (AllZip-long (IsGivenAs never_fails) inputs streams given ∙ long) some.1,
     )
-
-long_inputs : (inputs : List (Option (List ℕ))) (streams : List (List ℕ)) → inputs ≡ map Some streams
-    → length (ended_streams streams) ≡ length inputs
-long_inputs inputs streams e =
-    length-map streams _ ∙ sym (ap length e ∙ length-map streams Some)
-
-pub unread_whole : (names : List ProcessNames) (inputs : List (Option (List ℕ))) (streams : List (List ℕ)) (count : ℕ)
-    (results : List StreamResult) → stream_count_limit < count → length inputs ≡ count → inputs ≡ map Some streams
-    → ComesTo names (ended_streams streams) count results
-unread_whole names inputs streams count results over long e =
-    let some = ended_have_results names (ended_streams streams) (ended_streams_ended streams) in
-    unread names (ended_streams streams) count results some.0 over (long_inputs inputs streams e ∙ long) some.1
 
 -- ---- streams that were read
 
@@ -91,16 +64,6 @@ read_comes_to : (names : List ProcessNames) (streams : List RawStream) (count : 
     → AreResultsOf names streams results → count ≡ length streams → ComesTo names streams count results
 read_comes_to names streams count results are long =
     record { given_results = results; are_results = are; same_session = ap (λ n. session names n results) long }
-
-pub read_given : (names : List ProcessNames) (never_fails : Bool) (inputs : List (Option (List ℕ))) (count : ℕ)
-    (results : List StreamResult) (rows : List Row) → AreReadOf names never_fails inputs results rows
-    → count ≡ length inputs → GivesSession names inputs count results
-read_given names never_fails inputs count results rows read long = (
-  read.streams,
-  read.are_given,
-  read_comes_to names read.streams count results read.are_results
-      (long ∙ sym (AllZip-long IsGivenBy inputs read.streams read.are_given)),
-)
 
 -- a stream that no read broke off stands for all its bytes
 same_as_whole : (names : List ProcessNames) (bytes : List ℕ) (ending : Ending) (given : List ℕ)
@@ -118,32 +81,60 @@ same_as_whole names bytes Failed given stopped rest prefix whole unbroken =
     early ∙ sym (closed_stays_lem names Ended given rest closed) ∙ ap (λ (all : List ℕ). reading names Ended all)
     (sym prefix)
 
-results_of_whole : (names : List ProcessNames) (inputs : List (List ℕ)) (streams : List RawStream)
-    (results : List StreamResult) → AllZip IsGivenBy (map Some inputs) streams → All (IsUnbroken names true) streams
-    → AreResultsOf names streams results → AreResultsOf names (ended_streams inputs) results
-results_of_whole names [] [] [] given unbroken are = tt
-results_of_whole names [] [] (y ∷ ys) given unbroken are = absurd are
-results_of_whole names [] (s ∷ streams) results given unbroken are = absurd given
-results_of_whole names (x ∷ xs) [] results given unbroken are = absurd given
-results_of_whole names (x ∷ xs) (s ∷ streams) [] given unbroken are = absurd are
-results_of_whole names (x ∷ xs) (s ∷ streams) (y ∷ ys) given unbroken are =
-    let here = given.0 in
-    let same : reading names s.ending s.bytes ≡ reading names Ended x =
-    same_as_whole names x s.ending s.bytes here.stopped here.prefix.0 here.prefix.1 here.whole
-    (All-head (IsUnbroken names true) s streams unbroken refl) in (
-      sym (ap result_of same) ∙ are.0,
-      results_of_whole names xs streams ys given.1 (All-tail (IsUnbroken names true) s streams unbroken) are.1,
+-- what stands for a stream that was read: if no read of it fails, all bytes that its reader had left, if that is known
+stands_for : Bool → Option (List ℕ) → RawStream → RawStream
+stands_for true (Some bytes) stream = ended_stream bytes
+stands_for true None stream = stream
+stands_for false input stream = stream
+
+stands_given : (never_fails : Bool) (input : Option (List ℕ)) (stream : RawStream) → IsGivenBy input stream
+    → IsGivenAs never_fails input (stands_for never_fails input stream)
+unfolding stands_for
+stands_given true (Some bytes) stream given = record { given_by = whole_given bytes; sure = λ never. refl }
+stands_given true None stream given = record { given_by = given; sure = λ never. tt }
+stands_given false input stream given = record { given_by = given; sure = λ never. absurd (cc) }
+
+stands_gives : (names : List ProcessNames) (never_fails : Bool) (input : Option (List ℕ)) (stream : RawStream)
+    (result : StreamResult) → IsGivenBy input stream → IsUnbroken names never_fails stream
+    → IsResultOf names stream result → IsResultOf names (stands_for never_fails input stream) result
+unfolding stands_for
+stands_gives names true (Some bytes) stream result given unbroken is =
+    let same : reading names stream.ending stream.bytes ≡ reading names Ended bytes =
+    same_as_whole names bytes stream.ending stream.bytes given.stopped given.prefix.0 given.prefix.1 given.whole
+    (unbroken refl) in
+    sym (ap result_of same) ∙ is
+stands_gives names true None stream result given unbroken is = is
+stands_gives names false input stream result given unbroken is = is
+
+-- the streams that stand for those that were read, and what they come to
+stand_for : (names : List ProcessNames) (never_fails : Bool) (inputs : List (Option (List ℕ)))
+    (streams : List RawStream) (results : List StreamResult) → AllZip IsGivenBy inputs streams
+    → All (IsUnbroken names never_fails) streams → AreResultsOf names streams results
+    → (whole : List RawStream) × AllZip (IsGivenAs never_fails) inputs whole × AreResultsOf names whole results
+stand_for names never_fails [] [] results given unbroken are = ([], tt, are)
+stand_for names never_fails [] (s ∷ streams) results given unbroken are = absurd given
+stand_for names never_fails (x ∷ inputs) [] results given unbroken are = absurd given
+stand_for names never_fails (x ∷ inputs) (s ∷ streams) [] given unbroken are = absurd are
+stand_for names never_fails (x ∷ inputs) (s ∷ streams) (y ∷ results) given unbroken are =
+    let later = stand_for names never_fails inputs streams results given.1
+    (All-tail (IsUnbroken names never_fails) s streams unbroken) are.1 in (
+      stands_for never_fails x s ∷ later.0,
+      (stands_given never_fails x s given.0, later.1),
+      (
+        stands_gives names never_fails x s y given.0 (All-head (IsUnbroken names never_fails) s streams unbroken)
+            are.0,
+        later.2,
+      ),
     )
 
-pub read_whole : (names : List ProcessNames) (never_fails : Bool) (inputs : List (Option (List ℕ))) (count : ℕ)
+pub read_comes : (names : List ProcessNames) (never_fails : Bool) (inputs : List (Option (List ℕ))) (count : ℕ)
     (results : List StreamResult) (rows : List Row) → AreReadOf names never_fails inputs results rows
-    → count ≡ length inputs → never_fails ≡ true → (streams : List (List ℕ)) → inputs ≡ map Some streams
-    → ComesTo names (ended_streams streams) count results
-read_whole names never_fails inputs count results rows read long sure streams e =
-    let given : AllZip IsGivenBy (map Some streams) read.streams =
-    subst (λ (l : List (Option (List ℕ))). AllZip IsGivenBy l read.streams) e read.are_given in
-    let unbroken : All (IsUnbroken names true) read.streams =
-    subst (λ (b : Bool). All (IsUnbroken names b) read.streams) sure read.are_unbroken in
-    read_comes_to names (ended_streams streams) count results
-    (results_of_whole names streams read.streams results given unbroken read.are_results)
-    (long ∙ sym (long_inputs inputs streams e))
+    → count ≡ length inputs → GivesSession names never_fails inputs count results
+read_comes names never_fails inputs count results rows read long =
+    let whole = stand_for names never_fails inputs read.streams results read.are_given read.are_unbroken
+    read.are_results in (
+      whole.0,
+      whole.1,
+      read_comes_to names whole.0 count results whole.2
+          (long ∙ sym (AllZip-long (IsGivenAs never_fails) inputs whole.0 whole.1)),
+    )

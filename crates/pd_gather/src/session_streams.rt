@@ -2,11 +2,11 @@
 ghost use Rattle.pd_format.specs.Sessions.{StreamResult};
 ghost use Rattle.pd_gather.specs.ReadStreams.{ComesTo};
 ghost use Rattle.pd_gather.specs.Views.{ReadingFits, results_view};
-ghost use Rattle.pd_judgement.specs.Judgements.{RawStream, ended_streams};
-ghost use Rattle.pd_judgement.specs.Writes.{IsGivenBy};
+ghost use Rattle.pd_judgement.specs.Judgements.{RawStream};
+ghost use Rattle.pd_judgement.specs.Writes.{IsGivenAs};
 ghost use Rattle.pd_spec.specs.Views.{document_view};
 ghost use Rattle.std.specs.List.{AllZip};
-ghost use Rattle.std.specs.Prelude.{◌≡◌, ℕ, false, true, List, Some, All, IfOk, map};
+ghost use Rattle.std.specs.Prelude.{◌≡◌, false, List, All, IfOk, map};
 
 use super::byte_source::ByteSource;
 use super::gather_fault::GatherFault;
@@ -33,12 +33,8 @@ pub fn read_streams<T: Threads + Wait + Sync, R: ByteSource + Send + Drop>(
 ) -> Result<Gathered, GatherFault>
     requires open { All (λ r. R.has_ended r ≡ false) readers.items }
     ensures given { IfOk result (λ gathered. (streams : List RawStream)
-        × AllZip IsGivenBy (map R.remaining readers.items) streams
+        × AllZip (IsGivenAs R.never_fails) (map R.remaining readers.items) streams
         × ComesTo (document_view spec.now).names streams gathered.streams (results_view gathered.readings.items)) }
-    ensures whole { R.never_fails ≡ true → IfOk result (λ gathered. (streams : List (List ℕ)) →
-        map R.remaining readers.items ≡ map Some streams →
-        ComesTo (document_view spec.now).names (ended_streams streams) gathered.streams
-        (results_view gathered.readings.items)) }
     ensures fit { IfOk result (λ gathered. All (ReadingFits (document_view spec.now).names) gathered.readings.items) }
 {
     read_streams_watched(rt, alloc, spec, readers, None::<&NoObserver>)
@@ -62,12 +58,8 @@ pub fn read_streams_watched<
 ) -> Result<Gathered, GatherFault>
     requires open { All (λ r. R.has_ended r ≡ false) readers.items }
     ensures given { IfOk result (λ gathered. (streams : List RawStream)
-        × AllZip IsGivenBy (map R.remaining readers.items) streams
+        × AllZip (IsGivenAs R.never_fails) (map R.remaining readers.items) streams
         × ComesTo (document_view spec.now).names streams gathered.streams (results_view gathered.readings.items)) }
-    ensures whole { R.never_fails ≡ true → IfOk result (λ gathered. (streams : List (List ℕ)) →
-        map R.remaining readers.items ≡ map Some streams →
-        ComesTo (document_view spec.now).names (ended_streams streams) gathered.streams
-        (results_view gathered.readings.items)) }
     ensures fit { IfOk result (λ gathered. All (ReadingFits (document_view spec.now).names) gathered.readings.items) }
 {
     if let Some(unread) = unread_streams(alloc, readers.len()) {

@@ -14,3 +14,4 @@ pub mod LawfulAnswers
 pub mod LawfulReports
 pub mod TrueReports
 pub mod TextsOwed
+pub mod WholeStreams

@@ -95,8 +95,12 @@ pub data IsJudgement (bytes : List ℕ) (streams : List RawStream) (report : Rep
       → AreResultsOf document.names streams results → IsReportOfResults document (length streams) results report
       → IsJudgement bytes streams report
 
+-- a stream with these bytes, to its end
+abbrev pub ended_stream : List ℕ → RawStream
+ended_stream bytes = record { ending = Ended; bytes = bytes }
+
 abbrev pub ended_streams : List (List ℕ) → List RawStream
-ended_streams parts = map (λ bytes. record { ending = Ended; bytes = bytes }) parts
+ended_streams parts = map ended_stream parts
 
 -- the report of a bundle: its first part is the document, and the others are the streams
 abbrev pub IsReportOfParts : List (List ℕ) → Report → Type 0

@@ -1,5 +1,5 @@
 -- How a run of the program ends: its exit status, and what that says of what it leaves on its output and on its errors.
-use Rattle.std.specs.Prelude.{◌≡◌, ◌≤◌, ◌⊎◌, ⊤, ℕ, true, false, Bool, All, List, [], codes, length, map, Option, Some, None}
+use Rattle.std.specs.Prelude.{◌≡◌, ◌<◌, ◌≤◌, ◌⊎◌, ⊤, ℕ, true, false, Bool, All, List, [], codes, length, map, Option, Some, None, IfSome}
 use Rattle.std.specs.Io.KnownBytes.{Keeps}
 use Rattle.pd_format.specs.Documents.{Document, DocumentFault, IsDocument, IsRefusedDocument}
 use Rattle.pd_format.specs.Limits.{report_byte_limit}
@@ -21,6 +21,38 @@ pub data Request : Type 0 where
   ShowHelp : Request
   -- the arguments ask for nothing that can be done
   Unclear : Request
+
+-- ---- what a run relies on
+
+-- which of the calls that a run makes never fail
+pub record Reliance : Type 0 where
+  -- no read of the input
+  pub input_is_read : Bool
+  -- no opening of a file
+  pub files_open : Bool
+  -- no read of a file that is open
+  pub files_are_read : Bool
+  -- no binding of a port, and no accepting of a connection
+  pub network_serves : Bool
+  -- no read of a connection
+  pub connections_are_read : Bool
+
+abbrev pub reliance : (input_is_read files_open files_are_read network_serves connections_are_read : Bool) → Reliance
+reliance input_is_read files_open files_are_read network_serves connections_are_read = record {
+  input_is_read = input_is_read;
+  files_open = files_open;
+  files_are_read = files_are_read;
+  network_serves = network_serves;
+  connections_are_read = connections_are_read;
+}
+
+-- there may be a file that can't be opened or read
+abbrev pub FilesMayFail : Reliance → Type 0
+FilesMayFail on = on.files_open ≡ true → on.files_are_read ≡ true → ⊥
+
+-- the report in a file with these bytes is too long, if they are known
+abbrev pub IsLongReport : Option (List ℕ) → Type 0
+IsLongReport report = IfSome report (λ bytes. report_byte_limit < length bytes)
 
 -- ---- how a run ends
 
@@ -88,16 +120,17 @@ Reports (Failed failure) old new = WritesUpTo (IsLineOf failure) old new
 -- ---- what stands on the output
 
 -- A session is judged or refused: the text of its report. The output fails: that text or a prefix of it. Any other end:
--- nothing.
-abbrev pub JudgementLeaves : (input : Option (List ℕ)) → Ending → (old new : Option (List ℕ)) → Type 0
-JudgementLeaves input Success old new = Writes (IsTextOfBundle input (Some true)) Whole old new
-JudgementLeaves input Negative old new = Writes (IsTextOfBundle input (Some false)) Whole old new
-JudgementLeaves input Misuse old new = ⊥
-JudgementLeaves input (Failed MemoryFailure) old new = Keeps old new
-JudgementLeaves input (Failed ReadFailure) old new = Keeps old new
-JudgementLeaves input (Failed WriteFailure) old new = WritesUpTo (IsTextOfBundle input None) old new
-JudgementLeaves input (Failed BundleFailure) old new = IsTooLong input × Keeps old new
-JudgementLeaves input (Failed NetworkFailure) old new = ⊥
+-- nothing; and that the input can't be read is said only if a read of it may fail.
+abbrev pub JudgementLeaves : (input : Option (List ℕ)) (never_fails : Bool) → Ending → (old new : Option (List ℕ))
+    → Type 0
+JudgementLeaves input never_fails Success old new = Writes (IsTextOfBundle input (Some true)) Whole old new
+JudgementLeaves input never_fails Negative old new = Writes (IsTextOfBundle input (Some false)) Whole old new
+JudgementLeaves input never_fails Misuse old new = ⊥
+JudgementLeaves input never_fails (Failed MemoryFailure) old new = Keeps old new
+JudgementLeaves input never_fails (Failed ReadFailure) old new = (never_fails ≡ true → ⊥) × Keeps old new
+JudgementLeaves input never_fails (Failed WriteFailure) old new = WritesUpTo (IsTextOfBundle input None) old new
+JudgementLeaves input never_fails (Failed BundleFailure) old new = IsTooLong input × Keeps old new
+JudgementLeaves input never_fails (Failed NetworkFailure) old new = ⊥
 
 -- P holds of the bytes of a document, which are all that its file holds, if that is known.
 pub record OfDocument (document : Option (List ℕ)) (P : List ℕ → Type 0) : Type 0 where
@@ -105,31 +138,33 @@ pub record OfDocument (document : Option (List ℕ)) (P : List ℕ → Type 0) :
   pub whole_document : IsWholeInput document document_bytes
   pub holds : P document_bytes
 
--- The same of a document and of streams that stand in files.
-abbrev pub FilesJudgementLeaves : (document : Option (List ℕ)) (streams : List (Option (List ℕ))) → Ending
-    → (old new : Option (List ℕ)) → Type 0
-FilesJudgementLeaves document streams Success old new =
-    OfDocument document (λ d. Writes (IsTextOfStreams d streams (Some true)) Whole old new)
-FilesJudgementLeaves document streams Negative old new =
-    OfDocument document (λ d. Writes (IsTextOfStreams d streams (Some false)) Whole old new)
-FilesJudgementLeaves document streams Misuse old new = ⊥
-FilesJudgementLeaves document streams (Failed MemoryFailure) old new = Keeps old new
-FilesJudgementLeaves document streams (Failed ReadFailure) old new = Keeps old new
-FilesJudgementLeaves document streams (Failed WriteFailure) old new =
-    OfDocument document (λ d. WritesUpTo (IsTextOfStreams d streams None) old new)
-FilesJudgementLeaves document streams (Failed BundleFailure) old new = ⊥
-FilesJudgementLeaves document streams (Failed NetworkFailure) old new = ⊥
+-- The same of a document and of streams that stand in files, which may be such that they can't be opened or read, or
+-- not.
+abbrev pub FilesJudgementLeaves : (document : Option (List ℕ)) (streams : List (Option (List ℕ)))
+    (never_fails : Bool) (MayBeUnread : Type 0) → Ending → (old new : Option (List ℕ)) → Type 0
+FilesJudgementLeaves document streams never_fails MayBeUnread Success old new =
+    OfDocument document (λ d. Writes (IsTextOfStreams d streams never_fails (Some true)) Whole old new)
+FilesJudgementLeaves document streams never_fails MayBeUnread Negative old new =
+    OfDocument document (λ d. Writes (IsTextOfStreams d streams never_fails (Some false)) Whole old new)
+FilesJudgementLeaves document streams never_fails MayBeUnread Misuse old new = ⊥
+FilesJudgementLeaves document streams never_fails MayBeUnread (Failed MemoryFailure) old new = Keeps old new
+FilesJudgementLeaves document streams never_fails MayBeUnread (Failed ReadFailure) old new =
+    MayBeUnread × Keeps old new
+FilesJudgementLeaves document streams never_fails MayBeUnread (Failed WriteFailure) old new =
+    OfDocument document (λ d. WritesUpTo (IsTextOfStreams d streams never_fails None) old new)
+FilesJudgementLeaves document streams never_fails MayBeUnread (Failed BundleFailure) old new = ⊥
+FilesJudgementLeaves document streams never_fails MayBeUnread (Failed NetworkFailure) old new = ⊥
 
 -- The text of the report of a document's bytes and of the streams that accepted connections gave, where a connection
--- may have left what G holds of. There are as many connections as the document has processes, and none if it is
--- refused.
-pub record IsTextOfAccepted (document : List ℕ) (G : Option (List ℕ) → Type 0) (judged : Option Bool)
-    (text : List ℕ) : Type 0 where
+-- may have left what G holds of, and no read of one ever fails, if that is said. There are as many connections as the
+-- document has processes, and none if it is refused.
+pub record IsTextOfAccepted (document : List ℕ) (G : Option (List ℕ) → Type 0) (never_fails : Bool)
+    (judged : Option Bool) (text : List ℕ) : Type 0 where
   pub inputs : List (Option (List ℕ))
   pub accepted : All G inputs
   pub one_each : (read : Document) → IsDocument document read → length inputs ≡ length read.names
   pub none_refused : (fault : DocumentFault) → IsRefusedDocument document fault → inputs ≡ []
-  pub is_text : IsTextOfStreams document inputs judged text
+  pub is_text : IsTextOfStreams document inputs never_fails judged text
 
 -- the bytes are a document, and aren't refused
 abbrev pub HoldsDocument : List ℕ → Type 0
@@ -137,19 +172,20 @@ HoldsDocument bytes = (document : Document) × IsDocument bytes document
 
 -- The same of a document that stands in a file, and of streams that come by connections. If a port can't be bound, or a
 -- stream not be accepted: nothing; and that comes only of a document that isn't refused.
-abbrev pub ServiceLeaves : (document : Option (List ℕ)) (G : Option (List ℕ) → Type 0) → Ending
-    → (old new : Option (List ℕ)) → Type 0
-ServiceLeaves document G Success old new =
-    OfDocument document (λ d. Writes (IsTextOfAccepted d G (Some true)) Whole old new)
-ServiceLeaves document G Negative old new =
-    OfDocument document (λ d. Writes (IsTextOfAccepted d G (Some false)) Whole old new)
-ServiceLeaves document G Misuse old new = ⊥
-ServiceLeaves document G (Failed MemoryFailure) old new = Keeps old new
-ServiceLeaves document G (Failed ReadFailure) old new = Keeps old new
-ServiceLeaves document G (Failed WriteFailure) old new =
-    OfDocument document (λ d. WritesUpTo (IsTextOfAccepted d G None) old new)
-ServiceLeaves document G (Failed BundleFailure) old new = ⊥
-ServiceLeaves document G (Failed NetworkFailure) old new = OfDocument document HoldsDocument × Keeps old new
+abbrev pub ServiceLeaves : (document : Option (List ℕ)) (G : Option (List ℕ) → Type 0) (never_fails : Bool)
+    (MayBeUnread MayNotServe : Type 0) → Ending → (old new : Option (List ℕ)) → Type 0
+ServiceLeaves document G never_fails MayBeUnread MayNotServe Success old new =
+    OfDocument document (λ d. Writes (IsTextOfAccepted d G never_fails (Some true)) Whole old new)
+ServiceLeaves document G never_fails MayBeUnread MayNotServe Negative old new =
+    OfDocument document (λ d. Writes (IsTextOfAccepted d G never_fails (Some false)) Whole old new)
+ServiceLeaves document G never_fails MayBeUnread MayNotServe Misuse old new = ⊥
+ServiceLeaves document G never_fails MayBeUnread MayNotServe (Failed MemoryFailure) old new = Keeps old new
+ServiceLeaves document G never_fails MayBeUnread MayNotServe (Failed ReadFailure) old new = MayBeUnread × Keeps old new
+ServiceLeaves document G never_fails MayBeUnread MayNotServe (Failed WriteFailure) old new =
+    OfDocument document (λ d. WritesUpTo (IsTextOfAccepted d G never_fails None) old new)
+ServiceLeaves document G never_fails MayBeUnread MayNotServe (Failed BundleFailure) old new = ⊥
+ServiceLeaves document G never_fails MayBeUnread MayNotServe (Failed NetworkFailure) old new =
+    MayNotServe × OfDocument document HoldsDocument × Keeps old new
 
 -- P holds of the bytes of a document and of those of a report, which are all that their files hold, if that is known,
 -- and the report isn't too long.
@@ -163,19 +199,19 @@ pub record OfFiles (document report : Option (List ℕ)) (P : List ℕ → List 
 
 -- A check finds nothing bad, or something: the text of what it finds. The output fails: that text or a prefix of it.
 -- Any other end: nothing.
-abbrev pub CheckLeaves : (document report : Option (List ℕ)) (streams : List (Option (List ℕ))) → Ending
-    → (old new : Option (List ℕ)) → Type 0
-CheckLeaves document report streams Success old new =
-    OfFiles document report (λ d r. Writes (IsFindingTextOf d r streams (Some true)) Whole old new)
-CheckLeaves document report streams Negative old new =
-    OfFiles document report (λ d r. Writes (IsFindingTextOf d r streams (Some false)) Whole old new)
-CheckLeaves document report streams Misuse old new = ⊥
-CheckLeaves document report streams (Failed MemoryFailure) old new = Keeps old new
-CheckLeaves document report streams (Failed ReadFailure) old new = Keeps old new
-CheckLeaves document report streams (Failed WriteFailure) old new =
-    OfFiles document report (λ d r. WritesUpTo (IsFindingTextOf d r streams None) old new)
-CheckLeaves document report streams (Failed BundleFailure) old new = ⊥
-CheckLeaves document report streams (Failed NetworkFailure) old new = ⊥
+abbrev pub CheckLeaves : (document report : Option (List ℕ)) (streams : List (Option (List ℕ))) (never_fails : Bool)
+    (MayBeUnread : Type 0) → Ending → (old new : Option (List ℕ)) → Type 0
+CheckLeaves document report streams never_fails MayBeUnread Success old new =
+    OfFiles document report (λ d r. Writes (IsFindingTextOf d r streams never_fails (Some true)) Whole old new)
+CheckLeaves document report streams never_fails MayBeUnread Negative old new =
+    OfFiles document report (λ d r. Writes (IsFindingTextOf d r streams never_fails (Some false)) Whole old new)
+CheckLeaves document report streams never_fails MayBeUnread Misuse old new = ⊥
+CheckLeaves document report streams never_fails MayBeUnread (Failed MemoryFailure) old new = Keeps old new
+CheckLeaves document report streams never_fails MayBeUnread (Failed ReadFailure) old new = MayBeUnread × Keeps old new
+CheckLeaves document report streams never_fails MayBeUnread (Failed WriteFailure) old new =
+    OfFiles document report (λ d r. WritesUpTo (IsFindingTextOf d r streams never_fails None) old new)
+CheckLeaves document report streams never_fails MayBeUnread (Failed BundleFailure) old new = ⊥
+CheckLeaves document report streams never_fails MayBeUnread (Failed NetworkFailure) old new = ⊥
 
 -- The help is the parser's text: it is shown, or the output fails.
 abbrev pub HelpLeaves : Ending → (old new : Option (List ℕ)) → Type 0
@@ -201,26 +237,29 @@ MisuseLeaves (Failed NetworkFailure) old new = ⊥
 
 -- By what is asked for, where the input and the file of each name hold these bytes, if that is known, and a connection
 -- to each port may have left what is said of it.
-abbrev pub Leaves : (input : Option (List ℕ)) (files : List ℕ → Option (List ℕ))
+abbrev pub Leaves : (on : Reliance) (input : Option (List ℕ)) (files : List ℕ → Option (List ℕ))
     (connections : ℕ → Option (List ℕ) → Type 0) → Request → Ending → (old new : Option (List ℕ)) → Type 0
-Leaves input files connections JudgeInput ending old new = JudgementLeaves input ending old new
-Leaves input files connections (JudgeFiles document streams) ending old new =
-    FilesJudgementLeaves (files document) (map files streams) ending old new
-Leaves input files connections (CheckFiles document report streams) ending old new =
-    CheckLeaves (files document) (files report) (map files streams) ending old new
-Leaves input files connections (ServeStreams document port watchers) ending old new =
-    ServiceLeaves (files document) (connections port) ending old new
-Leaves input files connections ShowHelp ending old new = HelpLeaves ending old new
-Leaves input files connections Unclear ending old new = MisuseLeaves ending old new
+Leaves on input files connections JudgeInput ending old new = JudgementLeaves input on.input_is_read ending old new
+Leaves on input files connections (JudgeFiles document streams) ending old new =
+    FilesJudgementLeaves (files document) (map files streams) on.files_are_read (FilesMayFail on) ending old new
+Leaves on input files connections (CheckFiles document report streams) ending old new =
+    CheckLeaves (files document) (files report) (map files streams) on.files_are_read
+    (FilesMayFail on ⊎ IsLongReport (files report)) ending old new
+Leaves on input files connections (ServeStreams document port watchers) ending old new =
+    ServiceLeaves (files document) (connections port) on.connections_are_read (FilesMayFail on)
+    (on.network_serves ≡ true → ⊥) ending old new
+Leaves on input files connections ShowHelp ending old new = HelpLeaves ending old new
+Leaves on input files connections Unclear ending old new = MisuseLeaves ending old new
 
 -- ---- a run
 
 -- Memory runs out before it is known what is asked for, and nothing is written; or the arguments ask for something, and
 -- what is left on the output is by that and by how the run ends.
-abbrev pub DoesAsAsked : (IsAsked : Request → Type 0) (input : Option (List ℕ)) (files : List ℕ → Option (List ℕ))
-    (connections : ℕ → Option (List ℕ) → Type 0) → Ending → (old new : Option (List ℕ)) → Type 0
-DoesAsAsked IsAsked input files connections ending old new = ((ending ≡ Failed MemoryFailure) × Keeps old new)
-    ⊎ (request : Request) × IsAsked request × Leaves input files connections request ending old new
+abbrev pub DoesAsAsked : (IsAsked : Request → Type 0) (on : Reliance) (input : Option (List ℕ))
+    (files : List ℕ → Option (List ℕ)) (connections : ℕ → Option (List ℕ) → Type 0) → Ending
+    → (old new : Option (List ℕ)) → Type 0
+DoesAsAsked IsAsked on input files connections ending old new = ((ending ≡ Failed MemoryFailure) × Keeps old new)
+    ⊎ (request : Request) × IsAsked request × Leaves on input files connections request ending old new
 
 -- A run with this exit status came to some end, by which this is left on the output.
 pub record Ends (IsLeft : Ending → Type 0) (status : ℕ) (errors_old errors_new : Option (List ℕ)) : Type 0 where
@@ -230,8 +269,8 @@ pub record Ends (IsLeft : Ending → Type 0) (status : ℕ) (errors_old errors_n
   pub errors : Reports ending errors_old errors_new
 
 -- A run did what its arguments ask for: requests of which this holds.
-abbrev pub EndsAsAsked : (IsAsked : Request → Type 0) (input : Option (List ℕ)) (files : List ℕ → Option (List ℕ))
-    (connections : ℕ → Option (List ℕ) → Type 0) (status : ℕ) (old new errors_old errors_new : Option (List ℕ))
-    → Type 0
-EndsAsAsked IsAsked input files connections status old new errors_old errors_new =
-    Ends (λ ending. DoesAsAsked IsAsked input files connections ending old new) status errors_old errors_new
+abbrev pub EndsAsAsked : (IsAsked : Request → Type 0) (on : Reliance) (input : Option (List ℕ))
+    (files : List ℕ → Option (List ℕ)) (connections : ℕ → Option (List ℕ) → Type 0) (status : ℕ)
+    (old new errors_old errors_new : Option (List ℕ)) → Type 0
+EndsAsAsked IsAsked on input files connections status old new errors_old errors_new =
+    Ends (λ ending. DoesAsAsked IsAsked on input files connections ending old new) status errors_old errors_new

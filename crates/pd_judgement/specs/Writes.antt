@@ -1,12 +1,12 @@
 -- What a call leaves written of the one text that it owes: all of it, a part of it, or nothing; and which text that is.
-use Rattle.std.specs.Prelude.{◌≡◌, ◌≢◌, ◌<◌, ◌≤◌, ◌↔◌, ℕ, Bool, IsTrue, List, ◌∷◌, ◌++◌, length, take, Option, IfSome}
+use Rattle.std.specs.Prelude.{◌≡◌, ◌≢◌, ◌<◌, ◌≤◌, ◌↔◌, ℕ, Bool, true, IsTrue, List, ◌∷◌, ◌++◌, length, take, Option, IfSome}
 use Rattle.std.specs.List.{AllZip}
 use Rattle.std.specs.Io.KnownBytes.{Appends, Keeps}
 use Rattle.pd_model.specs.Order.{IsWellFormed}
 use Rattle.pd_format.specs.Documents.{Document}
 use Rattle.pd_format.specs.Bundles.{parts_of}
 use Rattle.pd_format.specs.Limits.{bundle_byte_limit}
-use Rattle.pd_judgement.specs.Judgements.{RawStream, IsJudgement, ended_streams, events_of_traces}
+use Rattle.pd_judgement.specs.Judgements.{RawStream, IsJudgement, ended_stream, ended_streams, events_of_traces}
 use Rattle.pd_format.specs.OtherTexts.{Finding, check_text}
 use Rattle.pd_format.specs.Readings.{Trace, Open, Ended}
 use Rattle.pd_format.specs.Reports.{Report, report_text}
@@ -41,6 +41,12 @@ pub record IsGivenBy (input : Option (List ℕ)) (given : RawStream) : Type 0 wh
   pub prefix : IfSome input (λ bytes. (rest : List ℕ) × (bytes ≡ given.bytes ++ rest))
   pub whole : given.ending ≡ Ended → IfSome input (λ bytes. given.bytes ≡ bytes)
 
+-- The same of a reader of which it is said whether no read of it ever fails. If none does, and it is known what it had
+-- left, then all of that is what it gave, to its end.
+pub record IsGivenAs (never_fails : Bool) (input : Option (List ℕ)) (given : RawStream) : Type 0 where
+  pub given_by : IsGivenBy input given
+  pub sure : never_fails ≡ true → IfSome input (λ bytes. given ≡ ended_stream bytes)
+
 -- the bytes that a reader gave to its end: all that it had left, if that is known
 abbrev pub IsWholeInput : Option (List ℕ) → List ℕ → Type 0
 IsWholeInput input bytes = IfSome input (λ left. bytes ≡ left)
@@ -57,11 +63,12 @@ pub record IsReportTextOf (document : List ℕ) (streams : List RawStream) (judg
   pub said : IfSome judged (λ judged. is_judged report ≡ judged)
   pub is_text : text ≡ report_text report
 
--- The same of readers of streams with this left: of the streams that they gave.
-pub record IsTextOfStreams (document : List ℕ) (inputs : List (Option (List ℕ))) (judged : Option Bool)
-    (text : List ℕ) : Type 0 where
+-- The same of readers of streams with this left, of which no read ever fails, if that is said: of the streams that they
+-- gave.
+pub record IsTextOfStreams (document : List ℕ) (inputs : List (Option (List ℕ))) (never_fails : Bool)
+    (judged : Option Bool) (text : List ℕ) : Type 0 where
   pub streams : List RawStream
-  pub are_given : AllZip IsGivenBy inputs streams
+  pub are_given : AllZip (IsGivenAs never_fails) inputs streams
   pub is_report_text : IsReportTextOf document streams judged text
 
 -- The same of a reader of a bundle with this left: of the parts of the bundle that it gave, which isn't too long.
@@ -78,12 +85,13 @@ pub record IsTextOfBundle (input : Option (List ℕ)) (judged : Option Bool) (te
 abbrev pub IsTooLong : Option (List ℕ) → Type 0
 IsTooLong input = IfSome input (λ bundle. bundle_byte_limit < length bundle)
 
--- The text of what a check finds by a document's bytes, a report's bytes and the streams of readers with this left. It
--- has nothing bad in it exactly if that is said, if anything is said of it.
-pub record IsFindingTextOf (document report : List ℕ) (inputs : List (Option (List ℕ))) (good : Option Bool)
-    (text : List ℕ) : Type 0 where
+-- The text of what a check finds by a document's bytes, a report's bytes and the streams of readers with this left, of
+-- which no read ever fails, if that is said. It has nothing bad in it exactly if that is said, if anything is said of
+-- it.
+pub record IsFindingTextOf (document report : List ℕ) (inputs : List (Option (List ℕ))) (never_fails : Bool)
+    (good : Option Bool) (text : List ℕ) : Type 0 where
   pub streams : List RawStream
-  pub are_given : AllZip IsGivenBy inputs streams
+  pub are_given : AllZip (IsGivenAs never_fails) inputs streams
   pub finding : Finding
   pub right : IsFinding document report streams finding
   pub clean : IfSome good (λ good. IsTrue good ↔ IsClean finding)

@@ -1,14 +1,15 @@
 -- The report of the results that readers gave is that of the document's bytes and of the streams that they gave.
-use Rattle.std.proofs.Common.{◌≡◌, ℕ, List, [], ◌∷◌, refl, sym, subst, Some, None, Option, Ok, Err}
-use Rattle.std.specs.Prelude.{IfErr, IfSome, IsErrAnd, Result}
+use Rattle.std.proofs.Common.{◌≡◌, ℕ, List, sym, subst, Some, None, Option, Ok, Err}
+use Rattle.std.specs.Prelude.{Bool, IfErr, IfSome, IsErrAnd, Result}
 use Rattle.std.specs.List.{AllZip}
 use Rattle.pd_format.specs.Documents.{Document, IsDocument}
-use Rattle.pd_format.specs.Readings.{Failed, Trace}
+use Rattle.pd_format.specs.Readings.{Trace}
 use Rattle.pd_format.specs.Reports.{Report}
 use Rattle.pd_format.specs.Sessions.{SessionFault, StreamResult, session}
 use Rattle.pd_gather.specs.ReadStreams.{ComesTo}
 use Rattle.pd_judgement.specs.Judgements.{IsJudgement, IsReportOfResults, IsReportOfSession, IsTracesReport, RawStream, of_read}
-use Rattle.pd_judgement.specs.Writes.{IsGivenBy}
+use Rattle.pd_judgement.specs.Writes.{IsGivenAs}
+use Rattle.pd_judgement.proofs.WholeStreams.{all_left_unread, all_unread_given}
 use Rattle.pd_sessions.specs.SessionReports.{IsReportOfInputs}
 use Rattle.pd_sessions.specs.Unanswered.{IsUnanswered, refused_report}
 use Rattle.pd_sessions.specs.declared.unanswered.Unanswered.{Unanswered}
@@ -27,26 +28,6 @@ refusal_given (Ok x) unanswered P Q f same p = tt
 refusal_given (Err u) unanswered P Q f same p =
     subst (IsUnanswered Q) (sym same) (of_given (refused_report unanswered) P Q f p)
 
--- ---- streams that aren't read
-
--- a stream of which nothing was given
-nothing : RawStream
-nothing = record { ending = Failed; bytes = [] }
-
-nothing_given : (input : Option (List ℕ)) → IsGivenBy input nothing
-unfolding nothing
-nothing_given None = record { stopped = λ e. absurd (cc); prefix = tt; whole = λ e. tt }
-nothing_given (Some bytes) = record { stopped = λ e. absurd (cc); prefix = (bytes, refl); whole = λ e. absurd (cc) }
-
-pub none_given : List (Option (List ℕ)) → List RawStream
-none_given [] = []
-none_given (input ∷ inputs) = nothing ∷ none_given inputs
-
-pub all_none_given : (inputs : List (Option (List ℕ))) → AllZip IsGivenBy inputs (none_given inputs)
-unfolding none_given
-all_none_given [] = tt
-all_none_given (input ∷ inputs) = (nothing_given input, all_none_given inputs)
-
 -- ---- streams that are read
 
 pub judged_of_results : (bytes : List ℕ) (streams : List RawStream) (document : Document) (count : ℕ)
@@ -58,15 +39,16 @@ judged_of_results bytes streams document count results report is comes right =
     (subst (λ (r : Result (List Trace) SessionFault). IsReportOfSession document r report) comes.same_session right)
 
 -- what the readers gave comes to these results
-abbrev pub AreGiven : Document → List (Option (List ℕ)) → ℕ → List StreamResult → Type 0
-AreGiven document inputs count results =
-    (streams : List RawStream) × AllZip IsGivenBy inputs streams × ComesTo document.names streams count results
+abbrev pub AreGiven : Document → List (Option (List ℕ)) → Bool → ℕ → List StreamResult → Type 0
+AreGiven document inputs never_fails count results =
+    (streams : List RawStream) × AllZip (IsGivenAs never_fails) inputs streams
+    × ComesTo document.names streams count results
 
-pub inputs_report : (bytes : List ℕ) (inputs : List (Option (List ℕ))) (document : Document) (count : ℕ)
-    (results : List StreamResult) (report : Report) → IsDocument bytes document
-    → AreGiven document inputs count results → IsReportOfResults document count results report
-    → IsReportOfInputs bytes inputs report
-inputs_report bytes inputs document count results report is given right = record {
+pub inputs_report : (bytes : List ℕ) (inputs : List (Option (List ℕ))) (never_fails : Bool) (document : Document)
+    (count : ℕ) (results : List StreamResult) (report : Report) → IsDocument bytes document
+    → AreGiven document inputs never_fails count results → IsReportOfResults document count results report
+    → IsReportOfInputs bytes inputs never_fails report
+inputs_report bytes inputs never_fails document count results report is given right = record {
   streams = given.0;
   are_given = given.1;
   right = judged_of_results bytes given.0 document count results report is given.2 right;
@@ -74,12 +56,13 @@ inputs_report bytes inputs document count results report is given right = record
 
 -- ---- a document that is refused
 
-pub refused_inputs_report : (bytes : List ℕ) (inputs : List (Option (List ℕ))) (report : Report)
-    → ((streams : List RawStream) → IsJudgement bytes streams report) → IsReportOfInputs bytes inputs report
-refused_inputs_report bytes inputs report any = record {
-  streams = none_given inputs;
-  are_given = all_none_given inputs;
-  right = any (none_given inputs);
+pub refused_inputs_report : (bytes : List ℕ) (inputs : List (Option (List ℕ))) (never_fails : Bool)
+    (report : Report) → ((streams : List RawStream) → IsJudgement bytes streams report)
+    → IsReportOfInputs bytes inputs never_fails report
+refused_inputs_report bytes inputs never_fails report any = record {
+  streams = all_left_unread inputs;
+  are_given = all_unread_given never_fails inputs;
+  right = any (all_left_unread inputs);
 }
 
 -- the report of traces is that of the streams that make them

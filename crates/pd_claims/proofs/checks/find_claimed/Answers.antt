@@ -8,5 +8,6 @@ use Rattle.pd_claims.proofs.checks.find_claimed.Goals as goal
 pub returns-in-Refused-clause-found : goal.returns-in-Refused-clause-found
 returns-in-Refused-clause-found g c =
     refusal_found c.args.document.now (map g.R.ByteSource.remaining c.args.streams.items)
+    g.R.ByteSource.never_fails
     (refusal_view c.in-Refused.refusal) (report_view c.args.claimed.now) (finding_view c.find_refused.result)
     (rw c.in-Refused.is at c.in-Err.ensures.refused) c.find_refused.ensures

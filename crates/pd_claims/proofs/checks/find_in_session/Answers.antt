@@ -20,7 +20,8 @@ returns-in_err-spec-clause-refused g c =
     let inputs = map g.R.ByteSource.remaining c.args.streams.items in
     refusal_given c.from_residual.result c.in_err-spec.field-0.0
     (λ (report : Report). (streams : List RawStream) → IsJudgement bytes streams report)
-    (IsReportOfInputs bytes inputs) (refused_inputs_report bytes inputs) c.from_residual.ensures.1
+    (IsReportOfInputs bytes inputs g.R.ByteSource.never_fails)
+    (refused_inputs_report bytes inputs g.R.ByteSource.never_fails) c.from_residual.ensures.1
     c.in_err-spec.ensures.refused
 
 pub returns-in_err-traces-clause-refused : goal.returns-in_err-traces-clause-refused
@@ -31,8 +32,9 @@ returns-in_err-traces-clause-refused g c =
     let count = c.in_ok-gathered.gathered.streams in
     let results = results_view c.in_ok-gathered.gathered.readings.items in
     refusal_given c.from_residual-in_err-traces.result c.in_err-traces.field-0.0
-    (IsReportOfResults document count results) (IsReportOfInputs bytes inputs)
-    (λ report right. inputs_report bytes inputs document count results report c.in_ok-spec.ensures.read
+    (IsReportOfResults document count results) (IsReportOfInputs bytes inputs g.R.ByteSource.never_fails)
+    (λ report right. inputs_report bytes inputs g.R.ByteSource.never_fails document count results report
+    c.in_ok-spec.ensures.read
     c.in_ok-gathered.ensures.given right)
     c.from_residual-in_err-traces.ensures.1 c.in_err-traces.ensures.refused
 
@@ -45,8 +47,9 @@ returns-in_err-computation-clause-refused g c =
     let results = results_view c.in_ok-gathered.gathered.readings.items in
     let traces = traces_view c.in_ok-traces.traces.items in
     refusal_given c.from_residual-in_err-computation.result c.in_err-computation.field-0.0
-    (IsTracesReport document traces) (IsReportOfInputs bytes inputs)
-    (λ report right. inputs_report bytes inputs document count results report c.in_ok-spec.ensures.read
+    (IsTracesReport document traces) (IsReportOfInputs bytes inputs g.R.ByteSource.never_fails)
+    (λ report right. inputs_report bytes inputs g.R.ByteSource.never_fails document count results report
+    c.in_ok-spec.ensures.read
     c.in_ok-gathered.ensures.given
     (traces_report document count results traces report c.in_ok-traces.ensures.joined right))
     c.from_residual-in_err-computation.ensures.1
@@ -64,7 +67,7 @@ returns-clause-found g c =
     let well : AreWellFormed document traces c.in_ok-computation.computation c.in_ok-computation.messages =
     subst (λ (all : List Trace). AreWellFormed document (traces_view all) c.in_ok-computation.computation
     c.in_ok-computation.messages) c.deref.ensures.value c.in_ok-computation.ensures.formed in
-    session_found bytes inputs document count results traces c.in_ok-computation.computation
+    session_found bytes inputs g.R.ByteSource.never_fails document count results traces c.in_ok-computation.computation
     c.in_ok-computation.messages (report_view c.args.claimed.now) (finding_view c.in_ok-find_formed.field-0)
     c.in_ok-spec.ensures.read c.in_ok-gathered.ensures.given c.in_ok-traces.ensures.joined well
     (c.in_ok-find_formed.ensures traces well.messages well.same well.counted)

@@ -9,6 +9,7 @@ use Rattle.pd_claims.proofs.drawings.draw_claimed.Goals as goal
 pub returns-in-Refused-clause-drawn : goal.returns-in-Refused-clause-drawn
 returns-in-Refused-clause-drawn g c =
     refusal_drawn c.args.document.now (map g.R.ByteSource.remaining c.args.streams.items)
+    g.R.ByteSource.never_fails
     (refusal_view c.in-Refused.refusal) (report_view c.args.claimed.now) (name_view c.args.name)
     (finding_view c.find_refused.result)
     (rw c.in-Refused.is at c.in-Err.ensures.refused) c.find_refused.ensures

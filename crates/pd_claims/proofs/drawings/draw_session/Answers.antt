@@ -20,7 +20,8 @@ returns-in_err-spec-clause-refused g c =
     let inputs = map g.R.ByteSource.remaining c.args.streams.items in
     refusal_given c.from_residual.result c.in_err-spec.field-0.0
     (λ (report : Report). (streams : List RawStream) → IsJudgement bytes streams report)
-    (IsReportOfInputs bytes inputs) (refused_inputs_report bytes inputs) c.from_residual.ensures.1
+    (IsReportOfInputs bytes inputs g.R.ByteSource.never_fails)
+    (refused_inputs_report bytes inputs g.R.ByteSource.never_fails) c.from_residual.ensures.1
     c.in_err-spec.ensures.refused
 
 pub returns-in_err-traces-clause-refused : goal.returns-in_err-traces-clause-refused
@@ -31,8 +32,9 @@ returns-in_err-traces-clause-refused g c =
     let count = c.in_ok-gathered.gathered.streams in
     let results = results_view c.in_ok-gathered.gathered.readings.items in
     refusal_given c.from_residual-in_err-traces.result c.in_err-traces.field-0.0
-    (IsReportOfResults document count results) (IsReportOfInputs bytes inputs)
-    (λ report right. inputs_report bytes inputs document count results report c.in_ok-spec.ensures.read
+    (IsReportOfResults document count results) (IsReportOfInputs bytes inputs g.R.ByteSource.never_fails)
+    (λ report right. inputs_report bytes inputs g.R.ByteSource.never_fails document count results report
+    c.in_ok-spec.ensures.read
     c.in_ok-gathered.ensures.given right)
     c.from_residual-in_err-traces.ensures.1 c.in_err-traces.ensures.refused
 
@@ -45,8 +47,9 @@ returns-in_err-drawn-clause-refused g c =
     let results = results_view c.in_ok-gathered.gathered.readings.items in
     let traces = traces_view c.in_ok-traces.traces.items in
     refusal_given c.from_residual-in_err-drawn.result c.in_err-drawn.field-0.0
-    (IsTracesReport document traces) (IsReportOfInputs bytes inputs)
-    (λ report right. inputs_report bytes inputs document count results report c.in_ok-spec.ensures.read
+    (IsTracesReport document traces) (IsReportOfInputs bytes inputs g.R.ByteSource.never_fails)
+    (λ report right. inputs_report bytes inputs g.R.ByteSource.never_fails document count results report
+    c.in_ok-spec.ensures.read
     c.in_ok-gathered.ensures.given
     (traces_report document count results traces report c.in_ok-traces.ensures.joined right))
     c.from_residual-in_err-drawn.ensures.1
@@ -61,7 +64,7 @@ returns-clause-drawn g c =
     let count = c.in_ok-gathered.gathered.streams in
     let results = results_view c.in_ok-gathered.gathered.readings.items in
     let traces = traces_view c.in_ok-traces.traces.items in
-    session_drawn bytes inputs document count results traces (report_view c.args.claimed.now)
+    session_drawn bytes inputs g.R.ByteSource.never_fails document count results traces (report_view c.args.claimed.now)
     (name_view c.args.name) c.in_ok-spec.ensures.read c.in_ok-gathered.ensures.given c.in_ok-traces.ensures.joined
     c.in_ok-drawn.drawn
     (subst (λ (all : List Trace). DrawsTraces document (traces_view all) (report_view c.args.claimed.now)

@@ -25,5 +25,6 @@ returns g c =
     (map (λ name. g.F.FileSource.bytes_of c.args.files.now name.now) names) lefts) c.deref.ensures.value
     c.in_ok-streams.ensures.whole in
     check_of_files file report_file c.deref-2.result.now c.deref-3.result.now _ lefts
+    g.F.File.ByteSource.never_fails _
     (ending_view c.check_read.result) (g.O.Write.contents c.args.output.now)
     (g.O.Write.contents c.check_read.new.output) stands claimed whole c.check_read.ensures

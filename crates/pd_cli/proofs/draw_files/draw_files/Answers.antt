@@ -25,6 +25,7 @@ returns g c =
     let whole = subst (λ (names : List (Bor (List ℕ))). AllZip HasWholeFile
     (map (λ name. g.F.FileSource.bytes_of c.args.files.now name.now) names) lefts) c.deref.ensures.value
     c.in_ok-streams.ensures.whole in
-    drawn_of_files file report_file c.deref-2.result.now c.deref-3.result.now _ lefts (name_view c.args.predicate)
+    drawn_of_files file report_file c.deref-2.result.now c.deref-3.result.now _ lefts
+    g.F.File.ByteSource.never_fails _ (name_view c.args.predicate)
     (g.O.Write.contents c.args.output.now) (g.O.Write.contents c.draw_read.new.output) stands claimed whole
     c.draw_read.result c.draw_read.ensures

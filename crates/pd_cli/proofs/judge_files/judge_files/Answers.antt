@@ -20,7 +20,8 @@ returns-clause-written g c =
     let whole = subst (λ (names : List (Bor (List ℕ))). AllZip HasWholeFile
     (map (λ name. g.F.FileSource.bytes_of c.args.files.now name.now) names) lefts) c.deref.ensures.value
     c.in_ok-streams.ensures.whole in
-    judgement_of_files file c.deref-2.result.now _ lefts (ending_view c.judge_read.result)
+    judgement_of_files file c.deref-2.result.now _ lefts g.F.File.ByteSource.never_fails
+    _ (ending_view c.judge_read.result)
     (g.O.Write.contents c.args.output.now) (g.O.Write.contents c.judge_read.new.output) stands whole
     c.judge_read.ensures.written
 

@@ -9,14 +9,16 @@ use Rattle.pd_cli.proofs.judge_files.judge_read.Goals as goal
 pub returns-then-is_err-clause-written : goal.returns-then-is_err-clause-written
 returns-then-is_err-clause-written g c =
     let inputs = map g.R.ByteSource.remaining c.args.streams.items in
+    let never_fails = g.R.ByteSource.never_fails in
     let judged = Some (outcome_view c.in_ok-outcome.outcome) in
     record {
       document_bytes = c.args.spec.now;
       whole_document = refl;
-      holds = flushed_up_to (IsTextOfStreams c.args.spec.now inputs judged)
-          (IsTextOfStreams c.args.spec.now inputs None) (g.O.Write.contents c.args.output.now)
+      holds = flushed_up_to (IsTextOfStreams c.args.spec.now inputs never_fails judged)
+          (IsTextOfStreams c.args.spec.now inputs never_fails None) (g.O.Write.contents c.args.output.now)
           (g.O.Write.contents c.judge.new.writer) (g.O.Write.contents c.flush.new.self)
-          (unsaid_of_streams c.args.spec.now inputs judged) c.in_ok-outcome.ensures.written c.flush.ensures.bytes;
+          (unsaid_of_streams c.args.spec.now inputs never_fails judged)
+          c.in_ok-outcome.ensures.written c.flush.ensures.bytes;
     }
 
 pub returns-clause-headline : goal.returns-clause-headline

@@ -2,13 +2,17 @@
 use Rattle.std.proofs.Common.{ℕ, List, String, arith, inl, map, drop, ap, sym, ◌∙◌, subst}
 use Rattle.std.specs.Global.{Global}
 use Rattle.std.proofs.lemmas.List.{drop-map}
+use Rattle.pd_judgement.specs.Statuses.{reliance}
 use Rattle.pd_cli.specs.Drawings.{RunsAsAsked}
 use Rattle.pd_cli.proofs.BundleEnds.{as_asked_by_none, none_left, truth_of_status}
 use Rattle.pd_cli.proofs.program.run.Goals as goal
 
 pub returns-then-len-le1-clause-ends : goal.returns-then-len-le1-clause-ends
 returns-then-len-le1-clause-ends g c =
-    inl (as_asked_by_none _ (g.I.ByteSource.remaining c.args.input) (g.F.FileSource.bytes_of c.args.files.now)
+    inl (as_asked_by_none _
+    (reliance g.I.ByteSource.never_fails g.F.FileSource.always_opens g.F.File.ByteSource.never_fails
+    g.N.Network.never_fails g.N.Connection.ByteSource.never_fails)
+    (g.I.ByteSource.remaining c.args.input) (g.F.FileSource.bytes_of c.args.files.now)
     (g.N.Network.may_give c.args.network.now) c.run_bundle.result (g.O.Write.contents c.args.output.now)
     (g.O.Write.contents c.run_bundle.new.output)
     (g.E.Write.contents c.args.errors.now) (g.E.Write.contents c.run_bundle.new.errors)
@@ -18,7 +22,10 @@ returns-then-len-le1-clause-ends g c =
 pub returns-clause-ends : goal.returns-clause-ends
 returns-clause-ends g c =
     let bytes : String Global → List ℕ = λ argument. argument.bytes.items in
-    subst (λ (arguments : List (List ℕ)). RunsAsAsked arguments (g.I.ByteSource.remaining c.args.input)
+    subst (λ (arguments : List (List ℕ)). RunsAsAsked arguments
+    (reliance g.I.ByteSource.never_fails g.F.FileSource.always_opens g.F.File.ByteSource.never_fails
+    g.N.Network.never_fails g.N.Connection.ByteSource.never_fails)
+    (g.I.ByteSource.remaining c.args.input)
     (g.F.FileSource.bytes_of c.args.files.now) (g.N.Network.may_give c.args.network.now) c.run_arguments.result
     (g.O.Write.contents c.args.output.now) (g.O.Write.contents c.run_arguments.new.output)
     (g.E.Write.contents c.args.errors.now) (g.E.Write.contents c.run_arguments.new.errors))
@@ -28,6 +35,6 @@ returns-clause-ends g c =
 
 pub returns-then-len-le1-clause-headline : goal.returns-then-len-le1-clause-headline
 returns-then-len-le1-clause-headline g c few success =
-    truth_of_status (g.I.ByteSource.remaining c.args.input) c.run_bundle.result
+    truth_of_status (g.I.ByteSource.remaining c.args.input) g.I.ByteSource.never_fails c.run_bundle.result
     (g.O.Write.contents c.args.output.now) (g.O.Write.contents c.run_bundle.new.output)
     (g.E.Write.contents c.args.errors.now) (g.E.Write.contents c.run_bundle.new.errors) c.run_bundle.ensures success

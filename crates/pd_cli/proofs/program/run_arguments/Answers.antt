@@ -1,6 +1,6 @@
 -- What is done is what the arguments ask for.
-use Rattle.std.proofs.Common.{◌≡◌, inl, inr, map, option_map, refl, subst, sym, List, ℕ, Option, Some, None, Bor}
-use Rattle.pd_judgement.specs.Statuses.{CheckFiles, CheckLeaves, FilesJudgementLeaves, JudgeFiles, ServeStreams}
+use Rattle.std.proofs.Common.{◌≡◌, ◌⊎◌, inl, inr, map, option_map, refl, subst, sym, true, List, ℕ, Option, Some, None, Bor}
+use Rattle.pd_judgement.specs.Statuses.{CheckFiles, CheckLeaves, FilesJudgementLeaves, IsLongReport, JudgeFiles, ServeStreams, reliance}
 use Rattle.pd_cli.proofs.FilesRead.{files_of_names}
 use Rattle.clap.specs.Values.{kind_of}
 use Rattle.pd_draw.specs.Choices.{name_view}
@@ -8,12 +8,19 @@ use Rattle.pd_cli.specs.Drawings.{EndsDrawn}
 use Rattle.pd_arguments.specs.Arguments.{AsksToDraw}
 use Rattle.pd_arguments.specs.Views.{IsAsked, session_view}
 use Rattle.pd_arguments.proofs.ParserEnds.{error_as_asked}
+use Rattle.pd_arguments.proofs.ServicePorts.{port_of_service}
 use Rattle.pd_cli.proofs.program.run_arguments.Goals as goal
 
 -- the name that is asked for, in the words of the arguments and in those of the picture
 named : (found : Option (Bor (List ℕ))) → option_map (λ (name : Bor (List ℕ)). name.now) found ≡ name_view found
 named None = refl
 named (Some name) = refl
+
+pub run_service-requires : goal.run_service-requires
+run_service-requires g c =
+    port_of_service (map (λ argument. argument.bytes.items) c.args.arguments.now) c.in-Ok-Serve.service
+    (subst (IsAsked (map (λ argument. argument.bytes.items) c.args.arguments.now)) c.in-Ok-Serve.field-0-is
+    c.in-Ok-Serve.ensures.asked)
 
 pub returns-in-Ok-Judge : goal.returns-in-Ok-Judge
 returns-in-Ok-Judge g c = record {
@@ -26,6 +33,8 @@ returns-in-Ok-Judge g c = record {
           c.in-Ok-Judge.ensures.asked,
       (subst (λ (streams : List (Option (List ℕ))). FilesJudgementLeaves
           (g.F.FileSource.bytes_of c.args.files.now c.in-Ok-Judge.names.spec.now) streams
+          g.F.File.ByteSource.never_fails (g.F.FileSource.always_opens ≡ true → g.F.File.ByteSource.never_fails ≡ true
+          → ⊥)
           c.run_files.ensures.ending (g.O.Write.contents c.args.output.now)
           (g.O.Write.contents c.run_files.new.output))
           (files_of_names (g.F.FileSource.bytes_of c.args.files.now) (λ (name : Bor (List ℕ)). name.now)
@@ -46,7 +55,10 @@ returns-in-Ok-Check g c = record {
           c.in-Ok-Check.ensures.asked,
       (subst (λ (streams : List (Option (List ℕ))). CheckLeaves
           (g.F.FileSource.bytes_of c.args.files.now c.in-Ok-Check.names.spec.now)
-          (g.F.FileSource.bytes_of c.args.files.now c.in-Ok-Check.report.now) streams c.run_check.ensures.ending
+          (g.F.FileSource.bytes_of c.args.files.now c.in-Ok-Check.report.now) streams
+          g.F.File.ByteSource.never_fails
+          ((g.F.FileSource.always_opens ≡ true → g.F.File.ByteSource.never_fails ≡ true → ⊥)
+          ⊎ IsLongReport (g.F.FileSource.bytes_of c.args.files.now c.in-Ok-Check.report.now)) c.run_check.ensures.ending
           (g.O.Write.contents c.args.output.now) (g.O.Write.contents c.run_check.new.output))
           (files_of_names (g.F.FileSource.bytes_of c.args.files.now) (λ (name : Bor (List ℕ)). name.now)
           c.in-Ok-Check.names.streams.items) c.run_check.ensures.output),
@@ -84,7 +96,11 @@ returns-in-Ok-Draw g c = record {
         c.in-Ok-Draw.ensures.asked);
     ends = subst (λ (streams : List (Option (List ℕ))). EndsDrawn
         (g.F.FileSource.bytes_of c.args.files.now c.in-Ok-Draw.names.spec.now)
-        (g.F.FileSource.bytes_of c.args.files.now c.in-Ok-Draw.report.now) streams (name_view c.in-Ok-Draw.predicate)
+        (g.F.FileSource.bytes_of c.args.files.now c.in-Ok-Draw.report.now) streams
+        g.F.File.ByteSource.never_fails
+        ((g.F.FileSource.always_opens ≡ true → g.F.File.ByteSource.never_fails ≡ true → ⊥)
+        ⊎ IsLongReport (g.F.FileSource.bytes_of c.args.files.now c.in-Ok-Draw.report.now))
+        (name_view c.in-Ok-Draw.predicate)
         c.run_draw.result (g.O.Write.contents c.args.output.now) (g.O.Write.contents c.run_draw.new.output)
         (g.E.Write.contents c.args.errors.now) (g.E.Write.contents c.run_draw.new.errors))
         (files_of_names (g.F.FileSource.bytes_of c.args.files.now) (λ (name : Bor (List ℕ)). name.now)
@@ -94,7 +110,10 @@ returns-in-Ok-Draw g c = record {
 
 pub returns-in-Err : goal.returns-in-Err
 returns-in-Err g c = record {
-  ends = inl (error_as_asked _ (g.I.ByteSource.remaining c.args.input) (g.F.FileSource.bytes_of c.args.files.now)
+  ends = inl (error_as_asked _
+      (reliance g.I.ByteSource.never_fails g.F.FileSource.always_opens g.F.File.ByteSource.never_fails
+      g.N.Network.never_fails g.N.Connection.ByteSource.never_fails)
+      (g.I.ByteSource.remaining c.args.input) (g.F.FileSource.bytes_of c.args.files.now)
       (g.N.Network.may_give c.args.network.now) c.report_parser_error.result (g.O.Write.contents c.args.output.now)
       (g.O.Write.contents c.report_parser_error.new.output) (g.E.Write.contents c.args.errors.now)
       (g.E.Write.contents c.report_parser_error.new.errors) (kind_of c.in-Err.error) c.in-Err.ensures.refused

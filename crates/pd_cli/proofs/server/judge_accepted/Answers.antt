@@ -8,12 +8,14 @@ use Rattle.pd_cli.proofs.server.judge_accepted.Goals as goal
 pub returns-then-is_err-clause-written : goal.returns-then-is_err-clause-written
 returns-then-is_err-clause-written g c =
     let inputs = map g.R.ByteSource.remaining c.args.streams.items in
+    let never_fails = g.R.ByteSource.never_fails in
     let judged = Some (outcome_view c.in_ok-outcome.outcome) in
     record {
       document_bytes = c.args.document.now;
       whole_document = refl;
-      holds = flushed_up_to (IsTextOfStreams c.args.document.now inputs judged)
-          (IsTextOfStreams c.args.document.now inputs None) (g.O.Write.contents c.args.output.now)
+      holds = flushed_up_to (IsTextOfStreams c.args.document.now inputs never_fails judged)
+          (IsTextOfStreams c.args.document.now inputs never_fails None) (g.O.Write.contents c.args.output.now)
           (g.O.Write.contents c.judge_watched.new.writer) (g.O.Write.contents c.flush.new.self)
-          (unsaid_of_streams c.args.document.now inputs judged) c.in_ok-outcome.ensures.written c.flush.ensures.bytes;
+          (unsaid_of_streams c.args.document.now inputs never_fails judged)
+          c.in_ok-outcome.ensures.written c.flush.ensures.bytes;
     }

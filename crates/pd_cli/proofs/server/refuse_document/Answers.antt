@@ -1,5 +1,5 @@
 -- A refused document has no streams.
-use Rattle.std.proofs.Common.{◌≡◌, [], ◌∙◌, false, subst, sym}
+use Rattle.std.proofs.Common.{◌≡◌, [], ◌∙◌, false, subst, sym, true}
 use Rattle.std.specs.Prelude.{Some}
 use Rattle.pd_judgement.specs.Statuses.{Ending, ServiceLeaves}
 use Rattle.pd_cli.proofs.Accepted.{accepted_of_refused, refused_outcome, refused_unless_memory, service_faults, service_of_judgement, service_outcome}
@@ -12,9 +12,11 @@ returns-clause-written g c port =
     let G = g.N.Network.may_give c.args._network.now port in
     let refused = refused_unless_memory document c.args.fault.now
     (sym c.is_out_of_memory.ensures ∙ c.if-is_out_of_memory.false) c.requires in
-    subst (λ (e : Ending). ServiceLeaves (Some document) G e (g.O.Write.contents c.args.output.now)
+    subst (λ (e : Ending). ServiceLeaves (Some document) G g.N.Connection.ByteSource.never_fails
+    ⊥ (g.N.Network.never_fails ≡ true → ⊥) e (g.O.Write.contents c.args.output.now)
     (g.O.Write.contents c.judge_no_streams.new.output)) (sym c.service_end.ensures.ending)
-    (service_of_judgement document G [] (ending_view c.judge_no_streams.result)
+    (service_of_judgement document G [] g.N.Connection.ByteSource.never_fails _
+    (ending_view c.judge_no_streams.result)
     (g.O.Write.contents c.args.output.now) (g.O.Write.contents c.judge_no_streams.new.output)
     (accepted_of_refused document G refused.0 c.one_document.ensures.not_refused refused.1)
     c.judge_no_streams.ensures.written)
@@ -26,7 +28,8 @@ returns-clause-refused g c =
     (sym c.is_out_of_memory.ensures ∙ c.if-is_out_of_memory.false) c.requires in
     service_outcome c.judge_no_streams.result c.service_end.result (λ judged. judged ≡ false)
     c.service_end.ensures.same
-    (refused_outcome document [] c.judge_no_streams.result (g.O.Write.contents c.args.output.now)
+    (refused_outcome document [] g.N.Connection.ByteSource.never_fails c.judge_no_streams.result
+    (g.O.Write.contents c.args.output.now)
     (g.O.Write.contents c.judge_no_streams.new.output) refused.0 c.one_document.ensures.not_refused refused.1
     c.judge_no_streams.ensures.written)
 

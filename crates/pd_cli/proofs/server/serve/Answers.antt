@@ -6,8 +6,8 @@ use Rattle.pd_cli.proofs.Accepted.{service_of_file}
 use Rattle.pd_cli.proofs.FilesRead.{of_file}
 use Rattle.pd_cli.proofs.server.serve.Goals as goal
 
-pub returns-in-Ok-clause-written : goal.returns-in-Ok-clause-written
-returns-in-Ok-clause-written g c =
+pub returns-in-Ok : goal.returns-in-Ok
+returns-in-Ok g c =
     let file = g.F.FileSource.bytes_of c.args.files.now c.args.service.now.spec.now in
     let left = g.F.File.ByteSource.remaining c.in_ok-file.file in
     let stands : StandsFor c.deref-in-Ok.result.now file =
@@ -15,12 +15,13 @@ returns-in-Ok-clause-written g c =
     (of_file (SameOutline c.in_ok-document.document.items) file left c.in_ok-file.ensures.file
     c.in_ok-document.ensures.same) in
     service_of_file file c.deref-in-Ok.result.now
-    (g.N.Network.may_give c.args.network.now c.args.service.now.port) (service_ending_view c.serve_session.result)
+    (g.N.Network.may_give c.args.network.now c.args.service.now.port) g.N.Connection.ByteSource.never_fails _ _
+    (service_ending_view c.serve_session.result)
     (g.O.Write.contents c.args.output.now) (g.O.Write.contents c.serve_session.new.output) stands
     c.serve_session.ensures.written
 
-pub returns-clause-written : goal.returns-clause-written
-returns-clause-written g c =
+pub returns : goal.returns
+returns g c =
     let G = g.N.Network.may_give c.args.network.now c.args.service.now.port in
     let file = g.F.FileSource.bytes_of c.args.files.now c.args.service.now.spec.now in
     let left = g.F.File.ByteSource.remaining c.in_ok-file.file in
@@ -28,6 +29,7 @@ returns-clause-written g c =
     subst (λ (read : List ℕ). StandsFor read file) (sym c.deref-in-Err.ensures.value)
     (of_file (SameOutline c.in_ok-document.document.items) file left c.in_ok-file.ensures.file
     c.in_ok-document.ensures.same) in
-    service_of_file file c.deref-in-Err.result.now G (service_ending_view c.refuse_document.result)
+    service_of_file file c.deref-in-Err.result.now G g.N.Connection.ByteSource.never_fails _ _
+    (service_ending_view c.refuse_document.result)
     (g.O.Write.contents c.args.output.now) (g.O.Write.contents c.refuse_document.new.output) stands
     (c.refuse_document.ensures.written c.args.service.now.port)

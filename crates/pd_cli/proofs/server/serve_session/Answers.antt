@@ -1,5 +1,5 @@
 -- The streams are as many as the document has processes, and each was accepted on the port.
-use Rattle.std.proofs.Common.{◌≡◌, ◌∙◌, List, ap, length, map, subst, sym}
+use Rattle.std.proofs.Common.{◌≡◌, ◌∙◌, List, ap, length, map, subst, sym, true}
 use Rattle.std.proofs.lemmas.List.{length-map}
 use Rattle.std.proofs.lemmas.List.Elements.{All-map}
 use Rattle.pd_format.specs.Names.{ProcessNames}
@@ -22,9 +22,11 @@ returns-clause-written g c =
     ∙ ap (λ (names : List ProcessNames). length names) c.names.ensures)) in
     let given = All-map G remaining streams (c.in_ok-streams.ensures.given port c.in_ok-listener.ensures.on) in
     let are = accepted_of_read document G (map remaining streams) (document_view c.args.spec.now)
-    c.one_document.ensures.single c.one_document.ensures.not_refused c.requires given count in
-    subst (λ (e : Ending). ServiceLeaves (Some document) G e (g.O.Write.contents c.args.output.now)
+    c.one_document.ensures.single c.one_document.ensures.not_refused c.requires.document given count in
+    subst (λ (e : Ending). ServiceLeaves (Some document) G g.N.Connection.ByteSource.never_fails
+    ⊥ (g.N.Network.never_fails ≡ true → ⊥) e (g.O.Write.contents c.args.output.now)
     (g.O.Write.contents c.judge_accepted.new.output)) (sym c.service_end.ensures.ending)
-    (service_of_judgement document G (map remaining streams) (ending_view c.judge_accepted.result)
+    (service_of_judgement document G (map remaining streams) g.N.Connection.ByteSource.never_fails _
+    (ending_view c.judge_accepted.result)
     (g.O.Write.contents c.args.output.now) (g.O.Write.contents c.judge_accepted.new.output) are
     c.judge_accepted.ensures.written)

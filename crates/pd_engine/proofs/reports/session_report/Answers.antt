@@ -5,10 +5,9 @@ use Rattle.pd_gather.specs.Views.{results_view}
 use Rattle.pd_judgement.specs.Judgements.{IsJudgement, IsReportOfResults, RawStream}
 use Rattle.pd_spec.specs.Views.{document_view}
 use Rattle.pd_sessions.specs.SessionReports.{IsReportOfInputs}
-use Rattle.pd_engine.specs.SessionReports.{IsReportOfWhole}
 use Rattle.pd_sessions.specs.Unanswered.{given_report}
 use Rattle.pd_sessions.proofs.SessionReports.{inputs_report, of_given, refused_inputs_report}
-use Rattle.pd_engine.proofs.SessionReports.{refusal_reported, refused_whole_report, whole_report}
+use Rattle.pd_engine.proofs.SessionReports.{refusal_reported}
 use Rattle.pd_engine.proofs.reports.session_report.Goals as goal
 
 pub returns-in_err-spec-clause-given : goal.returns-in_err-spec-clause-given
@@ -17,16 +16,8 @@ returns-in_err-spec-clause-given g c =
     let inputs = map g.R.ByteSource.remaining c.args.readers.items in
     refusal_reported c.from_residual.result c.in_err-spec.field-0.0
     (λ (report : Report). (streams : List RawStream) → IsJudgement bytes streams report)
-    (IsReportOfInputs bytes inputs) (refused_inputs_report bytes inputs) c.from_residual.ensures.1
-    c.in_err-spec.ensures.refused
-
-pub returns-in_err-spec-clause-whole : goal.returns-in_err-spec-clause-whole
-returns-in_err-spec-clause-whole g c never =
-    let bytes = c.args.document.now in
-    let inputs = map g.R.ByteSource.remaining c.args.readers.items in
-    refusal_reported c.from_residual.result c.in_err-spec.field-0.0
-    (λ (report : Report). (streams : List RawStream) → IsJudgement bytes streams report)
-    (IsReportOfWhole bytes inputs) (refused_whole_report bytes inputs) c.from_residual.ensures.1
+    (IsReportOfInputs bytes inputs g.R.ByteSource.never_fails)
+    (refused_inputs_report bytes inputs g.R.ByteSource.never_fails) c.from_residual.ensures.1
     c.in_err-spec.ensures.refused
 
 pub returns-clause-given : goal.returns-clause-given
@@ -36,19 +27,8 @@ returns-clause-given g c =
     let count = c.in_ok-gathered.gathered.streams in
     let results = results_view c.in_ok-gathered.gathered.readings.items in
     of_given (given_report c.answered.result) (IsReportOfResults document count results)
-    (IsReportOfInputs c.args.document.now inputs)
-    (λ (report : Report) right. inputs_report c.args.document.now inputs document count results report
+    (IsReportOfInputs c.args.document.now inputs g.R.ByteSource.never_fails)
+    (λ (report : Report) right. inputs_report c.args.document.now inputs
+    g.R.ByteSource.never_fails document count results report
     c.in_ok-spec.ensures.read c.in_ok-gathered.ensures.given right)
-    c.answered.ensures
-
-pub returns-clause-whole : goal.returns-clause-whole
-returns-clause-whole g c never =
-    let inputs = map g.R.ByteSource.remaining c.args.readers.items in
-    let document = document_view c.in_ok-spec.spec in
-    let count = c.in_ok-gathered.gathered.streams in
-    let results = results_view c.in_ok-gathered.gathered.readings.items in
-    of_given (given_report c.answered.result) (IsReportOfResults document count results)
-    (IsReportOfWhole c.args.document.now inputs)
-    (λ (report : Report) right. whole_report c.args.document.now inputs document count results report
-    c.in_ok-spec.ensures.read (c.in_ok-gathered.ensures.whole never) right)
     c.answered.ensures

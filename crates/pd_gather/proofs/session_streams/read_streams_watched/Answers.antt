@@ -6,7 +6,7 @@ use Rattle.pd_spec.specs.Views.{document_view}
 use Rattle.pd_register.specs.Seats.{AreSeats, posted_row}
 use Rattle.pd_gather.specs.Views.{results_view}
 use Rattle.pd_gather.proofs.SeatLists.{all_of_front}
-use Rattle.pd_gather.proofs.SessionStreams.{read_given, read_whole, unread_given, unread_whole}
+use Rattle.pd_gather.proofs.SessionStreams.{read_comes, unread_comes}
 use Rattle.pd_gather.proofs.session_streams.read_streams_watched.Goals as goal
 
 pub returns-in-Some-clause-given : goal.returns-in-Some-clause-given
@@ -15,18 +15,9 @@ returns-in-Some-clause-given g c =
     let unread = c.in-Some.unread in
     let over : stream_count_limit < unread.streams = search rules in
     let long : length c.args.readers.items ≡ unread.streams = search rules in
-    unread_given (document_view c.args.spec.now).names inputs unread.streams (results_view unread.readings.items) over
-    (length-map c.args.readers.items g.R.ByteSource.remaining ∙ long)
-
-pub returns-in-Some-clause-whole : goal.returns-in-Some-clause-whole
-returns-in-Some-clause-whole g c sure streams e =
-    let inputs = map g.R.ByteSource.remaining c.args.readers.items in
-    let unread = c.in-Some.unread in
-    let over : stream_count_limit < unread.streams = search rules in
-    let long : length c.args.readers.items ≡ unread.streams = search rules in
-    unread_whole (document_view c.args.spec.now).names inputs streams unread.streams
+    unread_comes (document_view c.args.spec.now).names g.R.ByteSource.never_fails inputs unread.streams
     (results_view unread.readings.items) over
-    (length-map c.args.readers.items g.R.ByteSource.remaining ∙ long) e
+    (length-map c.args.readers.items g.R.ByteSource.remaining ∙ long)
 
 pub close-requires-clause-seats : goal.close-requires-clause-seats
 close-requires-clause-seats g c =
@@ -41,16 +32,6 @@ returns-clause-given g c =
     let inputs = map g.R.ByteSource.remaining c.args.readers.items in
     let gathered = c.in_ok-gathered.gathered in
     let long : gathered.streams ≡ length c.args.readers.items = search rules in
-    read_given (document_view c.args.spec.now).names g.R.ByteSource.never_fails inputs gathered.streams
+    read_comes (document_view c.args.spec.now).names g.R.ByteSource.never_fails inputs gathered.streams
     (results_view gathered.readings.items) (map posted_row c.gather_by.new.seats) c.in_ok-gathered.ensures.read
     (long ∙ sym (length-map c.args.readers.items g.R.ByteSource.remaining))
-
-pub returns-clause-whole : goal.returns-clause-whole
-returns-clause-whole g c sure streams e =
-    let inputs = map g.R.ByteSource.remaining c.args.readers.items in
-    let gathered = c.in_ok-gathered.gathered in
-    let long : gathered.streams ≡ length c.args.readers.items = search rules in
-    read_whole (document_view c.args.spec.now).names g.R.ByteSource.never_fails inputs gathered.streams
-    (results_view gathered.readings.items) (map posted_row c.gather_by.new.seats) c.in_ok-gathered.ensures.read
-    (long ∙ sym (length-map c.args.readers.items g.R.ByteSource.remaining))
-    sure streams e
