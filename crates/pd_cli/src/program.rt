@@ -1,5 +1,5 @@
 //! One run of the program.
-ghost use Rattle.pd_cli.specs.Arguments.{port_limit};
+ghost use Rattle.pd_arguments.specs.Arguments.{port_limit};
 ghost use Rattle.pd_cli.specs.Drawings.{EndsDrawn, RunsAsAsked};
 ghost use Rattle.pd_draw.specs.Choices.{name_view};
 ghost use Rattle.pd_judgement.specs.Statuses.{CheckLeaves, Ends, FilesJudgementLeaves, IsLongReport, JudgementLeaves, ServiceLeaves, reliance};
