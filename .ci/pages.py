@@ -19,8 +19,8 @@ COLUMNS = 120
 WIDE = ("README.md", "docs/READING.md", "docs/RECORDING.md", "docs/SPECIFICATION.md")
 COUNTED, PROMISES, LIMITED = "docs/READING.md", "docs/PROMISES.md", "docs/SPECIFICATION.md"
 LINK = re.compile(r"\]\(([^)#: ]+)(?:#[^)]*)?\)")
-DEFINITION = re.compile(r"^\[[^]]+\]: ([^#: ]+)", re.M)
-TO_LINE = re.compile(r"\]\(([^) ]+#L\d+)\)")
+DEFINITION = re.compile(r"^\[[^]]+\]: ([^#: \n]+)(?:#(?!L\d)\S*)?$", re.M)
+TO_LINE = re.compile(r"(?:\]\(|^\[[^]]+\]: )([^) ]+#L\d+)", re.M)
 COUNT = re.compile(r"^(\| \[[^]]*\]\(([^)]+)\) \| )(\d+)( \|)", re.M)
 found_wrong = []
 
@@ -46,8 +46,8 @@ def look_at_links(page, text):
     for link in LINK.findall(prose) + DEFINITION.findall(prose):
         if not os.path.exists(os.path.join(os.path.dirname(page), link)):
             wrong(f"{page} links to {link}, which isn't there")
-    for link in TO_LINE.findall(prose) + (re.findall(r"^\[\w+\]: (\S+#L\d+)", prose, re.M) if page != PROMISES else []):
-        wrong(f"{page} links to the line {link}, which is looked at only in the tables of {PROMISES}")
+    for link in TO_LINE.findall(prose) if page != PROMISES else []:
+        wrong(f"{page} links to the line {link}, and no other page than {PROMISES} may: there it is looked at")
 
 
 def look_at_width(page, text):
@@ -75,9 +75,14 @@ def look_at_names(text):
 
 
 def counted(row):
-    """The row of a file in docs/READING.md, with the number of its lines."""
+    """The row of a file in docs/READING.md, with the number of its lines, and with its path if it was moved."""
     head, link, number, tail = row.groups()
-    path = os.path.join(os.path.dirname(COUNTED), link)
+    folder = os.path.dirname(COUNTED)
+    moved = glob.glob(f"crates/*/*/{os.path.basename(link)}") if not os.path.exists(f"{folder}/{link}") else []
+    if len(moved) == 1:
+        head = head.replace(f"({link})", f"({os.path.relpath(moved[0], folder)})")
+        link = os.path.relpath(moved[0], folder)
+    path = f"{folder}/{link}"
     lines = read(path).count("\n") if os.path.isfile(path) else int(number)
     if lines != int(number):
         wrong(f"{link} has {lines} lines, and {COUNTED} says {number}")
