@@ -9,10 +9,10 @@ is 1 if anything was wrong."""
 import glob
 import os
 import re
-import subprocess
 import sys
 
-import clauses
+sys.dont_write_bytecode = True
+import clauses  # noqa: E402
 
 os.chdir(os.path.join(os.path.dirname(os.path.abspath(__file__)), ".."))
 COLUMNS = 120
@@ -36,9 +36,11 @@ def read(path):
 
 
 def pages():
-    listed = ["git", "ls-files", "-co", "--exclude-standard", "-z", "*.md"]
-    ran = subprocess.run(listed, check=True, stdout=subprocess.PIPE, text=True)
-    return sorted(path for path in ran.stdout.split("\0") if os.path.isfile(path))
+    found = []
+    for folder, folders, files in os.walk("."):
+        folders[:] = [name for name in folders if name != "out" and not name.startswith(".")]
+        found += [os.path.normpath(os.path.join(folder, name)) for name in files if name.endswith(".md")]
+    return sorted(found)
 
 
 def look_at_links(page, text):
@@ -46,8 +48,9 @@ def look_at_links(page, text):
     for link in LINK.findall(prose) + DEFINITION.findall(prose):
         if not os.path.exists(os.path.join(os.path.dirname(page), link)):
             wrong(f"{page} links to {link}, which isn't there")
-    for link in TO_LINE.findall(prose) if page != PROMISES else []:
-        wrong(f"{page} links to the line {link}, and no other page than {PROMISES} may: there it is looked at")
+    unseen = re.sub(r"^\[\w+\]: .*$", "", prose, flags=re.M) if page == PROMISES else prose
+    for link in TO_LINE.findall(unseen):
+        wrong(f"{page} links to the line {link}, which is looked at only if a row of a table in {PROMISES} does")
 
 
 def look_at_width(page, text):
