@@ -7,7 +7,8 @@ the last are a path: the last one is declared in the line that is linked, within
 on. A clause is one of `ensures`, unless *requires* stands before its name.
 
 A clause that has moved is looked for in its file, and else in all of them. If several declare it, that one counts that
-has the same name, and that has whatever else the page says of the old one."""
+has the same name, and that has whatever else the page says of the old one. So a new row may be written with any file
+and line, as `[x.rt:1][400]` and `[400]: ../crates/x/src/x.rt#L1`, and `--write` puts the right ones in."""
 import functools
 import glob
 import os
