@@ -19,6 +19,7 @@ import threading
 import time
 
 ROOT = os.path.dirname(os.path.dirname(os.path.abspath(__file__)))
+NEAR = 0.8  # which part of the longest chain is one nearly as long
 
 
 def libraries():
@@ -125,15 +126,18 @@ class Run:
 
     def start_next(self):
         """Starts what can be proved. What has the longest chain above it comes first, and has most of the jobs: what is
-        above it waits for it. One job more than there are processors keeps them busy while a check begins and ends."""
+        above it waits for it. What has a chain nearly as long has two. One job more than there are processors keeps
+        them busy while a check begins and ends."""
         ready = [name for name in self.waiting if self.below[name] <= self.proved]
         ready.sort(key=lambda it: -self.ranks[it])
+        longest = max((self.ranks[name] for name in self.waiting | self.working), default=0)
         for name in ready:
             if self.idle <= 0 or not self.free:
                 break
             is_first = all(self.ranks[name] >= self.ranks[other] for other in self.working)
             most = self.jobs if len(ready) == 1 and not self.working else max(1, self.jobs - 1)
-            jobs = min(self.idle, most) if is_first else 1
+            is_near = self.ranks[name] >= NEAR * longest
+            jobs = min(self.idle, most if is_first else 2 if is_near else 1)
             self.idle -= jobs
             self.waiting.remove(name)
             self.working.add(name)
