@@ -101,7 +101,7 @@ fn session_report<
     requires open { All (λ r. R.has_ended r ≡ false) readers.items }
     requires some_workers { 1 ≤ workers }
     requires few_workers { workers ≤ worker_limit }
-    ensures given { IfSome (given_report result)
+    ensures { IfSome (given_report result)
         (IsReportOfInputs document.now (map R.remaining readers.items) R.never_fails) }
 {
     let spec = read_document(alloc, document)?;

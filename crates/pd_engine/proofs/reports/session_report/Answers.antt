@@ -10,8 +10,8 @@ use Rattle.pd_sessions.proofs.SessionReports.{inputs_report, of_given, refused_i
 use Rattle.pd_engine.proofs.SessionReports.{refusal_reported}
 use Rattle.pd_engine.proofs.reports.session_report.Goals as goal
 
-pub returns-in_err-spec-clause-given : goal.returns-in_err-spec-clause-given
-returns-in_err-spec-clause-given g c =
+pub returns-in_err-spec : goal.returns-in_err-spec
+returns-in_err-spec g c =
     let bytes = c.args.document.now in
     let inputs = map g.R.ByteSource.remaining c.args.readers.items in
     refusal_reported c.from_residual.result c.in_err-spec.field-0.0
@@ -20,8 +20,8 @@ returns-in_err-spec-clause-given g c =
     (refused_inputs_report bytes inputs g.R.ByteSource.never_fails) c.from_residual.ensures.1
     c.in_err-spec.ensures.refused
 
-pub returns-clause-given : goal.returns-clause-given
-returns-clause-given g c =
+pub returns : goal.returns
+returns g c =
     let inputs = map g.R.ByteSource.remaining c.args.readers.items in
     let document = document_view c.in_ok-spec.spec in
     let count = c.in_ok-gathered.gathered.streams in
