@@ -477,7 +477,7 @@ one_stream names never_fails input result row (left, one) = record {
       (All-nil (IsUnbroken names never_fails));
 }
 
-zipped_both : {A B : Type 0} (P : A → B → Type 0) (xs more : List A) (ys others : List B) → AllZip P xs ys
+pub zipped_both : {A B : Type 0} (P : A → B → Type 0) (xs more : List A) (ys others : List B) → AllZip P xs ys
     → AllZip P more others → AllZip P (xs ++ more) (ys ++ others)
 zipped_both P [] more [] others p q = q
 zipped_both P [] more (y ∷ ys) others p q = absurd p

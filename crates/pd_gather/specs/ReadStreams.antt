@@ -1,5 +1,5 @@
 -- What is read of readers.
-use Rattle.std.specs.Prelude.{◌≡◌, ◌≢◌, ℕ, ◌≤◌, Bool, true, List, ◌++◌, length, map, All, Option}
+use Rattle.std.specs.Prelude.{◌≡◌, ◌≢◌, ℕ, ◌≤◌, ◌⊎◌, Bool, true, List, ◌++◌, length, map, All, Option}
 use Rattle.std.specs.List.{AllZip}
 use Rattle.std.specs.Io.KnownBytes.{Consumes}
 use Rattle.pd_format.specs.Histories.{Row, fresh_row}
@@ -60,6 +60,12 @@ pub record IsReadInPart (names : List ProcessNames) (never_fails : Bool) (input 
   pub consumed : Consumes input left stream.bytes
   pub stops : StopsWhenClosed names stream.bytes
   pub unbroken : IsUnbroken names never_fails stream
+
+-- a reader of this input was read, or was read in part when memory ran out, and left this row in a register
+abbrev pub LeavesRow : List ProcessNames → Bool → Option (List ℕ) → Row → Type 0
+LeavesRow names never_fails input row =
+    ((result : StreamResult) × IsReadOf names never_fails input result row)
+    ⊎ ((left : Option (List ℕ)) × IsReadInPart names never_fails input left row)
 
 -- the results and the rows are those of what the readers gave
 pub record AreReadOf (names : List ProcessNames) (never_fails : Bool) (inputs : List (Option (List ℕ)))
