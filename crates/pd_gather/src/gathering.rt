@@ -114,9 +114,9 @@ pub(super) fn read_halves<T: Threads + Wait + Sync, R: ByteSource + Send>(
 /// all threads are joined.
 ///
 /// # Errors
-/// If memory runs out, for one stream or for several; the seats keep their posts. Each stream was then read, or was read
-/// in part: its seat's posts are the first of those that the bytes read until then lead to, without the end or the
-/// fault. What each seat has seen grows, as it does without an error.
+/// If memory runs out, for one stream or for several; the seats keep their posts. Each stream was then read, or was
+/// read in part: its seat's posts are the first of those that the bytes read until then lead to, without the end or
+/// the fault. What each seat has seen grows, as it does without an error.
 pub fn gather<T: Threads + Wait + Sync, R: ByteSource + Send + Drop>(
     rt: &T,
     alloc: Global,

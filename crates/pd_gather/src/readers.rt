@@ -79,8 +79,8 @@ fn read_once<R: ByteSource>(
 /// Reads a stream from a source that is used again: what was consumed of it are the stream's bytes.
 ///
 /// # Errors
-/// If memory runs out; the seat keeps its posts. They are the first of those that the bytes read until then lead to, and
-/// neither the end nor the fault is among them. What the seat has seen grows, as it does without an error.
+/// If memory runs out; the seat keeps its posts. They are the first of those that the bytes read until then lead to,
+/// and neither the end nor the fault is among them. What the seat has seen grows, as it does without an error.
 pub(super) fn read_from<T: Wait, R: ByteSource>(
     rt: &T,
     alloc: Global,
@@ -120,8 +120,8 @@ pub(super) fn read_from<T: Wait, R: ByteSource>(
 /// lock is held while bytes are read.
 ///
 /// # Errors
-/// If memory runs out; the seat keeps its posts. They are the first of those that the bytes read until then lead to, and
-/// neither the end nor the fault is among them. What the seat has seen grows, as it does without an error.
+/// If memory runs out; the seat keeps its posts. They are the first of those that the bytes read until then lead to,
+/// and neither the end nor the fault is among them. What the seat has seen grows, as it does without an error.
 pub fn read_stream<T: Wait, R: ByteSource + Drop>(
     rt: &T,
     alloc: Global,

@@ -66,9 +66,9 @@ fn read_beside<T: Threads + Wait + Sync, R: ByteSource + Send, O: Observer + Syn
 /// threads are joined, the observer's too. It gives the readings of what the readers gave, whatever the observer does.
 ///
 /// # Errors
-/// If memory runs out, for one stream or for several; the seats keep their posts. Each stream was then read, or was read
-/// in part: its seat's posts are the first of those that the bytes read until then lead to, without the end or the
-/// fault. What each seat has seen grows, as it does without an error.
+/// If memory runs out, for one stream or for several; the seats keep their posts. Each stream was then read, or was
+/// read in part: its seat's posts are the first of those that the bytes read until then lead to, without the end or
+/// the fault. What each seat has seen grows, as it does without an error.
 pub fn gather_watched<T: Threads + Wait + Sync, R: ByteSource + Send + Drop, O: Observer + Sync>(
     rt: &T,
     alloc: Global,
