@@ -8,7 +8,7 @@ use Rattle.pd_gather.specs.ReadSoFar.{HasRead}
 use Rattle.pd_gather.specs.ReadStreams.{IsReadInPart}
 use Rattle.pd_gather.specs.Rows.{GoesOnTo, row_of_reading}
 use Rattle.pd_gather.proofs.SeatLists.{seen_longer, seen_still}
-use Rattle.pd_gather.proofs.Turns.{GivesRead, closes, gives_read, none_in_part, nothing_read, posts_in_part}
+use Rattle.pd_gather.proofs.Turns.{GivesRead, closes, gives_read, none_in_part, nothing_read, on_err, posts_in_part}
 use Rattle.pd_gather.proofs.readers.read_from.Goals as goal
 use Rattle.pd_gather.proofs.readers.read_from.Goals.{else-reads-test, then-reads-test+then-is_closed}
 
@@ -46,28 +46,31 @@ reads-preserved g c =
 
 pub returns-in_err-piece-clause-refused : goal.returns-in_err-piece-clause-refused
 returns-in_err-piece-clause-refused g c =
-    none_in_part (document_view c.args.spec.now).names g.R.ByteSource.never_fails
-    (g.R.ByteSource.remaining c.args.reader.now) (posted_row c.args.seat.now) c.requires.fresh
+    on_err _ c.from_residual.result
+    (none_in_part (document_view c.args.spec.now).names g.R.ByteSource.never_fails
+    (g.R.ByteSource.remaining c.args.reader.now) (posted_row c.args.seat.now) c.requires.fresh)
 
 pub returns-in_err-read_once-clause-refused : goal.returns-in_err-read_once-clause-refused
 returns-in_err-read_once-clause-refused g c =
     let names = (document_view c.args.spec.now).names in
     let input = g.R.ByteSource.remaining c.args.reader.now in
-    subst (IsReadInPart names g.R.ByteSource.never_fails input (g.R.ByteSource.remaining c.read_once.new.reader))
+    on_err _ c.from_residual-in_err-read_once.result
+    (subst (IsReadInPart names g.R.ByteSource.never_fails input (g.R.ByteSource.remaining c.read_once.new.reader))
     (sym c.reads.invariant.posted)
-    (c.in_err-read_once.ensures.refused names input c.reads.counter c.reads.invariant.read)
+    (c.in_err-read_once.ensures.refused names input c.reads.counter c.reads.invariant.read))
 
 pub returns-in_err-post_records-clause-refused : goal.returns-in_err-post_records-clause-refused
 returns-in_err-post_records-clause-refused g c =
     let names = (document_view c.args.spec.now).names in
     let input = g.R.ByteSource.remaining c.args.reader.now in
     let on = c.in_ok-read_once.ensures.read names input c.reads.counter c.reads.invariant.read in
-    posts_in_part names g.R.ByteSource.never_fails input (g.R.ByteSource.remaining c.read_once.new.reader)
+    on_err _ c.from_residual-in_err-post_records.result
+    (posts_in_part names g.R.ByteSource.never_fails input (g.R.ByteSource.remaining c.read_once.new.reader)
     (c.reads.counter + 1) c.read_once.new.stream (posted_row c.reads.seat) (posted_row c.post_records.new.seat)
     on.has_read
     (subst (λ (r : Row). GoesOnTo r (row_of_reading c.read_once.new.stream.reading)) (sym c.reads.invariant.posted)
     on.row)
-    c.in_err-post_records.ensures.refused
+    c.in_err-post_records.ensures.refused)
 
 pub outcome-requires : goal.outcome-requires
 outcome-requires g c =
