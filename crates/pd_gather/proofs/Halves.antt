@@ -1,19 +1,23 @@
 -- What two halves of streams leave and give, put together.
+use mathlib.Core.List.{IsPrefix}
 use Rattle.std.proofs.Common.{◌≡◌, ℕ, Bool, List, [], ◌∷◌, ◌++◌, length, map, IfOk, refl, sym, ◌∙◌, ap, subst, length-append, arith}
 use Rattle.std.specs.Prelude.{IsOk, Option, Result, Ok, Err, Vec}
 use Rattle.std.specs.Global.{Global}
+use Rattle.std.specs.List.{AllZip}
 use Rattle.std.specs.declared.alloc.AllocError.{AllocError}
 use Rattle.std.proofs.lemmas.List.{map-append}
 use Rattle.std.proofs.lemmas.List.Elements.{All-nil, All-append}
 use Rattle.pd_traces.specs.declared.event.Trace.{Trace}
 use Rattle.pd_events.specs.declared.fault.StreamFault.{StreamFault}
 use Rattle.pd_format.specs.Names.{ProcessNames}
-use Rattle.pd_register.specs.Seats.{IsSeatOf, posted_row, stream_of}
+use Rattle.pd_register.specs.Seats.{IsSeatOf, posted_row, seen_history, stream_of}
 use Rattle.pd_register.specs.declared.register.Register.{Register}
 use Rattle.pd_register.specs.declared.seat.Seat.{Seat}
-use Rattle.pd_gather.specs.Gathering.{AreSameSeats, HasGathered}
+use Rattle.pd_gather.specs.Gathering.{AreSameSeats, HasGathered, KeepsSeen, LeavesSeats}
+use Rattle.pd_gather.specs.ReadStreams.{LeavesRow}
 use Rattle.pd_gather.specs.Views.{ReadingFits, results_view}
-use Rattle.pd_gather.proofs.Turns.{both_read, none_read}
+use Rattle.pd_gather.proofs.SeatLists.{seen_still}
+use Rattle.pd_gather.proofs.Turns.{both_read, none_read, zipped_both}
 
 abbrev Readings : Type 0
 Readings = Result (Vec (Result Trace StreamFault) Global) AllocError
@@ -75,3 +79,45 @@ pub of_all_readers : {R : Type 0} (names : List ProcessNames) (never_fails : Boo
 of_all_readers names never_fails remaining first last readers given seats e p =
     subst (λ (inputs : List (Option (List ℕ))). Gathers names never_fails inputs given seats)
     (sym (map-append remaining first last) ∙ ap (map remaining) e) p
+
+-- ---- what is left, in every case
+
+pub seen_halves : (first last new others : List Seat) → KeepsSeen first new → KeepsSeen last others
+    → KeepsSeen (first ++ last) (new ++ others)
+seen_halves first last new others p q = record {
+  grows = zipped_both (λ (o n : Seat). IsPrefix (seen_history o) (seen_history n)) first last new others p.grows
+      q.grows;
+}
+
+-- seats that were not used
+pub none_seen : (seats : List Seat) → KeepsSeen seats seats
+none_seen [] = record { grows = tt }
+none_seen (seat ∷ seats) = record { grows = (seen_still (seen_history seat), (none_seen seats).grows) }
+
+left_halves : (names : List ProcessNames) (never_fails : Bool) (inputs more : List (Option (List ℕ)))
+    (seats further : List Seat) → LeavesSeats names never_fails inputs seats
+    → LeavesSeats names never_fails more further → LeavesSeats names never_fails (inputs ++ more) (seats ++ further)
+left_halves names never_fails inputs more seats further p q = record {
+  rows = subst (AllZip (LeavesRow names never_fails) (inputs ++ more)) (sym (map-append posted_row seats further))
+      (zipped_both (LeavesRow names never_fails) inputs more (map posted_row seats) (map posted_row further) p.rows
+      q.rows);
+}
+
+-- the halves are those of all readers
+pub left_of_all : {R : Type 0} (names : List ProcessNames) (never_fails : Bool) (remaining : R → Option (List ℕ))
+    (first last readers : List R) (seats further : List Seat) → first ++ last ≡ readers
+    → LeavesSeats names never_fails (map remaining first) seats
+    → LeavesSeats names never_fails (map remaining last) further
+    → LeavesSeats names never_fails (map remaining readers) (seats ++ further)
+left_of_all names never_fails remaining first last readers seats further e p q =
+    subst (λ (inputs : List (Option (List ℕ))). LeavesSeats names never_fails inputs (seats ++ further))
+    (sym (map-append remaining first last) ∙ ap (map remaining) e)
+    (left_halves names never_fails (map remaining first) (map remaining last) seats further p q)
+
+-- no stream
+pub none_left : {R : Type 0} (names : List ProcessNames) (never_fails : Bool) (remaining : R → Option (List ℕ))
+    (readers : List R) (seats : List Seat) → length readers ≡ 0 → length seats ≡ 0
+    → LeavesSeats names never_fails (map remaining readers) seats
+none_left names never_fails remaining [] [] p q = record { rows = tt }
+none_left names never_fails remaining [] (y ∷ ys) p q = absurd (omega (arith, q))
+none_left names never_fails remaining (x ∷ xs) seats p q = absurd (omega (arith, p))

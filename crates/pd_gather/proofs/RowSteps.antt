@@ -1,19 +1,20 @@
 -- How a stream's row goes on: from one read to the next a process stays, and events don't get fewer.
-use Rattle.std.proofs.Common.{◌≡◌, ℕ, ◌+◌, ◌≤◌, Bool, true, false, cond, List, [], ◌∷◌, ◌++◌, length, refl, sym, ◌∙◌, ap, subst, length-append, arith}
+use Rattle.std.proofs.Common.{◌≡◌, ℕ, ◌+◌, ◌≤◌, Bool, true, false, cond, List, [], ◌∷◌, ◌++◌, length, refl, sym, ◌∙◌, ap, subst, inl, inr, length-append, arith}
 use Rattle.std.specs.Prelude.{◌≢◌, Option, Some, None, nat_lt, Result, Ok, Err}
 use Rattle.std.proofs.lemmas.Bool.Decides.{nat_tests}
 use Rattle.pd_model.specs.Events.{Event}
 use Rattle.pd_format.specs.Lines.{Line, FrameFault, as_line, frame_fault, line_count, line_number, numbered_from, unended_line}
 use Rattle.pd_format.specs.Lines as lines
+use Rattle.pd_format.specs.Histories.{Row, fresh_row}
 use Rattle.pd_format.specs.Limits.{event_limit}
 use Rattle.pd_format.specs.Names.{ProcessNames}
 use Rattle.pd_format.specs.Records.{RecordFault, Join, LineRecord, Joins, Happens, Ends, record_of}
-use Rattle.pd_format.specs.Readings.{Ending, Open, Ended, Failed, Stop, NothingMore, EndLine, Fault, InRecord, TooManyEvents, Unended, ReadFailed, Reading, reading, reading_of_lines, lines_of, stop_at_end, stop_or, with_end, Fresh, state}
+use Rattle.pd_format.specs.Readings.{Ending, Open, Ended, Failed, Stop, NothingMore, EndLine, Fault, InRecord, TooManyEvents, Unended, ReadFailed, Reading, reading, reading_of_lines, lines_of, stop_at_end, stop_or, with_end, StreamState, Fresh, Joined, HasEnded, Faulted, state}
 use Rattle.pd_format.specs.ReadingLaws.{after_record, process_of, read_on, stopped_by}
 use Rattle.pd_format.proofs.LineFacts.{lines_go_on_lem}
 use Rattle.pd_format.proofs.PartFacts.{sound_finishes}
 use Rattle.pd_format.proofs.ReadingSteps.{from_start, open_is_sound, reading_goes_on, reading_ends, reading_fails}
-use Rattle.pd_gather.specs.Rows.{GoesOnTo, IsStreamRow, row, row_of_reading}
+use Rattle.pd_gather.specs.Rows.{GoesOnTo, HasPosted, IsLater, IsStreamRow, row, row_of_reading}
 
 abbrev reading_with : Option (ℕ × ℕ) → List Event → Stop → Reading
 reading_with joined events stop = record { joined = joined; events = events; stop = stop }
@@ -170,3 +171,24 @@ failure_goes_on names bytes open' =
     open' ∙ sym (reading_fails names bytes open'))
     (lines_go_on_to names (reading names Open bytes) [] (Fault (line_number bytes) ReadFailed) open'
     (reading_has_row names Open bytes) (λ (e : Fault (line_number bytes) ReadFailed ≡ EndLine). cc))
+
+-- ---- posts on the way
+
+-- an open row is one that posts lead through from a fresh row to each that it goes on to
+pub open_posted : (old due : Row) → GoesOnTo old due → HasPosted fresh_row due old
+open_posted old due goes = go old.process old.events old.state goes.old_row goes.later
+  where
+    go : (process : Option ℕ) (events : ℕ) (s : StreamState) → IsStreamRow process events s
+        → IsLater s (row process events s) due → HasPosted fresh_row due (row process events s)
+    go process events Fresh has later = inl later
+    go None events Joined has later = absurd has
+    go (Some process) events Joined has later =
+        inr (process, sym later.0, record { joined = refl; at_least = omega arith; at_most = later.1 })
+    go process events HasEnded has later = absurd later
+    go process events Faulted has later = absurd later
+
+-- what posts lead through from an open row they lead through from a fresh one
+pub posted_from_start : (old due new : Row) → GoesOnTo old due → HasPosted old due new → HasPosted fresh_row due new
+posted_from_start old due new goes (inl same) = subst (HasPosted fresh_row due) (sym same) (open_posted old due goes)
+posted_from_start old due new goes (inr (process, joined, some)) =
+    inr (process, joined, record { joined = some.joined; at_least = omega arith; at_most = some.at_most })

@@ -1,6 +1,8 @@
--- Seats that threads leave are still all seats of the register.
-use Rattle.std.proofs.Common.{◌≡◌, ℕ, zero, suc, List, [], ◌∷◌, ◌++◌, length, take, refl, ◌∙◌, ap, arith}
+-- Seats that threads leave are still all seats of the register, and what they have seen grows.
+use mathlib.Core.List.{IsPrefix}
+use Rattle.std.proofs.Common.{◌≡◌, ℕ, zero, suc, List, [], ◌∷◌, ◌++◌, length, take, append-nil, append_assoc, refl, sym, ◌∙◌, ap, arith}
 use Rattle.pd_model.specs.Cuts.{indices_from}
+use Rattle.pd_format.specs.Histories.{Post}
 use Rattle.pd_register.specs.Seats.{AreSeats}
 use Rattle.pd_register.specs.declared.register.Register.{Register}
 use Rattle.pd_register.specs.declared.seat.Seat.{Seat}
@@ -25,3 +27,12 @@ all_of_front zero (x ∷ xs) others e = absurd (omega (arith, e))
 all_of_front (suc n) [] others e = absurd (omega (arith, e))
 all_of_front (suc n) (x ∷ xs) others e =
     ap (λ (l : List Seat). x ∷ l) (all_of_front n xs others (omega (arith, e)))
+
+-- ---- what was seen
+
+pub seen_still : (seen : List Post) → IsPrefix seen seen
+seen_still seen = ([], append-nil seen)
+
+pub seen_longer : (first next last : List Post) → IsPrefix first next → IsPrefix next last → IsPrefix first last
+seen_longer first next last p q =
+    (p.0 ++ q.0, sym (append_assoc first p.0 q.0) ∙ (ap (λ (l : List Post). l ++ q.0) p.1 ∙ q.1))

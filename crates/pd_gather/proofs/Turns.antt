@@ -1,6 +1,6 @@
 -- What a reader gives its stream, read by read: after as many reads as a stream may have bytes, and one, it is closed.
-use Rattle.std.proofs.Common.{◌≡◌, ℕ, ◌+◌, ◌<◌, ◌≤◌, Bool, true, false, eqb, take, ◌++◌, List, [], ◌∷◌, length, refl, sym, append-nil, length-append, ◌∙◌, ap, subst, arith}
-use Rattle.std.specs.Prelude.{if◌then◌else◌, nat_le, IfOk, IsOk, IfSome, Option, Some, None, Result, Ok, Err}
+use Rattle.std.proofs.Common.{◌≡◌, ℕ, ◌+◌, ◌<◌, ◌≤◌, Bool, true, false, eqb, take, ◌++◌, List, [], ◌∷◌, length, refl, sym, inl, append-nil, length-append, ◌∙◌, ap, subst, arith}
+use Rattle.std.specs.Prelude.{if◌then◌else◌, nat_le, IfOk, IsOk, IfSome, OnErr, Option, Some, None, Result, Ok, Err}
 use Rattle.std.specs.List.{AllZip}
 use Rattle.std.specs.Io.KnownBytes.{Consumes, IsAtEnd, Keeps, ReadConsumes}
 use Rattle.std.proofs.KnownBytes.{Consumes-all, Consumes-kept, Consumes-nil, Consumes-trans}
@@ -20,13 +20,13 @@ use Rattle.pd_events.specs.Reads.{ReaderState, Reads}
 use Rattle.pd_events.specs.Views.{result_view}
 use Rattle.pd_traces.specs.declared.event.Trace.{Trace}
 use Rattle.pd_events.specs.declared.fault.StreamFault.{StreamFault}
-use Rattle.pd_gather.specs.ReadStreams.{AreReadOf, IsReadFrom, IsReadOf, IsUnbroken, StopsWhenClosed, read_byte_limit, row_of_stream}
+use Rattle.pd_gather.specs.ReadStreams.{AreReadOf, IsReadFrom, IsReadInPart, IsReadOf, IsUnbroken, StopsWhenClosed, read_byte_limit, row_of_stream}
 use Rattle.pd_judgement.proofs.StreamResults.{ended_closed}
 use Rattle.pd_judgement.specs.Writes.{IsGivenBy}
 use Rattle.pd_gather.specs.ReadSoFar.{HasRead, ReadsOn, so_far, to_the_end, input_of_read}
-use Rattle.pd_gather.specs.Rows.{GoesOnTo, row_of_reading}
-use Rattle.pd_format.specs.Histories.{Row}
-use Rattle.pd_gather.proofs.RowSteps.{piece_goes_on, end_goes_on, failure_goes_on}
+use Rattle.pd_gather.specs.Rows.{GoesOnTo, HasPosted, row_of_reading}
+use Rattle.pd_format.specs.Histories.{Row, fresh_row}
+use Rattle.pd_gather.proofs.RowSteps.{piece_goes_on, end_goes_on, failure_goes_on, open_posted, posted_from_start}
 use Rattle.pd_gather.specs.Taken.{Takes}
 use Rattle.pd_gather.specs.Views.{ReadingFits}
 use Rattle.pd_gather.proofs.Outcomes.{Gives, given_result, one_fits}
@@ -339,6 +339,129 @@ gives_read stays names never_fails input left reads state row given
       fits = one_fits names stream.ending stream.bytes state given r gives;
     }
 
+-- ---- memory runs out
+
+-- the row before a read is on the way to that of what the read gave
+row_posted : (names : List ProcessNames) (bytes : List ℕ) (stream : RawStream) (before : ReaderState)
+    → Reads before names Open bytes → GoesOnTo (row_of_reading (reading names Open bytes)) (row_of_stream names stream)
+    → HasPosted fresh_row (row_of_stream names stream) (row_of_reading before.reading)
+row_posted names bytes stream before r goes =
+    subst (λ (x : Reading). HasPosted fresh_row (row_of_stream names stream) (row_of_reading x)) (sym r.same_reading)
+    (open_posted (row_of_reading (reading names Open bytes)) (row_of_stream names stream) goes)
+
+open_in_part : (names : List ProcessNames) (never_fails : Bool) (input old new : Option (List ℕ)) (bytes : List ℕ)
+    (before : ReaderState) (given : Input) → Leaves never_fails old new given → Consumes input old bytes
+    → Reads before names Open bytes → before.reading.stop ≡ NothingMore
+    → IsReadInPart names never_fails input new (row_of_reading before.reading)
+open_in_part names never_fails input old new bytes before (Piece piece) left p r open' =
+    let still_open = was_open names bytes before r open' in
+    let stream : RawStream = record { ending = Open; bytes = bytes ++ piece } in
+    record {
+      stream = stream;
+      is_given = λ other. absurd (other refl);
+      posted = row_posted names bytes stream before r (piece_goes_on names bytes piece still_open);
+      consumed = Consumes-trans input old new bytes piece p left.consumed;
+      stops = record {
+        before = bytes;
+        last = piece;
+        parts = refl;
+        one_read = left.one_read;
+        still_open = still_open;
+      };
+      unbroken = λ sure (e : Open ≡ Failed). cc;
+    }
+open_in_part names never_fails input old new bytes before AtEnd left p r open' =
+    let still_open = was_open names bytes before r open' in
+    let stream : RawStream = record { ending = Ended; bytes = bytes } in
+    let all : Consumes input new bytes =
+    subst (λ (given : List ℕ). Consumes input new given) (append-nil bytes)
+    (Consumes-trans input old new bytes [] p left.0) in
+    record {
+      stream = stream;
+      is_given = λ other. record {
+        stopped = λ (e : Ended ≡ Open). cc;
+        prefix = prefix_of input old bytes p;
+        whole = λ ended. Consumes-all input new bytes [] bytes all left.1 refl;
+      };
+      posted = row_posted names bytes stream before r (end_goes_on names bytes still_open);
+      consumed = all;
+      stops = nothing_more names bytes still_open;
+      unbroken = λ sure (e : Ended ≡ Failed). cc;
+    }
+open_in_part names never_fails input old new bytes before Broken left p r open' =
+    let still_open = was_open names bytes before r open' in
+    let stream : RawStream = record { ending = Failed; bytes = bytes } in
+    record {
+      stream = stream;
+      is_given = λ other. record {
+        stopped = λ (e : Failed ≡ Open). cc;
+        prefix = prefix_of input old bytes p;
+        whole = λ (ended : Failed ≡ Ended). cc;
+      };
+      posted = row_posted names bytes stream before r (failure_goes_on names bytes still_open);
+      consumed = Consumes-kept input old new bytes p left.0;
+      stops = nothing_more names bytes still_open;
+      unbroken = λ sure failed. absurd (left.1 sure);
+    }
+
+-- memory ran out for what a read gave, with the row as it was before
+pub one_in_part : {E : Type 0} (never_fails : Bool) (read : Result ℕ E) (piece : List ℕ) (old new : Option (List ℕ))
+    (before : ReaderState) → 0 < length piece → length piece ≤ read_byte_limit
+    → IfOk read (λ count. count ≤ length piece) → ReadConsumes old new read piece → (never_fails ≡ true → IsOk read)
+    → before.reading.stop ≡ NothingMore → (names : List ProcessNames) (input : Option (List ℕ)) (reads : ℕ)
+    → HasRead names never_fails input old reads before
+    → IsReadInPart names never_fails input new (row_of_reading before.reading)
+one_in_part never_fails read piece old new before room limit bound consumes sure open' names input reads has = go has
+  where
+    go : HasRead names never_fails input old reads before
+        → IsReadInPart names never_fails input new (row_of_reading before.reading)
+    go (so_far bytes many p stops r) =
+        open_in_part names never_fails input old new bytes before (input_of_read read piece)
+        (leaves never_fails old new read piece room limit bound consumes sure) p r open'
+    go (to_the_end stream is_given p stops unbroken r) =
+        absurd (not_both before.reading.stop (closed_state names input before stream is_given r) open')
+
+-- memory ran out for a post of what was read
+pub posts_in_part : (names : List ProcessNames) (never_fails : Bool) (input left : Option (List ℕ)) (reads : ℕ)
+    (state : ReaderState) (old new : Row) → HasRead names never_fails input left reads state
+    → GoesOnTo old (row_of_reading state.reading) → HasPosted old (row_of_reading state.reading) new
+    → IsReadInPart names never_fails input left new
+posts_in_part names never_fails input left reads state old new (so_far bytes many p stops r) goes posted = record {
+  stream = record { ending = Open; bytes = bytes };
+  is_given = λ other. absurd (other refl);
+  posted = subst (λ (x : Reading). HasPosted fresh_row (row_of_reading x) new) r.same_reading
+      (posted_from_start old (row_of_reading state.reading) new goes posted);
+  consumed = p;
+  stops = stops;
+  unbroken = λ sure (e : Open ≡ Failed). cc;
+}
+posts_in_part names never_fails input left reads state old new (to_the_end stream is_given p stops unbroken r) goes
+    posted = record {
+      stream = stream;
+      is_given = λ other. is_given;
+      posted = subst (λ (x : Reading). HasPosted fresh_row (row_of_reading x) new) r.same_reading
+          (posted_from_start old (row_of_reading state.reading) new goes posted);
+      consumed = p;
+      stops = stops;
+      unbroken = unbroken;
+    }
+
+-- memory ran out before the first read
+pub none_in_part : (names : List ProcessNames) (never_fails : Bool) (input : Option (List ℕ)) (row : Row)
+    → row ≡ fresh_row → IsReadInPart names never_fails input input row
+none_in_part names never_fails input row fresh = record {
+  stream = record { ending = Open; bytes = [] };
+  is_given = λ other. absurd (other refl);
+  posted = inl fresh;
+  consumed = Consumes-nil input;
+  stops = nothing_more names [] refl;
+  unbroken = λ sure (e : Open ≡ Failed). cc;
+}
+
+pub on_err : {X E : Type 0} (P : Type 0) (result : Result X E) → P → OnErr result P
+on_err P (Ok x) p = tt
+on_err P (Err error) p = p
+
 -- ---- all streams
 
 -- one stream alone
@@ -354,7 +477,7 @@ one_stream names never_fails input result row (left, one) = record {
       (All-nil (IsUnbroken names never_fails));
 }
 
-zipped_both : {A B : Type 0} (P : A → B → Type 0) (xs more : List A) (ys others : List B) → AllZip P xs ys
+pub zipped_both : {A B : Type 0} (P : A → B → Type 0) (xs more : List A) (ys others : List B) → AllZip P xs ys
     → AllZip P more others → AllZip P (xs ++ more) (ys ++ others)
 zipped_both P [] more [] others p q = q
 zipped_both P [] more (y ∷ ys) others p q = absurd p

@@ -1,14 +1,14 @@
 -- What is read of readers.
-use Rattle.std.specs.Prelude.{◌≡◌, ℕ, ◌≤◌, Bool, true, List, ◌++◌, length, map, All, Option}
+use Rattle.std.specs.Prelude.{◌≡◌, ◌≢◌, ℕ, ◌≤◌, ◌⊎◌, Bool, true, List, ◌++◌, length, map, All, Option}
 use Rattle.std.specs.List.{AllZip}
 use Rattle.std.specs.Io.KnownBytes.{Consumes}
-use Rattle.pd_format.specs.Histories.{Row}
+use Rattle.pd_format.specs.Histories.{Row, fresh_row}
 use Rattle.pd_format.specs.Names.{ProcessNames}
 use Rattle.pd_format.specs.Readings.{Failed, Open, NothingMore, IsClosed, reading}
 use Rattle.pd_format.specs.Sessions.{StreamResult, session}
 use Rattle.pd_judgement.specs.Judgements.{RawStream, IsResultOf, AreResultsOf}
 use Rattle.pd_judgement.specs.Writes.{IsGivenBy}
-use Rattle.pd_gather.specs.Rows.{row_of_reading}
+use Rattle.pd_gather.specs.Rows.{HasPosted, row_of_reading}
 
 -- the most bytes that one read asks for
 abbrev pub read_byte_limit : ℕ
@@ -48,6 +48,24 @@ pub record IsReadFrom (names : List ProcessNames) (never_fails : Bool) (input le
 abbrev pub IsReadOf : List ProcessNames → Bool → Option (List ℕ) → StreamResult → Row → Type 0
 IsReadOf names never_fails input result row =
     (left : Option (List ℕ)) × IsReadFrom names never_fails input left result row
+
+-- A reader of this input was read in part, with this much of it left, when memory ran out, and this is the row in a
+-- register. What was consumed of the input are a stream's bytes, after which more may come if its ending is open, and
+-- the row is one that posts lead through on the way to the stream's.
+pub record IsReadInPart (names : List ProcessNames) (never_fails : Bool) (input left : Option (List ℕ)) (row : Row) :
+    Type 0 where
+  pub stream : RawStream
+  pub is_given : stream.ending ≢ Open → IsGivenBy input stream
+  pub posted : HasPosted fresh_row (row_of_stream names stream) row
+  pub consumed : Consumes input left stream.bytes
+  pub stops : StopsWhenClosed names stream.bytes
+  pub unbroken : IsUnbroken names never_fails stream
+
+-- a reader of this input was read, or was read in part when memory ran out, and left this row in a register
+abbrev pub LeavesRow : List ProcessNames → Bool → Option (List ℕ) → Row → Type 0
+LeavesRow names never_fails input row =
+    ((result : StreamResult) × IsReadOf names never_fails input result row)
+    ⊎ ((left : Option (List ℕ)) × IsReadInPart names never_fails input left row)
 
 -- the results and the rows are those of what the readers gave
 pub record AreReadOf (names : List ProcessNames) (never_fails : Bool) (inputs : List (Option (List ℕ)))

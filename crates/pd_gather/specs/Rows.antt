@@ -1,5 +1,5 @@
 -- The rows of streams in a register, by their readings, and how an open stream's row goes on.
-use Rattle.std.specs.Prelude.{◌≡◌, ℕ, ◌≤◌, length, Option, Some, None}
+use Rattle.std.specs.Prelude.{◌≡◌, ℕ, ◌≤◌, ◌⊎◌, length, Option, Some, None}
 use Rattle.pd_format.specs.Histories.{Row}
 use Rattle.pd_format.specs.Limits.{event_limit}
 use Rattle.pd_format.specs.ReadingLaws.{process_of}
@@ -41,3 +41,18 @@ CanStop Joined Joined = Unit {0}
 CanStop Joined HasEnded = Unit {0}
 CanStop Joined Faulted = Unit {0}
 CanStop _ _ = ⊥
+
+-- the row of an open stream that has joined this process, with at least and at most this many events
+pub record IsJoinedWith (process : Option ℕ) (least most : ℕ) (shown : Row) : Type 0 where
+  pub joined : shown ≡ row process shown.events Joined
+  pub at_least : least ≤ shown.events
+  pub at_most : shown.events ≤ most
+
+-- The posts made so far of those that lead from an open stream's old row to the due one give the new row, and neither
+-- the end nor the fault is posted: it is the old row, or has joined the due process and has some of the due events.
+abbrev pub HasPosted : (old due new : Row) → Type 0
+HasPosted old due new =
+    (new ≡ old)
+    ⊎ ((process : ℕ)
+    × (due.process ≡ Some process)
+    × IsJoinedWith (Some process) old.events due.events new)

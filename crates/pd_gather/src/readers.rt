@@ -1,14 +1,16 @@
 //! A stream that is read from a source, while its steps are posted.
+ghost use mathlib.Core.List.{IsPrefix};
 ghost use Rattle.pd_events.specs.Views.{result_view};
 ghost use Rattle.pd_format.specs.Histories.{fresh_row};
 ghost use Rattle.pd_format.specs.Names.{ProcessNames};
 ghost use Rattle.pd_format.specs.Readings.{NothingMore};
 ghost use Rattle.pd_gather.specs.ReadSoFar.{HasRead, ReadsOn, input_of_read};
-ghost use Rattle.pd_gather.specs.ReadStreams.{IsReadFrom, IsReadOf, read_byte_limit};
+ghost use Rattle.pd_gather.specs.ReadStreams.{IsReadFrom, IsReadInPart, IsReadOf, read_byte_limit};
+ghost use Rattle.pd_gather.specs.Rows.{row_of_reading};
 ghost use Rattle.pd_gather.specs.Views.{ReadingFits, input_view};
-ghost use Rattle.pd_register.specs.Seats.{IsSameSeat, IsSeatOf, posted_row};
+ghost use Rattle.pd_register.specs.Seats.{IsSameSeat, IsSeatOf, posted_row, seen_history};
 ghost use Rattle.pd_spec.specs.Views.{document_view};
-ghost use Rattle.std.specs.Prelude.{◌≡◌, ◌<◌, ◌≤◌, ◌+◌, ℕ, false, List, Option, IfOk, OnOk, length, vec_len};
+ghost use Rattle.std.specs.Prelude.{◌≡◌, ◌<◌, ◌≤◌, ◌+◌, ℕ, false, List, Option, IfOk, OnErr, OnOk, length, vec_len};
 
 use super::Input;
 use super::byte_source::ByteSource;
@@ -66,6 +68,9 @@ fn read_once<R: ByteSource>(
     ensures more { OnOk result ((names : List ProcessNames) (input : Option (List ℕ)) (reads : ℕ) →
         HasRead names R.never_fails input (R.remaining reader.old) reads stream.old →
         stream.new.reading.stop ≡ NothingMore → R.has_ended reader.new ≡ false) }
+    ensures refused { OnErr result ((names : List ProcessNames) (input : Option (List ℕ)) (reads : ℕ) →
+        HasRead names R.never_fails input (R.remaining reader.old) reads stream.old →
+        IsReadInPart names R.never_fails input (R.remaining reader.new) (row_of_reading stream.old.reading)) }
 {
     let input = input_of(reader.read_next(piece), piece);
     take_input(stream, input)
@@ -74,7 +79,8 @@ fn read_once<R: ByteSource>(
 /// Reads a stream from a source that is used again: what was consumed of it are the stream's bytes.
 ///
 /// # Errors
-/// If memory runs out; the seat keeps its posts.
+/// If memory runs out; the seat keeps its posts. They are the first of those that the bytes read until then lead to,
+/// and neither the end nor the fault is among them. What the seat has seen grows, as it does without an error.
 pub(super) fn read_from<T: Wait, R: ByteSource>(
     rt: &T,
     alloc: Global,
@@ -87,9 +93,12 @@ pub(super) fn read_from<T: Wait, R: ByteSource>(
     requires fresh { posted_row seat.old ≡ fresh_row }
     requires open { R.has_ended reader.old ≡ false }
     ensures seat { IsSameSeat register.now seat.old seat.new }
+    ensures seen { IsPrefix (seen_history seat.old) (seen_history seat.new) }
     ensures read { IfOk result (λ given. IsReadFrom (document_view spec.now).names R.never_fails
         (R.remaining reader.old) (R.remaining reader.new) (result_view given) (posted_row seat.new)) }
     ensures fits { IfOk result (ReadingFits (document_view spec.now).names) }
+    ensures refused { OnErr result (IsReadInPart (document_view spec.now).names R.never_fails
+        (R.remaining reader.old) (R.remaining reader.new) (posted_row seat.new)) }
 {
     pd_format::closed_stays();
     pd_format::readings_go_on();
@@ -111,7 +120,8 @@ pub(super) fn read_from<T: Wait, R: ByteSource>(
 /// lock is held while bytes are read.
 ///
 /// # Errors
-/// If memory runs out; the seat keeps its posts.
+/// If memory runs out; the seat keeps its posts. They are the first of those that the bytes read until then lead to,
+/// and neither the end nor the fault is among them. What the seat has seen grows, as it does without an error.
 pub fn read_stream<T: Wait, R: ByteSource + Drop>(
     rt: &T,
     alloc: Global,
@@ -124,9 +134,12 @@ pub fn read_stream<T: Wait, R: ByteSource + Drop>(
     requires fresh { posted_row seat.old ≡ fresh_row }
     requires open { R.has_ended reader ≡ false }
     ensures seat { IsSameSeat register.now seat.old seat.new }
+    ensures seen { IsPrefix (seen_history seat.old) (seen_history seat.new) }
     ensures read { IfOk result (λ given. IsReadOf (document_view spec.now).names R.never_fails (R.remaining reader)
         (result_view given) (posted_row seat.new)) }
     ensures fits { IfOk result (ReadingFits (document_view spec.now).names) }
+    ensures refused { OnErr result ((left : Option (List ℕ)) × IsReadInPart (document_view spec.now).names
+        R.never_fails (R.remaining reader) left (posted_row seat.new)) }
 {
     read_from(rt, alloc, spec, &mut reader, register, seat)
 }

@@ -1,7 +1,7 @@
 //! The streams of a session, each read on its own thread, while an observer watches them on one more.
 ghost use mathlib.Core.List.{IsPrefix};
 ghost use Rattle.pd_format.specs.Histories.{fresh_row};
-ghost use Rattle.pd_gather.specs.Gathering.{AreReady, AreSameSeats, HasGathered};
+ghost use Rattle.pd_gather.specs.Gathering.{AreReady, AreSameSeats, HasGathered, KeepsSeen, LeavesSeats};
 ghost use Rattle.pd_gather.specs.ReadStreams.{AreReadOf};
 ghost use Rattle.pd_gather.specs.Views.{ReadingFits, results_view};
 ghost use Rattle.pd_register.specs.Seats.{AreSeats, IsWatcherOf, posted_row, watched_history};
@@ -35,8 +35,10 @@ fn read_beside<T: Threads + Wait + Sync, R: ByteSource + Send, O: Observer + Syn
     requires ready { AreReady R.has_ended register.now readers.old seats.old }
     requires watcher { IsWatcherOf register.now watcher.old }
     ensures same { AreSameSeats register.now seats.old seats.new }
+    ensures seen { KeepsSeen seats.old seats.new }
     ensures gathered { IfOk result (λ readings. HasGathered (document_view spec.now).names R.never_fails
         (map R.remaining readers.old) readings.items seats.new) }
+    ensures left { LeavesSeats (document_view spec.now).names R.never_fails (map R.remaining readers.old) seats.new }
     ensures watcher { IsWatcherOf register.now watcher.new }
     ensures later { IsPrefix (watched_history watcher.old) (watched_history watcher.new) }
 {
@@ -51,7 +53,10 @@ fn read_beside<T: Threads + Wait + Sync, R: ByteSource + Send, O: Observer + Syn
             requires { IsSync T.row × AreReady R.has_ended register.now readers.now seats.now }
             ensures { AreSameSeats register.entry.now seats.entry.now seats.exit.now
                 × IfOk result (λ readings. HasGathered (document_view spec.entry.now).names R.never_fails
-                (map R.remaining readers.entry.now) readings.items seats.exit.now) }
+                (map R.remaining readers.entry.now) readings.items seats.exit.now)
+                × KeepsSeen seats.entry.now seats.exit.now
+                × LeavesSeats (document_view spec.entry.now).names R.never_fails
+                (map R.remaining readers.entry.now) seats.exit.now }
         { read_halves(rt, alloc, spec, register, readers, seats) },
     );
     readings
@@ -61,7 +66,9 @@ fn read_beside<T: Threads + Wait + Sync, R: ByteSource + Send, O: Observer + Syn
 /// threads are joined, the observer's too. It gives the readings of what the readers gave, whatever the observer does.
 ///
 /// # Errors
-/// If memory runs out; the seats keep their posts.
+/// If memory runs out, for one stream or for several; the seats keep their posts. Each stream was then read, or was
+/// read in part: its seat's posts are the first of those that the bytes read until then lead to, without the end or
+/// the fault. What each seat has seen grows, as it does without an error.
 pub fn gather_watched<T: Threads + Wait + Sync, R: ByteSource + Send + Drop, O: Observer + Sync>(
     rt: &T,
     alloc: Global,
@@ -78,10 +85,12 @@ pub fn gather_watched<T: Threads + Wait + Sync, R: ByteSource + Send + Drop, O: 
     requires open { All (λ r. R.has_ended r ≡ false) readers.items }
     requires watcher { IsWatcherOf register.now watcher.old }
     ensures seats { AreSeats register.now seats.new }
+    ensures seen { KeepsSeen seats.old seats.new }
     ensures streams { IfOk result (λ gathered. gathered.streams ≡ vec_len readers) }
     ensures read { IfOk result (λ gathered. AreReadOf (document_view spec.now).names R.never_fails
         (map R.remaining readers.items) (results_view gathered.readings.items) (map posted_row seats.new)) }
     ensures fit { IfOk result (λ gathered. All (ReadingFits (document_view spec.now).names) gathered.readings.items) }
+    ensures left { LeavesSeats (document_view spec.now).names R.never_fails (map R.remaining readers.items) seats.new }
     ensures watcher { IsWatcherOf register.now watcher.new }
     ensures later { IsPrefix (watched_history watcher.old) (watched_history watcher.new) }
 {
@@ -109,10 +118,12 @@ pub(super) fn gather_by<T: Threads + Wait + Sync, R: ByteSource + Send + Drop, O
     requires open { All (λ r. R.has_ended r ≡ false) readers.items }
     requires watcher { IsWatcherOf register.now watcher.old }
     ensures seats { AreSeats register.now seats.new }
+    ensures seen { KeepsSeen seats.old seats.new }
     ensures streams { IfOk result (λ gathered. gathered.streams ≡ vec_len readers) }
     ensures read { IfOk result (λ gathered. AreReadOf (document_view spec.now).names R.never_fails
         (map R.remaining readers.items) (results_view gathered.readings.items) (map posted_row seats.new)) }
     ensures fit { IfOk result (λ gathered. All (ReadingFits (document_view spec.now).names) gathered.readings.items) }
+    ensures left { LeavesSeats (document_view spec.now).names R.never_fails (map R.remaining readers.items) seats.new }
     ensures watcher { IsWatcherOf register.now watcher.new }
 {
     match observer {

@@ -1,8 +1,8 @@
 -- Two halves of the streams come to all of them.
 use Rattle.std.proofs.Common.{rules, ◌≡◌, ◌++◌, map, sym, subst, ◌∙◌}
 use Rattle.pd_spec.specs.Views.{document_view}
-use Rattle.pd_gather.specs.Gathering.{AreSameSeats}
-use Rattle.pd_gather.proofs.Halves.{Gathers, both_gathered, none_gathered, of_all_readers, same_halves}
+use Rattle.pd_gather.specs.Gathering.{AreSameSeats, KeepsSeen, LeavesSeats}
+use Rattle.pd_gather.proofs.Halves.{Gathers, both_gathered, left_of_all, none_gathered, none_left, none_seen, of_all_readers, same_halves, seen_halves}
 use Rattle.pd_gather.proofs.gathering.+fn-read_halves-join_mut+arg2+fn-read_halves-join_mut+arg3+read_halves.Goals as goal
 
 pub returns-then-readers-eq0-clause-gathered : goal.returns-then-readers-eq0-clause-gathered
@@ -37,3 +37,33 @@ returns-clause-gathered g t c =
     (both_gathered names never_fails (map remaining readers.0.now) (map remaining readers.1.now)
     c.join_mut-first.result.0 c.join_mut-first.result.1 c.both_halves.result c.first_seats-1.given.0
     c.last_seats-1.given.0 first last c.both_halves.ensures.ok c.both_halves.ensures.both)
+
+pub returns-then-readers-eq0-clause-seen : goal.returns-then-readers-eq0-clause-seen
+returns-then-readers-eq0-clause-seen g t c = none_seen c.args.seats.now
+
+pub returns-then-readers-eq0-clause-left : goal.returns-then-readers-eq0-clause-left
+returns-then-readers-eq0-clause-left g t c =
+    none_left (document_view c.args.spec.now).names g.R.ByteSource.never_fails g.R.ByteSource.remaining
+    c.args.readers.now c.args.seats.now c.if-readers-eq0.true
+    (sym c.requires.ready.one_each ∙ c.if-readers-eq0.true)
+
+pub returns-clause-seen : goal.returns-clause-seen
+returns-clause-seen g t c =
+    let seats = c.split_at_mut-first_seats.result in
+    let first : KeepsSeen seats.0.now c.first_seats-1.given.0 = search rules in
+    let last : KeepsSeen seats.1.now c.last_seats-1.given.0 = search rules in
+    let whole : seats.0.now ++ seats.1.now ≡ c.args.seats.now = search rules in
+    subst (λ old. KeepsSeen old (c.first_seats-1.given.0 ++ c.last_seats-1.given.0)) whole
+    (seen_halves seats.0.now seats.1.now c.first_seats-1.given.0 c.last_seats-1.given.0 first last)
+
+pub returns-clause-left : goal.returns-clause-left
+returns-clause-left g t c =
+    let names = (document_view c.args.spec.now).names in
+    let never_fails = g.R.ByteSource.never_fails in
+    let remaining = g.R.ByteSource.remaining in
+    let readers = c.split_at_mut-first_readers.result in
+    let first : LeavesSeats names never_fails (map remaining readers.0.now) c.first_seats-1.given.0 = search rules in
+    let last : LeavesSeats names never_fails (map remaining readers.1.now) c.last_seats-1.given.0 = search rules in
+    let whole : readers.0.now ++ readers.1.now ≡ c.args.readers.now = search rules in
+    left_of_all names never_fails remaining readers.0.now readers.1.now c.args.readers.now c.first_seats-1.given.0
+    c.last_seats-1.given.0 whole first last

@@ -1,5 +1,5 @@
 -- One stream alone.
-use Rattle.std.proofs.Common.{◌∷◌, [], sym, subst, List}
+use Rattle.std.proofs.Common.{◌∷◌, [], inl, inr, sym, subst, List}
 use Rattle.std.specs.Prelude.{Result}
 use Rattle.pd_events.specs.Views.{result_view}
 use Rattle.pd_traces.specs.declared.event.Trace.{Trace}
@@ -20,3 +20,41 @@ returns-clause-read g c =
     (results_view given) (row ∷ [])) (sym (rw c.in_ok-readings.ensures.items at c.in_ok-push.ensures.items))
     (one_stream names g.R.ByteSource.never_fails input (result_view c.in_ok-given.given) row
     (g.R.ByteSource.remaining c.read_from.new.reader, c.in_ok-given.ensures.read))
+
+pub returns-in_err-given-clause-left : goal.returns-in_err-given-clause-left
+returns-in_err-given-clause-left g c = record {
+  rows = (inr (g.R.ByteSource.remaining c.read_from.new.reader, c.in_err-given.ensures.refused), tt);
+}
+
+pub returns-in_err-readings-clause-left : goal.returns-in_err-readings-clause-left
+returns-in_err-readings-clause-left g c = record {
+  rows = (
+    inl (
+      result_view c.in_ok-given.given,
+      (g.R.ByteSource.remaining c.read_from.new.reader, c.in_ok-given.ensures.read),
+    ),
+    tt,
+  );
+}
+
+pub returns-in_err-push-clause-left : goal.returns-in_err-push-clause-left
+returns-in_err-push-clause-left g c = record {
+  rows = (
+    inl (
+      result_view c.in_ok-given.given,
+      (g.R.ByteSource.remaining c.read_from.new.reader, c.in_ok-given.ensures.read),
+    ),
+    tt,
+  );
+}
+
+pub returns-clause-left : goal.returns-clause-left
+returns-clause-left g c = record {
+  rows = (
+    inl (
+      result_view c.in_ok-given.given,
+      (g.R.ByteSource.remaining c.read_from.new.reader, c.in_ok-given.ensures.read),
+    ),
+    tt,
+  );
+}

@@ -2,11 +2,13 @@
 use Rattle.std.proofs.Common.{◌≡◌, ℕ, ◌+◌, refl, sym, ◌∙◌, ap, subst, arith}
 use Rattle.pd_format.specs.Histories.{Row}
 use Rattle.pd_format.specs.Limits.{stream_byte_limit}
-use Rattle.pd_register.specs.Seats.{posted_row}
+use Rattle.pd_register.specs.Seats.{posted_row, seen_history}
 use Rattle.pd_spec.specs.Views.{document_view}
 use Rattle.pd_gather.specs.ReadSoFar.{HasRead}
+use Rattle.pd_gather.specs.ReadStreams.{IsReadInPart}
 use Rattle.pd_gather.specs.Rows.{GoesOnTo, row_of_reading}
-use Rattle.pd_gather.proofs.Turns.{GivesRead, closes, gives_read, nothing_read}
+use Rattle.pd_gather.proofs.SeatLists.{seen_longer, seen_still}
+use Rattle.pd_gather.proofs.Turns.{GivesRead, closes, gives_read, none_in_part, nothing_read, on_err, posts_in_part}
 use Rattle.pd_gather.proofs.readers.read_from.Goals as goal
 use Rattle.pd_gather.proofs.readers.read_from.Goals.{else-reads-test, then-reads-test+then-is_closed}
 
@@ -15,6 +17,7 @@ reads-init g c = record {
   room = c.in_ok-piece.ensures;
   more = λ _. c.requires.open;
   seat = (c.requires.own, refl);
+  seen = seen_still (seen_history c.args.seat.now);
   posted = c.requires.fresh ∙ sym (ap row_of_reading c.new-stream.ensures.same_reading);
   read = nothing_read (document_view c.args.spec.now).names g.R.ByteSource.never_fails
       (g.R.ByteSource.remaining c.args.reader.now) c.new-stream.result c.new-stream.ensures;
@@ -35,9 +38,39 @@ reads-preserved g c =
       room = c.reads.invariant.room;
       more = c.in_ok-read_once.ensures.more names input c.reads.counter c.reads.invariant.read;
       seat = (c.post_records.ensures.seat.0, c.post_records.ensures.seat.1 ∙ c.reads.invariant.seat.1);
+      seen = seen_longer (seen_history c.args.seat.now) (seen_history c.reads.seat)
+          (seen_history c.post_records.new.seat) c.reads.invariant.seen c.post_records.ensures.seen;
       posted = c.in_ok-post_records.ensures.posted;
       read = (c.in_ok-read_once.ensures.read names input c.reads.counter c.reads.invariant.read).has_read;
     }
+
+pub returns-in_err-piece-clause-refused : goal.returns-in_err-piece-clause-refused
+returns-in_err-piece-clause-refused g c =
+    on_err _ c.from_residual.result
+    (none_in_part (document_view c.args.spec.now).names g.R.ByteSource.never_fails
+    (g.R.ByteSource.remaining c.args.reader.now) (posted_row c.args.seat.now) c.requires.fresh)
+
+pub returns-in_err-read_once-clause-refused : goal.returns-in_err-read_once-clause-refused
+returns-in_err-read_once-clause-refused g c =
+    let names = (document_view c.args.spec.now).names in
+    let input = g.R.ByteSource.remaining c.args.reader.now in
+    on_err _ c.from_residual-in_err-read_once.result
+    (subst (IsReadInPart names g.R.ByteSource.never_fails input (g.R.ByteSource.remaining c.read_once.new.reader))
+    (sym c.reads.invariant.posted)
+    (c.in_err-read_once.ensures.refused names input c.reads.counter c.reads.invariant.read))
+
+pub returns-in_err-post_records-clause-refused : goal.returns-in_err-post_records-clause-refused
+returns-in_err-post_records-clause-refused g c =
+    let names = (document_view c.args.spec.now).names in
+    let input = g.R.ByteSource.remaining c.args.reader.now in
+    let on = c.in_ok-read_once.ensures.read names input c.reads.counter c.reads.invariant.read in
+    on_err _ c.from_residual-in_err-post_records.result
+    (posts_in_part names g.R.ByteSource.never_fails input (g.R.ByteSource.remaining c.read_once.new.reader)
+    (c.reads.counter + 1) c.read_once.new.stream (posted_row c.reads.seat) (posted_row c.post_records.new.seat)
+    on.has_read
+    (subst (λ (r : Row). GoesOnTo r (row_of_reading c.read_once.new.stream.reading)) (sym c.reads.invariant.posted)
+    on.row)
+    c.in_err-post_records.ensures.refused)
 
 pub outcome-requires : goal.outcome-requires
 outcome-requires g c =

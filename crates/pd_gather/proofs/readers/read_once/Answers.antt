@@ -6,7 +6,7 @@ use Rattle.std.proofs.lemmas.Result.{on_ok_weaker}
 use Rattle.pd_gather.specs.ReadStreams.{read_byte_limit}
 use Rattle.pd_gather.specs.Taken.{Takes}
 use Rattle.pd_gather.specs.Views.{input_view}
-use Rattle.pd_gather.proofs.Turns.{asked_again, one_read}
+use Rattle.pd_gather.proofs.Turns.{asked_again, on_err, one_in_part, one_read}
 use Rattle.pd_gather.proofs.readers.read_once.Goals as goal
 
 bound : {E : Type 0} (read : Result ℕ E) (xs : List ℕ) → ReadsAtMost read xs → IfOk read (λ count. count ≤ length xs)
@@ -36,3 +36,14 @@ returns-clause-more g c =
     (g.R.ByteSource.has_ended c.read_next.new.self ≡ false) c.read_next.ensures.open
     (rw c.input_of-input.ensures at takes) c.requires.open)
     c.take_input.ensures.takes
+
+pub returns-clause-refused : goal.returns-clause-refused
+returns-clause-refused g c =
+    let room : 0 < length c.read_next.new.piece = omega (arith, c.read_next.auto.piece, c.requires.room) in
+    let limit : length c.read_next.new.piece ≤ read_byte_limit =
+    omega (arith, c.read_next.auto.piece, c.requires.limit) in
+    on_err _ c.take_input.result
+    (one_in_part g.R.ByteSource.never_fails c.read_next.result c.read_next.new.piece
+    (g.R.ByteSource.remaining c.args.reader.now) (g.R.ByteSource.remaining c.read_next.new.self) c.args.stream.now
+    room limit (bound c.read_next.result c.read_next.new.piece c.read_next.ensures.bound) c.read_next.ensures.bytes
+    c.read_next.ensures.sure c.requires.open)
