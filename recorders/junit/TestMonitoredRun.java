@@ -11,6 +11,7 @@ import java.util.stream.Stream;
 
 /** Tests of MonitoredRun without JUnit: `java TestMonitoredRun FOLDER PROGRAM`. FOLDER is empty; see test.sh. */
 public final class TestMonitoredRun {
+    /** The document without its last brace. */
     private static final String DOCUMENT = "{\"processes\":[{\"name\":\"left\",\"vars\":{\"inside\":0}},"
             + "{\"name\":\"right\",\"vars\":{\"inside\":0}}],\"predicates\":[{\"name\":\"both\",\"text\":"
             + "\"left.inside == 1 and right.inside == 1\"},{\"name\":\"left_in\",\"text\":\"left.inside == 1\"}]";
@@ -98,13 +99,16 @@ public final class TestMonitoredRun {
                 thrown(AssertionError.class, () -> run.judge("both")));
         same(new TreeSet<>(Arrays.asList("both.svg", "left.stream", "report", "right.stream", "session.json")),
                 names(run.folder()));
-        same(true, Files.readString(run.folder().resolve("both.svg")).contains("both possibly yes</title>"));
+        same(true, Files.readString(run.folder().resolve("both.svg")).contains(">both possibly yes</title>"));
+        MonitoredRun left = recorded(document, LATE);
+        thrown(AssertionError.class, () -> left.judge());
+        same(true, Files.readString(left.folder().resolve("left_in.svg")).contains(">left_in possibly yes</title>"));
         same("both possibly yes 2,1", Files.readAllLines(run.folder().resolve("report")).get(1));
         same("what must never hold may have held:\n  both possibly yes 2,1\n  picture: RUN/both.svg\n"
                 + "  left_in possibly yes 1,0\n  picture: RUN/left_in.svg\n  all of the run: RUN",
                 failure(recorded(document, EARLY)));
         recorded(document, LATE).judge("both");
-        same(new TreeSet<>(List.of("turns-1")), names(runs));
+        same(new TreeSet<>(List.of("turns-1", "turns-2")), names(runs));
         same("not settled, since the document's width is too small:\n  both possibly unknown 3\n  all of the run: RUN",
                 failure(recorded(DOCUMENT + ",\"width\":1}", EARLY), "both"));
         same("the document has no predicate bot, which must never hold\n  all of the run: RUN",

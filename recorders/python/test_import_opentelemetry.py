@@ -172,6 +172,12 @@ class Order(Case):
         self.assertEqual(self.texts(resource(*spans)), ["start outer", "start middle", "start inner",
                                                         "end inner", "end middle", "end outer"])
 
+    def test_at_one_time_events_in_any_order_follow_a_start_that_has_to_wait(self):
+        inner = span(1, 5, 9, parent=2, name="inner", events=[event(9, "late"), event(5, "early")])
+        self.assertEqual(self.texts(resource(inner, span(2, 5, 9, name="outer"))),
+                         ["start outer", "start inner", "event early in inner", "event late in inner", "end inner",
+                          "end outer"])
+
     def test_at_one_time_the_files_decide_what_is_left(self):
         first, second = span(1, 1, 5, parent=3, name="first"), span(2, 5, 9, parent=3, name="second")
         around = span(3, 1, 9, name="around")
@@ -264,6 +270,11 @@ class Messages(Case):
             resource(span(5, 1, 2, INTERNAL, parent=1), service="c"), words=["--variables", "^start .*x=(?<x>.)"])
         self.assertEqual(streams, {"a": [{"send": "a-1", "set": {"x": 1}}, {"send": "a-2"}, {}, {}, {}],
                                    "b": [{"recv": "a-1"}, {}, {}, {}], "c": [{"recv": "a-2"}, {}]})
+
+    def test_a_client_is_answered_by_a_server_alone(self):
+        for kind in (INTERNAL, CONSUMER, CLIENT):
+            self.assertEqual(self.streams(resource(CLIENT_SPAN), resource(span(2, 1, 2, kind, parent=1), service="b")),
+                             {"a": [{"send": "a-1"}, {}], "b": [{"recv": "a-1"}, {}]})
 
     def test_a_start_that_receives_and_sends(self):
         streams = self.streams(

@@ -10,6 +10,7 @@ import unittest
 from unittest import mock
 
 from judging import FOLDER, PROGRAM, needs_program
+from monitor_recorder import NotRecorded
 from monitor_testing import MonitoredRun
 
 JUDGE = os.path.abspath(PROGRAM)
@@ -87,6 +88,8 @@ class Judged(Case):
         self.assertEqual(self.failure(early).splitlines()[1:5],
                          ["  both possibly yes 2,1", f"  picture: {self.runs}/turns-1/both.svg",
                           "  left_in possibly yes 1,0", f"  picture: {self.runs}/turns-1/left_in.svg"])
+        for name in ("both", "left_in"):
+            self.assertIn(f">{name} possibly yes</title>", self.text("turns-1", f"{name}.svg"))
         with MonitoredRun("turns", DOCUMENT, never=[]) as run:
             early(run)
 
@@ -164,8 +167,11 @@ class Runs(Case):
         self.program("exit 0")
         with contextlib.redirect_stderr(io.StringIO()) as errors, self.assertRaises(KeyError):
             with MonitoredRun("turns", DOCUMENT) as run:
-                run.recorder("left").event(inside=1)
+                recorder = run.recorder("left")
+                recorder.event(inside=1)
                 raise KeyError
+        with self.assertRaisesRegex(NotRecorded, "closed"):
+            recorder.event()
         self.assertEqual(errors.getvalue(), f"monitor: what was recorded until then is in {self.runs}/turns-1\n")
         self.assertEqual(self.kept(), ["left.stream", "session.json"])
         self.assertEqual(self.text("turns-1", "left.stream"), '{"process":"left"}\n{"set":{"inside":1}}\n')
