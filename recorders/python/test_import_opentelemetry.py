@@ -116,6 +116,17 @@ class Sessions(Case):
             self.assertEqual(self.streams(resource({**plain, **others})), {"a": [{}, {}]})
             self.assertEqual(self.written.count("\n"), 1)
 
+    def test_all_fields_of_the_form(self):
+        more = {"traceState": "a=b", "flags": 257, "droppedAttributesCount": 0, "droppedEventsCount": 0, "links": [],
+                "droppedLinksCount": 0, "events": [{**event(12, "sent"), "droppedAttributesCount": 0}], "status": {}}
+        made = resource({**CLIENT_SPAN, **more})
+        made["resource"]["droppedAttributesCount"] = 0
+        made["scopeSpans"][0].update({"scope": {"name": "net", "version": "1.0", "attributes": attributes({"x": 1})},
+                                      "schemaUrl": "https://opentelemetry.io/schemas/1.21.0"})
+        made["schemaUrl"] = "https://opentelemetry.io/schemas/1.21.0"
+        self.assertEqual(self.streams(made, resource(SERVER_SPAN, service="b")),
+                         {"a": [{"send": "a-1"}, {}, {"recv": "b-1"}], "b": CALL_STREAMS["b"]})
+
     def test_a_span_that_was_exported_twice(self):
         self.assertEqual(self.streams(resource(CLIENT_SPAN), resource(SERVER_SPAN, service="b"),
                                       resource(CLIENT_SPAN)), CALL_STREAMS)
