@@ -3,9 +3,10 @@
 what the page says.
 
 An indented block whose first word is a command is typed, in the shell in which the blocks before it were, and at the
-top of the repository if the line before says so. Of any other block each line has to be one that the last commands
-wrote, in this order; one that ends with ` ..` has to be the beginning of such a line. What the page does in /tmp is
-done in a new folder. The last line says how many lines were compared; the status is 1 if any isn't there."""
+top of the repository if the line before says so. Of each other block after the first commands every line has to be one
+that the last commands wrote, in this order; one that ends with ` ..` has to be the beginning of such a line. What the
+page does in /tmp is done in a new folder. The last line says how many lines were compared; the status is 1 if any
+isn't there."""
 import argparse
 import os
 import re
@@ -39,7 +40,7 @@ def typed(page, without, folder):
             script += [f"cd '{TOP}'"] if before.endswith("At the top of the repository:") else []
             script += [*lines, f"echo '@@ {len(wanted)}'"]
             wanted.append([])
-        else:
+        elif wanted:
             wanted[-1] += [line for line in lines if line.strip()]
     done = subprocess.run(["bash"], input="\n".join(script), stdout=subprocess.PIPE, stderr=subprocess.STDOUT,
                           encoding="utf-8", timeout=SECONDS, check=False)
