@@ -1,17 +1,15 @@
 """Tests of import_vector_clocks: python3 -m unittest discover -s recorders/python"""
 import collections
-import contextlib
-import io
 import itertools
 import json
 import os
 import random
 import subprocess
 import sys
-import tempfile
 import unittest
 
 import import_vector_clocks as importer
+from import_cases import ImportCase, answers, with_clocks
 from judging import FOLDER, needs_program, report_of
 
 CLIENT = """\
@@ -37,50 +35,9 @@ def log(*events):
     return "".join(f"{host} {json.dumps(clock)}\n{text}\n" for host, clock, text in events)
 
 
-class Case(unittest.TestCase):
-    def setUp(self):
-        folder = tempfile.TemporaryDirectory()
-        self.addCleanup(folder.cleanup)
-        self.addCleanup(os.chdir, os.getcwd())
-        os.chdir(folder.name)
-        self.out = "out"
-
-    def run_on(self, logs, *words):
-        """The status, the output and the errors of the program for logs with these texts."""
-        names = []
-        for number, text in enumerate(logs, 1):
-            names.append(f"{number}.log")
-            with open(names[-1], "wb") as file:
-                file.write(text if isinstance(text, bytes) else text.encode())
-        words = ["--out", self.out, "--predicate", "none", "false", *words, *names]
-        with contextlib.redirect_stdout(io.StringIO()) as out, contextlib.redirect_stderr(io.StringIO()) as errors:
-            try:
-                status = importer.main(words)
-            except SystemExit as end:
-                status = end.code
-        return status, out.getvalue(), errors.getvalue()
-
-    def written_file(self, name):
-        with open(os.path.join(self.out, name), encoding="utf-8") as file:
-            return file.read()
-
-    def imported(self, logs, *words):
-        """The document and, without their first and last lines, the streams that are made of the logs."""
-        status, written, errors = self.run_on(logs, *words)
-        self.assertEqual((status, errors), (0, ""))
-        self.written = written
-        document = json.loads(self.written_file("session.json"))
-        streams = {}
-        for name in (process["name"] for process in document["processes"]):
-            lines = [json.loads(line) for line in self.written_file(f"{name}.stream").split("\n") if line]
-            self.assertEqual((lines[0], lines[-1]), ({"process": name}, {"end": True}))
-            streams[name] = lines[1:-1]
-        return document, streams
-
-    def refused(self, errors, logs, *words):
-        """The logs are refused with this line, and nothing is written."""
-        self.assertEqual(self.run_on(logs, *words), (1, "", f"refused: {errors}\n"))
-        self.assertFalse(os.path.exists(self.out))
+class Case(ImportCase):
+    importer = importer
+    ending = "log"
 
 
 class Sessions(Case):
@@ -272,7 +229,7 @@ class RefusedLogs(Case):
                      [log(("a-b", {"a-b": 1}, ""), ("a.b", {"a.b": 1}, ""))])
         status, _, errors = self.run_on([log(("and", {"and": 1}, ""))])
         self.assertEqual((status, errors[:47]), (1, "refused: 1.log line 1: 'and' is no name of a pr"))
-        self.refused("--name: the logs have no host 'b'", [log(("a", {"a": 1}, ""))], "--name", "b=c")
+        self.refused("--name: there is no host 'b'", [log(("a", {"a": 1}, ""))], "--name", "b=c")
 
     def test_limits(self):
         self.refused("1.log line 17: h8 would be host 9, and a session has at most 8",
@@ -321,40 +278,6 @@ class RefusedLogs(Case):
 
 # Whether splitting changes an answer: small runs at random, judged as they are and as they are imported.
 
-def happened(host_events):
-    """For each process its events as (clock, settings), the clock as one count for each process."""
-    processes = range(len(host_events))
-    values = [[0] + [None] * len(events) for events in host_events]
-    for process in processes:
-        for number, (_, settings) in enumerate(host_events[process], 1):
-            values[process][number] = settings.get("x", values[process][number - 1])
-
-    def is_cut(counts):
-        return all(count == 0 or all(host_events[process][count - 1][0][other] <= counts[other] for other in processes)
-                   for process, count in zip(processes, counts))
-
-    cuts = {counts for counts in itertools.product(*(range(len(events) + 1) for events in host_events))
-            if is_cut(counts)}
-    return cuts, lambda counts: tuple(values[process][count] for process, count in zip(processes, counts))
-
-
-def answers(host_events, states):
-    """Possibly and Definitely of the predicate that holds in these states, by all cuts; and the states of all cuts."""
-    cuts, state = happened(host_events)
-    possibly = any(state(cut) in states for cut in cuts)
-    full = tuple(len(events) for events in host_events)
-    reached = {cut for cut in [(0,) * len(full)] if state(cut) not in states}
-    todo = collections.deque(reached)
-    while todo:
-        cut = todo.popleft()
-        for process in range(len(full)):
-            following = cut[:process] + (cut[process] + 1,) + cut[process + 1:]
-            if following in cuts and following not in reached and state(following) not in states:
-                reached.add(following)
-                todo.append(following)
-    return possibly, full not in reached, {state(cut) for cut in cuts}
-
-
 def random_run(generator):
     """(host, clock, value) for some events, of which many both send and receive, or receive twice."""
     hosts = "abc"[:generator.randrange(2, 4)]
@@ -369,28 +292,6 @@ def random_run(generator):
         clocks[host] = clock
         events.append((host, clock, generator.randrange(3)))
     return hosts, events
-
-
-def with_clocks(streams):
-    """The streams' events as (clock, settings)."""
-    place = {line["send"]: (process, number) for process, lines in enumerate(streams)
-             for number, line in enumerate(lines) if "send" in line}
-    clocks = {}
-
-    def clock(process, number):
-        if number < 0:
-            return (0,) * len(streams)
-        if (process, number) not in clocks:
-            parts = [clock(process, number - 1)]
-            if "recv" in streams[process][number]:
-                parts.append(clock(*place[streams[process][number]["recv"]]))
-            counts = [max(column) for column in zip(*parts)]
-            counts[process] = number + 1
-            clocks[process, number] = tuple(counts)
-        return clocks[process, number]
-
-    return [[(clock(process, number), line.get("set", {})) for number, line in enumerate(lines)]
-            for process, lines in enumerate(streams)]
 
 
 class Answers(Case):

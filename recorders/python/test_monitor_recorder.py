@@ -14,7 +14,7 @@ import threading
 import time
 import unittest
 
-import import_vector_clocks
+import importing
 import monitor_recorder
 from judging import FOLDER, needs_program, report_of
 from monitor_recorder import EVENT_LIMIT, NotRecorded, Recorder
@@ -439,9 +439,9 @@ class Limits(unittest.TestCase):
                 (monitor_recorder, "EVENT_LIMIT", "event_limit"), (monitor_recorder, "VARIABLE_LIMIT", "var_limit"),
                 (monitor_recorder, "NAME_BYTE_LIMIT", "name_byte_limit"),
                 (monitor_recorder, "ID_BYTE_LIMIT", "id_byte_limit"),
-                (import_vector_clocks, "PROCESS_LIMIT", "process_limit"),
-                (import_vector_clocks, "PREDICATE_LIMIT", "predicate_limit"),
-                (import_vector_clocks, "WIDTH_LIMIT", "width_limit")):
+                (importing, "PROCESS_LIMIT", "process_limit"),
+                (importing, "PREDICATE_LIMIT", "predicate_limit"),
+                (importing, "WIDTH_LIMIT", "width_limit")):
             self.assertEqual(getattr(module, name), self.limits[limit], name)
 
     def test_of_c(self):

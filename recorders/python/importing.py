@@ -1,0 +1,296 @@
+"""What the importers share: events with what they set and the messages between them, how a session is made of them,
+and the part of the command line that says what the session asks."""
+import argparse
+import json
+import os
+import re
+import sys
+
+from monitor_recorder import EVENT_LIMIT, NotRecorded, Recorder, checked_name, checked_value, checked_variables
+
+PROCESS_LIMIT = 8
+PREDICATE_LIMIT = 16
+WIDTH_LIMIT = 65_536
+WHOLE_NUMBER = re.compile(r"[+-]?[0-9]{1,30}")
+TRUTHS = {"true": 1, "false": 0}
+
+
+class Refused(Exception):
+    """What was given is no session: the text says where and why."""
+
+
+class Event:
+    """Something that happened in one process. `place` says where the input has it, and `text` is what patterns are
+    held against. `sources` are the events from which it received a message, `receivers` those that received one of
+    it."""
+
+    def __init__(self, place, text):
+        self.place = place
+        self.text = text
+        self.settings = {}
+        self.sources = []
+        self.receivers = []
+
+    def refused(self, why):
+        return Refused(f"{self.place}: {why}")
+
+    def lines(self):
+        """How many events of a stream stand for it."""
+        return max(1, len(self.sources) + len(self.receivers))
+
+
+def compiled(pattern):
+    """The pattern, in which a named group may also be written as in JavaScript, `(?<name>..)`."""
+    try:
+        return re.compile(re.sub(r"\(\?<(?![=!])", "(?P<", pattern), re.MULTILINE)
+    except re.error as error:
+        raise argparse.ArgumentTypeError(f"{error} in {pattern!r}") from None
+
+
+def explained(read):
+    """The same for an argument, such that the parser says what is wrong with it."""
+    def reads(text):
+        try:
+            return read(text)
+        except NotRecorded as error:
+            raise argparse.ArgumentTypeError(str(error)) from None
+    return reads
+
+
+def decoded(path):
+    """The text of a file in UTF-8, in which each line ends with an LF alone."""
+    with open(path, "rb") as file:
+        data = file.read()
+    try:
+        return data.decode("utf-8-sig").replace("\r\n", "\n")
+    except UnicodeDecodeError as error:
+        line = data[:error.start].count(b"\n") + 1
+        raise Refused(f"{path} line {line}: this isn't UTF-8") from None
+
+
+# Variables
+
+def find_settings(events, patterns, conditions):
+    """The settings of each event: by the groups of the first match of each pattern, and by conditions."""
+    for event in events:
+        for pattern in patterns:
+            match = pattern.search(event.text)
+            for name, text in match.groupdict().items() if match else ():
+                if text is not None:
+                    put_setting(event, name, value_of(event, name, text))
+        for pattern, name, value in conditions:
+            if pattern.search(event.text):
+                put_setting(event, name, value)
+
+
+def put_setting(event, name, value):
+    if event.settings.setdefault(name, value) != value:
+        raise event.refused(f"it sets {name} to {event.settings[name]} and to {value}")
+
+
+def value_of(event, name, text):
+    if text.lower() in TRUTHS:
+        return TRUTHS[text.lower()]
+    if not WHOLE_NUMBER.fullmatch(text):
+        raise event.refused(f"the value of {name} is {text[:60]!r}, which is no whole number of 64 bits")
+    try:
+        return checked_value(name, int(text))
+    except NotRecorded as error:
+        raise event.refused(error) from None
+
+
+# Names
+
+def as_name(text):
+    """The text with _ for each character that no name can have, and before a digit at its beginning."""
+    return re.sub(r"^(?=[0-9])", "_", re.sub(r"[^A-Za-z0-9_]", "_", text))
+
+
+def name_processes(word, events, names, given):
+    """The names, a process name for each source of events, with those that are given in their places. `word` is what
+    such a source is called: a host, an instance."""
+    for source in given:
+        if source not in names:
+            raise Refused(f"--name: there is no {word} {source!r}")
+    taken = {}
+    for source, name in {**names, **given}.items():
+        place = events[source][0].place
+        try:
+            checked_name("process", name)
+        except NotRecorded as error:
+            raise Refused(f"{place}: {error}; give {word} {source!r} another by --name") from None
+        if name in taken.values():
+            raise Refused(f"{place}: {word} {source!r} would be a second process {name}; "
+                          "give it another name by --name")
+        taken[source] = name
+    return taken
+
+
+def initial_values(names, variables, given):
+    """The initial values of each process: `given` has (process or None, variable, value), those of one process last."""
+    values = {name: dict.fromkeys(variables, 0) for name in names}
+    for process, variable, value in sorted(given, key=lambda entry: entry[0] is not None):
+        if process is not None and process not in values:
+            raise Refused(f"--initial: there is no process {process}")
+        if variable not in variables:
+            raise Refused(f"--initial: neither --variables nor --when names {variable}")
+        for name in [process] if process is not None else values:
+            values[name][variable] = value
+    return values
+
+
+# Writing
+
+def check_lengths(processes):
+    for name, events in processes.items():
+        total = 0
+        for event in events:
+            total += event.lines()
+            if total > EVENT_LIMIT:
+                raise event.refused(f"with this event {name} has over {EVENT_LIMIT} events in its stream")
+
+
+def message_ids(processes):
+    """An id for each sender and receiver: the name of the sender's process and a counter."""
+    ids = {}
+    for name, events in processes.items():
+        counter = 0
+        for event in events:
+            for receiver in event.receivers:
+                counter += 1
+                ids[event, receiver] = f"{name}-{counter}"
+    return ids
+
+
+def write_stream(recorder, events, ids, table):
+    """Each event as one line, or as one for each of its receipts and then one for each of its sends. What it sets
+    stands with its last receipt or, if it has none, with its first send: so no state is added and none is lost."""
+    for event in events:
+        for source in event.sources:
+            recorder.receive(ids[source, event], **(event.settings if source is event.sources[-1] else {}))
+        for receiver in event.receivers:
+            is_first = receiver is event.receivers[0] and not event.sources
+            recorder.send(ids[event, receiver], **(event.settings if is_first else {}))
+        if not event.sources and not event.receivers:
+            recorder.event(**event.settings)
+        for number in range(recorder.events - event.lines() + 1, recorder.events + 1):
+            table.write(f"{recorder.process}#{number}\t{event.place}\t{event.text}\n")
+
+
+def write_files(folder, document, processes, ids):
+    # A text out of JSON may have half of a pair of surrogates, which UTF-8 can't.
+    with open(os.path.join(folder, "events.tsv"), "x", encoding="utf-8", errors="backslashreplace") as table:
+        for name, events in processes.items():
+            with Recorder.to_file(name, os.path.join(folder, name + ".stream")) as recorder:
+                write_stream(recorder, events, ids, table)
+    with open(os.path.join(folder, "session.json"), "x", encoding="utf-8") as file:
+        file.write(json.dumps(document, ensure_ascii=False) + "\n")
+
+
+def write_session(given, processes):
+    """Writes the session of these processes, each with its events in their order, and gives a line on it. `given` is
+    what the command line says."""
+    check_lengths(processes)
+    values = initial_values(processes, given.all_variables, given.initial)
+    document = {"processes": [{"name": name, "vars": values[name]} for name in processes],
+                "predicates": [{"name": name, "text": text} for name, text in given.predicate]}
+    if given.width is not None:
+        document["width"] = given.width
+    ids = message_ids(processes)
+    os.makedirs(given.out, exist_ok=True)
+    write_files(given.out, document, processes, ids)
+    events = [event for events in processes.values() for event in events]
+    split = sum(event.lines() > 1 for event in events)
+    return f"{len(processes)} processes, {len(events)} events, {len(ids)} messages, {split} events written as several"
+
+
+# The command line
+
+@explained
+def variable_pattern(pattern):
+    made = compiled(pattern)
+    if not made.groupindex:
+        raise argparse.ArgumentTypeError(f"{pattern!r} has no named group")
+    for name in made.groupindex:
+        checked_name("variable", name)
+    return made
+
+
+def setting(text):
+    """NAME=VALUE, as (NAME, VALUE)."""
+    name, sign, value = text.partition("=")
+    if not sign or not WHOLE_NUMBER.fullmatch(value):
+        raise NotRecorded(f"{text!r} isn't NAME=WHOLE NUMBER")
+    return checked_name("variable", name), checked_value(name, int(value))
+
+
+@explained
+def initial(text):
+    """[PROCESS.]NAME=VALUE, as (PROCESS or None, NAME, VALUE)."""
+    head, dot, rest = text.partition("=")[0].partition(".")
+    name, value = setting(text[len(head) + 1:] if dot else text)
+    return (head if dot else None), name, value
+
+
+def process_name(word):
+    """A reader of WORD=NAME, as (WORD, NAME)."""
+    @explained
+    def read(text):
+        source, sign, name = text.rpartition("=")
+        if not sign:
+            raise NotRecorded(f"{text!r} isn't {word}=NAME")
+        return source, checked_name("process", name)
+    return read
+
+
+@explained
+def width(text):
+    if not re.fullmatch("[0-9]{1,5}", text) or not 1 <= int(text) <= WIDTH_LIMIT:
+        raise NotRecorded(f"it is a whole number from 1 to {WIDTH_LIMIT}")
+    return int(text)
+
+
+def add_arguments(parser, word):
+    """Adds what is asked of every importer; `word` is what the input calls the source of a process's events."""
+    add = parser.add_argument
+    add("--out", required=True, metavar="FOLDER", help="where the session is written")
+    add("--predicate", nargs=2, action="append", required=True, metavar=("NAME", "TEXT"),
+        help="a predicate of the session; may be given up to 16 times")
+    add("--variables", type=variable_pattern, action="append", default=[], metavar="PATTERN",
+        help="each named group that matches in an event's text is a variable, and what it matched its value: a whole "
+             "number, or true or false")
+    add("--when", nargs=2, action="append", default=[], metavar=("PATTERN", "NAME=VALUE"),
+        help="an event whose text matches sets the variable")
+    add("--initial", type=initial, action="append", default=[], metavar="[PROCESS.]NAME=VALUE",
+        help="what a variable is at first, in all processes or in one")
+    add("--name", type=process_name(word), action="append", default=[], metavar=f"{word}=NAME",
+        help=f"the process name of the {word.lower()}")
+    add("--width", type=width, help="the session's width")
+
+
+def parsed(parser, words):
+    """The arguments, of which those that add_arguments has added are checked together."""
+    given = parser.parse_args(words)
+    try:
+        given.when = [(compiled(pattern), *setting(text)) for pattern, text in given.when]
+        for name, _ in given.predicate:
+            checked_name("predicate", name)
+        if len(given.predicate) > PREDICATE_LIMIT:
+            raise NotRecorded(f"a session has at most {PREDICATE_LIMIT} predicates")
+        given.all_variables = sorted(checked_variables(
+            [name for pattern in given.variables for name in pattern.groupindex] + [name for _, name, _ in given.when]))
+        if os.path.exists(given.out) and (not os.path.isdir(given.out) or os.listdir(given.out)):
+            raise NotRecorded(f"{given.out} is no empty folder")
+    except (NotRecorded, argparse.ArgumentTypeError) as error:
+        parser.error(str(error))
+    return given
+
+
+def run(imported, given):
+    """Imports, prints what was found, and gives the exit status."""
+    try:
+        print(imported(given))
+    except (Refused, OSError) as error:
+        print(f"refused: {error}", file=sys.stderr)
+        return 1
+    return 0
