@@ -1,7 +1,7 @@
 -- A report that isn't too long is all that its reader had left.
 use Rattle.std.proofs.Common.{arith, ap}
 use Rattle.std.proofs.lemmas.Result.{IfOk-weaker}
-use Rattle.pd_cli.proofs.FilesRead.{if_all_left}
+use Rattle.pd_cli.proofs.FilesRead.{if_all_left, if_more_left}
 use Rattle.pd_cli.proofs.check_files.read_report.Goals as goal
 
 pub returns-clause-whole : goal.returns-clause-whole
@@ -9,3 +9,9 @@ returns-clause-whole g c =
     IfOk-weaker c.within_limit.result _ _ (λ kept h. if_all_left (g.R.ByteSource.remaining c.args.reader)
     c.in_ok-bytes.bytes.items kept.items 268435456 (ap (λ bytes. bytes.items) h.0) c.in_ok-bytes.ensures.prefix
     (omega (arith, c.in_ok-bytes.bytes.ok.0, h.1))) c.within_limit.ensures.ok
+
+pub returns-clause-unread : goal.returns-clause-unread
+returns-clause-unread g c never is =
+    let long = rw is at c.within_limit.ensures.long in
+    if_more_left (g.R.ByteSource.remaining c.args.reader) c.in_ok-bytes.bytes.items 268435456
+    c.in_ok-bytes.ensures.prefix (omega (arith, c.in_ok-bytes.bytes.ok.0, long))
