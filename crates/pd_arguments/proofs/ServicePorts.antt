@@ -1,17 +1,17 @@
--- The port that a server is asked for is within its limit.
-use Rattle.std.proofs.Common.{◌≤◌, ℕ, List}
+-- The port that a server is asked for is within its limits.
+use Rattle.std.proofs.Common.{ℕ, List}
 use Rattle.clap.specs.Words.{Text}
 use Rattle.pd_judgement.specs.Statuses.{ServeStreams}
-use Rattle.pd_arguments.specs.Arguments.{AsksFor, of_serve, port_limit}
+use Rattle.pd_arguments.specs.Arguments.{AsksFor, IsPort, of_serve}
 use Rattle.pd_arguments.specs.Views.{IsAsked}
 use Rattle.pd_arguments.specs.declared.request.Request.TheVariants.{Serve}
 use Rattle.pd_arguments.specs.declared.request.Service.{Service}
 
 served_port : (arguments : List Text) (document : Text) (port watchers : ℕ)
-    → AsksFor arguments (ServeStreams document port watchers) → port ≤ port_limit
-served_port arguments document port watchers (of_serve rows _ _ _ workers taken are names some) = names.is_port.1
+    → AsksFor arguments (ServeStreams document port watchers) → IsPort port
+served_port arguments document port watchers (of_serve rows _ _ _ workers taken are names some) = names.is_port
 
 pub port_of_service : (arguments : List Text) (service : Service) → IsAsked arguments (Serve service)
-    → service.port ≤ port_limit
+    → IsPort service.port
 port_of_service arguments service asked =
     served_port arguments service.spec.now service.port service.watchers asked

@@ -65,7 +65,7 @@ fn run_draw<S: RandomSource + Threads + Wait + Sync, F: FileSource, O: Write, E:
     report_drawing(&end, errors)
 }
 
-/// Judges a session whose streams come by connections, and gives the exit status.
+/// Judges a session whose streams come by connections, and gives the exit status. The port is from 1 to 65,534.
 fn run_service<
     S: RandomSource + Threads + Wait + Sync,
     F: FileSource,
@@ -81,7 +81,8 @@ fn run_service<
     output: &mut O,
     errors: &mut E,
 ) -> u8
-    requires { service.now.port ≤ port_limit }
+    requires some { 1 ≤ service.now.port }
+    requires port { service.now.port ≤ port_limit }
     ensures { Ends (λ ending. ServiceLeaves (F.bytes_of files.now service.now.spec.now)
         (N.may_give network.now service.now.port) N.Connection.never_fails
         (F.always_opens ≡ true → F.File.never_fails ≡ true → ⊥) (N.never_fails ≡ true → ⊥) ending

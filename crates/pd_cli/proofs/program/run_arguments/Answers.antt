@@ -16,11 +16,19 @@ named : (found : Option (Bor (List ℕ))) → option_map (λ (name : Bor (List �
 named None = refl
 named (Some name) = refl
 
-pub run_service-requires : goal.run_service-requires
-run_service-requires g c =
-    port_of_service (map (λ argument. argument.bytes.items) c.args.arguments.now) c.in-Ok-Serve.service
+pub run_service-requires-clause-some : goal.run_service-requires-clause-some
+run_service-requires-clause-some g c _ _ =
+    let port = port_of_service (map (λ argument. argument.bytes.items) c.args.arguments.now) c.in-Ok-Serve.service
     (subst (IsAsked (map (λ argument. argument.bytes.items) c.args.arguments.now)) c.in-Ok-Serve.field-0-is
-    c.in-Ok-Serve.ensures.asked)
+    c.in-Ok-Serve.ensures.asked) in
+    port.0
+
+pub run_service-requires-clause-port : goal.run_service-requires-clause-port
+run_service-requires-clause-port g c _ _ =
+    let port = port_of_service (map (λ argument. argument.bytes.items) c.args.arguments.now) c.in-Ok-Serve.service
+    (subst (IsAsked (map (λ argument. argument.bytes.items) c.args.arguments.now)) c.in-Ok-Serve.field-0-is
+    c.in-Ok-Serve.ensures.asked) in
+    port.1
 
 pub returns-in-Ok-Judge : goal.returns-in-Ok-Judge
 returns-in-Ok-Judge g c = record {
