@@ -1,5 +1,5 @@
-"""What refuses an allocation, a read or a write of a program: a library that is loaded before the C library's own, and
-counts."""
+"""What refuses an allocation, a read or a write of a program, or makes its allocations slow: a library that is loaded
+before the C library's own, and counts."""
 import os
 import subprocess
 import sys
@@ -34,7 +34,13 @@ __attribute__((constructor)) static void map(void) {
     if (place != MAP_FAILED) asked = place;
 }
 
+/* Memory that is asked for under a lock is slow, so that other threads ask for the lock meanwhile, and sleep. */
+static void be_slow(const char *what) {
+    if (asked && !strcmp(kind, "slow") && !strcmp(what, "allocation")) usleep(1000);
+}
+
 static int is_refused(const char *what) {
+    be_slow(what);
     return asked && !strcmp(kind, what) && __atomic_add_fetch(asked, 1, __ATOMIC_SEQ_CST) == refused;
 }
 

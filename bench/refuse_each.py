@@ -5,14 +5,17 @@ An input is a bundle, or a folder with `session.json`, `report` and files `NAME.
 files, by one worker and by two, and as a bundle; its report is checked and drawn; and its streams are served, with a
 watcher. Four small sessions are run beside them: one that is judged, one with messages, one with a causal cycle, and
 one with wide levels. For each of these runs and each N, counted upward until a run meets no refusal, the program runs
-with its Nth allocation refused; then with its Nth read failing, and with its Nth write.
+with its Nth allocation refused; then with its Nth read failing, and with its Nth write. Before these it runs once with
+each allocation slow: a thread that asks for memory under a lock lets the others wait for the lock meanwhile, so an
+unlock that wakes nobody leaves a run without an end.
 
 It must end as a run that is refused nothing; or, for an allocation, with status 4, nothing on standard output and
 `monitor: memory` on standard error; for a read, with status 3 and `monitor: read`, or with what is made of a stream
 that can't be read; for a write, with status 3, a prefix of the output and `monitor: write`. A server's watcher must be
-shown what one is shown then, or a prefix of it, but for a read, whose stream it may see fail. The first allocations are
-the C library's own, and so are those with which it starts threads: a thread that can't be started is no failure. The
-last line says how many runs there were and how many ended otherwise; the status is 1 if any did. It needs gcc."""
+shown what one is shown then, or a prefix of it, but for a read, whose stream it may see fail. One that has not ended
+after a minute is wrong, and is killed. The first allocations are the C library's own, and so are those with which it
+starts threads: a thread that can't be started is no failure. The last line says how many runs there were and how many
+ended otherwise; the status is 1 if any did. It needs gcc."""
 import concurrent.futures
 import os
 import re
@@ -44,6 +47,8 @@ SHOWN = re.compile(rb"(stream \d+ process \S+ events \d+ (fresh|joined|ended|fau
 AGAINST = re.compile(rb"(monitor: no picture, for a check finds:\nrefused bad\n)?")
 # How long a peer waits for the server, and how long a run may take.
 PEER_SECONDS, RUN_SECONDS = 5, 60
+# How often a server is started if another program takes its port before it does, and what it reports then.
+TRIES, NO_NETWORK = 5, b"monitor: network\n"
 
 
 def write_session(folder, variables, predicates, events):
@@ -59,8 +64,11 @@ def write_session(folder, variables, predicates, events):
 
 def run(arguments, bundle, folder, number, kind):
     """What a run with these arguments gives, and how many calls of the kind it made."""
-    ended = subprocess.run(arguments, input=bundle, capture_output=True, env=surroundings(folder, number, kind),
-                           timeout=RUN_SECONDS, check=False)
+    try:
+        ended = subprocess.run(arguments, input=bundle, capture_output=True, env=surroundings(folder, number, kind),
+                               timeout=RUN_SECONDS, check=False)
+    except subprocess.TimeoutExpired:
+        return (None, b"", f"no end after {RUN_SECONDS} seconds".encode()), asked_for(folder)
     return (ended.returncode, ended.stdout, ended.stderr), asked_for(folder)
 
 
@@ -97,6 +105,15 @@ def play(port, server, streams, shown):
 
 def serve(arguments, streams, folder, number, kind):
     """What a server gives and its watcher is shown, and how many calls of the kind it made."""
+    for _ in range(TRIES):
+        ended = serve_once(arguments, streams, folder, number, kind)
+        if ended[2] != NO_NETWORK:
+            break
+    return ended, asked_for(folder)
+
+
+def serve_once(arguments, streams, folder, number, kind):
+    """What a server on ports that nobody had bound gives, and its watcher is shown."""
     port, shown = free_port(), []
     server = subprocess.Popen([*arguments, "--port", str(port), "--watchers", "1"], stdout=subprocess.PIPE,
                               stderr=subprocess.PIPE, env=surroundings(folder, number, kind))
@@ -108,7 +125,7 @@ def serve(arguments, streams, folder, number, kind):
         server.kill()
         output, errors = server.communicate()
     peers.join()
-    return (server.returncode, output, errors, b"".join(shown)), asked_for(folder)
+    return server.returncode, output, errors, b"".join(shown)
 
 
 def contents(path):
@@ -126,7 +143,7 @@ def runs_of(program, path):
     judge = [program, "judge", document, *streams]
     if not os.path.exists(report):
         with open(report, "wb") as out:
-            out.write(subprocess.run(judge, capture_output=True, check=False).stdout)
+            out.write(subprocess.run(judge, capture_output=True, timeout=RUN_SECONDS, check=False).stdout)
     parts = [contents(part) for part in [document, *streams]]
     return [("judge", run, judge, b""), ("judge by two workers", run, [*judge, "--workers", "2"], b""),
             ("a bundle", run, [program], b"---\n".join(parts)),
@@ -154,7 +171,11 @@ def is_right(kind, ended, want):
 
 def refuse_each(name, take, arguments, given, folder):
     """How many runs there were, and those that ended otherwise than they may."""
-    runs, wrong = 0, []
+    runs, wrong = 1, []
+    want, _ = take(arguments, given, folder, 0, KINDS[0])
+    slow, _ = take(arguments, given, folder, 0, "slow")
+    if slow[:3] != want[:3]:
+        return runs, [f"{name}: slow allocations: {slow}"]
     for kind in KINDS:
         want, _ = take(arguments, given, folder, 0, kind)
         number, made = 0, 1

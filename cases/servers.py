@@ -4,11 +4,13 @@ what each case says, and what is shown to its watchers.
 
 PROGRAM is ../crates/monitor/out/monitor if it isn't given. A case that ends otherwise is printed with both. The last
 line says how many cases there are, how often the program ran, and how many cases differ; the status is 1 if any does.
-A server has two ports that nobody has bound, below those that the system gives to connections. If another program takes
-one of them before the server binds it, it is started again on others.
+After a server that hasn't ended in a minute no other is started. A server has two ports that nobody has bound, below
+those that the system gives to connections. If another program takes one of them before the server binds it, it is
+started again on others.
 """
 import argparse
 import contextlib
+import errno
 import fcntl
 import os
 import random
@@ -24,6 +26,7 @@ import time
 from run import HERE, SECONDS, Differs, differ
 
 TRIES = 5
+ENDLESS = f"no end after {SECONDS} seconds, and no case after it was run"
 DOCUMENT = (b'{"processes":[{"name":"a","vars":{"x":0}},{"name":"b","vars":{"y":0}}],'
             b'"predicates":[{"name":"both","text":"a.x == 1 and b.y == 1"}]}')
 OF_A = b'{"process":"a"}\n{"set":{"x":1}}\n{"set":{"x":0}}\n{"end":true}\n'
@@ -67,8 +70,9 @@ class Server(contextlib.ExitStack):
 
     def __init__(self, program, folder, document=DOCUMENT, watchers=0, workers=None, taken=()):
         super().__init__()
-        with open(os.path.join(folder, "session.json"), "wb") as file:
-            file.write(document)
+        if document is not None:
+            with open(os.path.join(folder, "session.json"), "wb") as file:
+                file.write(document)
         self.port, ports = two_ports()
         for place, port in enumerate(ports):
             if place in taken:
@@ -96,8 +100,7 @@ class Server(contextlib.ExitStack):
         try:
             output, errors = self.process.communicate(timeout=SECONDS)
         except subprocess.TimeoutExpired:
-            self.process.kill()
-            output, errors = self.process.communicate()
+            raise Differs(ENDLESS) from None
         return self.process.returncode, output, errors
 
 
@@ -149,6 +152,19 @@ def watched_first(server):
         send(sender, stream)
 
 
+def other_addresses(server):
+    """A stream and a watcher connect, and then others to another address of this machine, on which nobody listens."""
+    sender = server.connect()
+    server.connect(1)
+    for place in (0, 1):
+        with socket.socket() as other:
+            found = other.connect_ex(("127.0.0.2", server.port + place))
+        if found != errno.ECONNREFUSED:
+            differ(f"port {server.port + place} of 127.0.0.2", b"refused", os.strerror(found).encode())
+    send(sender, OF_A)
+    send(server.connect(), OF_B)
+
+
 def cases():
     """Of each case the name, who connects, what the server is started with, and its status, output and errors."""
     for name, (streams, report, status) in SESSIONS.items():
@@ -161,6 +177,9 @@ def cases():
     yield "the next port is taken, and there are no watchers", clients([OF_A, OF_B]), {"taken": [1]}, (0, REPORT, b"")
     options = {"taken": [0], "watchers": 1, "document": b"x"}
     yield "the port is taken, and the document refused", nobody, options, (1, b"refused spec json\n", b"")
+    options = {"taken": [0], "document": None}
+    yield "the port is taken, and there is no document", nobody, options, (3, b"", b"monitor: read\n")
+    yield "another address of this machine", other_addresses, {"watchers": 1}, (0, REPORT, b"")
 
 
 def ended(program, act, options):
@@ -204,6 +223,8 @@ def main():
         if why:
             differing += 1
             print(f"servers: {name}: {why}")
+        if why == ENDLESS:
+            break
     print(f"servers: {count} cases, {runs} runs, {differing} differ")
     sys.exit(1 if differing else 0)
 

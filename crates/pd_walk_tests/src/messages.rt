@@ -4,6 +4,7 @@ use crate::order::{DOCUMENT, STREAMS};
 use pd_match::{Matched, Place};
 use std::io;
 use std::random::RandomSource;
+use std::sync::atomic::{AtomicU64, Ordering};
 
 /// A process, counted from 0, and the number of one of its events.
 pub(crate) type At = (usize, u64);
@@ -42,6 +43,37 @@ impl RandomSource for NoKeys {
     fn fill_bytes(&self, _buf: &mut [u8]) -> io::Result<()> {
         Err(io::Error::other("no keys"))
     }
+}
+
+/// A system that counts how often it is asked for random bytes.
+#[derive(Drop)]
+struct CountedKeys {
+    calls: AtomicU64,
+}
+
+impl RandomSource for CountedKeys {
+    fn fill_bytes(&self, buf: &mut [u8]) -> io::Result<()> {
+        self.calls.fetch_add(1, Ordering::SeqCst);
+        buf.fill(1);
+        Ok(())
+    }
+}
+
+#[test]
+fn the_system_is_asked_for_keys(rt: HostRuntime) {
+    let keys = CountedKeys {
+        calls: AtomicU64::new(0),
+    };
+    let right = is_right(
+        &rt,
+        &keys,
+        rt.alloc(),
+        DOCUMENT,
+        &STREAMS,
+        Question::Order,
+        &mut false,
+    );
+    assert!(rt; right == Some(true) && keys.calls.load(Ordering::SeqCst) > 0);
 }
 
 #[test]
