@@ -1,5 +1,5 @@
 #!/usr/bin/env python3
-"""generate.py NAME: writes a large bundle to standard output.
+"""generate.py NAME [--small]: writes a large bundle to standard output, or a small one of the same kind.
 
 lattice   6 processes in 30 rounds: 7 local events each, then a message of each to one of them and back; levels of tens
           of thousands of cuts, and one conjunction that no cut satisfies
@@ -23,6 +23,14 @@ locals    the same lines with each send and receipt replaced by a local event of
 import json
 import random
 import sys
+
+
+# Small forms have fewer rounds and events, so that a profiler that is fifty times slower gets through in a second.
+SMALL = "--small" in sys.argv
+
+
+def size(large, small):
+    return small if SMALL else large
 
 
 def document(processes, predicates, width):
@@ -75,7 +83,7 @@ def rounds(processes, steps, count, predicates):
 
 def lattice():
     text = " and ".join([f"p{k}.n > 1200" for k in range(5)] + ["p5.n == 1"])
-    rounds(6, 7, 30, [("never", text)])
+    rounds(6, size(7, 4), size(30, 3), [("never", text)])
 
 
 def long_text(k):
@@ -92,11 +100,11 @@ def long_text(k):
 
 
 def terms():
-    rounds(6, 5, 3, [(f"q{k}", long_text(k)) for k in range(16)])
+    rounds(6, size(5, 3), size(3, 1), [(f"q{k}", long_text(k)) for k in range(16)])
 
 
 def avoiding():
-    rounds(7, 4, 40, [("sometimes", " + ".join(f"p{k}.n" for k in range(7)) + " == 7000")])
+    rounds(7, size(4, 2), size(40, 4), [("sometimes", " + ".join(f"p{k}.n" for k in range(7)) + " == 7000")])
 
 
 def sums(processes, count, seed):
@@ -110,19 +118,19 @@ def sums(processes, count, seed):
 
 
 def open_sums():
-    rounds(7, 4, 20, [("never", " or ".join(sums(7, 40, 3)))])
+    rounds(7, size(4, 2), size(20, 2), [("never", " or ".join(sums(7, 40, 3)))])
 
 
 def marked_sums():
-    rounds(7, 4, 20, [("early", " or ".join(["p0.n > 0 and p1.n == 0", *sums(7, 40, 3)]))])
+    rounds(7, size(4, 2), size(20, 3), [("early", " or ".join(["p0.n > 0 and p1.n == 0", *sums(7, 40, 3)]))])
 
 
 def heavy_sums():
-    rounds(6, 7, 8, [("never", " or ".join(sums(6, 46, 3)))])
+    rounds(6, size(7, 4), size(8, 1), [("never", " or ".join(sums(6, 46, 3)))])
 
 
 def many_sums():
-    rounds(8, 3, 3, [(f"q{k}", " or ".join(sums(8, 30, k))) for k in range(16)])
+    rounds(8, size(3, 2), size(3, 1), [(f"q{k}", " or ".join(sums(8, 30, k))) for k in range(16)])
 
 
 def listed_sums():
@@ -131,7 +139,7 @@ def listed_sums():
     wide = [f"p{k}.n - p{(k + 1) % 8}.n > 4" for k in range(8)]
     head = document([(name, ["n"]) for name in names],
                     [("apart", " or ".join(wide + sums(8, 6, 5)))], 65536)
-    bundle(head, [stream(name, ({"n": 2 * i} for i in range(1, 21))) for name in names])
+    bundle(head, [stream(name, ({"n": 2 * i} for i in range(1, size(21, 5)))) for name in names])
 
 
 def streams():
@@ -139,7 +147,7 @@ def streams():
     names = [f"p{k}" for k in range(8)]
     head = document([(name, variables) for name in names], [("start", "p0.v00 == 0")], 4096)
     bundle(head, [stream(name, ({var: (i * 7919 + k) % 1000003 for k, var in enumerate(variables)}
-                                for i in range(10000))) for name in names])
+                                for i in range(size(10000, 200)))) for name in names])
 
 
 def talk(processes, events):
@@ -188,7 +196,7 @@ def talkers(line_of):
     names = [f"p{k}" for k in range(8)]
     head = document([(name, ["x"]) for name in names], [("start", "p0.x == 0")], 4096)
     ends = [(json.dumps({"process": name}), json.dumps({"end": True})) for name in names]
-    bundle(head, [[join, *map(line_of, events), end] for (join, end), events in zip(ends, talk(8, 10000))])
+    bundle(head, [[join, *map(line_of, events), end] for (join, end), events in zip(ends, talk(8, size(10000, 300)))])
 
 
 def messages():
