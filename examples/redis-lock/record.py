@@ -1,7 +1,7 @@
 #!/usr/bin/env python3
-"""record.py FOLDER [--pause SECONDS]: has the last ticket sold by tickets.py in FOLDER/redis-lock, and by fenced holders
-in FOLDER/redis-lock-fenced, each time with a Redis server of its own, on a port that the system gives. It needs the
-command redis-server, 6.2 or later, which is in Debian's package of that name."""
+"""record.py FOLDER [--pause SECONDS]: has the last ticket sold by tickets.py in FOLDER/redis-lock, and by fenced
+holders in FOLDER/redis-lock-fenced, each time with a Redis server of its own, on a port that the system gives. It needs
+the command redis-server, 6.2 or later, which is in Debian's package of that name."""
 import argparse
 import contextlib
 import os

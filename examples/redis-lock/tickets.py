@@ -1,6 +1,6 @@
 #!/usr/bin/env python3
-"""tickets.py FOLDER --redis PORT [--fenced] [--pause SECONDS]: the last ticket is sold, in three processes that record themselves in
-FOLDER, each with a stream and a log.
+"""tickets.py FOLDER --redis PORT [--fenced] [--pause SECONDS]: the last ticket is sold, in three processes that record
+themselves in FOLDER, each with a stream and a log.
 
 `web` and `phone` each have a customer. Who sells a ticket has the lock in the Redis server on that port, asks `store`
 how many are left, and tells it how many are left then. In between `web` stands still for longer than its lease, or as
