@@ -274,7 +274,7 @@ function haveConnection() {
   function connect() {
     const socket = net.connect({ host: "127.0.0.1", port: workerData.port, noDelay: true, allowHalfOpen: true });
     socket.once("error", (error) => {
-      if (error.code !== "ECONNREFUSED" || performance.now() >= last) parentPort.postMessage(error.code);
+      if (error.code !== "ECONNREFUSED" || performance.now() >= last) parentPort.postMessage(error.code ?? "EIO");
       else setTimeout(connect, 50);
     });
     socket.once("connect", () => {
