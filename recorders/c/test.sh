@@ -22,7 +22,7 @@ compile() {
 
 # run FLAGS: compiles the tests and the player with these flags, and runs them
 run() {
-  compile "$1" tests test_monitor_recorder.c && ./tests "$folder" && compile "$1" player player.c \
+  compile "$1" tests test_monitor_recorder.c && timeout 300 ./tests "$folder" && compile "$1" player player.c \
     && python3 "$here/../cases/play.py" ./player && return
   echo "c: the tests fail with $1"
   exit 1

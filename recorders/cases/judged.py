@@ -6,7 +6,8 @@ import subprocess
 from players import Wrong
 
 HERE = os.path.dirname(os.path.abspath(__file__))
-PROGRAM = os.environ.get("MONITOR", os.path.join(HERE, "..", "..", "crates", "monitor", "out", "monitor"))
+TOP = os.path.dirname(os.path.dirname(HERE))
+PROGRAM = os.path.abspath(os.environ.get("MONITOR", os.path.join(TOP, "crates", "monitor", "out", "monitor")))
 
 
 def has_program():

@@ -14,11 +14,12 @@ import tempfile
 
 import judged
 
-TOP = os.path.join(judged.HERE, "..", "..")
 OUTPUT = re.compile(r"session \d|refused |\{\"process\"")
 FENCED = re.compile(r"^```.*?^```$", re.M | re.S)
 BLOCK = re.compile(r"(?:^    .*\n|^\n(?=\n*    ))+", re.M)
 BETWEEN = "---- the next block ----"
+# A page whose commands hang is ended after so many seconds.
+MOST_SECONDS = "300"
 
 
 def blocks_of(page):
@@ -31,15 +32,16 @@ def blocks_of(page):
 def run(blocks, folder):
     """What each block of commands writes, and the status. The blocks are one script, as given in one terminal."""
     os.makedirs(os.path.join(folder, "top", "crates", "monitor", "out"))
-    os.symlink(os.path.abspath(judged.PROGRAM), os.path.join(folder, "top", "crates", "monitor", "out", "monitor"))
+    os.symlink(judged.PROGRAM, os.path.join(folder, "top", "crates", "monitor", "out", "monitor"))
     for name in ("recorders", "examples"):
-        os.symlink(os.path.abspath(os.path.join(TOP, name)), os.path.join(folder, "top", name))
+        os.symlink(os.path.join(judged.TOP, name), os.path.join(folder, "top", name))
     script = "shopt -s expand_aliases\nset -e\n" + f"\necho '{BETWEEN}'\n".join(blocks)
     path = os.path.join(folder, "script")
     with open(path, "w", encoding="utf-8") as file:
         file.write(script)
-    done = subprocess.run(["bash", path], cwd=os.path.join(folder, "top"), env={**os.environ, "TMPDIR": folder},
-                          stdin=subprocess.DEVNULL, stdout=subprocess.PIPE, encoding="utf-8")
+    done = subprocess.run(["timeout", MOST_SECONDS, "bash", path], cwd=os.path.join(folder, "top"),
+                          env={**os.environ, "TMPDIR": folder}, stdin=subprocess.DEVNULL, stdout=subprocess.PIPE,
+                          encoding="utf-8")
     return done.stdout.split(f"{BETWEEN}\n"), done.returncode
 
 
@@ -66,7 +68,9 @@ def main():
     if not judged.has_program():
         print(f"page: nothing is run, for there is no program {judged.PROGRAM}")
         return
-    sys.exit(0 if all([check(page) for page in sys.argv[1:]]) else 1)
+    wrong = [check(page) for page in sys.argv[1:]].count(False)
+    print(f"page: {len(sys.argv) - 1} run, {wrong} wrong")
+    sys.exit(1 if wrong else 0)
 
 
 if __name__ == "__main__":

@@ -81,9 +81,9 @@ def main():
             with tempfile.TemporaryDirectory() as folder:
                 try:
                     left_out += one(players, folder) or 0
-                except Wrong as error:
+                except (Wrong, ValueError, LookupError) as error:
                     wrong += 1
-                    print(f"cases: {name}: {error}")
+                    print(f"cases: {name}: {error if isinstance(error, Wrong) else repr(error)}")
                     players.forget()
     unjudged = "" if judged.has_program() else f"; nothing is judged, for there is no program {judged.PROGRAM}"
     print(f"cases: {len(plays)} played, {left_out} calls left out, {wrong} wrong{unjudged}")

@@ -111,7 +111,8 @@ func Set[V Value](name string, value V) Setting {
 	return Setting{name: name, value: int64(number.Uint())}
 }
 
-// A Recorder is the recording of one process.
+// A Recorder is the recording of one process. The errors of its calls are the reasons above, or the system's; after one
+// of the system's each later call is ErrBroken.
 type Recorder struct {
 	process string
 

@@ -10,9 +10,9 @@ folder=$(mktemp -d)
 trap 'rm -rf "$folder"' EXIT
 cd "$here" || exit 1
 
-# What is short needs no better compiler and no other collector.
-quick=(-XX:TieredStopAtLevel=1 -XX:+UseSerialGC)
+# Programs that end soon need no better compiler and no other collector.
+export JAVA_TOOL_OPTIONS="-XX:TieredStopAtLevel=1 -XX:+UseSerialGC"
 javac -Xlint:all -Werror -d "$folder" monitor/Recorder.java RecorderTest.java Player.java \
-  && java "${quick[@]}" -ea -cp "$folder" RecorderTest "$folder" || exit 1
+  && timeout 300 java -cp "$folder" RecorderTest "$folder" || exit 1
 python3 ../cases/page.py README.md || exit 1
-python3 ../cases/play.py java "${quick[@]}" -cp "$folder" Player
+python3 ../cases/play.py java -cp "$folder" Player

@@ -38,9 +38,9 @@ const RESERVED = ["and", "or", "not", "true", "false"];
 const PATIENCE_SECONDS = 10;
 const [OPEN, ENDED, BROKEN] = ["open", "ended", "broken"];
 const STATES = { ended: "has ended", broken: "is broken off, since a line could not be written" };
-// How a write over a connection stands, in the first number that both threads share; a reason's bytes follow.
-const [WAITING, DONE, FAILED] = [0, 1, 2];
-const REASON_BYTES = 60;
+// What both threads of a connection share: whether the last line was answered, how many bytes its error's code has, and
+// these bytes, of which there is room for so many.
+const CODE_BYTES = 56;
 
 /** A call was refused and wrote nothing: `reason` is a word for why, and the message says it. */
 class NotRecorded extends Error {
@@ -223,9 +223,9 @@ class Connection {
   }
 
   static to(port, seconds) {
-    const shared = new SharedArrayBuffer(4 + 4 + REASON_BYTES);
-    const workerData = { port, seconds, shared };
-    const worker = new Worker(`(${haveConnection})()`, { eval: true, execArgv: [], workerData });
+    const shared = new SharedArrayBuffer(8 + CODE_BYTES);
+    const program = [connectThere, serveThere, answerThere, "connectThere(performance.now());"].join("\n");
+    const worker = new Worker(program, { eval: true, execArgv: [], workerData: { port, seconds, shared } });
     return new Promise((resolve, reject) => {
       worker.once("error", reject);
       worker.once("message", (code) => {
@@ -238,10 +238,8 @@ class Connection {
 
   write(line) {
     this.#ask(line);
-    if (this.#shared[0] === FAILED) {
-      const reason = new Uint8Array(this.#shared.buffer, 8, this.#shared[1]);
-      throw systemError("write", Buffer.from(reason).toString());
-    }
+    const code = Buffer.from(new Uint8Array(this.#shared.buffer, 8, this.#shared[1])).toString();
+    if (code) throw systemError("write", code);
   }
 
   close() {
@@ -249,61 +247,62 @@ class Connection {
   }
 
   #ask(line) {
-    Atomics.store(this.#shared, 0, WAITING);
+    Atomics.store(this.#shared, 0, 0);
     this.#worker.postMessage(line);
-    Atomics.wait(this.#shared, 0, WAITING);
+    Atomics.wait(this.#shared, 0, 0);
   }
 }
 
-/** Runs on the thread that has the connection; nothing else of this file is there. */
-function haveConnection() {
+// The program of the thread that has the connection: these three functions, and nothing else of this file.
+
+/** Connects, if need be again and again until so many seconds after the begin, and says so to the other thread. */
+function connectThere(begin) {
   const net = require("node:net");
   const { parentPort, workerData } = require("node:worker_threads");
-  const shared = new Int32Array(workerData.shared);
-  const [DONE, FAILED] = [1, 2];
-  const last = performance.now() + 1000 * workerData.seconds;
+  const { port, seconds } = workerData;
+  const socket = net.connect({ host: "127.0.0.1", port, noDelay: true, allowHalfOpen: true });
+  socket.once("error", (error) => {
+    const isOver = error.code !== "ECONNREFUSED" || performance.now() >= begin + 1000 * seconds;
+    if (isOver) parentPort.postMessage(error.code ?? "EIO");
+    else setTimeout(connectThere, 50, begin);
+  });
+  socket.once("connect", () => {
+    // A connection to a port that nobody has bound can come to be with itself.
+    if (socket.localPort === socket.remotePort) {
+      socket.destroy(Object.assign(new Error("nobody listens"), { code: "ECONNREFUSED" }));
+    } else {
+      serveThere(socket.removeAllListeners("error"));
+    }
+  });
+}
 
-  function answer(error) {
-    const reason = Buffer.from(error ? error.code || error.message : "").subarray(0, workerData.shared.byteLength - 8);
-    new Uint8Array(workerData.shared, 8).set(reason);
-    shared[1] = reason.length;
-    Atomics.store(shared, 0, error ? FAILED : DONE);
-    Atomics.notify(shared, 0);
-  }
+/** Writes each line that comes from the other thread, and closes the connection when null comes. */
+function serveThere(socket) {
+  const { parentPort } = require("node:worker_threads");
+  let failure;
+  socket.on("error", (error) => (failure ??= error));
+  socket.resume();
+  parentPort.on("message", (line) => {
+    if (line !== null) {
+      socket.write(line, (error) => answerThere(error && (failure ?? error)));
+      return;
+    }
+    parentPort.close();
+    if (socket.destroyed) answerThere();
+    else socket.once("close", () => answerThere()).destroy();
+  });
+  parentPort.postMessage(null);
+}
 
-  function connect() {
-    const socket = net.connect({ host: "127.0.0.1", port: workerData.port, noDelay: true, allowHalfOpen: true });
-    socket.once("error", (error) => {
-      if (error.code !== "ECONNREFUSED" || performance.now() >= last) parentPort.postMessage(error.code);
-      else setTimeout(connect, 50);
-    });
-    socket.once("connect", () => {
-      // A connection to a port that nobody has bound can come to be with itself.
-      if (socket.localPort === socket.remotePort) {
-        socket.destroy(Object.assign(new Error("nobody listens"), { code: "ECONNREFUSED" }));
-      } else {
-        serve(socket.removeAllListeners("error"));
-      }
-    });
-  }
-
-  function serve(socket) {
-    let failure;
-    socket.on("error", (error) => (failure ??= error));
-    socket.resume();
-    parentPort.on("message", (line) => {
-      if (line !== null) {
-        socket.write(line, (error) => answer(error && (failure ?? error)));
-        return;
-      }
-      parentPort.close();
-      if (socket.destroyed) answer();
-      else socket.once("close", () => answer()).destroy();
-    });
-    parentPort.postMessage(null);
-  }
-
-  connect();
+/** Wakes the other thread, which finds the code of the error, or nothing. */
+function answerThere(error) {
+  const { shared } = require("node:worker_threads").workerData;
+  const state = new Int32Array(shared);
+  const code = Buffer.from(error ? error.code ?? error.message : "").subarray(0, shared.byteLength - 8);
+  new Uint8Array(shared, 8).set(code);
+  state[1] = code.length;
+  Atomics.store(state, 0, 1);
+  Atomics.notify(state, 0);
 }
 
 function systemError(call, code) {

@@ -7,6 +7,6 @@ MONITOR=$(realpath -m "${1:-${MONITOR:-$here/../../crates/monitor/out/monitor}}"
 export MONITOR
 cd "$here" || exit 1
 
-node --test monitor_recorder.test.cjs || exit 1
+timeout 300 node --test monitor_recorder.test.cjs || exit 1
 python3 ../cases/page.py README.md || exit 1
 python3 ../cases/play.py node player.cjs

@@ -6,6 +6,6 @@ set -u
 here=$(realpath "$(dirname "$0")")
 MONITOR=$(realpath -m "${1:-${MONITOR:-$here/../../crates/monitor/out/monitor}}")
 export MONITOR
-python3 -m unittest discover -s "$here" || exit 1
+timeout 300 python3 -m unittest discover -s "$here" || exit 1
 python3 "$here/../cases/page.py" "$here/README.md" || exit 1
 python3 "$here/../cases/play.py" python3 "$here/player.py"

@@ -13,7 +13,7 @@ cd "$folder" || exit 1
 compiled=(--edition 2021 -D warnings -L .)
 with=(--extern monitor_recorder=libmonitor_recorder.rlib)
 rustc "${compiled[@]}" --crate-type rlib --crate-name monitor_recorder "$here/src/lib.rs" \
-  && rustc "${compiled[@]}" "${with[@]}" --test -o tests "$here/tests/recorder.rs" && ./tests --quiet \
+  && rustc "${compiled[@]}" "${with[@]}" --test -o tests "$here/tests/recorder.rs" && timeout 300 ./tests --quiet \
   && rustdoc --edition 2021 -L . "${with[@]}" --test --crate-name monitor_recorder "$here/src/lib.rs" \
   && rustc "${compiled[@]}" "${with[@]}" -o player "$here/examples/player.rs" || exit 1
 python3 "$here/../cases/page.py" "$here/README.md" || exit 1

@@ -168,7 +168,12 @@ public final class Recorder implements AutoCloseable {
         return new Setting(name, value ? 1 : 0);
     }
 
-    /** Something happened in this process; these variables have these values from now on. */
+    /**
+     * Something happened in this process; these variables have these values from now on.
+     *
+     * @throws NotRecordedException if it is refused: nothing is written then
+     * @throws UncheckedIOException if the line can't be written: a part of it may have been
+     */
     public synchronized void event(Setting... settings) {
         record(null, null, settings);
     }
@@ -176,6 +181,10 @@ public final class Recorder implements AutoCloseable {
     /**
      * This process sends a message to one other: call it BEFORE the message leaves. The id that it makes, the process's
      * name and a counter as in {@code left-1}, has to travel with the message.
+     *
+     * @return the id
+     * @throws NotRecordedException if it is refused: nothing is written then
+     * @throws UncheckedIOException if the line can't be written: a part of it may have been
      */
     public synchronized String send(Setting... settings) {
         int number = made + 1;
@@ -187,12 +196,23 @@ public final class Recorder implements AutoCloseable {
         return process + "-" + number;
     }
 
-    /** The same, with an id that no other send of the session has. */
+    /**
+     * The same, with an id that no other send of the session has.
+     *
+     * @throws NotRecordedException if it is refused: nothing is written then
+     * @throws UncheckedIOException if the line can't be written: a part of it may have been
+     */
     public synchronized void sendAs(String id, Setting... settings) {
         record("send", checkedId(id), settings);
     }
 
-    /** A message has come, with this id: call it AFTER that. A second copy of a message is {@link Reason#ID_TWICE}. */
+    /**
+     * A message has come, with this id: call it AFTER that.
+     *
+     * @throws NotRecordedException if it is refused, as {@link Reason#ID_TWICE} for a second copy of a message: nothing
+     *     is written then
+     * @throws UncheckedIOException if the line can't be written: a part of it may have been
+     */
     public synchronized void receive(String id, Setting... settings) {
         record("recv", checkedId(id), settings);
     }
@@ -205,6 +225,9 @@ public final class Recorder implements AutoCloseable {
     /**
      * Nothing more happens in this process: writes the end line, and closes the file or connection. A second call does
      * nothing.
+     *
+     * @throws NotRecordedException if an earlier line could not be written: nothing is written then
+     * @throws UncheckedIOException if the line can't be written: a part of it may have been
      */
     public synchronized void end() {
         if (ended) {

@@ -118,6 +118,11 @@ impl From<io::Error> for Error {
 /// The recording of one process. It writes its first line when it is made.
 ///
 /// Record while you hold the lock of the data, if a change of shared data and its line must stay together.
+///
+/// # Errors
+///
+/// A call that is refused writes nothing, and the recorder goes on as if it hadn't been made. With [`Error::Io`] a part
+/// of the line may have been written, and each later call is [`Error::Broken`].
 #[must_use = "a recorder that is dropped before its end leaves a stream that is refused"]
 pub struct Recorder {
     process: String,

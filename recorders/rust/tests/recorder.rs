@@ -1,7 +1,7 @@
 //! Tests of the recorder that the shared cases can't say.
 use monitor_recorder::{Error, Recorder};
 use std::fs;
-use std::io::{self, ErrorKind, Write};
+use std::io::{self, BufWriter, ErrorKind, Write};
 use std::net::{TcpListener, TcpStream};
 use std::panic::{self, AssertUnwindSafe};
 use std::path::PathBuf;
@@ -75,6 +75,14 @@ fn a_file_that_takes_bytes_in_parts() {
         out.text(),
         format!("{JOIN}{{\"set\":{{\"inside\":1}}}}\n{{\"send\":\"a\\u0000b\"}}\n")
     );
+}
+
+#[test]
+fn a_buffer_is_flushed() {
+    let out = Parts::new(1000);
+    let recorder = Recorder::new("left", BufWriter::new(out.clone())).unwrap();
+    recorder.event(&[]).unwrap();
+    assert_eq!(out.text(), format!("{JOIN}{{}}\n"));
 }
 
 #[test]
