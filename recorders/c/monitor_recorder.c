@@ -66,14 +66,16 @@ static void put(line_text *line, const char *text)
     put_bytes(line, text, strlen(text));
 }
 
-/* The text as JSON has it between quotes. */
+/* The text as JSON has it between quotes: as short as it can be. */
 static void put_quoted(line_text *line, const char *text)
 {
+    static const char escaped[] = "\"\\\b\f\n\r\t", letters[] = "\"\\bfnrt";
     put(line, "\"");
     for (const char *next = text; *next != '\0'; next++) {
-        if (*next == '"' || *next == '\\') {
+        const char *found = strchr(escaped, *next);
+        if (found != NULL) {
             put(line, "\\");
-            put_bytes(line, next, 1);
+            put_bytes(line, letters + (found - escaped), 1);
         } else if ((unsigned char)*next < 0x20) {
             char escape[8];
             snprintf(escape, sizeof escape, "\\u%04x", (unsigned)(unsigned char)*next);

@@ -37,6 +37,10 @@ class NotRecorded(ValueError):
     """A call was refused and wrote nothing: its text says why."""
 
 
+class IdTwice(NotRecorded):
+    """The process has sent or received a message with this id before. So a receipt is that of a second copy."""
+
+
 class Recorder:
     """The recording of one process. It writes its first line when it is made.
 
@@ -57,7 +61,7 @@ class Recorder:
         self._owner = os.getpid()
         self._state = OPEN
         self._events = 0
-        self._sends = 0
+        self._made = 0
         self._ids = set()
         self._names = set()
         self._write({"process": process})
@@ -99,12 +103,16 @@ class Recorder:
         """This process sends a message to one other: call it BEFORE the message leaves. The id is given back and has to
         travel with the message. If none is given one is made, the process's name and a counter, as `left-1`."""
         with self._ready():
-            message = self._new_id() if message is None else self._checked_id(message)
+            made = self._made
+            if message is None:
+                made = next(number for number in itertools.count(made + 1) if self._id(number) not in self._ids)
+            message = self._id(made) if message is None else self._checked_id(message)
             self._record({"send": message}, message, variables)
+            self._made = made
             return message
 
     def receive(self, message, /, **variables):
-        """A message has come, with this id: call it AFTER that. A second copy of a message is refused."""
+        """A message has come, with this id: call it AFTER that. A second copy of a message is refused, by `IdTwice`."""
         with self._ready():
             self._record({"recv": self._checked_id(message)}, message, variables)
 
@@ -162,7 +170,6 @@ class Recorder:
             line["set"] = {name: checked_value(name, value) for name, value in variables.items()}
         self._write(line)
         self._events += 1
-        self._sends += "send" in line
         self._names = names
         if message is not None:
             self._ids.add(message)
@@ -177,9 +184,8 @@ class Recorder:
             raise NotRecorded(f"{self.process} has {VARIABLE_LIMIT} variables, and no process may have more")
         return names
 
-    def _new_id(self):
-        return next(message for number in itertools.count(self._sends + 1)
-                    if (message := f"{self.process}-{number}") not in self._ids)
+    def _id(self, number):
+        return f"{self.process}-{number}"
 
     def _checked_id(self, message):
         if not isinstance(message, str):
@@ -191,7 +197,7 @@ class Recorder:
         if not 1 <= size <= ID_BYTE_LIMIT:
             raise NotRecorded(f"the id of a message has 1 to {ID_BYTE_LIMIT} bytes, and {message[:80]!r} has {size}")
         if message in self._ids:
-            raise NotRecorded(f"{self.process} has sent or received {message!r} before")
+            raise IdTwice(f"{self.process} has sent or received {message!r} before")
         return message
 
     def _write(self, line):

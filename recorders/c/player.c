@@ -1,0 +1,208 @@
+/* Makes the calls that it is told on its standard input, with the recorder for C: see recorders/cases/README.md. */
+#define _POSIX_C_SOURCE 200809L
+
+#include "monitor_recorder.h"
+
+#include <inttypes.h>
+#include <pthread.h>
+#include <stdbool.h>
+#include <stdio.h>
+#include <stdlib.h>
+#include <string.h>
+
+enum { WORDS = 40, THREADS = 16, ROOM = 1 << 16 };
+
+typedef struct {
+    int number, turns;
+    bool is_done;
+} work;
+
+static monitor_recorder *recorder;
+static int total;
+
+/* The text for which a word stands, in its place: `%` and two digits are a byte, and `%` alone is no text at all. */
+static char *text_of(char *word)
+{
+    char *to = word;
+    for (const char *from = word; *from != '\0'; from++) {
+        unsigned byte;
+        if (sscanf(from, "%%%2x", &byte) == 1) {
+            *to++ = (char)byte;
+            from += 2;
+        } else if (strcmp(word, "%") != 0) {
+            *to++ = *from;
+        }
+    }
+    *to = '\0';
+    return word;
+}
+
+/* Whether the word is a value that C can say, which is put into `value`. */
+static bool is_value(const char *word, int64_t *value)
+{
+    char written[24];
+    bool is_true = strcmp(word, "true") == 0;
+    if (is_true || strcmp(word, "false") == 0) {
+        *value = is_true;
+        return true;
+    }
+    *value = strtoll(word, NULL, 10);
+    snprintf(written, sizeof written, "%" PRId64, *value);
+    return strcmp(word, written) == 0;
+}
+
+/* Whether each of the words is a setting that C can say; they are put into `settings`. */
+static bool are_settings(char **words, size_t count, monitor_setting *settings)
+{
+    for (size_t i = 0; i < count; i++) {
+        char *value = strrchr(words[i], '=');
+        *value++ = '\0';
+        settings[i].name = text_of(words[i]);
+        if (!is_value(value, &settings[i].value))
+            return false;
+    }
+    return true;
+}
+
+/* Prints the answer in one piece, since other threads print too. */
+static void answer(const char *text, const char *id)
+{
+    printf("%s%s%s\n", text, id[0] == '\0' ? "" : " ", id);
+    fflush(stdout);
+}
+
+static void answer_status(monitor_status status, const char *id)
+{
+    static const char *const texts[] = {
+        [MONITOR_RECORDED] = "recorded", [MONITOR_PROCESS_NAME] = "refused process-name",
+        [MONITOR_VARIABLE_NAME] = "refused variable-name", [MONITOR_VARIABLES] = "refused variables",
+        [MONITOR_EVENTS] = "refused events", [MONITOR_ID] = "refused id", [MONITOR_ID_TWICE] = "refused id-twice",
+        [MONITOR_FORK] = "refused fork", [MONITOR_BROKEN] = "refused broken", [MONITOR_SYSTEM] = "failed"};
+    answer(texts[status], status == MONITOR_RECORDED ? id : "");
+}
+
+static void *take_turns(void *argument)
+{
+    work *mine = argument;
+    char id[MONITOR_ID_ROOM], x[8], y[8], received[32];
+    snprintf(x, sizeof x, "x%d", mine->number);
+    snprintf(y, sizeof y, "y%d", mine->number);
+    for (int turn = 0; turn < mine->turns; turn++) {
+        snprintf(received, sizeof received, "m%d-%d", mine->number, turn);
+        if (monitor_send(recorder, id, MONITOR_SET({x, turn})) != MONITOR_RECORDED ||
+            monitor_event(recorder, MONITOR_SET({y, atoi(strrchr(id, '-') + 1)})) != MONITOR_RECORDED ||
+            monitor_receive(recorder, received, MONITOR_NOTHING) != MONITOR_RECORDED)
+            return NULL;
+        monitor_lock(recorder);
+        total++;
+        monitor_status status = monitor_event(recorder, MONITOR_SET({"total", total}));
+        monitor_unlock(recorder);
+        if (status != MONITOR_RECORDED)
+            return NULL;
+    }
+    mine->is_done = true;
+    return NULL;
+}
+
+static void *send_all(void *argument)
+{
+    work *mine = argument;
+    char id[MONITOR_ID_ROOM];
+    while (monitor_send(recorder, id, MONITOR_NOTHING) == MONITOR_RECORDED)
+        answer("sent", id);
+    mine->is_done = true;
+    return NULL;
+}
+
+/* Runs so many threads, and says whether each did its work. */
+static bool run(void *(*work_of)(void *), int count, int turns)
+{
+    bool is_done = true;
+    pthread_t threads[THREADS];
+    work works[THREADS];
+    total = 0;
+    for (int i = 0; i < count; i++) {
+        works[i] = (work){i, turns, false};
+        if (pthread_create(&threads[i], NULL, work_of, &works[i]) != 0)
+            abort();
+    }
+    for (int i = 0; i < count; i++) {
+        pthread_join(threads[i], NULL);
+        is_done = is_done && works[i].is_done;
+    }
+    return is_done;
+}
+
+/* Makes a call that begins a recording, or ends it. */
+static bool open_or_close(char **words)
+{
+    if (strcmp(words[0], "file") == 0) {
+        answer_status(monitor_to_file(text_of(words[1]), text_of(words[2]), &recorder), "");
+    } else if (strcmp(words[0], "port") == 0) {
+        answer_status(monitor_to_port(text_of(words[1]), (uint16_t)atoi(words[2]), atof(words[3]), &recorder), "");
+    } else if (strcmp(words[0], "close") == 0) {
+        if (recorder != NULL)
+            monitor_abandon(recorder);
+        recorder = NULL;
+        answer("recorded", "");
+    } else if (strcmp(words[0], "end") == 0 && recorder != NULL) {
+        answer_status(monitor_close(recorder), "");
+        recorder = NULL;
+    } else {
+        return false;
+    }
+    return true;
+}
+
+static void record(char **words, size_t count)
+{
+    char id[MONITOR_ID_ROOM] = "";
+    monitor_setting settings[WORDS];
+    bool has_id = strcmp(words[0], "send-as") == 0 || strcmp(words[0], "receive") == 0;
+    size_t first = has_id ? 2 : 1;
+    if (!are_settings(words + first, count - first, settings)) {
+        answer("cannot", "");
+        return;
+    }
+    if (strcmp(words[0], "event") == 0)
+        answer_status(monitor_event(recorder, settings, count - first), "");
+    else if (strcmp(words[0], "send") == 0)
+        answer_status(monitor_send(recorder, id, settings, count - first), id);
+    else if (strcmp(words[0], "send-as") == 0)
+        answer_status(monitor_send_as(recorder, text_of(words[1]), settings, count - first), "");
+    else
+        answer_status(monitor_receive(recorder, text_of(words[1]), settings, count - first), "");
+}
+
+static void make(char **words, size_t count)
+{
+    char text[24];
+    if (open_or_close(words))
+        return;
+    if (recorder == NULL) { /* it is gone with its end */
+        answer("cannot", "");
+    } else if (strcmp(words[0], "events") == 0) {
+        snprintf(text, sizeof text, "%zu", monitor_events(recorder));
+        answer("recorded", text);
+    } else if (strcmp(words[0], "threads") == 0) {
+        answer(run(take_turns, atoi(words[1]), atoi(words[2])) ? "recorded" : "failed", "");
+    } else if (strcmp(words[0], "flood") == 0) {
+        answer(run(send_all, atoi(words[1]), 0) ? "recorded" : "failed", "");
+    } else {
+        record(words, count);
+    }
+}
+
+int main(void)
+{
+    static char line[ROOM];
+    while (fgets(line, sizeof line, stdin) != NULL) {
+        char *words[WORDS], *rest;
+        size_t count = 0;
+        for (char *word = strtok_r(line, " \n", &rest); word != NULL; word = strtok_r(NULL, " \n", &rest))
+            if (count < WORDS)
+                words[count++] = word;
+        make(words, count);
+    }
+    return 0;
+}

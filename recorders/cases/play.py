@@ -1,0 +1,94 @@
+#!/usr/bin/env python3
+"""play.py PLAYER [WORD..]: plays the cases, and then the trials, with a player: a program that makes the calls which it
+is told on its standard input with the recorder of its language, as README.md explains.
+
+Each recording is judged by the program, if that is built: crates/monitor/out/monitor, or the one that MONITOR names. A
+case that goes otherwise is printed. The last line says how many cases and trials were played, how many calls were left
+out since the player's language has no such call, and how many cases and trials went otherwise; the status is 1 if any
+did.
+"""
+import functools
+import signal
+import sys
+import tempfile
+
+import judged
+import reading
+import trials
+from players import Players, Stream, Wrong, see_text
+
+# Whatever hangs is ended after so many seconds.
+MOST_SECONDS = 600
+# So many calls of a row are made before their bytes are looked at.
+AT_ONCE = 100
+
+
+def play(case, players, folder):
+    """Plays a case, and gives how many calls were left out."""
+    left_out, streams = 0, {}
+    for call in case.calls:
+        stream = streams.setdefault(call.process, Stream(folder, call.process))
+        try:
+            for first in range(1, call.times + 1, AT_ONCE):
+                numbers = range(first, min(first + AT_ONCE, call.times + 1))
+                left_out += make(players.of(call.process), stream, [call.numbered(number) for number in numbers])
+        except Wrong as wrong:
+            raise Wrong(f"{call.where}: {wrong}") from None
+    for process in streams:
+        players.of(process).ask("close")
+    paths = [stream.path for stream in streams.values() if stream.size]
+    if judged.has_program() and paths:
+        judge(case, folder, paths)
+    return left_out
+
+
+def make(player, stream, turns):
+    """Has calls made, which are words, an answer and what is written; gives how many were left out."""
+    wanted, left_out = b"", 0
+    for words, _, _ in turns:
+        player.tell(f"{words} {stream.word()}" if words.startswith("file ") else words)
+    for words, answer, text in turns:
+        if player.has_answered(words, answer):
+            wanted += text
+        else:
+            left_out += 1
+    see_text(stream.added(), wanted)
+    return left_out
+
+
+def judge(case, folder, paths):
+    if case.document:
+        judged.see_report(folder, case.document, paths, case.report)
+    else:
+        judged.Plain(paths).see(folder)
+
+
+def ends(players, _folder):
+    """players that end by themselves"""
+    for player in players.running.values():
+        player.end()
+
+
+def main():
+    if len(sys.argv) < 2 or sys.argv[1].startswith("-"):
+        sys.exit(__doc__)
+    signal.alarm(MOST_SECONDS)
+    plays = [(case.name, functools.partial(play, case)) for case in reading.all_cases()]
+    plays += [(trial.__doc__, trial) for trial in [*trials.TRIALS, ends]]
+    left_out, wrong = 0, 0
+    with Players(sys.argv[1:]) as players:
+        for name, one in plays:
+            with tempfile.TemporaryDirectory() as folder:
+                try:
+                    left_out += one(players, folder) or 0
+                except (Wrong, ValueError, LookupError) as error:
+                    wrong += 1
+                    print(f"cases: {name}: {error if isinstance(error, Wrong) else repr(error)}")
+                    players.forget()
+    unjudged = "" if judged.has_program() else f"; nothing is judged, for there is no program {judged.PROGRAM}"
+    print(f"cases: {len(plays)} played, {left_out} calls left out, {wrong} wrong{unjudged}")
+    sys.exit(1 if wrong else 0)
+
+
+if __name__ == "__main__":
+    main()

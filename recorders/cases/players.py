@@ -1,0 +1,111 @@
+"""Players: programs that make the calls which they are told, each with the recorder of its language."""
+import contextlib
+import os
+import subprocess
+from urllib.parse import quote
+
+
+class Wrong(Exception):
+    """Something is not as it must be: its text says what."""
+
+
+def see(is_so, what):
+    if not is_so:
+        raise Wrong(what)
+
+
+def see_text(text, wanted):
+    see(text == wanted, f"there is\n{text}\nand not\n{wanted}")
+
+
+class Player:
+    """A player that runs. It has one recorder at a time. It is killed with the context, if it still runs then."""
+
+    def __init__(self, words):
+        self.process = subprocess.Popen(words, stdin=subprocess.PIPE, stdout=subprocess.PIPE)
+
+    def tell(self, words):
+        """Tells it to make a call, and doesn't wait for the answer."""
+        try:
+            self.process.stdin.write(f"{words}\n".encode())
+            self.process.stdin.flush()
+        except BrokenPipeError:
+            raise Wrong(f"the player ended before: {words[:200]}") from None
+
+    def answer(self):
+        line = self.process.stdout.readline()
+        see(line.endswith(b"\n"), "the player ended without an answer")
+        return line.decode().rstrip("\n")
+
+    def has_answered(self, words, wanted):
+        """Sees that the answer to this call is the one that is wanted; False if its language has no such call."""
+        answer = self.answer()
+        see(answer in (wanted, "cannot"), f"the answer to `{words[:200]}` is `{answer}`, and not `{wanted}`")
+        return answer == wanted
+
+    def ask(self, words, wanted="recorded"):
+        """Tells it to make a call, and sees that the answer is the one that is wanted."""
+        self.tell(words)
+        see(self.has_answered(words, wanted), f"the player can't make the call `{words[:200]}`")
+
+    def kill(self):
+        """Kills it, and gives what it had answered before and nobody had read."""
+        self.process.kill()
+        rest = self.process.stdout.read()
+        with contextlib.suppress(BrokenPipeError):
+            self.process.stdin.close()
+        self.process.stdout.close()
+        self.process.wait()
+        return rest.decode().splitlines()
+
+    def end(self):
+        """Has it end by itself, since no more calls come."""
+        self.process.stdin.close()
+        status = self.process.wait()
+        see(status == 0, f"the player ends with status {status}")
+
+    def __enter__(self):
+        return self
+
+    def __exit__(self, kind, error, trace):
+        if self.process.poll() is None or not self.process.stdout.closed:
+            self.kill()
+
+
+class Players(contextlib.ExitStack):
+    """A player for each process of a session, kept from one session to the next, since some take long to start."""
+
+    def __init__(self, words):
+        super().__init__()
+        self.words, self.running = words, {}
+
+    def of(self, process):
+        if process not in self.running:
+            self.running[process] = self.enter_context(Player(self.words))
+        return self.running[process]
+
+    def forget(self):
+        """Kills them all: new ones are made for whatever comes next."""
+        self.close()
+        self.running = {}
+
+
+class Stream:
+    """A stream's file, of which each byte is read once, when it is there."""
+
+    def __init__(self, folder, process):
+        self.path, self.size = os.path.join(folder, f"{process}.stream"), 0
+
+    def added(self):
+        """What has been added since the last time."""
+        if not os.path.exists(self.path):
+            return b""
+        with open(self.path, "rb") as file:
+            file.seek(self.size)
+            text = file.read()
+        self.size += len(text)
+        return text
+
+    def word(self):
+        """Its path, as a word of a call."""
+        return quote(self.path)

@@ -1,0 +1,280 @@
+"""Trials of a recorder by its player, with threads, a process that is killed, and connections: what lines alone can't
+say. Each is given the players and a folder, and its first words say what it tries."""
+import contextlib
+import json
+import os
+import random
+import select
+import socket
+import subprocess
+import threading
+import time
+
+import judged
+from players import Player, Stream, see, see_text
+
+THREADS, TURNS = 6, 50
+SEEN = 300
+BURST = 4000
+JOIN, END = b'{"process":"left"}\n', b'{"end":true}\n'
+SECONDS = 60
+DOCUMENT = json.dumps({"processes": [{"name": "left", "vars": {"inside": 0}}, {"name": "right", "vars": {"inside": 0}}],
+                       "predicates": [{"name": "both", "text": "left.inside == 1 and right.inside == 1"}]})
+REPORT = "session 2 processes 3 events 1 messages\nboth possibly no\nboth definitely no left,left,right\n"
+
+
+def see_plain(folder, path):
+    if judged.has_program():
+        judged.Plain([path]).see(folder)
+
+
+def with_threads(players, folder):
+    """threads that record at the same time"""
+    player, stream = players.of("left"), Stream(folder, "left")
+    player.ask(f"file left {stream.word()}")
+    player.ask(f"threads {THREADS} {TURNS}")
+    player.ask("end")
+    lines = [json.loads(line) for line in stream.added().splitlines()]
+    see(len(lines) == 4 * THREADS * TURNS + 2, f"there are {len(lines)} lines")
+    see([line["send"] for line in lines if "send" in line] == [f"left-{n}" for n in range(1, THREADS * TURNS + 1)],
+        "the ids aren't counted from 1 in the order of their lines")
+    totals = [line["set"]["total"] for line in lines if "total" in line.get("set", {})]
+    see(totals == list(range(1, THREADS * TURNS + 1)), f"a change and its line didn't stay together: {totals}")
+    for thread in range(THREADS):
+        see_thread(thread, lines)
+    see_plain(folder, stream.path)
+
+
+def see_thread(thread, lines):
+    """Sees that a thread's lines stand in its order: a send with the turn, a line with the number of the id that the
+    call gave, and a receipt."""
+    x, y = f"x{thread}", f"y{thread}"
+    mine = [line for line in lines
+            if {x, y} & set(line.get("set", {})) or line.get("recv", "").startswith(f"m{thread}-")]
+    wanted = []
+    for turn in range(TURNS):
+        message = mine[3 * turn].get("send", "none")
+        wanted += [{"send": message, "set": {x: turn}}, {"set": {y: int(message.rpartition("-")[2])}},
+                   {"recv": f"m{thread}-{turn}"}]
+    see(mine == wanted, f"the lines of thread {thread} are\n{mine}\nand not\n{wanted}")
+
+
+def killed_at_rest(players, folder):
+    """a process that is killed when it has recorded"""
+    stream = Stream(folder, "left")
+    with Player(players.words) as player:
+        player.ask(f"file left {stream.word()}")
+        player.ask("event inside=1")
+        player.ask("send", "recorded left-1")
+        player.kill()
+    see_text(stream.added(), JOIN + b'{"set":{"inside":1}}\n{"send":"left-1"}\n')
+    see_plain(folder, stream.path)
+
+
+def killed_at_work(players, folder):
+    """a process that is killed while its threads record"""
+    stream = Stream(folder, "left")
+    with Player(players.words) as player:
+        player.ask(f"file left {stream.word()}")
+        sent = killed_flood(player)
+    text = stream.added()
+    see_flood(sent, text)
+    whole = text.rpartition(b"\n")[0] + b"\n"
+    with open(stream.path, "wb") as file:
+        file.write(whole + END)
+    see_plain(folder, stream.path)
+
+
+def killed_flood(player):
+    """Kills a player while its threads record, and gives the ids that it was given by then."""
+    player.tell(f"flood {THREADS}")
+    answers = []
+    while len(answers) < SEEN:
+        answers.append(player.answer())
+        see(answers[-1].startswith("sent "), f"instead of an id there comes `{answers[-1]}`")
+    answers += player.kill()
+    return [answer.split()[1] for answer in answers if answer.startswith("sent ")]
+
+
+def see_flood(sent, text):
+    """Sees that each id that a call gave stands in the stream, and that nothing but its last line may be cut short."""
+    lines = text.split(b"\n")
+    see(lines[0] + b"\n" == JOIN, f"the first line is {lines[0]}")
+    for number, line in enumerate(lines[1:-1], 1):
+        see(line == f'{{"send":"left-{number}"}}'.encode(), f"line {number + 1} is {line}")
+    lost = set(sent) - {f"left-{number}" for number in range(1, len(lines) - 1)}
+    see(not lost, f"of {len(sent)} sends that were recorded these are lost: {sorted(lost)[:20]}")
+
+
+class Listener:
+    """A port of this machine to which a player records, as if `serve` were there."""
+
+    def __init__(self, listens=True, room=None):
+        self.socket = socket.socket()
+        if room:
+            self.socket.setsockopt(socket.SOL_SOCKET, socket.SO_RCVBUF, room)
+        self.socket.bind(("127.0.0.1", 0))
+        self.port = self.socket.getsockname()[1]
+        if listens:
+            self.socket.listen()
+
+    def __enter__(self):
+        return self
+
+    def __exit__(self, kind, error, trace):
+        self.socket.close()
+
+    def connected(self, player):
+        """The connection of a player's recorder."""
+        player.ask(f"port left {self.port} {SECONDS}")
+        return self.socket.accept()[0]
+
+
+def lines_as_they_are_recorded(players, _folder):
+    """lines that come over a connection as they are recorded"""
+    player = players.of("left")
+    with Listener() as listener, listener.connected(player) as connection, connection.makefile("rb") as lines:
+        see_text(lines.readline(), JOIN)
+        player.ask("event inside=1")
+        see_text(lines.readline(), b'{"set":{"inside":1}}\n')
+        player.ask("send", "recorded left-1")
+        see_text(lines.readline(), b'{"send":"left-1"}\n')
+        player.ask("end")
+        see_text(lines.read(), END)
+
+
+def without_an_end_over_a_connection(players, _folder):
+    """a connection that is closed without an end"""
+    player = players.of("left")
+    with Listener() as listener, listener.connected(player) as connection, connection.makefile("rb") as lines:
+        player.ask("event")
+        player.ask("close")
+        see_text(lines.read(), JOIN + b"{}\n")
+
+
+def killed_over_a_connection(players, _folder):
+    """a process that is killed while its threads record over a connection"""
+    with Player(players.words) as player, Listener() as listener, listener.connected(player) as connection:
+        sent = killed_flood(player)
+        with connection.makefile("rb") as lines:
+            see_flood(sent, lines.read())
+
+
+def gone(players, _folder):
+    """a monitor that is gone"""
+    player, answers = players.of("left"), 0
+    with Listener() as listener:
+        listener.connected(player).close()
+        player.tell("event")
+        while player.answer() != "failed":
+            answers += 1
+            see(answers < 5000, "a line to nobody is still recorded")
+            player.tell("event")
+    player.ask("event", "refused broken")
+    player.ask("events", f"recorded {answers}")
+    player.ask("end", "refused broken")
+
+
+def nobody_listens(players, _folder):
+    """a port on which nobody listens"""
+    with Listener(listens=False) as listener:
+        players.of("left").ask(f"port left {listener.port} 0.05", "failed")
+
+
+def listens_later(players, _folder):
+    """a monitor that listens later"""
+    player = players.of("left")
+    with Listener(listens=False) as listener:
+        player.tell(f"port left {listener.port} {SECONDS}")
+        time.sleep(0.1)
+        listener.socket.listen()
+        see_text(player.answer(), "recorded")
+        with listener.socket.accept()[0] as connection, connection.makefile("rb") as lines:
+            player.ask("end")
+            see_text(lines.read(), JOIN + END)
+
+
+def reads_late(players, _folder):
+    """a monitor that reads late"""
+    player = players.of("left")
+    names = [f"{letter:_<32}" for letter in "abcdefghijklmnop"]
+    values = range(-2**63, -2**63 + BURST)
+    calls = ["event " + " ".join(f"{name}={value}" for name in names) for value in values]
+    lines = ['{"set":{' + ",".join(f'"{name}":{value}' for name in names) + "}}\n" for value in values]
+    with Listener(room=4096) as listener, listener.connected(player) as connection:
+        telling = threading.Thread(target=lambda: [player.tell(call) for call in calls])
+        telling.start()
+        answers = 0
+        # The calls fill what the system keeps of the connection, and then wait, until something is read.
+        while answers < BURST and select.select([player.process.stdout], [], [], 0.3)[0]:
+            see_text(player.answer(), "recorded")
+            answers += 1
+        reading = Reading(connection)
+        for _ in range(BURST - answers):
+            see_text(player.answer(), "recorded")
+        telling.join()
+        player.ask("end")
+        see(reading.all() == JOIN + "".join(lines).encode() + END, "something else came than was recorded")
+
+
+class Reading(threading.Thread):
+    """Reads all that comes over a connection."""
+
+    def __init__(self, connection):
+        super().__init__(daemon=True)
+        self.connection, self.text = connection, b""
+        self.start()
+
+    def run(self):
+        with self.connection.makefile("rb") as file:
+            self.text = file.read()
+
+    def all(self):
+        self.join()
+        return self.text
+
+
+def is_bound(port):
+    """Whether someone listens on this port of 127.0.0.1."""
+    with open("/proc/net/tcp", encoding="ascii") as rows:
+        return any(row.split()[1] == f"0100007F:{port:04X}" and row.split()[3] == "0A" for row in list(rows)[1:])
+
+
+def server(folder):
+    """The program as a server, and its port, once it listens. Others are tried if another program has the port."""
+    path = os.path.join(folder, "session.json")
+    with open(path, "w", encoding="utf-8") as file:
+        file.write(DOCUMENT)
+    while True:
+        port = random.randrange(10_000, 30_000)
+        if is_bound(port):
+            continue
+        running = subprocess.Popen([judged.PROGRAM, "serve", path, "--port", str(port)], stdout=subprocess.PIPE)
+        while running.poll() is None and not is_bound(port):
+            time.sleep(0.01)
+        if running.poll() is None:
+            return running, port
+        running.communicate()
+        see(running.returncode == 3, f"the server ends with status {running.returncode}")
+
+
+def served(players, folder):
+    """a session that `serve` judges"""
+    if not judged.has_program():
+        return
+    running, port = server(folder)
+    left, right = players.of("left"), players.of("right")
+    with running, contextlib.ExitStack() as at_end:
+        at_end.callback(running.kill)
+        left.ask(f"port left {port} {SECONDS}")
+        right.ask(f"port right {port} {SECONDS}")
+        left.ask("event inside=1")
+        left.ask("send inside=0", "recorded left-1")
+        right.ask("receive left-1 inside=1")
+        left.ask("end")
+        right.ask("end")
+        see_text(running.stdout.read().decode(), REPORT)
+
+
+TRIALS = [with_threads, killed_at_rest, killed_at_work, lines_as_they_are_recorded, without_an_end_over_a_connection,
+          killed_over_a_connection, gone, nobody_listens, listens_later, reads_late, served]

@@ -1,0 +1,3 @@
+module monitor.example/record
+
+go 1.19

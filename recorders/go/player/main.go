@@ -1,0 +1,214 @@
+// The player makes the calls that it is told on its standard input, with the recorder for Go: see
+// recorders/cases/README.md.
+package main
+
+import (
+	"bufio"
+	"context"
+	"errors"
+	"fmt"
+	"net/url"
+	"os"
+	"strconv"
+	"strings"
+	"sync"
+	"time"
+
+	"monitor.example/record"
+)
+
+var recorder *record.Recorder
+
+// errCannot says that Go has no such call.
+var errCannot = errors.New("no such call")
+
+var refusals = []struct {
+	reason error
+	word   string
+}{
+	{record.ErrProcessName, "process-name"}, {record.ErrVariableName, "variable-name"}, {record.ErrValue, "value"},
+	{record.ErrVariables, "variables"}, {record.ErrEvents, "events"}, {record.ErrID, "id"},
+	{record.ErrIDTwice, "id-twice"}, {record.ErrEnded, "ended"}, {record.ErrBroken, "broken"},
+}
+
+func main() {
+	lines := bufio.NewReader(os.Stdin)
+	for {
+		line, err := lines.ReadString('\n')
+		if err != nil {
+			return
+		}
+		words := strings.Split(strings.TrimSuffix(line, "\n"), " ")
+		given, err := makeCall(words[0], words[1:])
+		fmt.Println(answer(given, err))
+	}
+}
+
+func answer(given string, err error) string {
+	if err == nil {
+		return strings.TrimSuffix("recorded "+given, " ")
+	}
+	if err == errCannot {
+		return "cannot"
+	}
+	for _, refusal := range refusals {
+		if errors.Is(err, refusal.reason) && errors.Is(err, record.ErrNotRecorded) {
+			return "refused " + refusal.word
+		}
+	}
+	return "failed"
+}
+
+func makeCall(call string, words []string) (given string, err error) {
+	switch call {
+	case "file":
+		recorder, err = record.ToFile(textOf(words[0]), textOf(words[1]))
+	case "port":
+		err = openPort(textOf(words[0]), int(numberOf(words[1])), words[2])
+	case "events":
+		given = strconv.Itoa(recorder.Events())
+	case "end":
+		err = recorder.End()
+	case "close":
+		if recorder != nil {
+			err = recorder.Close()
+		}
+	case "threads":
+		err = takeTurns(int(numberOf(words[0])), int(numberOf(words[1])))
+	case "flood":
+		err = flood(int(numberOf(words[0])))
+	default:
+		return recordCall(call, words)
+	}
+	return given, err
+}
+
+func openPort(process string, port int, seconds string) (err error) {
+	patience, err := time.ParseDuration(seconds + "s")
+	if err != nil {
+		return err
+	}
+	ctx, cancel := context.WithTimeout(context.Background(), patience)
+	defer cancel()
+	recorder, err = record.ToPort(ctx, process, port)
+	return err
+}
+
+func recordCall(call string, words []string) (string, error) {
+	id := ""
+	if call == "send-as" || call == "receive" {
+		id, words = textOf(words[0]), words[1:]
+	}
+	var settings []record.Setting
+	for _, word := range words {
+		setting, ok := settingOf(word)
+		if !ok {
+			return "", errCannot
+		}
+		settings = append(settings, setting)
+	}
+	switch call {
+	case "event":
+		return "", recorder.Event(settings...)
+	case "send":
+		return recorder.Send(settings...)
+	case "send-as":
+		return "", recorder.SendAs(id, settings...)
+	}
+	return "", recorder.Receive(id, settings...)
+}
+
+// settingOf is the setting that a word says, if Go can say it.
+func settingOf(word string) (record.Setting, bool) {
+	place := strings.LastIndexByte(word, '=')
+	name, value := textOf(word[:place]), word[place+1:]
+	if value == "true" || value == "false" {
+		return record.Set(name, value == "true"), true
+	}
+	if number, err := strconv.ParseInt(value, 10, 64); err == nil {
+		return record.Set(name, number), true
+	}
+	number, err := strconv.ParseUint(value, 10, 64)
+	return record.Set(name, number), err == nil
+}
+
+// textOf is the text for which a word stands: % and two digits are a byte, and % alone is no text at all.
+func textOf(word string) string {
+	if word == "%" {
+		return ""
+	}
+	text, err := url.PathUnescape(word)
+	if err != nil {
+		panic(err)
+	}
+	return text
+}
+
+func numberOf(word string) int64 {
+	number, err := strconv.ParseInt(word, 10, 64)
+	if err != nil {
+		panic(err)
+	}
+	return number
+}
+
+func takeTurns(count, turns int) error {
+	var mutex sync.Mutex
+	total := 0
+	add := func() error {
+		mutex.Lock()
+		defer mutex.Unlock()
+		total++
+		return recorder.Event(record.Set("total", total))
+	}
+	return run(count, func(number int) error {
+		for turn := 0; turn < turns; turn++ {
+			id, err := recorder.Send(record.Set(fmt.Sprint("x", number), turn))
+			if err != nil {
+				return err
+			}
+			sent := numberOf(id[strings.LastIndexByte(id, '-')+1:])
+			if err := recorder.Event(record.Set(fmt.Sprint("y", number), sent)); err != nil {
+				return err
+			}
+			if err := recorder.Receive(fmt.Sprintf("m%d-%d", number, turn)); err != nil {
+				return err
+			}
+			if err := add(); err != nil {
+				return err
+			}
+		}
+		return nil
+	})
+}
+
+func flood(count int) error {
+	return run(count, func(int) error {
+		for {
+			id, err := recorder.Send()
+			if errors.Is(err, record.ErrEvents) {
+				return nil
+			}
+			if err != nil {
+				return err
+			}
+			fmt.Println("sent " + id)
+		}
+	})
+}
+
+// run runs so many goroutines, and gives the error of one that has one.
+func run(count int, work func(number int) error) error {
+	errs := make(chan error, count)
+	for number := 0; number < count; number++ {
+		number := number
+		go func() { errs <- work(number) }()
+	}
+	var found error
+	for number := 0; number < count; number++ {
+		if err := <-errs; err != nil {
+			found = err
+		}
+	}
+	return found
+}

@@ -1,0 +1,142 @@
+import static monitor.Recorder.set;
+
+import java.io.BufferedReader;
+import java.io.IOException;
+import java.io.InputStreamReader;
+import java.io.UncheckedIOException;
+import java.net.URLDecoder;
+import java.nio.charset.StandardCharsets;
+import java.nio.file.Path;
+import java.time.Duration;
+import java.util.ArrayList;
+import java.util.Arrays;
+import java.util.List;
+import java.util.Locale;
+import java.util.concurrent.ExecutionException;
+import java.util.concurrent.ExecutorService;
+import java.util.concurrent.Executors;
+import java.util.concurrent.Future;
+import java.util.function.IntConsumer;
+import monitor.Recorder;
+import monitor.Recorder.NotRecordedException;
+import monitor.Recorder.Setting;
+
+/** Makes the calls that it is told on its standard input, with the recorder for Java: see recorders/cases/README.md. */
+final class Player {
+    private Recorder recorder;
+    private int total;
+
+    public static void main(String[] arguments) throws IOException {
+        Player player = new Player();
+        BufferedReader lines = new BufferedReader(new InputStreamReader(System.in, StandardCharsets.UTF_8));
+        for (String line = lines.readLine(); line != null; line = lines.readLine()) {
+            String[] words = line.split(" ");
+            say(player.answer(words[0], Arrays.asList(words).subList(1, words.length)));
+        }
+    }
+
+    private static synchronized void say(String answer) {
+        System.out.print(answer + "\n");
+        System.out.flush();
+    }
+
+    private String answer(String call, List<String> words) {
+        try {
+            String given = make(call, words);
+            return given == null ? "recorded" : "recorded " + given;
+        } catch (NumberFormatException error) {
+            return "cannot"; // Java has no such value of 64 bits
+        } catch (NotRecordedException error) {
+            return "refused " + error.reason().name().toLowerCase(Locale.ROOT).replace('_', '-');
+        } catch (IOException | UncheckedIOException error) {
+            return "failed";
+        }
+    }
+
+    /** Makes a call, and gives the id that it gives, or null. */
+    private String make(String call, List<String> words) throws IOException {
+        switch (call) {
+            case "file" -> recorder = Recorder.toFile(textOf(words.get(0)), Path.of(textOf(words.get(1))));
+            case "port" -> recorder = Recorder.toPort(textOf(words.get(0)), Integer.parseInt(words.get(1)),
+                    Duration.ofMillis((long) (Double.parseDouble(words.get(2)) * 1000)));
+            case "event" -> recorder.event(settingsOf(words));
+            case "send" -> {
+                return recorder.send(settingsOf(words));
+            }
+            case "send-as" -> recorder.sendAs(textOf(words.get(0)), settingsOf(words.subList(1, words.size())));
+            case "receive" -> recorder.receive(textOf(words.get(0)), settingsOf(words.subList(1, words.size())));
+            case "events" -> {
+                return String.valueOf(recorder.events());
+            }
+            case "end" -> recorder.end();
+            case "close" -> close();
+            case "threads" -> run(words.get(0), thread -> takeTurns(thread, Integer.parseInt(words.get(1))));
+            case "flood" -> run(words.get(0), thread -> sendAll());
+            default -> throw new IllegalStateException("no call " + call);
+        }
+        return null;
+    }
+
+    private void close() {
+        if (recorder != null) {
+            recorder.close();
+        }
+    }
+
+    /** The text for which a word stands: % and two digits are a byte, and % alone is no text at all. */
+    private static String textOf(String word) {
+        return word.equals("%") ? "" : URLDecoder.decode(word.replace("+", "%2B"), StandardCharsets.UTF_8);
+    }
+
+    private static Setting[] settingsOf(List<String> words) {
+        return words.stream().map(word -> {
+            int place = word.lastIndexOf('=');
+            String name = textOf(word.substring(0, place));
+            String value = word.substring(place + 1);
+            boolean isTruth = value.equals("true") || value.equals("false");
+            return isTruth ? set(name, Boolean.parseBoolean(value)) : set(name, Long.parseLong(value));
+        }).toArray(Setting[]::new);
+    }
+
+    private void takeTurns(int thread, int turns) {
+        for (int turn = 0; turn < turns; turn++) {
+            String id = recorder.send(set("x" + thread, turn));
+            recorder.event(set("y" + thread, Long.parseLong(id.substring(id.lastIndexOf('-') + 1))));
+            recorder.receive("m" + thread + "-" + turn);
+            synchronized (recorder) {
+                total++;
+                recorder.event(set("total", total));
+            }
+        }
+    }
+
+    private void sendAll() {
+        try {
+            while (true) {
+                say("sent " + recorder.send());
+            }
+        } catch (NotRecordedException error) {
+            // there are no more events
+        }
+    }
+
+    /** Runs so many threads. */
+    private void run(String count, IntConsumer work) {
+        total = 0;
+        ExecutorService threads = Executors.newCachedThreadPool();
+        List<Future<?>> futures = new ArrayList<>();
+        for (int number = 0; number < Integer.parseInt(count); number++) {
+            int thread = number;
+            futures.add(threads.submit(() -> work.accept(thread)));
+        }
+        try {
+            for (Future<?> future : futures) {
+                future.get();
+            }
+        } catch (ExecutionException | InterruptedException error) {
+            throw new IllegalStateException(error);
+        } finally {
+            threads.shutdown();
+        }
+    }
+}

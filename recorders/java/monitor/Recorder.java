@@ -1,0 +1,406 @@
+package monitor;
+
+import java.io.File;
+import java.io.FileOutputStream;
+import java.io.IOException;
+import java.io.InterruptedIOException;
+import java.io.OutputStream;
+import java.io.UncheckedIOException;
+import java.net.ConnectException;
+import java.net.InetAddress;
+import java.net.InetSocketAddress;
+import java.net.Socket;
+import java.nio.CharBuffer;
+import java.nio.charset.CharacterCodingException;
+import java.nio.charset.StandardCharsets;
+import java.nio.file.FileAlreadyExistsException;
+import java.nio.file.Path;
+import java.time.Duration;
+import java.util.HashSet;
+import java.util.Set;
+import java.util.StringJoiner;
+import java.util.regex.Pattern;
+
+/**
+ * Records one process of a distributed program for {@code monitor}: its events in their order, one line each.
+ *
+ * <pre>{@code
+ * import static monitor.Recorder.set;
+ *
+ * try (Recorder recorder = Recorder.toFile("left", Path.of("left.stream"))) {
+ *     recorder.event(set("inside", 1), set("waiting", 0));  // these are their values from now on
+ *     String message = recorder.send(set("money", 70));     // BEFORE the message leaves; the id travels with it
+ *     recorder.receive("right-1", set("money", 80));        // AFTER a message has come, with the id that came too
+ *     recorder.end();
+ * }
+ * }</pre>
+ *
+ * <p>Each line is handed to the operating system before the call returns, so that nothing that was recorded is lost if
+ * the process crashes. Several threads may use one recorder: hold its lock, by {@code synchronized (recorder)}, if an
+ * event and its line must stay together. What {@code monitor} would refuse is refused at once, by a
+ * {@link NotRecordedException}, and the recorder goes on as if the call hadn't been made. The formats and limits are
+ * those of docs/SPECIFICATION.md.
+ *
+ * <p>A block that is left before {@link #end}, by an exception or a {@code return}, closes the recorder and leaves no
+ * end line, since nobody knows what the process would have done: {@code monitor} refuses the stream as
+ * {@code unended}.
+ *
+ * <p>Opening a recording throws {@link IOException}. A line that can't be written throws {@link UncheckedIOException},
+ * so that a method needs no other signature to record.
+ */
+public final class Recorder implements AutoCloseable {
+    /** At most so many events has a process. */
+    public static final int EVENT_LIMIT = 10_000;
+    /** At most so many variables has a process. */
+    public static final int VARIABLE_LIMIT = 16;
+    /** At most so many bytes has the name of a process or of a variable. */
+    public static final int NAME_BYTE_LIMIT = 32;
+    /** At most so many bytes of UTF-8 has the id of a message, and at least one. */
+    public static final int ID_BYTE_LIMIT = 64;
+
+    private static final Pattern NAME = Pattern.compile("[A-Za-z_][A-Za-z0-9_]*");
+    private static final Set<String> RESERVED = Set.of("and", "or", "not", "true", "false");
+    private static final Duration PATIENCE = Duration.ofSeconds(10);
+    private static final long PAUSE_MILLISECONDS = 50;
+
+    /** Why a call was refused. */
+    public enum Reason {
+        /** No name of a process: letters, digits and _, at most 32, no digit first, no word of predicates. */
+        PROCESS_NAME,
+        /** No name of a variable, or one that stands twice in one call. */
+        VARIABLE_NAME,
+        /** A process has at most 16 variables. */
+        VARIABLES,
+        /** A process has at most 10,000 events. */
+        EVENTS,
+        /** The id of a message has 1 to 64 bytes of UTF-8. */
+        ID,
+        /** The process has sent or received a message with this id before, so a receipt is that of a second copy. */
+        ID_TWICE,
+        /** The recording has ended, or was closed. */
+        ENDED,
+        /** An earlier line could not be written, so none is any more. */
+        BROKEN
+    }
+
+    /** A call was refused and wrote nothing: its message says why. */
+    public static final class NotRecordedException extends RuntimeException {
+        private static final long serialVersionUID = 1;
+        private final Reason reason;
+
+        NotRecordedException(Reason reason, String message) {
+            super(message);
+            this.reason = reason;
+        }
+
+        /** Why the call was refused. */
+        public Reason reason() {
+            return reason;
+        }
+    }
+
+    /** A variable and the value that it has from now on. */
+    public record Setting(String name, long value) {
+    }
+
+    private final String process;
+    private final OutputStream out;
+    private final Set<String> ids = new HashSet<>();
+    private final Set<String> names = new HashSet<>();
+    private boolean ended;
+    private boolean broken;
+    private int events;
+    private int made;
+
+    /**
+     * Records to a file, a connection or whatever else takes bytes. Each line is flushed, and the stream is closed with
+     * the recorder.
+     */
+    public Recorder(String process, OutputStream out) throws IOException {
+        this.process = checkedProcess(process);
+        this.out = out;
+        out.write(bytesOf("{\"process\":" + quoted(process) + "}"));
+        out.flush();
+    }
+
+    /** Records to a new file. One that is there already is a {@link FileAlreadyExistsException}. */
+    public static Recorder toFile(String process, Path path) throws IOException {
+        checkedProcess(process);
+        File file = path.toFile();
+        if (!file.createNewFile()) {
+            throw new FileAlreadyExistsException(path.toString());
+        }
+        // A channel would be closed if a thread is interrupted while it records.
+        return over(process, new FileOutputStream(file));
+    }
+
+    /**
+     * Records to {@code monitor serve} on a port of this machine, 1 to 65,534, which may listen up to ten seconds
+     * later; if nobody does by then, it is a {@link ConnectException}. A later call waits while the monitor doesn't
+     * read.
+     */
+    public static Recorder toPort(String process, int port) throws IOException {
+        return toPort(process, port, PATIENCE);
+    }
+
+    /** The same, with another time to wait for somebody who listens. */
+    public static Recorder toPort(String process, int port, Duration patience) throws IOException {
+        checkedProcess(process);
+        return over(process, connectionTo(port, patience).getOutputStream());
+    }
+
+    private static Recorder over(String process, OutputStream out) throws IOException {
+        try {
+            return new Recorder(process, out);
+        } catch (Throwable error) {
+            out.close();
+            throw error;
+        }
+    }
+
+    /** A variable and the value that it has from now on, for {@code import static}. */
+    public static Setting set(String name, long value) {
+        return new Setting(name, value);
+    }
+
+    /** The same, with 1 for true and 0 for false. */
+    public static Setting set(String name, boolean value) {
+        return new Setting(name, value ? 1 : 0);
+    }
+
+    /**
+     * Something happened in this process; these variables have these values from now on.
+     *
+     * @throws NotRecordedException if it is refused: nothing is written then
+     * @throws UncheckedIOException if the line can't be written: a part of it may have been
+     */
+    public synchronized void event(Setting... settings) {
+        record(null, null, settings);
+    }
+
+    /**
+     * This process sends a message to one other: call it BEFORE the message leaves. The id that it makes, the process's
+     * name and a counter as in {@code left-1}, has to travel with the message.
+     *
+     * @return the id
+     * @throws NotRecordedException if it is refused: nothing is written then
+     * @throws UncheckedIOException if the line can't be written: a part of it may have been
+     */
+    public synchronized String send(Setting... settings) {
+        int number = made + 1;
+        while (ids.contains(process + "-" + number)) {
+            number++;
+        }
+        record("send", process + "-" + number, settings);
+        made = number;
+        return process + "-" + number;
+    }
+
+    /**
+     * The same, with an id that no other send of the session has.
+     *
+     * @throws NotRecordedException if it is refused: nothing is written then
+     * @throws UncheckedIOException if the line can't be written: a part of it may have been
+     */
+    public synchronized void sendAs(String id, Setting... settings) {
+        record("send", checkedId(id), settings);
+    }
+
+    /**
+     * A message has come, with this id: call it AFTER that.
+     *
+     * @throws NotRecordedException if it is refused, as {@link Reason#ID_TWICE} for a second copy of a message: nothing
+     *     is written then
+     * @throws UncheckedIOException if the line can't be written: a part of it may have been
+     */
+    public synchronized void receive(String id, Setting... settings) {
+        record("recv", checkedId(id), settings);
+    }
+
+    /** How many events are recorded. */
+    public synchronized int events() {
+        return events;
+    }
+
+    /**
+     * Nothing more happens in this process: writes the end line, and closes the file or connection. A second call does
+     * nothing.
+     *
+     * @throws NotRecordedException if an earlier line could not be written: nothing is written then
+     * @throws UncheckedIOException if the line can't be written: a part of it may have been
+     */
+    public synchronized void end() {
+        if (ended) {
+            return;
+        }
+        checkOpen();
+        write("{\"end\":true}");
+        close();
+    }
+
+    /** Closes the file or connection. Without {@link #end} before, the stream has no end line. */
+    @Override
+    public synchronized void close() {
+        ended = true;
+        try {
+            out.close();
+        } catch (IOException error) {
+            throw new UncheckedIOException(error);
+        }
+    }
+
+    /** Checks an event and writes its line; the field is null for an event without a message. */
+    private void record(String field, String id, Setting... settings) {
+        checkOpen();
+        if (events == EVENT_LIMIT) {
+            throw refused(Reason.EVENTS, process + " has " + EVENT_LIMIT + " events, and no process may have more");
+        }
+        if (id != null && ids.contains(id)) {
+            throw refused(Reason.ID_TWICE, process + " has sent or received " + quoted(id) + " before");
+        }
+        Set<String> added = checkedNames(settings);
+        write(lineOf(field, id, settings));
+        events++;
+        names.addAll(added);
+        if (id != null) {
+            ids.add(id);
+        }
+    }
+
+    private void checkOpen() {
+        if (ended) {
+            throw refused(Reason.ENDED, "the recording of " + process + " has ended");
+        }
+        if (broken) {
+            throw refused(Reason.BROKEN, "an earlier line of " + process + " could not be written");
+        }
+    }
+
+    private Set<String> checkedNames(Setting... settings) {
+        Set<String> added = new HashSet<>();
+        for (Setting setting : settings) {
+            if (!isName(setting.name()) || !added.add(setting.name())) {
+                throw refused(Reason.VARIABLE_NAME, setting.name() + " is no name of a variable, or stands twice");
+            }
+        }
+        Set<String> all = new HashSet<>(names);
+        all.addAll(added);
+        if (all.size() > VARIABLE_LIMIT) {
+            throw refused(Reason.VARIABLES, process + " has at most " + VARIABLE_LIMIT + " variables");
+        }
+        return added;
+    }
+
+    /** Hands the line to the system. If that fails, nothing more is written later. */
+    private void write(String line) {
+        // With the limits above no line has over 1,400 bytes, and no stream over 14,000,000: monitor takes more.
+        broken = true;
+        try {
+            out.write(bytesOf(line));
+            out.flush();
+        } catch (IOException error) {
+            throw new UncheckedIOException(error);
+        }
+        broken = false;
+    }
+
+    private static byte[] bytesOf(String line) {
+        return (line + "\n").getBytes(StandardCharsets.UTF_8);
+    }
+
+    private static String lineOf(String field, String id, Setting... settings) {
+        StringJoiner fields = new StringJoiner(",", "{", "}");
+        if (field != null) {
+            fields.add(quoted(field) + ":" + quoted(id));
+        }
+        if (settings.length > 0) {
+            StringJoiner pairs = new StringJoiner(",", "{", "}");
+            for (Setting setting : settings) {
+                pairs.add(quoted(setting.name()) + ":" + setting.value());
+            }
+            fields.add("\"set\":" + pairs);
+        }
+        return fields.toString();
+    }
+
+    /** The text as JSON has it between quotes: as short as it can be. */
+    private static String quoted(String text) {
+        StringBuilder quoted = new StringBuilder("\"");
+        for (char character : text.toCharArray()) {
+            int place = "\"\\\b\f\n\r\t".indexOf(character);
+            if (place >= 0) {
+                quoted.append('\\').append("\"\\bfnrt".charAt(place));
+            } else if (character < ' ') {
+                quoted.append(String.format("\\u%04x", (int) character));
+            } else {
+                quoted.append(character);
+            }
+        }
+        return quoted.append('"').toString();
+    }
+
+    private static boolean isName(String name) {
+        return name != null && NAME.matcher(name).matches() && name.length() <= NAME_BYTE_LIMIT
+                && !RESERVED.contains(name);
+    }
+
+    private static String checkedProcess(String name) {
+        if (!isName(name)) {
+            throw refused(Reason.PROCESS_NAME, name + " is no name of a process: letters, digits and _, at most "
+                    + NAME_BYTE_LIMIT + ", none of them a digit at first, and none of " + RESERVED);
+        }
+        return name;
+    }
+
+    private static String checkedId(String id) {
+        try {
+            int size = id == null ? 0 : StandardCharsets.UTF_8.newEncoder().encode(CharBuffer.wrap(id)).remaining();
+            if (size >= 1 && size <= ID_BYTE_LIMIT) {
+                return id;
+            }
+            throw refused(Reason.ID, "the id of a message has 1 to " + ID_BYTE_LIMIT + " bytes, and this one " + size);
+        } catch (CharacterCodingException error) {
+            throw refused(Reason.ID, "this id can't be written in UTF-8");
+        }
+    }
+
+    private static NotRecordedException refused(Reason reason, String message) {
+        return new NotRecordedException(reason, message);
+    }
+
+    /** A connection to a port of this machine, on which nobody may listen yet. */
+    private static Socket connectionTo(int port, Duration patience) throws IOException {
+        long begin = System.nanoTime();
+        while (true) {
+            try {
+                return connectionNow(port);
+            } catch (ConnectException error) {
+                if (System.nanoTime() - begin >= patience.toNanos()) {
+                    throw error;
+                }
+            }
+            try {
+                Thread.sleep(PAUSE_MILLISECONDS);
+            } catch (InterruptedException error) {
+                Thread.currentThread().interrupt();
+                throw new InterruptedIOException("interrupted while nobody listens on port " + port);
+            }
+        }
+    }
+
+    private static Socket connectionNow(int port) throws IOException {
+        Socket socket = new Socket();
+        try {
+            socket.connect(new InetSocketAddress(InetAddress.getByAddress(new byte[] {127, 0, 0, 1}), port));
+            // A connection to a port that nobody has bound can come to be with itself.
+            if (socket.getLocalSocketAddress().equals(socket.getRemoteSocketAddress())) {
+                throw new ConnectException("nobody listens on port " + port);
+            }
+            socket.setTcpNoDelay(true);
+            return socket;
+        } catch (IOException error) {
+            socket.close();
+            throw error;
+        }
+    }
+}

@@ -1,0 +1,81 @@
+/** The types of monitor_recorder.cjs, which says more. */
+
+/** At most so many events has a process. */
+export const EVENT_LIMIT: 10_000;
+/** At most so many variables has a process. */
+export const VARIABLE_LIMIT: 16;
+/** At most so many bytes has the name of a process or of a variable. */
+export const NAME_BYTE_LIMIT: 32;
+/** At most so many bytes of UTF-8 has the id of a message, and at least one. */
+export const ID_BYTE_LIMIT: 64;
+
+/** Why a call was refused. */
+export type Reason =
+  /** No name of a process: letters, digits and _, at most 32, no digit first, no word of predicates. */
+  | "process-name"
+  /** No name of a variable. */
+  | "variable-name"
+  /** No whole number of 64 bits with a sign, or a number above 2**53 that is no bigint. */
+  | "value"
+  /** A process has at most 16 variables. */
+  | "variables"
+  /** A process has at most 10,000 events. */
+  | "events"
+  /** The id of a message has 1 to 64 bytes of UTF-8. */
+  | "id"
+  /** The process has sent or received a message with this id before, so a receipt is that of a second copy. */
+  | "id-twice"
+  /** The recording has ended, or was closed. */
+  | "ended"
+  /** An earlier line could not be written, so none is any more. */
+  | "broken";
+
+/** A call was refused and wrote nothing. Other errors are the system's: a part of the line may have been written. */
+export class NotRecorded extends Error {
+  constructor(reason: Reason, message: string);
+  readonly name: "NotRecorded";
+  readonly reason: Reason;
+}
+
+/** Variables, and the values that they have from now on: whole numbers, or true for 1 and false for 0. */
+export type Variables = Readonly<Record<string, number | bigint | boolean>>;
+
+/** The recording of one process. It writes its first line when it is made. */
+export class Recorder {
+  /** Records to a file, a pipe or the like that is open for writing, which is closed with the recorder. */
+  constructor(process: string, descriptor: number);
+
+  /** Records to a new file. One that is there already is an error with the code EEXIST. */
+  static toFile(process: string, path: string): Recorder;
+
+  /**
+   * Records to `monitor serve` on a port of this machine, 1 to 65,534, which may listen up to ten seconds later, or as
+   * many as are given; if nobody does by then, it is an error with the code ECONNREFUSED. A later call waits, and keeps
+   * the whole thread waiting, while the monitor doesn't read.
+   */
+  static toPort(process: string, port: number, options?: { seconds?: number }): Promise<Recorder>;
+
+  /** Something happened in this process; these variables have these values from now on. */
+  event(variables?: Variables): void;
+
+  /**
+   * This process sends a message to one other: call it BEFORE the message leaves. The id that it makes, the process's
+   * name and a counter as in `left-1`, has to travel with the message.
+   */
+  send(variables?: Variables): string;
+
+  /** The same, with an id that no other send of the session has. */
+  sendAs(message: string, variables?: Variables): void;
+
+  /** A message has come, with this id: call it AFTER that. A second copy of a message is refused as `id-twice`. */
+  receive(message: string, variables?: Variables): void;
+
+  /** How many events are recorded. */
+  get events(): number;
+
+  /** Nothing more happens in this process: writes the end line, and closes. A second call does nothing. */
+  end(): void;
+
+  /** Closes the file or connection. Without `end` before, the stream has no end line. A second call does nothing. */
+  close(): void;
+}

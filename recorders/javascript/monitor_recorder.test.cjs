@@ -1,0 +1,181 @@
+"use strict";
+/** Tests of monitor_recorder that the shared cases can't say: see test.sh. */
+const assert = require("node:assert/strict");
+const { spawn, spawnSync } = require("node:child_process");
+const fs = require("node:fs");
+const net = require("node:net");
+const os = require("node:os");
+const path = require("node:path");
+const { test } = require("node:test");
+const recording = require("./monitor_recorder.cjs");
+
+const { NotRecorded, Recorder } = recording;
+const FILE = path.join(__dirname, "monitor_recorder.cjs");
+const JOIN = '{"process":"left"}\n';
+const END = '{"end":true}\n';
+const folder = fs.mkdtempSync(path.join(os.tmpdir(), "recorder-"));
+let count = 0;
+
+process.on("exit", () => fs.rmSync(folder, { recursive: true }));
+
+/** A path in the tests' folder where nothing is yet. */
+function newPath() {
+  return path.join(folder, `${count++}.stream`);
+}
+
+function opened() {
+  const at = newPath();
+  return { recorder: Recorder.toFile("left", at), text: () => fs.readFileSync(at, "utf8") };
+}
+
+function refused(reason, call) {
+  assert.throws(call, (error) => error instanceof NotRecorded && error.reason === reason && error.message !== "");
+}
+
+/** The words for Node by which it runs a program with this body, in which `recording` and `word` are known. */
+function program(body, word) {
+  return ["-e", `const word = process.argv[1]; const recording = require(${JSON.stringify(FILE)}); ${body}`, word];
+}
+
+test("ids that are no texts of Unicode", () => {
+  const { recorder, text } = opened();
+  for (const id of ["\ud800", "a\udc00", "\udc00\ud800", 7, null, undefined, ["m"], new String("m")]) {
+    refused("id", () => recorder.sendAs(id));
+    refused("id", () => recorder.receive(id));
+  }
+  recorder.sendAs("a\0b");
+  assert.equal(text(), `${JOIN}{"send":"a\\u0000b"}\n`);
+  recorder.end();
+});
+
+test("values", () => {
+  const { recorder, text } = opened();
+  for (const value of [NaN, Infinity, 0.5, 2 ** 53, "1", null, undefined, [], {}, 2n ** 63n, Symbol("x")]) {
+    refused("value", () => recorder.event({ x: value }));
+  }
+  recorder.event({ a: 2 ** 53 - 1, b: -0, c: -(2n ** 63n), d: true, e: 1e3 });
+  assert.equal(text(), `${JOIN}{"set":{"a":9007199254740991,"b":0,"c":-9223372036854775808,"d":1,"e":1000}}\n`);
+  recorder.end();
+});
+
+test("names", () => {
+  refused("process-name", () => Recorder.toFile("and", newPath()));
+  refused("process-name", () => Recorder.toFile(undefined, newPath()));
+  const { recorder } = opened();
+  refused("variable-name", () => recorder.event(["a", "b"]));
+  recorder.end();
+});
+
+test("a file that is there is kept", () => {
+  const at = newPath();
+  Recorder.toFile("left", at).end();
+  assert.throws(() => Recorder.toFile("left", at), { code: "EEXIST" });
+  assert.equal(fs.readFileSync(at, "utf8"), JOIN + END);
+});
+
+test("a recorder that is closed after an exception leaves no end line", () => {
+  const { recorder, text } = opened();
+  assert.throws(() => {
+    try {
+      recorder.event();
+      throw new Error("something went wrong");
+    } finally {
+      recorder.close();
+    }
+  }, /something went wrong/);
+  assert.equal(text(), `${JOIN}{}\n`);
+  recorder.close();
+});
+
+test("after a line that could not be written nothing is", () => {
+  const full = fs.openSync("/dev/full", "w");
+  assert.throws(() => new Recorder("left", full), { code: "ENOSPC" });
+  fs.closeSync(full);
+  const at = newPath();
+  const descriptor = fs.openSync(at, "wx");
+  const recorder = new Recorder("left", descriptor);
+  fs.closeSync(descriptor);
+  assert.throws(() => recorder.event(), { code: "EBADF" });
+  refused("broken", () => recorder.event());
+  refused("broken", () => recorder.end());
+  assert.equal(recorder.events, 0);
+  assert.equal(fs.readFileSync(at, "utf8"), JOIN);
+});
+
+test("a pipe that is full, and doesn't make a writer wait", async () => {
+  const [pipe, to] = [newPath(), newPath()];
+  spawnSync("mkfifo", [pipe]);
+  const reader = spawn("sh", ["-c", 'exec 3< "$1"; sleep 0.2; cat <&3 > "$2"', "sh", pipe, to]);
+  const ended = new Promise((resolve) => reader.once("exit", resolve));
+  const recorder = new Recorder("left", await descriptorOf(pipe));
+  for (let number = 0; number < 9000; number++) recorder.send();
+  recorder.end();
+  assert.equal(await ended, 0);
+  assert.equal(fs.readFileSync(to, "utf8").split("\n").length, 9003);
+});
+
+/** A pipe for writing, once somebody reads from it. */
+async function descriptorOf(pipe) {
+  for (;;) {
+    try {
+      return fs.openSync(pipe, fs.constants.O_WRONLY | fs.constants.O_NONBLOCK);
+    } catch (error) {
+      if (error.code !== "ENXIO") throw error;
+      await new Promise((resolve) => setTimeout(resolve, 5));
+    }
+  }
+}
+
+test("an import gives the same names as require", () => {
+  const names = `import { Recorder, NotRecorded } from ${JSON.stringify(FILE)};`;
+  const words = ["--input-type=module", "-e", `${names} console.log(Recorder.name, NotRecorded.name);`];
+  const done = spawnSync(process.execPath, words, { encoding: "utf8" });
+  assert.equal(done.stdout, "Recorder NotRecorded\n");
+});
+
+test("the types name what the module has", () => {
+  const types = fs.readFileSync(path.join(__dirname, "monitor_recorder.d.cts"), "utf8");
+  const named = [...types.matchAll(/^export (?:const|class) (\w+)/gm)].map((found) => found[1]);
+  assert.deepEqual(named.sort(), Object.keys(recording).sort());
+  const methods = [...types.matchAll(/^ {2}(?:static |get )?(\w+)\(/gm)].map((found) => found[1]);
+  const members = [...Object.getOwnPropertyNames(Recorder), ...Object.getOwnPropertyNames(Recorder.prototype)];
+  const others = ["length", "name", "prototype"];
+  assert.deepEqual(new Set(methods), new Set(members.filter((name) => !others.includes(name))));
+});
+
+test("a program that ends while it has a connection", async () => {
+  const server = net.createServer().listen(0, "127.0.0.1");
+  const texts = new Promise((resolve) => {
+    server.once("connection", async (connection) => {
+      let text = "";
+      for await (const part of connection) text += part;
+      resolve(text);
+    });
+  });
+  await new Promise((resolve) => server.once("listening", resolve));
+  const body = "recording.Recorder.toPort('left', Number(word)).then((recorder) => recorder.event());";
+  const child = spawn(process.execPath, program(body, String(server.address().port)));
+  assert.equal(await new Promise((resolve) => child.once("exit", resolve)), 0);
+  assert.equal(await texts, `${JOIN}{}\n`);
+  server.close();
+});
+
+test("an error that nobody catches loses nothing", () => {
+  const at = newPath();
+  const body = "recording.Recorder.toFile('left', word).event({ x: 1 }); throw new Error('something went wrong');";
+  const done = spawnSync(process.execPath, program(body, at));
+  assert.equal(done.status, 1);
+  assert.equal(fs.readFileSync(at, "utf8"), `${JOIN}{"set":{"x":1}}\n`);
+});
+
+test("a port on which nobody listens", async () => {
+  await assert.rejects(Recorder.toPort("and", 1), { reason: "process-name" });
+  const server = net.createServer().listen(0, "127.0.0.1");
+  await new Promise((resolve) => server.once("listening", resolve));
+  const ours = net.connect(server.address().port, "127.0.0.1");
+  await new Promise((resolve) => ours.once("connect", resolve));
+  // Nobody can listen on a port that is the end of a connection.
+  await assert.rejects(Recorder.toPort("left", ours.localPort, { seconds: 0 }), { code: "ECONNREFUSED" });
+  ours.destroy();
+  server.close();
+});

@@ -1,0 +1,87 @@
+"use strict";
+/** Makes the calls that it is told on its standard input, with the recorder for Node: see recorders/cases/README.md. */
+const { setImmediate: pause } = require("node:timers/promises");
+const readline = require("node:readline");
+const { NotRecorded, Recorder } = require("./monitor_recorder.cjs");
+
+let recorder;
+
+const calls = {
+  file: (process, path) => void (recorder = Recorder.toFile(textOf(process), textOf(path))),
+  port: async (process, port, seconds) =>
+    void (recorder = await Recorder.toPort(textOf(process), Number(port), { seconds: Number(seconds) })),
+  event: (...words) => recorder.event(settingsOf(words)),
+  send: (...words) => recorder.send(settingsOf(words)),
+  "send-as": (message, ...words) => recorder.sendAs(textOf(message), settingsOf(words)),
+  receive: (message, ...words) => recorder.receive(textOf(message), settingsOf(words)),
+  events: () => recorder.events,
+  end: () => recorder.end(),
+  close: () => recorder?.close(),
+  threads: (count, turns) => run(Number(count), takeTurns, Number(turns)),
+  flood: (count) => run(Number(count), sendAll),
+};
+
+/** The text for which a word stands: `%` and two digits are a byte, and `%` alone is no text at all. */
+function textOf(word) {
+  return word === "%" ? "" : decodeURIComponent(word);
+}
+
+function settingsOf(words) {
+  const pairs = words.map((word) => [word.slice(0, word.lastIndexOf("=")), word.slice(word.lastIndexOf("=") + 1)]);
+  return Object.fromEntries(pairs.map(([name, value]) => [textOf(name), valueOf(value)]));
+}
+
+function valueOf(word) {
+  const value = JSON.parse(word);
+  return typeof value === "number" && /^-?\d+$/.test(word) && !Number.isSafeInteger(value) ? BigInt(word) : value;
+}
+
+/** Runs so many tasks, which take turns. */
+async function run(count, work, turns) {
+  const shared = { total: 0 };
+  await Promise.all(Array.from({ length: count }, (_, number) => work(number, shared, turns)));
+}
+
+async function takeTurns(number, shared, turns) {
+  for (let turn = 0; turn < turns; turn++) {
+    const message = recorder.send({ [`x${number}`]: turn });
+    await pause();
+    recorder.event({ [`y${number}`]: Number(message.split("-")[1]) });
+    await pause();
+    recorder.receive(`m${number}-${turn}`);
+    await pause();
+    shared.total += 1;
+    recorder.event({ total: shared.total });
+  }
+}
+
+async function sendAll() {
+  try {
+    for (;;) {
+      process.stdout.write(`sent ${recorder.send()}\n`);
+      await pause();
+    }
+  } catch (error) {
+    if (error.reason !== "events") throw error;
+  }
+}
+
+async function answer(call, words) {
+  try {
+    const given = await calls[call](...words);
+    return given === undefined ? "recorded" : `recorded ${given}`;
+  } catch (error) {
+    if (error instanceof NotRecorded) return `refused ${error.reason}`;
+    if (error.syscall) return "failed";
+    throw error;
+  }
+}
+
+async function main() {
+  for await (const line of readline.createInterface({ input: process.stdin })) {
+    const [call, ...words] = line.split(" ");
+    process.stdout.write(`${await answer(call, words)}\n`);
+  }
+}
+
+main();

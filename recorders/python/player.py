@@ -1,0 +1,106 @@
+"""Makes the calls that it is told on its standard input by the recorder for Python: see recorders/cases/README.md."""
+import json
+import sys
+import threading
+from urllib.parse import unquote
+
+from monitor_recorder import NotRecorded, Recorder
+
+# What a refusal's text has, for each word of the cases. The first that is found counts.
+REFUSALS = {"process-name": "no name of a process", "variable-name": "no name of a variable", "value": "the value of",
+            "variables": "16 variables", "events": "10000 events", "id": "the id", "id-twice": "before",
+            "ended": "is closed", "broken": "is broken off"}
+
+
+def text_of(word):
+    """The text for which a word stands."""
+    return "" if word == "%" else unquote(word, errors="strict")
+
+
+def settings_of(words):
+    pairs = [word.rpartition("=") for word in words]
+    return {text_of(name): json.loads(value) for name, _, value in pairs}
+
+
+class Player:
+    def __init__(self):
+        self.recorder = None
+
+    def file(self, process, path):
+        self.recorder = Recorder.to_file(text_of(process), text_of(path))
+
+    def port(self, process, port, seconds):
+        self.recorder = Recorder.to_port(text_of(process), int(port), seconds=float(seconds))
+
+    def event(self, *settings):
+        self.recorder.event(**settings_of(settings))
+
+    def send(self, *settings):
+        return self.recorder.send(**settings_of(settings))
+
+    def send_as(self, message, *settings):
+        self.recorder.send(text_of(message), **settings_of(settings))
+
+    def receive(self, message, *settings):
+        self.recorder.receive(text_of(message), **settings_of(settings))
+
+    def events(self):
+        return str(self.recorder.events)
+
+    def end(self):
+        self.recorder.close()
+
+    def close(self):
+        if self.recorder:
+            self.recorder.abandon()
+
+    def threads(self, count, turns):
+        self.total = 0
+        self.run(int(count), lambda number: self.take_turns(number, int(turns)))
+
+    def take_turns(self, number, turns):
+        for turn in range(turns):
+            message = self.recorder.send(**{f"x{number}": turn})
+            self.recorder.event(**{f"y{number}": int(message.rpartition("-")[2])})
+            self.recorder.receive(f"m{number}-{turn}")
+            with self.recorder.lock:
+                self.total += 1
+                self.recorder.event(total=self.total)
+
+    def flood(self, count):
+        self.run(int(count), self.send_all)
+
+    def send_all(self, _number):
+        try:
+            while True:
+                message = self.recorder.send()
+                print(f"sent {message}\n", end="", flush=True)
+        except NotRecorded:
+            pass
+
+    def run(self, count, work):
+        threads = [threading.Thread(target=work, args=(number,)) for number in range(count)]
+        for thread in threads:
+            thread.start()
+        for thread in threads:
+            thread.join()
+
+    def answer(self, call, *words):
+        try:
+            given = getattr(self, call.replace("-", "_"))(*words)
+        except NotRecorded as refusal:
+            return "refused " + next(word for word, text in REFUSALS.items() if text in str(refusal))
+        except OSError:
+            return "failed"
+        return f"recorded {given}" if given else "recorded"
+
+
+def main():
+    sys.stdin.reconfigure(encoding="utf-8", newline="\n")
+    player = Player()
+    for line in sys.stdin:
+        print(player.answer(*line.rstrip("\n").split(" ")), flush=True)
+
+
+if __name__ == "__main__":
+    main()

@@ -1,0 +1,174 @@
+//! Makes the calls that it is told on its standard input, with the recorder for Rust: see recorders/cases/README.md.
+use monitor_recorder::{Error, Recorder, Setting};
+use std::io::{self, BufRead, Write};
+use std::sync::Mutex;
+use std::thread;
+use std::time::Duration;
+
+/// What a call came to: an answer that begins with `recorded`, or an error.
+type Made = Result<String, Error>;
+
+fn main() -> io::Result<()> {
+    let mut recorder = None;
+    for line in io::stdin().lock().lines() {
+        let line = line?;
+        let words: Vec<&str> = line.split(' ').collect();
+        let answer = match make(&mut recorder, words[0], &words[1..]) {
+            None => "cannot".to_owned(),
+            Some(Ok(given)) => format!("recorded {given}").trim_end().to_owned(),
+            Some(Err(error)) => word_of(&error),
+        };
+        say(&answer);
+    }
+    Ok(())
+}
+
+fn say(answer: &str) {
+    let mut out = io::stdout().lock();
+    out.write_all(format!("{answer}\n").as_bytes())
+        .and_then(|()| out.flush())
+        .expect("the answer is written");
+}
+
+fn word_of(error: &Error) -> String {
+    match error {
+        Error::ProcessName(_) => "refused process-name",
+        Error::VariableName(_) => "refused variable-name",
+        Error::Variables => "refused variables",
+        Error::Events => "refused events",
+        Error::Id(_) => "refused id",
+        Error::IdTwice(_) => "refused id-twice",
+        Error::Ended => "refused ended",
+        Error::Broken => "refused broken",
+        _ => "failed",
+    }
+    .to_owned()
+}
+
+/// Makes a call; nothing, if Rust has no such call.
+fn make(recorder: &mut Option<Recorder>, call: &str, words: &[&str]) -> Option<Made> {
+    match call {
+        "file" => {
+            return Some(opened(
+                recorder,
+                Recorder::to_file(&text_of(words[0]), text_of(words[1])),
+            ))
+        }
+        "port" => {
+            let patience = Duration::from_secs_f64(words[2].parse().expect("a number of seconds"));
+            let port = words[1].parse().expect("a port");
+            return Some(opened(
+                recorder,
+                Recorder::to_port_within(&text_of(words[0]), port, patience),
+            ));
+        }
+        "close" => {
+            *recorder = None;
+            return Some(Ok(String::new()));
+        }
+        _ => (),
+    }
+    let recorder = recorder.as_ref()?; // with close it is gone
+    match call {
+        "events" => Some(Ok(recorder.events().to_string())),
+        "end" => Some(recorder.end().map(nothing)),
+        "threads" => Some(threads(recorder, number(words[0]), number(words[1])).map(nothing)),
+        "flood" => Some(flood(recorder, number(words[0])).map(nothing)),
+        _ => record(recorder, call, words),
+    }
+}
+
+fn nothing((): ()) -> String {
+    String::new()
+}
+
+fn number(word: &str) -> i64 {
+    word.parse().expect("a number")
+}
+
+fn opened(place: &mut Option<Recorder>, made: Result<Recorder, Error>) -> Made {
+    *place = Some(made?);
+    Ok(String::new())
+}
+
+fn record(recorder: &Recorder, call: &str, words: &[&str]) -> Option<Made> {
+    let has_id = matches!(call, "send-as" | "receive");
+    let id = if has_id {
+        text_of(words[0])
+    } else {
+        String::new()
+    };
+    let mut settings = Vec::new();
+    for word in &words[usize::from(has_id)..] {
+        let (name, value) = word.rsplit_once('=').expect("a setting");
+        settings.push((text_of(name), value_of(value)?));
+    }
+    let settings: Vec<Setting> = settings
+        .iter()
+        .map(|(name, value)| (name.as_str(), *value))
+        .collect();
+    Some(match call {
+        "event" => recorder.event(&settings).map(nothing),
+        "send" => recorder.send(&settings),
+        "send-as" => recorder.send_as(&id, &settings).map(nothing),
+        _ => recorder.receive(&id, &settings).map(nothing),
+    })
+}
+
+/// The value, if Rust can say it as one of 64 bits.
+fn value_of(word: &str) -> Option<i64> {
+    match word.parse::<bool>() {
+        Ok(truth) => Some(truth.into()),
+        Err(_) => word.parse().ok(),
+    }
+}
+
+/// The text for which a word stands: `%` and two digits are a byte, and `%` alone is no text at all.
+fn text_of(word: &str) -> String {
+    let mut parts = word.split('%');
+    let mut bytes = parts.next().unwrap_or_default().as_bytes().to_vec();
+    for part in parts.filter(|part| !part.is_empty()) {
+        bytes.push(u8::from_str_radix(&part[..2], 16).expect("two digits"));
+        bytes.extend(part[2..].bytes());
+    }
+    String::from_utf8(bytes).expect("a text in UTF-8")
+}
+
+fn threads(recorder: &Recorder, count: i64, turns: i64) -> Result<(), Error> {
+    let total = Mutex::new(0);
+    run(count, |thread| {
+        for turn in 0..turns {
+            let id = recorder.send(&[(&format!("x{thread}"), turn)])?;
+            let sent = id.rsplit_once('-').map_or(0, |(_, sent)| number(sent));
+            recorder.event(&[(&format!("y{thread}"), sent)])?;
+            recorder.receive(&format!("m{thread}-{turn}"), &[])?;
+            let mut total = total.lock().expect("no thread panics");
+            *total += 1;
+            recorder.event(&[("total", *total)])?;
+        }
+        Ok(())
+    })
+}
+
+fn flood(recorder: &Recorder, count: i64) -> Result<(), Error> {
+    run(count, |_| loop {
+        match recorder.send(&[]) {
+            Ok(id) => say(&format!("sent {id}")),
+            Err(Error::Events) => return Ok(()),
+            Err(error) => return Err(error),
+        }
+    })
+}
+
+/// Runs so many threads, and gives the first error of one.
+fn run(count: i64, work: impl Fn(i64) -> Result<(), Error> + Sync) -> Result<(), Error> {
+    thread::scope(|scope| {
+        let work = &work;
+        let threads: Vec<_> = (0..count)
+            .map(|thread| scope.spawn(move || work(thread)))
+            .collect();
+        threads
+            .into_iter()
+            .try_for_each(|thread| thread.join().expect("no thread panics"))
+    })
+}

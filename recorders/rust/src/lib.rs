@@ -1,0 +1,391 @@
+//! Records one process of a distributed program for `monitor`: its events in their order, one line each.
+//!
+//! ```no_run
+//! use monitor_recorder::Recorder;
+//!
+//! # fn main() -> Result<(), monitor_recorder::Error> {
+//! let recorder = Recorder::to_file("left", "left.stream")?;
+//! recorder.event(&[("inside", 1), ("waiting", 0)])?; // these are their values from now on
+//! let message = recorder.send(&[("money", 70)])?; // BEFORE the message leaves; the id travels with it
+//! recorder.receive("right-1", &[("money", 80)])?; // AFTER a message has come, with the id that came too
+//! recorder.end()?;
+//! # Ok(())
+//! # }
+//! ```
+//!
+//! Each line is handed to the operating system before the call returns, so that nothing that was recorded is lost if
+//! the process crashes. Threads and tasks may share one recorder, by reference or in an `Arc`; the calls are short and
+//! don't await. What `monitor` would refuse is refused at once, and the recorder goes on as if the call hadn't been
+//! made. The formats and limits are those of docs/SPECIFICATION.md.
+//!
+//! A recorder that is dropped before [`Recorder::end`], by `?` or by a panic, closes its file or connection and leaves
+//! no end line, since nobody knows what the process would have done: `monitor` refuses the stream as `unended`.
+use std::collections::HashSet;
+use std::fmt;
+use std::fs::OpenOptions;
+use std::io::{self, Write};
+use std::net::{Ipv4Addr, TcpStream};
+use std::path::Path;
+use std::process;
+use std::sync::{Mutex, MutexGuard, PoisonError};
+use std::thread;
+use std::time::{Duration, Instant};
+
+/// At most so many events has a process.
+pub const EVENT_LIMIT: usize = 10_000;
+/// At most so many variables has a process.
+pub const VARIABLE_LIMIT: usize = 16;
+/// At most so many bytes has the name of a process or of a variable.
+pub const NAME_BYTE_LIMIT: usize = 32;
+/// At most so many bytes has the id of a message, and at least one.
+pub const ID_BYTE_LIMIT: usize = 64;
+
+const RESERVED: [&str; 5] = ["and", "or", "not", "true", "false"];
+const PATIENCE: Duration = Duration::from_secs(10);
+const PAUSE: Duration = Duration::from_millis(50);
+
+/// A variable and the value that it has from now on. For a truth write `("inside", is_inside.into())`.
+pub type Setting<'a> = (&'a str, i64);
+
+/// Why a call recorded nothing. With all but [`Error::Io`] nothing was written.
+#[derive(Debug)]
+#[non_exhaustive]
+pub enum Error {
+    /// This is no name of a process: letters, digits and `_`, at most 32, no digit first, no word of predicates.
+    ProcessName(String),
+    /// This is no name of a variable, or it stands twice in one call.
+    VariableName(String),
+    /// A process has at most 16 variables.
+    Variables,
+    /// A process has at most 10,000 events.
+    Events,
+    /// The id of a message has 1 to 64 bytes, and this one hasn't.
+    Id(String),
+    /// The process has sent or received a message with this id before. A receipt of which this is said is that of a
+    /// second copy.
+    IdTwice(String),
+    /// The recorder belongs to the process of which this one is a fork.
+    Fork,
+    /// The recording has ended.
+    Ended,
+    /// An earlier line could not be written, so none is any more.
+    Broken,
+    /// The system could not open or write the recording; a part of the line may have been written.
+    Io(io::Error),
+}
+
+impl fmt::Display for Error {
+    fn fmt(&self, to: &mut fmt::Formatter<'_>) -> fmt::Result {
+        match self {
+            Error::ProcessName(name) => write!(to, "{name:?} is not a name of a process"),
+            Error::VariableName(name) => {
+                write!(to, "{name:?} is not a name of a variable, or stands twice")
+            }
+            Error::Variables => write!(to, "a process has at most {VARIABLE_LIMIT} variables"),
+            Error::Events => write!(to, "a process has at most {EVENT_LIMIT} events"),
+            Error::Id(id) => write!(
+                to,
+                "the id of a message has 1 to {ID_BYTE_LIMIT} bytes, and {id:?} has {}",
+                id.len()
+            ),
+            Error::IdTwice(id) => write!(to, "the process has sent or received {id:?} before"),
+            Error::Fork => write!(
+                to,
+                "the recorder belongs to the process of which this one is a fork"
+            ),
+            Error::Ended => write!(to, "the recording has ended"),
+            Error::Broken => write!(to, "an earlier line could not be written"),
+            Error::Io(error) => write!(to, "the recording could not be opened or written: {error}"),
+        }
+    }
+}
+
+impl std::error::Error for Error {
+    fn source(&self) -> Option<&(dyn std::error::Error + 'static)> {
+        match self {
+            Error::Io(error) => Some(error),
+            _ => None,
+        }
+    }
+}
+
+impl From<io::Error> for Error {
+    fn from(error: io::Error) -> Self {
+        Error::Io(error)
+    }
+}
+
+/// The recording of one process. It writes its first line when it is made.
+///
+/// Record while you hold the lock of the data, if a change of shared data and its line must stay together.
+///
+/// # Errors
+///
+/// A call that is refused writes nothing, and the recorder goes on as if it hadn't been made. With [`Error::Io`] a part
+/// of the line may have been written, and each later call is [`Error::Broken`].
+#[must_use = "a recorder that is dropped before its end leaves a stream that is refused"]
+pub struct Recorder {
+    process: String,
+    owner: u32,
+    recording: Mutex<Recording>,
+}
+
+struct Recording {
+    /// Nothing, once the recording has ended.
+    out: Option<Box<dyn Write + Send>>,
+    is_broken: bool,
+    events: usize,
+    /// The number of the last id that was made.
+    made: u64,
+    ids: HashSet<String>,
+    names: HashSet<String>,
+}
+
+impl Recorder {
+    /// Records to a new file. One that is there already is [`io::ErrorKind::AlreadyExists`].
+    pub fn to_file(process: &str, path: impl AsRef<Path>) -> Result<Self, Error> {
+        check_process(process)?;
+        Recorder::new(
+            process,
+            OpenOptions::new().write(true).create_new(true).open(path)?,
+        )
+    }
+
+    /// Records to `monitor serve` on a port of this machine, which may listen up to ten seconds later; if nobody does
+    /// by then, it is [`io::ErrorKind::ConnectionRefused`]. A later call waits while the monitor doesn't read.
+    pub fn to_port(process: &str, port: u16) -> Result<Self, Error> {
+        Recorder::to_port_within(process, port, PATIENCE)
+    }
+
+    /// The same, with another time to wait for somebody who listens.
+    pub fn to_port_within(process: &str, port: u16, patience: Duration) -> Result<Self, Error> {
+        check_process(process)?;
+        Recorder::new(process, connection_to(port, patience)?)
+    }
+
+    /// Records to a file, a connection or whatever else takes bytes; each line is flushed.
+    pub fn new(process: &str, out: impl Write + Send + 'static) -> Result<Self, Error> {
+        check_process(process)?;
+        let mut recording = Recording {
+            out: Some(Box::new(out)),
+            is_broken: false,
+            events: 0,
+            made: 0,
+            ids: HashSet::new(),
+            names: HashSet::new(),
+        };
+        recording.write(&format!("{{\"process\":\"{process}\"}}\n"))?;
+        Ok(Recorder {
+            process: process.to_owned(),
+            owner: process::id(),
+            recording: Mutex::new(recording),
+        })
+    }
+
+    /// Something happened in this process; these variables have these values from now on.
+    pub fn event(&self, settings: &[Setting]) -> Result<(), Error> {
+        self.ready()?.record(None, settings)
+    }
+
+    /// This process sends a message to one other: call it BEFORE the message leaves. The id that it makes, the
+    /// process's name and a counter as in `left-1`, has to travel with the message.
+    pub fn send(&self, settings: &[Setting]) -> Result<String, Error> {
+        let mut recording = self.ready()?;
+        let mut number = recording.made + 1;
+        while recording.ids.contains(&self.id(number)) {
+            number += 1;
+        }
+        recording.record(Some(("send", &self.id(number))), settings)?;
+        recording.made = number;
+        Ok(self.id(number))
+    }
+
+    /// The same, with an id that no other send of the session has.
+    pub fn send_as(&self, id: &str, settings: &[Setting]) -> Result<(), Error> {
+        self.ready()?.record(Some(("send", id)), settings)
+    }
+
+    /// A message has come, with this id: call it AFTER that. A second copy of a message is [`Error::IdTwice`].
+    pub fn receive(&self, id: &str, settings: &[Setting]) -> Result<(), Error> {
+        self.ready()?.record(Some(("recv", id)), settings)
+    }
+
+    /// How many events are recorded.
+    pub fn events(&self) -> usize {
+        self.locked().events
+    }
+
+    /// Nothing more happens in this process: writes the end line, and closes the file or connection. A second call does
+    /// nothing.
+    pub fn end(&self) -> Result<(), Error> {
+        let mut recording = match self.ready() {
+            Err(Error::Ended) => return Ok(()),
+            ready => ready?,
+        };
+        recording.write("{\"end\":true}\n")?;
+        recording.out = None;
+        Ok(())
+    }
+
+    fn id(&self, number: u64) -> String {
+        format!("{}-{number}", self.process)
+    }
+
+    fn locked(&self) -> MutexGuard<'_, Recording> {
+        self.recording
+            .lock()
+            .unwrap_or_else(PoisonError::into_inner)
+    }
+
+    /// The recording, if a line may be written to it.
+    fn ready(&self) -> Result<MutexGuard<'_, Recording>, Error> {
+        if process::id() != self.owner {
+            return Err(Error::Fork);
+        }
+        let recording = self.locked();
+        match recording.out {
+            None => Err(Error::Ended),
+            Some(_) if recording.is_broken => Err(Error::Broken),
+            Some(_) => Ok(recording),
+        }
+    }
+}
+
+impl fmt::Debug for Recorder {
+    fn fmt(&self, to: &mut fmt::Formatter<'_>) -> fmt::Result {
+        to.debug_struct("Recorder")
+            .field("process", &self.process)
+            .finish_non_exhaustive()
+    }
+}
+
+impl Recording {
+    /// Checks an event and writes its line; the message is its field and its id.
+    fn record(&mut self, message: Option<(&str, &str)>, settings: &[Setting]) -> Result<(), Error> {
+        if self.events == EVENT_LIMIT {
+            return Err(Error::Events);
+        }
+        if let Some((_, id)) = message {
+            if id.is_empty() || id.len() > ID_BYTE_LIMIT {
+                return Err(Error::Id(id.to_owned()));
+            }
+            if self.ids.contains(id) {
+                return Err(Error::IdTwice(id.to_owned()));
+            }
+        }
+        self.check_settings(settings)?;
+        self.write(&line_of(message, settings))?;
+        self.events += 1;
+        self.ids.extend(message.map(|(_, id)| id.to_owned()));
+        self.names
+            .extend(settings.iter().map(|&(name, _)| name.to_owned()));
+        Ok(())
+    }
+
+    fn check_settings(&self, settings: &[Setting]) -> Result<(), Error> {
+        let mut names = HashSet::new();
+        for &(name, _) in settings {
+            if !is_name(name) || !names.insert(name) {
+                return Err(Error::VariableName(name.to_owned()));
+            }
+        }
+        let added = names
+            .iter()
+            .filter(|&&name| !self.names.contains(name))
+            .count();
+        if self.names.len() + added > VARIABLE_LIMIT {
+            return Err(Error::Variables);
+        }
+        Ok(())
+    }
+
+    /// Hands the line to the system. If that fails, or panics, nothing more is written later.
+    fn write(&mut self, line: &str) -> Result<(), Error> {
+        // With the limits above no line has over 1,400 bytes, and no stream over 14,000,000: monitor takes more.
+        let out = self.out.as_mut().ok_or(Error::Ended)?;
+        self.is_broken = true;
+        out.write_all(line.as_bytes())?;
+        out.flush()?;
+        self.is_broken = false;
+        Ok(())
+    }
+}
+
+/// The line of an event, with its LF.
+fn line_of(message: Option<(&str, &str)>, settings: &[Setting]) -> String {
+    let mut fields = Vec::new();
+    if let Some((field, id)) = message {
+        fields.push(format!("{}:{}", quoted(field), quoted(id)));
+    }
+    if !settings.is_empty() {
+        let pairs: Vec<_> = settings
+            .iter()
+            .map(|(name, value)| format!("{}:{value}", quoted(name)))
+            .collect();
+        fields.push(format!("\"set\":{{{}}}", pairs.join(",")));
+    }
+    format!("{{{}}}\n", fields.join(","))
+}
+
+/// The text as JSON has it between quotes: as short as it can be.
+fn quoted(text: &str) -> String {
+    let mut quoted = String::from("\"");
+    for character in text.chars() {
+        match character {
+            '"' | '\\' => quoted.extend(['\\', character]),
+            '\u{8}' => quoted.push_str("\\b"),
+            '\u{c}' => quoted.push_str("\\f"),
+            '\n' => quoted.push_str("\\n"),
+            '\r' => quoted.push_str("\\r"),
+            '\t' => quoted.push_str("\\t"),
+            '\0'..='\u{1f}' => quoted.push_str(&format!("\\u{:04x}", u32::from(character))),
+            _ => quoted.push(character),
+        }
+    }
+    quoted.push('"');
+    quoted
+}
+
+fn check_process(name: &str) -> Result<(), Error> {
+    if is_name(name) {
+        Ok(())
+    } else {
+        Err(Error::ProcessName(name.to_owned()))
+    }
+}
+
+fn is_name(name: &str) -> bool {
+    let is_letter = |byte: u8| byte.is_ascii_alphabetic() || byte == b'_';
+    name.bytes().next().map_or(false, is_letter)
+        && name
+            .bytes()
+            .all(|byte| is_letter(byte) || byte.is_ascii_digit())
+        && name.len() <= NAME_BYTE_LIMIT
+        && !RESERVED.contains(&name)
+}
+
+/// A connection to a port of this machine, on which nobody may listen yet.
+fn connection_to(port: u16, patience: Duration) -> io::Result<TcpStream> {
+    let begin = Instant::now();
+    loop {
+        match connection_now(port) {
+            Err(error)
+                if error.kind() == io::ErrorKind::ConnectionRefused
+                    && begin.elapsed() < patience =>
+            {
+                thread::sleep(PAUSE);
+            }
+            connected => return connected,
+        }
+    }
+}
+
+fn connection_now(port: u16) -> io::Result<TcpStream> {
+    let connection = TcpStream::connect((Ipv4Addr::LOCALHOST, port))?;
+    // A connection to a port that nobody has bound can come to be with itself.
+    if connection.local_addr()? == connection.peer_addr()? {
+        return Err(io::ErrorKind::ConnectionRefused.into());
+    }
+    connection.set_nodelay(true)?;
+    Ok(connection)
+}
