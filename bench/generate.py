@@ -130,7 +130,7 @@ def heavy_sums():
 
 
 def many_sums():
-    rounds(8, size(3, 2), size(3, 1), [(f"q{k}", " or ".join(sums(8, 30, k))) for k in range(16)])
+    rounds(8, size(3, 1), size(3, 1), [(f"q{k}", " or ".join(sums(8, 30, k))) for k in range(16)])
 
 
 def listed_sums():
