@@ -20,6 +20,7 @@ import time
 
 ROOT = os.path.dirname(os.path.dirname(os.path.abspath(__file__)))
 NEAR = 0.8  # which part of the longest chain is one nearly as long
+MOST = 2  # how many jobs one crate has at most: with five, one took twice as long as with one
 
 
 def libraries():
@@ -125,9 +126,9 @@ class Run:
         return None
 
     def start_next(self):
-        """Starts what can be proved. What has the longest chain above it comes first, and has most of the jobs: what is
-        above it waits for it. What has a chain nearly as long has two. One job more than there are processors keeps
-        them busy while a check begins and ends."""
+        """Starts what can be proved. What has the longest chain above it comes first, since what is above it waits for
+        it: that and what has a chain nearly as long have two jobs. One job more than there are processors keeps them
+        busy while a check begins and ends."""
         ready = [name for name in self.waiting if self.below[name] <= self.proved]
         ready.sort(key=lambda it: -self.ranks[it])
         longest = max((self.ranks[name] for name in self.waiting | self.working), default=0)
@@ -135,9 +136,7 @@ class Run:
             if self.idle <= 0 or not self.free:
                 break
             is_first = all(self.ranks[name] >= self.ranks[other] for other in self.working)
-            most = self.jobs if len(ready) == 1 and not self.working else max(1, self.jobs - 1)
-            is_near = self.ranks[name] >= NEAR * longest
-            jobs = min(self.idle, most if is_first else 2 if is_near else 1)
+            jobs = min(self.idle, MOST if is_first or self.ranks[name] >= NEAR * longest else 1)
             self.idle -= jobs
             self.waiting.remove(name)
             self.working.add(name)
