@@ -96,7 +96,8 @@ ordered_processes value h =
 
 ordered_fields : (fields : Members) → HasOrderedKeys fields → Holds AllHaveOrderedVars (outline_of_fields fields)
 ordered_fields fields h =
-    holds_if AllHaveOrderedVars (has_only (codes "processes" ∷ codes "predicates" ∷ codes "width" ∷ []) fields) _
+    holds_if AllHaveOrderedVars
+    (has_only (codes "processes" ∷ codes "predicates" ∷ codes "width" ∷ codes "version" ∷ []) fields) _
     (holds_map (λ (both : List (List ℕ × Members) × List (List ℕ × List ℕ)). AllByRecursion HasOrderedVars both.0)
     AllHaveOrderedVars _ (λ both k. k) _
     (holds_first (AllByRecursion HasOrderedVars)

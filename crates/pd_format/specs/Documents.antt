@@ -1,8 +1,9 @@
 -- The session document.
-use Rattle.std.specs.Prelude.{◌≡◌, ℕ, ◌+◌, Bool, true, false, not, ◌&&◌, ◌||◌, nat_le, nat_lt, if◌then◌else◌, List, [], ◌∷◌, ◌++◌, length, map, codes, ℤ, pos, negsuc, Option, Some, None, is_some, option_map, option_and_then, unwrap_or, Result, Ok, Err}
+use Rattle.std.specs.Prelude.{◌≡◌, ℕ, ◌+◌, Bool, true, false, not, ◌&&◌, ◌||◌, nat_eq, nat_le, nat_lt, if◌then◌else◌, List, [], ◌∷◌, ◌++◌, length, map, codes, ℤ, pos, negsuc, Option, Some, None, is_some, option_map, option_and_then, unwrap_or, Result, Ok, Err}
 use Rattle.std.specs.List.{list_all, AllZip, AllByRecursion}
 use Rattle.serde_json.specs.Data.{Data, Items, no_items, item, Members}
 use Rattle.serde_json.specs.Find.{get_member, as_str, as_object, as_array}
+use Rattle.pd_model.specs.Messages.{Version, One, Two}
 use Rattle.pd_model.specs.Predicates.{Predicate}
 use Rattle.pd_format.specs.Lists.{first_that_applies, unless, is_one_of}
 use Rattle.pd_format.specs.Names.{ProcessNames, is_name}
@@ -10,12 +11,13 @@ use Rattle.pd_format.specs.Records.{json_value, whole_number, keys, values, has_
 use Rattle.pd_format.specs.PredicateTexts.{PredicateFault, IsPredicate, IsRefusedPredicate}
 use Rattle.pd_format.specs.Limits.{document_byte_limit, default_width, var_limit, width_limit, process_limit, predicate_limit}
 
--- a document of right shape: the processes with their variables, the predicates with their texts, and the width if it
--- is there
+-- a document of right shape: the processes with their variables, the predicates with their texts, and the width and the
+-- version where they are there
 pub record Outline : Type 0 where
   pub processes : List (List ℕ × Members)
   pub predicates : List (List ℕ × List ℕ)
   pub width : Option Data
+  pub version : Option Data
 
 -- both, if both are there
 abbrev pub pair_of : {A B : Type 0} → Option A → Option B → Option (A × B)
@@ -42,12 +44,13 @@ objects f value = option_and_then (each f) (as_array value)
 
 abbrev pub outline_of_fields : Members → Option Outline
 outline_of_fields fields =
-    if has_only (codes "processes" ∷ codes "predicates" ∷ codes "width" ∷ []) fields
+    if has_only (codes "processes" ∷ codes "predicates" ∷ codes "width" ∷ codes "version" ∷ []) fields
     then option_map (λ (both : List (List ℕ × Members) × List (List ℕ × List ℕ)). record {
       processes =
           both.0;
       predicates = both.1;
       width = get_member (codes "width") fields;
+      version = get_member (codes "version") fields;
     })
     (pair_of (field (codes "processes") (objects (named_object (codes "vars") as_object)) fields)
     (field (codes "predicates") (objects (named_object (codes "text") as_str)) fields))
@@ -68,6 +71,7 @@ pub data DocumentFault : Type 0 where
   Vars : DocumentFault
   Predicates : DocumentFault
   Width : DocumentFault
+  OtherVersion : DocumentFault
   InPredicate : ℕ → PredicateFault → ℕ → DocumentFault
 
 abbrev pub is_within : ℕ → ℕ → ℕ → Bool
@@ -97,7 +101,7 @@ abbrev pub width_fits : Option Data → Bool
 width_fits None = true
 width_fits (Some value) = unwrap_or (option_map is_width (whole_number value)) false
 
--- the first fault of a document of right shape, but for those in predicates
+-- the first fault of a document of right shape, but for those in predicates and that of its version
 abbrev pub outline_fault : Outline → Option DocumentFault
 outline_fault outline = first_that_applies (
     (not (is_within 1 process_limit (length outline.processes)), Processes)
@@ -121,7 +125,7 @@ abbrev pub outline_of_json : Option Data → Result Outline DocumentFault
 outline_of_json None = Err Json
 outline_of_json (Some value) = checked_outline (outline_of value)
 
--- the outline of a document's bytes, or the first fault that isn't in a predicate
+-- the outline of a document's bytes, or the first fault but for those in predicates and that of its version
 unfoldable pub outline_of_bytes : List ℕ → Result Outline DocumentFault
 outline_of_bytes bytes =
     if nat_lt document_byte_limit (length bytes) then Err Long else outline_of_json (json_value bytes)
@@ -137,6 +141,7 @@ pub record Document : Type 0 where
   pub initial : List (List ℤ)
   pub predicates : List NamedPredicate
   pub width : ℕ
+  pub version : Version
 
 abbrev pub names_of_outline : Outline → List ProcessNames
 names_of_outline outline =
@@ -154,6 +159,16 @@ natural (negsuc n) = 0
 abbrev pub width_of : Option Data → ℕ
 width_of width = unwrap_or (option_map natural (option_and_then whole_number width)) default_width
 
+-- the version of this number, if there is one
+abbrev pub numbered_version : ℤ → Option Version
+numbered_version (pos n) = if nat_eq n 1 then Some One else if nat_eq n 2 then Some Two else None
+numbered_version (negsuc n) = None
+
+-- the version that the field says, if it says one: version 1 where there is no such field
+abbrev pub version_of : Option Data → Option Version
+version_of None = Some One
+version_of (Some value) = option_and_then numbered_version (whole_number value)
+
 -- the name is that of the predicate's, and the text is the predicate
 abbrev pub IsNamedPredicate : List ProcessNames → List ℕ × List ℕ → NamedPredicate → Type 0
 IsNamedPredicate names written predicate = (predicate.name ≡ written.0)
@@ -166,7 +181,12 @@ pub record IsDocument (bytes : List ℕ) (document : Document) : Type 0 where
   pub names : document.names ≡ names_of_outline outline
   pub initial : document.initial ≡ initial_of outline
   pub width : document.width ≡ width_of outline.width
+  pub version : version_of outline.version ≡ Some document.version
   pub predicates : AllZip (IsNamedPredicate (names_of_outline outline)) outline.predicates document.predicates
+
+-- a text, by the names of the outline, is a predicate
+abbrev pub IsSpelled : Outline → List ℕ × List ℕ → Type 0
+IsSpelled outline written = (predicate : Predicate) × IsPredicate (names_of_outline outline) written.1 predicate
 
 -- a predicate of a sound outline is refused, and those before it aren't
 pub record HasRefusedPredicate (bytes : List ℕ) (number : ℕ) (fault : PredicateFault) (at : ℕ) : Type 0 where
@@ -178,10 +198,17 @@ pub record HasRefusedPredicate (bytes : List ℕ) (number : ℕ) (fault : Predic
   pub parts : outline.predicates ≡ before ++ refused ∷ after
   pub place : number ≡ length before + 1
   pub stands : IsRefusedPredicate (names_of_outline outline) refused.1 fault at
-  pub none_before : AllByRecursion (λ (written : List ℕ × List ℕ). (predicate : Predicate)
-      × IsPredicate (names_of_outline outline) written.1 predicate) before
+  pub none_before : AllByRecursion (IsSpelled outline) before
+
+-- no predicate of a sound outline is refused, and its field says no version
+pub record HasOtherVersion (bytes : List ℕ) : Type 0 where
+  pub outline : Outline
+  pub sound : outline_of_bytes bytes ≡ Ok outline
+  pub spelled : AllByRecursion (IsSpelled outline) outline.predicates
+  pub none : version_of outline.version ≡ None
 
 -- the bytes are refused with this fault
 abbrev pub IsRefusedDocument : List ℕ → DocumentFault → Type 0
 IsRefusedDocument bytes (InPredicate number fault at) = HasRefusedPredicate bytes number fault at
+IsRefusedDocument bytes OtherVersion = HasOtherVersion bytes
 IsRefusedDocument bytes fault = outline_of_bytes bytes ≡ Err fault

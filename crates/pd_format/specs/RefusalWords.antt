@@ -32,6 +32,7 @@ document_refusal documents.NameTwice = reports.Spec (codes "nametwice")
 document_refusal documents.Vars = reports.Spec (codes "vars")
 document_refusal documents.Predicates = reports.Spec (codes "predicates")
 document_refusal documents.Width = reports.Spec (codes "width")
+document_refusal documents.OtherVersion = reports.Spec (codes "version")
 document_refusal (documents.InPredicate number fault at) = reports.Predicate number (predicate_word fault) at
 
 abbrev pub record_word : RecordFault → List ℕ

@@ -1,6 +1,7 @@
 -- A small session on which the definitions are tried: one message, and whether both variables can be 1.
 use Rattle.std.specs.Prelude.{List, [], ◌∷◌, codes, pos}
 use Rattle.pd_model.specs.Events.{Send, Receive}
+use Rattle.pd_model.specs.Messages.{One}
 use Rattle.pd_model.specs.Examples.{event, zeros, one_message, both}
 use Rattle.pd_format.specs.Readings.{Trace}
 use Rattle.pd_format.specs.Documents.{Document}
@@ -19,6 +20,7 @@ asks_both = record {
   initial = zeros;
   predicates = record { name = codes "both"; predicate = both } ∷ [];
   width = 1;
+  version = One;
 }
 
 -- the traces of the computation with one message

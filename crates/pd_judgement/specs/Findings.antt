@@ -2,7 +2,7 @@
 use Rattle.std.specs.Prelude.{◌≡◌, ℕ, Bool, true, false, not, ◌&&◌, ◌||◌, IsTrue, ◌↔◌, List, ◌∷◌, [], ◌++◌, All, length, map, zip, codes, decimal, Option, Some, None, Ok}
 use Rattle.std.specs.List.{AllZip, list_any}
 use Rattle.pd_model.specs.Events.{Computation, Place}
-use Rattle.pd_model.specs.Messages.{IsMessageList}
+use Rattle.pd_model.specs.Messages.{HasMessages}
 use Rattle.pd_model.specs.Order.{IsWellFormed}
 use Rattle.pd_model.specs.Cuts.{IsConsistent, total}
 use Rattle.pd_model.specs.Answers.{IsAvoidingObservation}
@@ -64,18 +64,18 @@ pub data IsAnswersFinding (document : Document) (traces : List Trace) (answers :
 
 -- a document's bytes and the streams hold a well-formed session
 pub record IsSessionOf (bytes : List ℕ) (streams : List RawStream) (document : Document) (traces : List Trace)
-    (messages : List (Place × Place)) : Type 0 where
+    (messages : ℕ) : Type 0 where
   pub read : IsDocument bytes document
   pub results : List StreamResult
   pub are_results : AreResultsOf document.names streams results
   pub joined : session document.names (length streams) results ≡ Ok traces
-  pub formed : IsWellFormed (events_of_traces traces)
-  pub are_messages : IsMessageList (events_of_traces traces) messages
+  pub formed : IsWellFormed document.version (events_of_traces traces)
+  pub counted : HasMessages (events_of_traces traces) messages
 
 -- the report's counts are those of the session
-abbrev pub AreCounts : Document → List Trace → List (Place × Place) → (processes events matched : ℕ) → Type 0
+abbrev pub AreCounts : Document → List Trace → (messages processes events matched : ℕ) → Type 0
 AreCounts document traces messages processes events matched = (processes ≡ length document.names)
-    × (events ≡ total (events_of_traces traces)) × (matched ≡ length messages)
+    × (events ≡ total (events_of_traces traces)) × (matched ≡ messages)
 
 -- What a check of a report's bytes finds, if the document's bytes and the streams are these: the report isn't read;
 -- the session is refused, and the report is that refusal or not; the session is well formed, and the report is a
@@ -85,11 +85,11 @@ pub data IsFinding (bytes report : List ℕ) (streams : List RawStream) : Findin
   of_refused_session : (claimed : Report) (refusal : Refusal) (good : Bool) → IsReport report claimed
       → IsJudgement bytes streams (Refused refusal) → (IsTrue good ↔ (claimed ≡ Refused refusal))
       → IsFinding bytes report streams (OfRefusal good)
-  of_refusal : (refusal : Refusal) (document : Document) (traces : List Trace) (messages : List (Place × Place))
+  of_refusal : (refusal : Refusal) (document : Document) (traces : List Trace) (messages : ℕ)
       → IsReport report (Refused refusal) → IsSessionOf bytes streams document traces messages
       → IsFinding bytes report streams (OfRefusal false)
   of_session : (processes events matched : ℕ) (answers : List Answer) (document : Document) (traces : List Trace)
-      (messages : List (Place × Place)) (good : Bool) (found : Option (List Checked))
+      (messages : ℕ) (good : Bool) (found : Option (List Checked))
       → IsReport report (Judged processes events matched answers) → IsSessionOf bytes streams document traces messages
       → (IsTrue good ↔ AreCounts document traces messages processes events matched)
       → IsAnswersFinding document traces answers found → IsFinding bytes report streams (OfSession good found)

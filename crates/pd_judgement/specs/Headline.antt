@@ -3,7 +3,7 @@
 use Rattle.std.specs.Prelude.{◌≡◌, ℕ, ◌≤◌, Bool, true, false, ⊤, ◌⊎◌, ◌↔◌, List, All, length, map, sum, Ok}
 use Rattle.std.specs.List.{AllZip}
 use Rattle.pd_model.specs.Events.{Computation, Place}
-use Rattle.pd_model.specs.Messages.{IsMessageList}
+use Rattle.pd_model.specs.Messages.{HasMessages}
 use Rattle.pd_model.specs.Order.{IsWellFormed}
 use Rattle.pd_model.specs.Cuts.{IsConsistent, IsOfLevel, total}
 use Rattle.pd_model.specs.Observations as observations
@@ -64,17 +64,17 @@ AnswersTruly document traces asked answer =
 -- The report counts the processes, the events and the messages, and answers each predicate of the document truly, in
 -- their order.
 pub record TellsTruth (document : Document) (traces : List Trace) (report : Report) : Type 0 where
-  pub messages : List (Place × Place)
+  pub messages : ℕ
   pub answers : List Answer
-  pub reported : report ≡ Judged (length document.names) (total (events_of_traces traces)) (length messages) answers
-  pub are_messages : IsMessageList (events_of_traces traces) messages
+  pub reported : report ≡ Judged (length document.names) (total (events_of_traces traces)) messages answers
+  pub counted : HasMessages (events_of_traces traces) messages
   pub truly : AllZip (AnswersTruly document traces) document.predicates answers
 
 -- A report of traces that make a well-formed computation with no level over the width says the truth.
 abbrev pub Headline : Type 0
 Headline =
-    (document : Document) (traces : List Trace) (report : Report) → IsWellFormed (events_of_traces traces)
-    → IsNarrow (events_of_traces traces) document.width → IsTracesReport document traces report
+    (document : Document) (traces : List Trace) (report : Report)
+    → IsWellFormed document.version (events_of_traces traces) → IsNarrow (events_of_traces traces) document.width → IsTracesReport document traces report
     → TellsTruth document traces report
 
 -- The report has an answer for each predicate, and is no refusal.
@@ -108,9 +108,9 @@ pub record HoldsSession (bytes : List ℕ) (streams : List RawStream) (document 
 pub record IsTrueReport (bytes : List ℕ) (streams : List RawStream) (report : Report) : Type 0 where
   pub agrees : ReportAgrees report
   pub judged : (document : Document) (traces : List Trace) → HoldsSession bytes streams document traces
-      → IsWellFormed (events_of_traces traces) → is_judged report ≡ true
+      → IsWellFormed document.version (events_of_traces traces) → is_judged report ≡ true
   pub headline : (document : Document) (traces : List Trace) → HoldsSession bytes streams document traces
-      → IsWellFormed (events_of_traces traces) → IsNarrow (events_of_traces traces) document.width
+      → IsWellFormed document.version (events_of_traces traces) → IsNarrow (events_of_traces traces) document.width
       → TellsTruth document traces report
 
 -- The report of a document's bytes and of streams is true.

@@ -2,7 +2,7 @@
 use Rattle.std.specs.Prelude.{◌≡◌, ℕ, List, [], ◌∷◌, length, map, Some, Result, Ok, Err}
 use Rattle.std.specs.List.{AllZip}
 use Rattle.pd_model.specs.Events.{Computation, Place}
-use Rattle.pd_model.specs.Messages.{Fault, IsReported, HasLawfulMessages, IsMessageList}
+use Rattle.pd_model.specs.Messages.{Fault, IsReported, HasLawfulMessages, HasMessages}
 use Rattle.pd_model.specs.Order.{IsWellFormed, IsReportedCycle}
 use Rattle.pd_model.specs.Cuts.{total}
 use Rattle.pd_model.specs.Predicates.{Recorded, test_of}
@@ -50,16 +50,16 @@ pub record IsAnswered (names : List ProcessNames) (recorded : Recorded) (width :
 
 -- The report of traces: the first fault of the messages, else the causal cycle, else the answers.
 pub data IsTracesReport (document : Document) (traces : List Trace) : Report → Type 0 where
-  of_messages : (fault : Fault) → IsReported (events_of_traces traces) fault
+  of_messages : (fault : Fault) → IsReported document.version (events_of_traces traces) fault
       → IsTracesReport document traces (Refused (match_refusal document.names fault))
-  of_cycle : (cycle : List Place) → HasLawfulMessages (events_of_traces traces)
+  of_cycle : (cycle : List Place) → HasLawfulMessages document.version (events_of_traces traces)
       → IsReportedCycle (events_of_traces traces) cycle
       → IsTracesReport document traces (Refused (reports.Cycle (map (named_place document.names) cycle)))
-  of_answers : (messages : List (Place × Place)) (answers : List Answer) → IsWellFormed (events_of_traces traces)
-      → IsMessageList (events_of_traces traces) messages
+  of_answers : (messages : ℕ) (answers : List Answer)
+      → IsWellFormed document.version (events_of_traces traces) → HasMessages (events_of_traces traces) messages
       → AllZip (IsAnswered document.names (recorded_of document traces) document.width) document.predicates answers
       → IsTracesReport document traces (Judged (length document.names) (total (events_of_traces traces))
-      (length messages) answers)
+      messages answers)
 
 -- the report of what a session comes to
 abbrev pub IsReportOfSession : Document → Result (List Trace) SessionFault → Report → Type 0

@@ -111,7 +111,7 @@ abbrev pub WritesTruth : (document : List ℕ) (streams : List RawStream) (IsJud
     → (old new : Option (List ℕ)) → Type 0
 WritesTruth bytes streams IsJudged old new =
     (document : Document) (traces : List Trace) → HoldsSession bytes streams document traces
-    → IsWellFormed (events_of_traces traces)
+    → IsWellFormed document.version (events_of_traces traces)
     → IsJudged × (IsNarrow (events_of_traces traces) document.width → Writes (IsTrueText document traces) Whole old new)
 
 -- the same of the parts of the bundle that a reader with this left gave

@@ -3,7 +3,7 @@ use Rattle.std.proofs.Common.{◌≡◌, ℕ, zero, suc, ◌+◌, ◌<◌, ◌�
 use Rattle.std.specs.List.{AllByRecursion}
 use Rattle.std.proofs.lemmas.List.{length-set, reverse-append}
 use Rattle.pd_model.specs.Events.{Computation, Place, IsEvent, Event, Linked, first_of, event_count}
-use Rattle.pd_model.specs.Messages.{Fault, SendTwice, Orphan, SelfMessage, ReceivedTwice, IsReported}
+use Rattle.pd_model.specs.Messages.{Version, Fault, SendTwice, Orphan, SelfMessage, ReceivedTwice, IsReported}
 use Rattle.pd_model.specs.Order.{IsStuck, GoesBackTo, IsReportedCycle}
 use Rattle.pd_model.specs.Cuts.{full_cut, one_less, total}
 use Rattle.pd_model.specs.Answers.{IsUndoing, IsPrintedPath, IsPossiblyAnswer, PossiblyUnknown, IsDefinitelyAnswer, DefinitelyYes, DefinitelyUnknown}
@@ -60,11 +60,11 @@ place_of_fault (SelfMessage e) = e
 place_of_fault (ReceivedTwice e) = e
 
 -- it is an event's
-pub fault_is_event : (c : Computation) (fault : Fault) → IsReported c fault → IsEvent c (place_of_fault fault)
-fault_is_event c (SendTwice e) r = event_from_kind c e _ r.0.2
-fault_is_event c (Orphan e) r = event_from_kind c e _ r.2.1
-fault_is_event c (SelfMessage e) r = event_from_kind c e _ r.3.2
-fault_is_event c (ReceivedTwice e) r = event_from_kind c e _ r.4.2
+pub fault_is_event : (version : Version) (c : Computation) (fault : Fault) → IsReported version c fault → IsEvent c (place_of_fault fault)
+fault_is_event version c (SendTwice e) r = event_from_kind c e _ r.0.2
+fault_is_event version c (Orphan e) r = event_from_kind c e _ r.2.1
+fault_is_event version c (SelfMessage e) r = event_from_kind c e _ r.3.2
+fault_is_event version c (ReceivedTwice e) r = event_from_kind c e _ r.4.2
 
 stuck_is_event : (c : Computation) (e : Place) → IsStuck c e → IsEvent c e
 stuck_is_event c e stuck = (events_of_happens c stuck.0 e stuck.2).1
