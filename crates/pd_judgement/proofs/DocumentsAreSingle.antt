@@ -1,9 +1,11 @@
 -- Bytes are one document, or are refused with one fault, and never both.
 use Rattle.std.proofs.Common.{◌≡◌, ℕ, ◌+◌, List, [], ◌∷◌, ◌++◌, length, refl, sym, ◌∙◌, ap, subst}
-use Rattle.std.specs.Prelude.{Ok, Err}
+use Rattle.std.specs.Prelude.{Option, Some, None, Ok, Err}
 use Rattle.std.specs.List.{AllZip, AllByRecursion}
+use Rattle.serde_json.specs.Data.{Data}
+use Rattle.pd_model.specs.Messages.{Version}
 use Rattle.pd_model.specs.Predicates.{Predicate}
-use Rattle.pd_format.specs.Documents.{Outline, Document, NamedPredicate, DocumentFault, Long, Json, Shape, Processes, Name, NameTwice, Vars, Predicates, Width, InPredicate, IsNamedPredicate, IsDocument, HasRefusedPredicate, IsRefusedDocument, outline_of_bytes, names_of_outline, initial_of, width_of}
+use Rattle.pd_format.specs.Documents.{Outline, Document, NamedPredicate, DocumentFault, Long, Json, Shape, Processes, Name, NameTwice, Vars, Predicates, Width, OtherVersion, InPredicate, IsNamedPredicate, IsDocument, IsSpelled, HasRefusedPredicate, HasOtherVersion, IsRefusedDocument, outline_of_bytes, names_of_outline, initial_of, width_of, version_of}
 use Rattle.pd_format.specs.Laws.{AreClear}
 use Rattle.pd_format.specs.Names.{ProcessNames}
 use Rattle.pd_format.specs.PredicateTexts.{PredicateFault, IsPredicate, IsRefusedPredicate}
@@ -50,7 +52,19 @@ one_document_lem bytes a b p q =
     let predicates : a.predicates ≡ b.predicates =
     one_each (names_of_outline p.outline) (clear_document bytes p.outline p.sound) p.outline.predicates a.predicates
     b.predicates p.predicates moved in
-    λ i. record { names = names i; initial = initial i; predicates = predicates i; width = width i }
+    let version : a.version ≡ b.version =
+    same_version p.outline.version a.version b.version p.version
+    (ap (λ (o : Outline). version_of o.version) (sym same) ∙ q.version) in
+    λ i. record {
+      names = names i;
+      initial = initial i;
+      predicates = predicates i;
+      width = width i;
+      version = version i;
+    }
+  where
+    same_version : (field : Option Data) (v w : Version) → version_of field ≡ Some v → version_of field ≡ Some w → v ≡ w
+    same_version field v w e f = cc
 
 -- ---- a document isn't refused
 
@@ -62,11 +76,12 @@ partner R [] x after (y ∷ ys) h = (y, h.0)
 partner R (z ∷ before) x after [] h = absurd h
 partner R (z ∷ before) x after (y ∷ ys) h = partner R before x after ys h.1
 
--- a refusal that isn't of a predicate, or one that is
+-- a refusal of the outline, one of a predicate, or one of the version
 data Refusing (bytes : List ℕ) (fault : DocumentFault) : Type 0 where
   of_outline : outline_of_bytes bytes ≡ Err fault → Refusing bytes fault
   of_predicate : (number : ℕ) (inner : PredicateFault) (at : ℕ) → fault ≡ InPredicate number inner at
       → HasRefusedPredicate bytes number inner at → Refusing bytes fault
+  of_version : fault ≡ OtherVersion → HasOtherVersion bytes → Refusing bytes fault
 
 refusing : (bytes : List ℕ) (fault : DocumentFault) → IsRefusedDocument bytes fault → Refusing bytes fault
 refusing bytes Long h = of_outline h
@@ -78,6 +93,7 @@ refusing bytes NameTwice h = of_outline h
 refusing bytes Vars h = of_outline h
 refusing bytes Predicates h = of_outline h
 refusing bytes Width h = of_outline h
+refusing bytes OtherVersion h = of_version refl h
 refusing bytes (InPredicate number inner at) h = of_predicate number inner at refl h
 
 not_both : (bytes : List ℕ) (outline : Outline) (fault : DocumentFault) → outline_of_bytes bytes ≡ Ok outline
@@ -103,6 +119,12 @@ document_not_refused_lem bytes document fault p refused = go (refusing bytes fau
         partner (IsNamedPredicate (names_of_outline r.outline)) r.before r.refused r.after document.predicates parts
         in
         predicate_not_refused_lem (names_of_outline r.outline) r.refused.1 found.0.predicate inner at found.1.1 r.stands
+    go (of_version e v) =
+        let same : p.outline ≡ v.outline = same_outline bytes p.outline v.outline p.sound v.sound in
+        none (version_of v.outline.version) (ap (λ (o : Outline). version_of o.version) (sym same) ∙ p.version) v.none
+
+    none : (version : Option Version) → version ≡ Some document.version → version ≡ None → ⊥
+    none version e f = cc
 
 -- ---- one fault
 
@@ -166,6 +188,24 @@ one_refuses outline number other f g at place r s =
     let once = refused_once_lem (names_of_outline outline) s.refused.1 f g at place stands s.stands in
     λ i. InPredicate (numbers i) (once.0 i) (once.1 i)
 
+-- what holds of all elements holds of one in their midst
+in_midst : {A : Type 0} (P : A → Type 0) (before : List A) (x : A) (after : List A)
+    → AllByRecursion P (before ++ x ∷ after) → P x
+in_midst P [] x after h = h.0
+in_midst P (z ∷ before) x after h = in_midst P before x after h.1
+
+-- no predicate is refused where each is spelled
+spelled_not_refused : (bytes : List ℕ) (number : ℕ) (fault : PredicateFault) (at : ℕ)
+    → HasRefusedPredicate bytes number fault at → HasOtherVersion bytes → ⊥
+spelled_not_refused bytes number fault at r v =
+    let same : v.outline ≡ r.outline = same_outline bytes v.outline r.outline v.sound r.sound in
+    let moved : AllByRecursion (IsSpelled r.outline) r.outline.predicates =
+    subst (λ (o : Outline). AllByRecursion (IsSpelled o) o.predicates) same v.spelled in
+    let parts : AllByRecursion (IsSpelled r.outline) (r.before ++ r.refused ∷ r.after) =
+    subst (AllByRecursion (IsSpelled r.outline)) r.parts moved in
+    not_some (names_of_outline r.outline) r.refused fault at r.stands
+    (in_midst (IsSpelled r.outline) r.before r.refused r.after parts)
+
 pub one_document_fault_lem : (bytes : List ℕ) (f g : DocumentFault) → IsRefusedDocument bytes f
     → IsRefusedDocument bytes g → f ≡ g
 one_document_fault_lem bytes f g p q = go (refusing bytes f p) (refusing bytes g q)
@@ -173,6 +213,11 @@ one_document_fault_lem bytes f g p q = go (refusing bytes f p) (refusing bytes g
     go : Refusing bytes f → Refusing bytes g → f ≡ g
     go (of_outline e) (of_outline e') = cc
     go (of_outline e) (of_predicate number inner at k r) = absurd (not_both bytes r.outline f r.sound e)
+    go (of_outline e) (of_version k v) = absurd (not_both bytes v.outline f v.sound e)
+    go (of_version k v) (of_outline e) = absurd (not_both bytes v.outline g v.sound e)
+    go (of_version k v) (of_version l w) = k ∙ sym l
+    go (of_version k v) (of_predicate number inner at l r) = absurd (spelled_not_refused bytes number inner at r v)
+    go (of_predicate number inner at k r) (of_version l v) = absurd (spelled_not_refused bytes number inner at r v)
     go (of_predicate number inner at k r) (of_outline e) = absurd (not_both bytes r.outline g r.sound e)
     go (of_predicate number inner at k r) (of_predicate number' inner' at' k' r') =
         let same : r.outline ≡ r'.outline = same_outline bytes r.outline r'.outline r.sound r'.sound in

@@ -3,7 +3,7 @@ use Rattle.std.proofs.Common.{◌≡◌, ℕ, Bool, true, false, List, length, r
 use Rattle.std.specs.Prelude.{IsTrue, Result, zip}
 use Rattle.std.specs.List.{AllZip}
 use Rattle.pd_model.specs.Events.{Computation, Place}
-use Rattle.pd_model.specs.Messages.{IsMessageList}
+use Rattle.pd_model.specs.Messages.{HasMessages}
 use Rattle.pd_model.specs.Order.{IsWellFormed}
 use Rattle.pd_model.specs.Predicates.{test_of}
 use Rattle.pd_format.specs.Names.{ProcessNames}
@@ -16,7 +16,7 @@ use Rattle.pd_format.specs.OtherTexts.{by_test, Checked, NotRead, OfRefusal, OfS
 use Rattle.pd_format.proofs.OneReport.{one_report_of_bytes, stops_at_one_line_lem}
 use Rattle.pd_judgement.specs.Findings.{IsGoodCut, IsGoodPath, IsChecked, IsCheckedFor, IsAnswersFinding, of_other_names, of_verdicts, IsSessionOf, AreCounts, of_unread, of_refused_session, of_refusal, of_session, OneFinding}
 use Rattle.pd_judgement.proofs.DocumentsAreSingle.{one_document_lem, document_not_refused_lem}
-use Rattle.pd_judgement.proofs.MessageLists.{one_message_list}
+use Rattle.pd_judgement.proofs.ReceivedSends.{one_count}
 use Rattle.pd_judgement.proofs.ReportsAreSingle.{one_judgement, not_lawful, not_cycle, same_results_report}
 use Rattle.pd_judgement.proofs.StreamResults.{one_list_of_results_lem}
 use Rattle.pd_judgement.proofs.Zipped.{one_zipped}
@@ -79,7 +79,7 @@ one_answers_finding document traces answers a b (of_verdicts verdicts same each)
 
 -- bytes and streams hold one session
 one_session : (bytes : List ℕ) (streams : List RawStream) (d e : Document) (t u : List Trace)
-    (m n : List (Place × Place)) → IsSessionOf bytes streams d t m → IsSessionOf bytes streams e u n → (e ≡ d) × (u ≡ t)
+    (m n : ℕ) → IsSessionOf bytes streams d t m → IsSessionOf bytes streams e u n → (e ≡ d) × (u ≡ t)
     × (n ≡ m)
 one_session bytes streams d e t u m n p q =
     let document : e ≡ d = one_document_lem bytes e d q.read p.read in
@@ -92,24 +92,25 @@ one_session bytes streams d e t u m n p q =
     let other : session d.names (length streams) q.results ≡ Ok t =
     subst (λ (x : List StreamResult). session d.names (length streams) x ≡ Ok t) (sym results) p.joined in
     let traces : u ≡ t = same_traces (session d.names (length streams) q.results) u t joined other in
-    let messages : IsMessageList (events_of_traces t) n =
-    subst (λ (x : List Trace). IsMessageList (events_of_traces x) n) traces q.are_messages in
-    (document, traces, one_message_list (events_of_traces t) n m messages p.are_messages)
+    let counted : HasMessages (events_of_traces t) n =
+    subst (λ (x : List Trace). HasMessages (events_of_traces x) n) traces q.counted in
+    (document, traces, one_count (events_of_traces t) n m counted p.counted)
   where
     same_traces : (r : Result (List Trace) SessionFault) (u t : List Trace) → r ≡ Ok u → r ≡ Ok t → u ≡ t
     same_traces r u t e f = cc
 
 well_formed_not_refused : (document : Document) (traces : List Trace) (report : Report) (refusal : Refusal)
-    → IsWellFormed (events_of_traces traces) → IsTracesReport document traces report → report ≡ Refused refusal → ⊥
+    → IsWellFormed document.version (events_of_traces traces) → IsTracesReport document traces report
+    → report ≡ Refused refusal → ⊥
 well_formed_not_refused document traces report refusal well (of_messages fault h) e =
-    not_lawful (events_of_traces traces) fault well.messages h
+    not_lawful document.version (events_of_traces traces) fault well.messages h
 well_formed_not_refused document traces report refusal well (of_cycle cycle lawful h) e =
     not_cycle (events_of_traces traces) cycle well.no_cycle h
 well_formed_not_refused document traces report refusal well (of_answers messages answers well' is each) e = cc
 
 -- a well-formed session isn't refused
 session_not_refused : (bytes : List ℕ) (streams : List RawStream) (refusal : Refusal) (document : Document)
-    (traces : List Trace) (messages : List (Place × Place)) → IsJudgement bytes streams (Refused refusal)
+    (traces : List Trace) (messages : ℕ) → IsJudgement bytes streams (Refused refusal)
     → IsSessionOf bytes streams document traces messages → ⊥
 session_not_refused bytes streams refusal document traces messages (of_refused fault refused reported) held =
     document_not_refused_lem bytes document fault held.read refused
@@ -148,7 +149,7 @@ record Judging (bytes report : List ℕ) (streams : List RawStream) (good : Bool
   answers : List Answer
   document : Document
   traces : List Trace
-  messages : List (Place × Place)
+  messages : ℕ
   is : IsReport report (Judged processes events matched answers)
   held : IsSessionOf bytes streams document traces messages
   right : IsTrue good ↔ AreCounts document traces messages processes events matched
@@ -167,7 +168,7 @@ one_session_finding bytes report streams good good' found found' p q =
     let answers : q.answers ≡ p.answers = cc in
     let same = one_session bytes streams p.document q.document p.traces q.traces p.messages q.messages p.held q.held in
     let right : IsTrue good' ↔ AreCounts p.document p.traces p.messages p.processes p.events p.matched =
-    subst (λ (x : Document × List Trace × List (Place × Place) × ℕ × ℕ × ℕ). IsTrue good'
+    subst (λ (x : Document × List Trace × ℕ × ℕ × ℕ × ℕ). IsTrue good'
     ↔ AreCounts x.0 x.1 x.2 x.3 x.4 x.5) (λ i. (same.0 i, same.1 i, same.2 i, processes i, events i, matched i))
     q.right in
     let finds : IsAnswersFinding p.document p.traces p.answers found' =

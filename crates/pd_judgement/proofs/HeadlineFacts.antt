@@ -3,7 +3,7 @@ use Rattle.std.proofs.Common.{◌≡◌, ℕ, ◌<◌, ◌≤◌, Bool, List, []
 use Rattle.std.proofs.lemmas.List.Elements.{All-nil, All-cons}
 use Rattle.std.specs.List.{AllZip}
 use Rattle.pd_model.specs.Events.{Computation, Place, Linked}
-use Rattle.pd_model.specs.Messages.{Fault, SendTwice, Orphan, SelfMessage, ReceivedTwice, IsReported, HasLawfulMessages}
+use Rattle.pd_model.specs.Messages.{Version, Fault, SendTwice, Orphan, SelfMessage, ReceivedTwice, IsReported, HasLawfulMessages}
 use Rattle.pd_model.specs.Order.{HasNoCycle, IsReportedCycle}
 use Rattle.pd_model.specs.Cuts.{IsOfLevel}
 use Rattle.pd_model.specs.Observations.{IsAvoiding}
@@ -194,11 +194,12 @@ says_truly names c test w answer acyclic narrow p e right d f right' =
 
 -- ---- the report
 
-no_fault : (c : Computation) → HasLawfulMessages c → (fault : Fault) → ¬ IsReported c fault
-no_fault c lawful (SendTwice e) r = lawful.sent_once e r.0
-no_fault c lawful (Orphan e) r = lawful.received_well e r.1.0
-no_fault c lawful (SelfMessage e) r = lawful.received_well e r.1.0
-no_fault c lawful (ReceivedTwice e) r = lawful.received_well e r.1.0
+no_fault : (version : Version) (c : Computation) → HasLawfulMessages version c → (fault : Fault)
+    → ¬ IsReported version c fault
+no_fault version c lawful (SendTwice e) r = lawful.sent_once e r.0
+no_fault version c lawful (Orphan e) r = lawful.received_well e r.1.0
+no_fault version c lawful (SelfMessage e) r = lawful.received_well e r.1.0
+no_fault version c lawful (ReceivedTwice e) r = lawful.received_well e r.1.0
 
 no_cycle_reported : (c : Computation) → HasNoCycle c → (cycle : List Place) → ¬ IsReportedCycle c cycle
 no_cycle_reported c acyclic cycle r = (none_stuck c).0 acyclic r.first r.least.0.0
@@ -223,7 +224,7 @@ answers_truly document traces acyclic narrow asked answer a = (
 
 pub headline_lem : Headline
 headline_lem document traces report formed narrow (of_messages fault r) =
-    absurd (no_fault (events_of_traces traces) formed.messages fault r)
+    absurd (no_fault document.version (events_of_traces traces) formed.messages fault r)
 headline_lem document traces report formed narrow (of_cycle cycle lawful r) =
     absurd (no_cycle_reported (events_of_traces traces) formed.no_cycle cycle r)
 headline_lem document traces report formed narrow (of_answers messages answers formed' are answered) =
@@ -231,7 +232,7 @@ headline_lem document traces report formed narrow (of_answers messages answers f
       messages = messages;
       answers = answers;
       reported = refl;
-      are_messages = are;
+      counted = are;
       truly = all_zip_map (IsAnswered document.names (recorded_of document traces) document.width)
           (AnswersTruly document traces) (answers_truly document traces formed.no_cycle narrow) document.predicates
           answers answered;

@@ -2,7 +2,7 @@
 use Rattle.std.proofs.Common.{◌≡◌, ℕ, suc, ◌+◌, ◌*◌, ◌<◌, ◌≤◌, ◌⊎◌, inl, inr, Bool, List, [], ◌∷◌, length, map, get_or, Contains, refl, sym, ap, subst, arith}
 use Rattle.std.specs.List.{AllByRecursion, AllZip}
 use Rattle.pd_model.specs.Events.{Computation, Place, IsBefore, IsEvent, Linked, event_count}
-use Rattle.pd_model.specs.Messages.{Fault, SendTwice, Orphan, SelfMessage, ReceivedTwice, IsReported, IsMessage, IsMessageList}
+use Rattle.pd_model.specs.Messages.{Version, Fault, SendTwice, Orphan, SelfMessage, ReceivedTwice, IsReported, IsMessage, AreReceived, HasMessages}
 use Rattle.pd_model.specs.Cuts.{IsConsistent, full_cut, total}
 use Rattle.pd_model.specs.Answers.{PossiblyAnswer, PossiblyYes, PossiblyNo, PossiblyUnknown, IsPossiblyAnswer, DefinitelyAnswer, DefinitelyYes, DefinitelyNo, DefinitelyUnknown, IsDefinitelyAnswer}
 use Rattle.pd_model.specs.Predicates.{Recorded, test_of}
@@ -49,72 +49,77 @@ counts_fit [] each = tt
 counts_fit (n ∷ counts) each =
     let le : n ≤ event_limit = each 0 in (omega arith, counts_fit counts (λ p. each (suc p)))
 
--- the places of an ascending list of receipts are apart, so the list is no longer than their numbers allow
+-- the places of an ascending list of sends are apart, so the list is no longer than their numbers allow
 rank : Place → ℕ
 rank e = e.process * (event_limit + 1) + e.number
 
 IsRanked : Place → Type 0
 IsRanked e = (e.number ≤ event_limit) × (e.process < process_limit)
 
-messages_from : (messages : List (Place × Place))
-    → Linked (λ (earlier later : Place × Place). IsBefore earlier.1 later.1) messages
-    → ((m : Place × Place) → Contains messages m → IsRanked m.1) → (first : Place × Place) (rest : List (Place × Place))
-    → messages ≡ first ∷ rest → rank first.1 + length rest < process_limit * (event_limit + 1)
+sends_from : (sends : List Place) → Linked IsBefore sends → ((e : Place) → Contains sends e → IsRanked e)
+    → (first : Place) (rest : List Place) → sends ≡ first ∷ rest
+    → rank first + length rest < process_limit * (event_limit + 1)
 unfolding rank IsRanked
-messages_from [] links each first rest e = cc
-messages_from (m ∷ []) links each first rest e =
+sends_from [] links each first rest e = cc
+sends_from (m ∷ []) links each first rest e =
     let f : m ≡ first = cc in
     let r : [] ≡ rest = cc in
     let is = each m (0, omega arith, refl) in
-    let a : m.1.number ≤ event_limit = is.0 in
-    let b : m.1.process < process_limit = is.1 in
+    let a : m.number ≤ event_limit = is.0 in
+    let b : m.process < process_limit = is.1 in
     let n : length rest ≡ 0 = ap length (sym r) in
-    let p : m.1.process ≡ first.1.process = ap (λ (x : Place × Place). x.1.process) f in
-    let q : m.1.number ≡ first.1.number = ap (λ (x : Place × Place). x.1.number) f in
+    let p : m.process ≡ first.process = ap (λ (x : Place). x.process) f in
+    let q : m.number ≡ first.number = ap (λ (x : Place). x.number) f in
     omega arith
-messages_from (m ∷ next ∷ more) links each first rest e =
+sends_from (m ∷ next ∷ more) links each first rest e =
     let f : m ≡ first = cc in
     let r : next ∷ more ≡ rest = cc in
     let is = each m (0, omega arith, refl) in
-    let a : m.1.number ≤ event_limit = is.0 in
+    let a : m.number ≤ event_limit = is.0 in
     let n : length rest ≡ suc (length more) = ap length (sym r) in
-    let p : m.1.process ≡ first.1.process = ap (λ (x : Place × Place). x.1.process) f in
-    let q : m.1.number ≡ first.1.number = ap (λ (x : Place × Place). x.1.number) f in
-    let later : next.1.process * (event_limit + 1) + next.1.number + length more < process_limit * (event_limit + 1) =
-    messages_from (next ∷ more) links.1 (λ x has. each x (suc has.0, omega (arith, has.1), has.2)) next more refl in
+    let p : m.process ≡ first.process = ap (λ (x : Place). x.process) f in
+    let q : m.number ≡ first.number = ap (λ (x : Place). x.number) f in
+    let later : next.process * (event_limit + 1) + next.number + length more < process_limit * (event_limit + 1) =
+    sends_from (next ∷ more) links.1 (λ x has. each x (suc has.0, omega (arith, has.1), has.2)) next more refl in
     go a p q n later links.0
   where
-    go : m.1.number ≤ event_limit → m.1.process ≡ first.1.process → m.1.number ≡ first.1.number
+    go : m.number ≤ event_limit → m.process ≡ first.process → m.number ≡ first.number
         → length rest ≡ suc (length more)
-        → next.1.process * (event_limit + 1) + next.1.number + length more < process_limit * (event_limit + 1)
-        → (m.1.process < next.1.process) ⊎ ((m.1.process ≡ next.1.process) × (m.1.number < next.1.number))
-        → first.1.process * (event_limit + 1) + first.1.number + length rest < process_limit * (event_limit + 1)
+        → next.process * (event_limit + 1) + next.number + length more < process_limit * (event_limit + 1)
+        → (m.process < next.process) ⊎ ((m.process ≡ next.process) × (m.number < next.number))
+        → first.process * (event_limit + 1) + first.number + length rest < process_limit * (event_limit + 1)
     go a p q n later (inl lt) = omega arith
     go a p q n later (inr (same, lt)) = omega arith
 
-pub few_messages : (names : List ProcessNames) (c : Computation) (messages : List (Place × Place)) → IsSmall names c
-    → IsMessageList c messages → length messages ≤ process_limit * (event_limit + 1)
+few_received : (names : List ProcessNames) (c : Computation) (sends : List Place) → IsSmall names c
+    → AreReceived c sends → length sends ≤ process_limit * (event_limit + 1)
 unfolding rank IsRanked
-few_messages names c messages small is = go messages refl
+few_received names c sends small are = go sends refl
   where
-    each : (m : Place × Place) → Contains messages m → (m.1.number ≤ event_limit) × (m.1.process < process_limit)
-    each m has =
-        let message : IsMessage c m.0 m.1 = (is.just m.0 m.1).0 has in
-        let event : IsEvent c m.1 = event_from_kind c m.1 _ message.2 in
-        let n : m.1.number ≤ event_count c m.1.process = event.1 in
-        let s : event_count c m.1.process ≤ event_limit = count_is_short event_limit c small.short m.1.process in
-        let p : m.1.process < length c = process_in_range c m.1 event in
-        let e : length c ≡ length names = small.one_each in
+    each : (e : Place) → Contains sends e → (e.number ≤ event_limit) × (e.process < process_limit)
+    each e has =
+        let message = (are.just e).0 has in
+        let event : IsEvent c e = event_from_kind c e _ message.1.1 in
+        let n : e.number ≤ event_count c e.process = event.1 in
+        let s : event_count c e.process ≤ event_limit = count_is_short event_limit c small.short e.process in
+        let p : e.process < length c = process_in_range c e event in
+        let l : length c ≡ length names = small.one_each in
         let few : length names ≤ process_limit = small.few_processes in
         (omega arith, omega arith)
 
-    go : (xs : List (Place × Place)) → messages ≡ xs → length messages ≤ process_limit * (event_limit + 1)
-    go [] e = let n : length messages ≡ 0 = ap length e in omega arith
+    go : (xs : List Place) → sends ≡ xs → length sends ≤ process_limit * (event_limit + 1)
+    go [] e = let n : length sends ≡ 0 = ap length e in omega arith
     go (first ∷ rest) e =
-        let n : length messages ≡ suc (length rest) = ap length e in
-        let lt : first.1.process * (event_limit + 1) + first.1.number + length rest
-        < process_limit * (event_limit + 1) = messages_from messages is.ascending each first rest e in
+        let n : length sends ≡ suc (length rest) = ap length e in
+        let lt : first.process * (event_limit + 1) + first.number + length rest < process_limit * (event_limit + 1) =
+        sends_from sends are.ascending each first rest e in
         omega arith
+
+pub few_messages : (names : List ProcessNames) (c : Computation) (n : ℕ) → IsSmall names c → HasMessages c n
+    → n ≤ process_limit * (event_limit + 1)
+few_messages names c n small (sends, are, counted) =
+    let few : length sends ≤ process_limit * (event_limit + 1) = few_received names c sends small are in
+    omega (arith, counted)
 
 -- ---- places
 
@@ -127,10 +132,10 @@ place_is_lawful names c e small event =
     let same : length c ≡ length names = small.one_each in
     (process_is_named names e.process small.named (omega arith), omega arith)
 
-pub fault_is_lawful : (names : List ProcessNames) (c : Computation) (fault : Fault) → IsSmall names c
-    → IsReported c fault → RefusalIsLawful (match_refusal names fault)
-fault_is_lawful names c fault small r =
-    go fault (place_is_lawful names c (place_of_fault fault) small (fault_is_event c fault r))
+pub fault_is_lawful : (names : List ProcessNames) (version : Version) (c : Computation) (fault : Fault)
+    → IsSmall names c → IsReported version c fault → RefusalIsLawful (match_refusal names fault)
+fault_is_lawful names version c fault small r =
+    go fault (place_is_lawful names c (place_of_fault fault) small (fault_is_event version c fault r))
   where
     go : (f : Fault) → PlaceIsLawful (named_place names (place_of_fault f)) → RefusalIsLawful (match_refusal names f)
     go (SendTwice e) lawful = (refl, lawful)

@@ -65,6 +65,7 @@ document_is_lawful bytes documents.NameTwice refused = refl
 document_is_lawful bytes documents.Vars refused = refl
 document_is_lawful bytes documents.Predicates refused = refl
 document_is_lawful bytes documents.Width refused = refl
+document_is_lawful bytes documents.OtherVersion refused = refl
 document_is_lawful bytes (documents.InPredicate number fault at) refused =
     predicate_is_lawful bytes number at fault refused
 
@@ -133,7 +134,7 @@ some_place (e ∷ cycle) start same = omega arith
 traces_report_is_lawful : (document : Document) (traces : List Trace) (report : Report) → HasLawfulParts document
     → IsSmall document.names (events_of_traces traces) → IsTracesReport document traces report → IsLawful report
 traces_report_is_lawful document traces report parts small (of_messages fault r) =
-    fault_is_lawful document.names (events_of_traces traces) fault small r
+    fault_is_lawful document.names document.version (events_of_traces traces) fault small r
 traces_report_is_lawful document traces report parts small (of_cycle cycle lawful r) =
     let some : 0 < length cycle = some_place cycle r.start r.starts in
     let l : length (map (named_place document.names) cycle) ≡ length cycle = map_length cycle in (
@@ -150,7 +151,7 @@ traces_report_is_lawful document traces report parts small (of_answers messages 
     small parts.asked answered in
     let t : total (events_of_traces traces) ≤ process_limit * event_limit =
     small_total document.names (events_of_traces traces) small in
-    let m : length messages ≤ process_limit * (event_limit + 1) =
+    let m : messages ≤ process_limit * (event_limit + 1) =
     few_messages document.names (events_of_traces traces) messages small are in
     let n : length document.names ≤ process_limit = parts.few_processes in
     let same : length answers ≡ length document.predicates = a.0 in

@@ -5,7 +5,7 @@ pub mod HeadlineFacts
 pub mod Widths
 pub mod Worked
 pub mod DocumentsAreSingle
-pub mod MessageLists
+pub mod ReceivedSends
 pub mod ReportsAreSingle
 pub mod CleanFindings
 pub mod FindingsAreSingle

@@ -3,7 +3,7 @@ use Rattle.std.proofs.Common.{◌≡◌, ℕ, List, [], ◌∷◌, length, map, 
 use Rattle.std.specs.Prelude.{Result, Ok, Err}
 use Rattle.std.specs.List.{AllZip}
 use Rattle.pd_model.specs.Events.{Computation, Place}
-use Rattle.pd_model.specs.Messages.{Fault, SendTwice, Orphan, SelfMessage, ReceivedTwice, IsReported, HasLawfulMessages}
+use Rattle.pd_model.specs.Messages.{Version, Fault, SendTwice, Orphan, SelfMessage, ReceivedTwice, IsReported, HasLawfulMessages}
 use Rattle.pd_model.specs.Order.{HasNoCycle, IsReportedCycle}
 use Rattle.pd_model.specs.Cuts.{total}
 use Rattle.pd_model.specs.Predicates.{Recorded, test_of}
@@ -18,17 +18,18 @@ use Rattle.pd_format.specs.Bundles.{parts_of}
 use Rattle.pd_judgement.specs.Judgements.{events_of_traces, recorded_of, printed_possibly, printed_definitely, IsAnswered, IsTracesReport, of_messages, of_cycle, of_answers, IsReportOfSession, IsReportOfResults, RawStream, AreResultsOf, IsJudgement, of_refused, of_read, ended_streams, IsReportOfParts, IsReportOfBundle}
 use Rattle.pd_format.specs.RefusalWords.{document_refusal, match_refusal, named_place}
 use Rattle.pd_judgement.proofs.DocumentsAreSingle.{one_document_lem, document_not_refused_lem, one_document_fault_lem}
-use Rattle.pd_judgement.proofs.MessageLists.{one_message_list}
+use Rattle.pd_judgement.proofs.ReceivedSends.{one_count}
 use Rattle.pd_judgement.proofs.StreamResults.{one_list_of_results_lem}
 use Rattle.pd_judgement.proofs.Zipped.{one_zipped}
 
 -- ---- what can't stand together
 
-pub not_lawful : (c : Computation) (fault : Fault) → HasLawfulMessages c → IsReported c fault → ⊥
-not_lawful c (SendTwice e) lawful h = lawful.sent_once e h.0
-not_lawful c (Orphan e) lawful h = lawful.received_well e h.1.0
-not_lawful c (SelfMessage e) lawful h = lawful.received_well e h.1.0
-not_lawful c (ReceivedTwice e) lawful h = lawful.received_well e h.1.0
+pub not_lawful : (version : Version) (c : Computation) (fault : Fault) → HasLawfulMessages version c
+    → IsReported version c fault → ⊥
+not_lawful version c (SendTwice e) lawful h = lawful.sent_once e h.0
+not_lawful version c (Orphan e) lawful h = lawful.received_well e h.1.0
+not_lawful version c (SelfMessage e) lawful h = lawful.received_well e h.1.0
+not_lawful version c (ReceivedTwice e) lawful h = lawful.received_well e h.1.0
 
 pub not_cycle : (c : Computation) (cycle : List Place) → HasNoCycle c → IsReportedCycle c cycle → ⊥
 not_cycle c cycle none h = let stuck = h.least.0.0 in none stuck.0 stuck.1
@@ -59,29 +60,29 @@ one_answer_each names recorded width =
 one_traces_report : (document : Document) (traces : List Trace) (a b : Report) → IsTracesReport document traces a
     → IsTracesReport document traces b → a ≡ b
 one_traces_report document traces a b (of_messages f p) (of_messages g q) =
-    ap (λ fault. Refused (match_refusal document.names fault)) (one_fault (events_of_traces traces) f g p q)
+    ap (λ fault. Refused (match_refusal document.names fault)) (one_fault document.version (events_of_traces traces) f g p q)
 one_traces_report document traces a b (of_messages f p) (of_cycle cycle lawful q) =
-    absurd (not_lawful (events_of_traces traces) f lawful p)
+    absurd (not_lawful document.version (events_of_traces traces) f lawful p)
 one_traces_report document traces a b (of_messages f p) (of_answers messages answers well is each) =
-    absurd (not_lawful (events_of_traces traces) f well.messages p)
+    absurd (not_lawful document.version (events_of_traces traces) f well.messages p)
 one_traces_report document traces a b (of_cycle cycle lawful p) (of_messages g q) =
-    absurd (not_lawful (events_of_traces traces) g lawful q)
+    absurd (not_lawful document.version (events_of_traces traces) g lawful q)
 one_traces_report document traces a b (of_cycle cycle lawful p) (of_cycle other lawful' q) =
     ap (λ places. Refused (Cycle (map (named_place document.names) places)))
-    (one_cycle (events_of_traces traces) cycle other lawful p q)
+    (one_cycle (events_of_traces traces) cycle other lawful.sent_once p q)
 one_traces_report document traces a b (of_cycle cycle lawful p) (of_answers messages answers well is each) =
     absurd (not_cycle (events_of_traces traces) cycle well.no_cycle p)
 one_traces_report document traces a b (of_answers messages answers well is each) (of_messages g q) =
-    absurd (not_lawful (events_of_traces traces) g well.messages q)
+    absurd (not_lawful document.version (events_of_traces traces) g well.messages q)
 one_traces_report document traces a b (of_answers messages answers well is each) (of_cycle other lawful' q) =
     absurd (not_cycle (events_of_traces traces) other well.no_cycle q)
 one_traces_report document traces a b (of_answers messages answers well is each)
     (of_answers messages' answers' well' is' each') =
-    let lists : messages ≡ messages' = one_message_list (events_of_traces traces) messages messages' is is' in
+    let counts : messages ≡ messages' = one_count (events_of_traces traces) messages messages' is is' in
     let same : answers ≡ answers' =
     one_answer_each document.names (recorded_of document traces) document.width document.predicates answers answers'
     each each' in
-    λ i. Judged (length document.names) (total (events_of_traces traces)) (length (lists i)) (same i)
+    λ i. Judged (length document.names) (total (events_of_traces traces)) (counts i) (same i)
 
 pub one_report_of_outcomes_lem : (document : Document) (streams : ℕ) (outcomes : List StreamResult) (a b : Report)
     → IsReportOfResults document streams outcomes a → IsReportOfResults document streams outcomes b → a ≡ b

@@ -1,7 +1,7 @@
 -- The worked example: the computation with one message is narrow, and its report is true.
-use Rattle.std.proofs.Common.{◌≡◌, ℕ, zero, suc, ◌+◌, ◌<◌, ◌≤◌, Bool, true, false, List, [], ◌∷◌, length, get_or, sum, Contains, Some, refl, ap, subst, inr, arith}
+use Rattle.std.proofs.Common.{◌≡◌, ℕ, zero, suc, ◌+◌, ◌<◌, ◌≤◌, Bool, true, false, List, [], ◌∷◌, length, get_or, sum, Contains, Some, refl, sym, ap, subst, inr, arith}
 use Rattle.pd_model.specs.Events.{Send, Receive, Place, place, kind_at, event_count}
-use Rattle.pd_model.specs.Messages.{IsMessage, IsMessageList}
+use Rattle.pd_model.specs.Messages.{One, IsMessage, AreReceived}
 use Rattle.pd_model.specs.Cuts.{Includes, IsConsistent, IsOfLevel}
 use Rattle.pd_model.specs.Predicates.{satisfies}
 use Rattle.pd_model.specs.Observations.{IsAvoiding, HasNoAvoiding}
@@ -44,22 +44,18 @@ receives_at (suc (suc p)) (suc n) id e = cc
 message : IsMessage one_message (place 0 1) (place 1 1)
 message = (109 ∷ [], refl, refl, (λ e. omega arith))
 
-message_list : IsMessageList one_message ((place 0 1, place 1 1) ∷ [])
-message_list = record { ascending = tt; just = λ send receipt. (to send receipt, from send receipt) }
+one_is_received : AreReceived one_message (place 0 1 ∷ [])
+one_is_received = record { ascending = tt; just = λ send. (to send, from send) }
   where
-    to : (send receipt : Place) → Contains {X = Place × Place} ((place 0 1, place 1 1) ∷ []) (send, receipt)
-        → IsMessage one_message send receipt
-    to send receipt (zero, lt, e) = subst (λ (m : Place × Place). IsMessage one_message m.0 m.1) e message
-    to send receipt (suc k, lt, e) = absurd (omega arith)
+    to : (send : Place) → Contains (place 0 1 ∷ []) send → (receipt : Place) × IsMessage one_message send receipt
+    to send (zero, lt, e) = (place 1 1, subst (λ (d : Place). IsMessage one_message d (place 1 1)) e message)
+    to send (suc k, lt, e) = absurd (omega arith)
 
-    from : (send receipt : Place) → IsMessage one_message send receipt
-        → Contains {X = Place × Place} ((place 0 1, place 1 1) ∷ []) (send, receipt)
-    from send receipt m =
+    from : (send : Place) → (receipt : Place) × IsMessage one_message send receipt → Contains (place 0 1 ∷ []) send
+    from send (receipt, m) =
         let s = sends_at send.process send.number m.0 m.1 in
-        let r = receives_at receipt.process receipt.number m.0 m.2 in
-        let first : send ≡ place 0 1 = same_place send (place 0 1) s.0 s.1 in
-        let second : receipt ≡ place 1 1 = same_place receipt (place 1 1) r.0 r.1 in
-        (0, omega arith, cc)
+        let same : place 0 1 ≡ send = sym (same_place send (place 0 1) s.0 s.1) in
+        (0, omega arith, same)
 
 -- ---- its cuts
 
@@ -208,7 +204,7 @@ definitely_at_two =
 
 is_report : IsTracesReport asks_both message_traces both_report
 is_report =
-    of_answers ((place 0 1, place 1 1) ∷ []) _ cycle_of_receipts.0 message_list (
+    of_answers 1 _ (cycle_of_receipts.0 One) (place 0 1 ∷ [], one_is_received, refl) (
       record {
         name = refl;
         possibly = PossiblyYes (1 ∷ 1 ∷ []);
@@ -223,4 +219,4 @@ is_report =
 
 pub one_true_report : OneTrueReport
 one_true_report =
-    (is_report, headline_lem asks_both message_traces both_report cycle_of_receipts.0 one_cut_a_level is_report)
+    (is_report, headline_lem asks_both message_traces both_report (cycle_of_receipts.0 One) one_cut_a_level is_report)

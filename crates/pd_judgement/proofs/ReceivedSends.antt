@@ -1,14 +1,7 @@
--- The list of the messages is one.
-use Rattle.std.proofs.Common.{◌≡◌, zero, suc, ◌<◌, List, [], ◌∷◌, Contains, refl, sym, ◌∙◌, subst, inl, inr, ◌⊎◌, ◌↔◌, arith}
+-- The number of messages is one.
+use Rattle.std.proofs.Common.{◌≡◌, ℕ, zero, suc, ◌<◌, List, [], ◌∷◌, length, Contains, refl, sym, ap, ◌∙◌, subst, inl, inr, ◌⊎◌, ◌↔◌, arith}
 use Rattle.pd_model.specs.Events.{Computation, Place, IsBefore, Linked}
-use Rattle.pd_model.specs.Messages.{IsMessageList}
-
-abbrev Pair : Type 0
-Pair = Place × Place
-
--- the receipt of the first message stands before that of the second
-abbrev IsEarlier : Pair → Pair → Type 0
-IsEarlier earlier later = IsBefore earlier.1 later.1
+use Rattle.pd_model.specs.Messages.{AreReceived, HasMessages}
 
 before_trans : (d e f : Place) → IsBefore d e → IsBefore e f → IsBefore d f
 before_trans d e f (inl h) (inl k) = inl (omega arith)
@@ -20,28 +13,28 @@ not_before : (d : Place) → ¬ IsBefore d d
 not_before d (inl h) = omega arith
 not_before d (inr (p, h)) = omega arith
 
-contains_cases : (x z : Pair) (xs : List Pair) → Contains (x ∷ xs) z → (x ≡ z) ⊎ Contains xs z
+contains_cases : (x z : Place) (xs : List Place) → Contains (x ∷ xs) z → (x ≡ z) ⊎ Contains xs z
 contains_cases x z xs (zero, lt, at) = inl at
 contains_cases x z xs (suc k, lt, at) = inr (k, omega arith, at)
 
-contains_later : (x z : Pair) (xs : List Pair) → Contains xs z → Contains (x ∷ xs) z
+contains_later : (x z : Place) (xs : List Place) → Contains xs z → Contains (x ∷ xs) z
 contains_later x z xs (k, lt, at) = (suc k, omega arith, at)
 
 -- the first of an ascending list stands before each later one
-before_rest : (x z : Pair) (xs : List Pair) → Linked IsEarlier (x ∷ xs) → Contains xs z → IsEarlier x z
+before_rest : (x z : Place) (xs : List Place) → Linked IsBefore (x ∷ xs) → Contains xs z → IsBefore x z
 before_rest x z [] links (k, lt, at) = absurd (omega arith)
 before_rest x z (y ∷ xs) links has = go (contains_cases y z xs has) (before_rest y z xs links.1)
   where
-    go : (y ≡ z) ⊎ Contains xs z → (Contains xs z → IsEarlier y z) → IsEarlier x z
-    go (inl e) rest = subst (λ (w : Pair). IsEarlier x w) e links.0
-    go (inr later) rest = before_trans x.1 y.1 z.1 links.0 (rest later)
+    go : (y ≡ z) ⊎ Contains xs z → (Contains xs z → IsBefore y z) → IsBefore x z
+    go (inl e) rest = subst (λ (w : Place). IsBefore x w) e links.0
+    go (inr later) rest = before_trans x y z links.0 (rest later)
 
-ascending_rest : (x : Pair) (xs : List Pair) → Linked IsEarlier (x ∷ xs) → Linked IsEarlier xs
+ascending_rest : (x : Place) (xs : List Place) → Linked IsBefore (x ∷ xs) → Linked IsBefore xs
 ascending_rest x [] links = tt
 ascending_rest x (y ∷ xs) links = links.1
 
-one_ascending : (xs ys : List Pair) → Linked IsEarlier xs → Linked IsEarlier ys
-    → ((z : Pair) → Contains xs z ↔ Contains ys z) → xs ≡ ys
+one_ascending : (xs ys : List Place) → Linked IsBefore xs → Linked IsBefore ys
+    → ((z : Place) → Contains xs z ↔ Contains ys z) → xs ≡ ys
 one_ascending [] [] a b same = refl
 one_ascending [] (y ∷ ys) a b same = let w : Contains [] y = (same y).1 (0, omega arith, refl) in let lt : w.0 < 0 =
     w.1 in absurd (omega arith)
@@ -59,26 +52,30 @@ one_ascending (x ∷ xs) (y ∷ ys) a b same =
     first (inl e) r = sym e
     first (inr l) (inl e) = e
     first (inr l) (inr r) =
-        absurd (not_before x.1 (before_trans x.1 y.1 x.1 (before_rest x y xs a r) (before_rest y x ys b l)))
+        absurd (not_before x (before_trans x y x (before_rest x y xs a r) (before_rest y x ys b l)))
 
-    to : x ≡ y → (z : Pair) → Contains xs z → Contains ys z
+    to : x ≡ y → (z : Place) → Contains xs z → Contains ys z
     to e z has = go (contains_cases y z ys ((same z).0 (contains_later x z xs has)))
       where
         go : (y ≡ z) ⊎ Contains ys z → Contains ys z
-        go (inl f) = absurd (not_before z.1 (subst (λ (w : Pair). IsEarlier w z) (e ∙ f) (before_rest x z xs a has)))
+        go (inl f) = absurd (not_before z (subst (λ (w : Place). IsBefore w z) (e ∙ f) (before_rest x z xs a has)))
         go (inr later) = later
 
-    from : x ≡ y → (z : Pair) → Contains ys z → Contains xs z
+    from : x ≡ y → (z : Place) → Contains ys z → Contains xs z
     from e z has = go (contains_cases x z xs ((same z).1 (contains_later y z ys has)))
       where
         go : (x ≡ z) ⊎ Contains xs z → Contains xs z
         go (inl f) =
-            absurd (not_before z.1 (subst (λ (w : Pair). IsEarlier w z) (sym e ∙ f) (before_rest y z ys b has)))
+            absurd (not_before z (subst (λ (w : Place). IsBefore w z) (sym e ∙ f) (before_rest y z ys b has)))
         go (inr later) = later
 
-pub one_message_list : (c : Computation) (xs ys : List Pair) → IsMessageList c xs → IsMessageList c ys → xs ≡ ys
-one_message_list c xs ys p q =
+-- the sends that are received are one list
+pub one_received : (c : Computation) (xs ys : List Place) → AreReceived c xs → AreReceived c ys → xs ≡ ys
+one_received c xs ys p q =
     one_ascending xs ys p.ascending q.ascending (λ z. (
-      (λ has. (q.just z.0 z.1).1 ((p.just z.0 z.1).0 has)),
-      (λ has. (p.just z.0 z.1).1 ((q.just z.0 z.1).0 has)),
+      (λ has. (q.just z).1 ((p.just z).0 has)),
+      (λ has. (p.just z).1 ((q.just z).0 has)),
     ))
+
+pub one_count : (c : Computation) (m n : ℕ) → HasMessages c m → HasMessages c n → m ≡ n
+one_count c m n (xs, are, e) (ys, are', f) = e ∙ (ap length (one_received c xs ys are are') ∙ sym f)
