@@ -2,7 +2,6 @@
 use Rattle.std.proofs.Common.{◌≡◌, ℕ, ◌+◌, List, [], ◌∷◌, ◌++◌, length, refl, sym, ◌∙◌, ap, subst}
 use Rattle.std.specs.Prelude.{Option, Some, None, Ok, Err}
 use Rattle.std.specs.List.{AllZip, AllByRecursion}
-use Rattle.serde_json.specs.Data.{Data}
 use Rattle.pd_model.specs.Messages.{Version}
 use Rattle.pd_model.specs.Predicates.{Predicate}
 use Rattle.pd_format.specs.Documents.{Outline, Document, NamedPredicate, DocumentFault, Long, Json, Shape, Processes, Name, NameTwice, Vars, Predicates, Width, OtherVersion, InPredicate, IsNamedPredicate, IsDocument, IsSpelled, HasRefusedPredicate, HasOtherVersion, IsRefusedDocument, outline_of_bytes, names_of_outline, initial_of, width_of, version_of}
@@ -53,7 +52,7 @@ one_document_lem bytes a b p q =
     one_each (names_of_outline p.outline) (clear_document bytes p.outline p.sound) p.outline.predicates a.predicates
     b.predicates p.predicates moved in
     let version : a.version ≡ b.version =
-    same_version p.outline.version a.version b.version p.version
+    same_version (version_of p.outline.version) a.version b.version p.version
     (ap (λ (o : Outline). version_of o.version) (sym same) ∙ q.version) in
     λ i. record {
       names = names i;
@@ -63,8 +62,8 @@ one_document_lem bytes a b p q =
       version = version i;
     }
   where
-    same_version : (field : Option Data) (v w : Version) → version_of field ≡ Some v → version_of field ≡ Some w → v ≡ w
-    same_version field v w e f = cc
+    same_version : (said : Option Version) (v w : Version) → said ≡ Some v → said ≡ Some w → v ≡ w
+    same_version said v w e f = cc
 
 -- ---- a document isn't refused
 
@@ -104,6 +103,9 @@ pub document_not_refused_lem : (bytes : List ℕ) (document : Document) (fault :
     → IsDocument bytes document → IsRefusedDocument bytes fault → ⊥
 document_not_refused_lem bytes document fault p refused = go (refusing bytes fault refused)
   where
+    none : (version : Option Version) → version ≡ Some document.version → version ≡ None → ⊥
+    none version e f = cc
+
     go : Refusing bytes fault → ⊥
     go (of_outline e) = not_both bytes p.outline fault p.sound e
     go (of_predicate number inner at e r) =
@@ -122,9 +124,6 @@ document_not_refused_lem bytes document fault p refused = go (refusing bytes fau
     go (of_version e v) =
         let same : p.outline ≡ v.outline = same_outline bytes p.outline v.outline p.sound v.sound in
         none (version_of v.outline.version) (ap (λ (o : Outline). version_of o.version) (sym same) ∙ p.version) v.none
-
-    none : (version : Option Version) → version ≡ Some document.version → version ≡ None → ⊥
-    none version e f = cc
 
 -- ---- one fault
 

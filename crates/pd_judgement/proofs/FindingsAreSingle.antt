@@ -2,7 +2,7 @@
 use Rattle.std.proofs.Common.{◌≡◌, ℕ, Bool, true, false, List, length, refl, sym, ◌∙◌, ap, subst, ◌↔◌, Option, Some, Ok}
 use Rattle.std.specs.Prelude.{IsTrue, Result, zip}
 use Rattle.std.specs.List.{AllZip}
-use Rattle.pd_model.specs.Events.{Computation, Place}
+use Rattle.pd_model.specs.Events.{Computation}
 use Rattle.pd_model.specs.Messages.{HasMessages}
 use Rattle.pd_model.specs.Order.{IsWellFormed}
 use Rattle.pd_model.specs.Predicates.{test_of}

@@ -2,7 +2,7 @@
 use Rattle.std.proofs.Common.{◌≡◌, ℕ, suc, ◌+◌, ◌*◌, ◌<◌, ◌≤◌, ◌⊎◌, inl, inr, Bool, List, [], ◌∷◌, length, map, get_or, Contains, refl, sym, ap, subst, arith}
 use Rattle.std.specs.List.{AllByRecursion, AllZip}
 use Rattle.pd_model.specs.Events.{Computation, Place, IsBefore, IsEvent, Linked, event_count}
-use Rattle.pd_model.specs.Messages.{Version, Fault, SendTwice, Orphan, SelfMessage, ReceivedTwice, IsReported, IsMessage, AreReceived, HasMessages}
+use Rattle.pd_model.specs.Messages.{Version, Fault, SendTwice, Orphan, SelfMessage, ReceivedTwice, IsReported, AreReceived, HasMessages}
 use Rattle.pd_model.specs.Cuts.{IsConsistent, full_cut, total}
 use Rattle.pd_model.specs.Answers.{PossiblyAnswer, PossiblyYes, PossiblyNo, PossiblyUnknown, IsPossiblyAnswer, DefinitelyAnswer, DefinitelyYes, DefinitelyNo, DefinitelyUnknown, IsDefinitelyAnswer}
 use Rattle.pd_model.specs.Predicates.{Recorded, test_of}

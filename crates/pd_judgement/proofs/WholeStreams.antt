@@ -1,7 +1,7 @@
 -- What readers gave of which no read fails: all that they had left, if that is known.
 use Rattle.std.proofs.Common.{◌≡◌, ℕ, Bool, true, List, [], ◌∷◌, map, refl, sym, ap, ◌∙◌, append-nil, Option, Some, None}
 use Rattle.std.specs.List.{AllZip}
-use Rattle.pd_format.specs.Readings.{Ended, Failed}
+use Rattle.pd_format.specs.Readings.{Failed}
 use Rattle.pd_judgement.specs.Judgements.{RawStream, ended_stream, ended_streams}
 use Rattle.pd_judgement.specs.Writes.{IsGivenAs, IsGivenBy}
 

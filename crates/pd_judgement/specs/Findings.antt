@@ -1,7 +1,7 @@
 -- What a check of a report finds: how the report stands to the session that it is said to be of.
 use Rattle.std.specs.Prelude.{◌≡◌, ℕ, Bool, true, false, not, ◌&&◌, ◌||◌, IsTrue, ◌↔◌, List, ◌∷◌, [], ◌++◌, All, length, map, zip, codes, decimal, Option, Some, None, Ok}
 use Rattle.std.specs.List.{AllZip, list_any}
-use Rattle.pd_model.specs.Events.{Computation, Place}
+use Rattle.pd_model.specs.Events.{Computation}
 use Rattle.pd_model.specs.Messages.{HasMessages}
 use Rattle.pd_model.specs.Order.{IsWellFormed}
 use Rattle.pd_model.specs.Cuts.{IsConsistent, total}

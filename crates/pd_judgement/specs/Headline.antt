@@ -2,7 +2,7 @@
 -- answer is unknown, and each is the truth.
 use Rattle.std.specs.Prelude.{◌≡◌, ℕ, ◌≤◌, Bool, true, false, ⊤, ◌⊎◌, ◌↔◌, List, All, length, map, sum, Ok}
 use Rattle.std.specs.List.{AllZip}
-use Rattle.pd_model.specs.Events.{Computation, Place}
+use Rattle.pd_model.specs.Events.{Computation}
 use Rattle.pd_model.specs.Messages.{HasMessages}
 use Rattle.pd_model.specs.Order.{IsWellFormed}
 use Rattle.pd_model.specs.Cuts.{IsConsistent, IsOfLevel, total}
