@@ -60,7 +60,8 @@ one_answer_each names recorded width =
 one_traces_report : (document : Document) (traces : List Trace) (a b : Report) → IsTracesReport document traces a
     → IsTracesReport document traces b → a ≡ b
 one_traces_report document traces a b (of_messages f p) (of_messages g q) =
-    ap (λ fault. Refused (match_refusal document.names fault)) (one_fault document.version (events_of_traces traces) f g p q)
+    ap (λ fault. Refused (match_refusal document.names fault))
+    (one_fault document.version (events_of_traces traces) f g p q)
 one_traces_report document traces a b (of_messages f p) (of_cycle cycle lawful q) =
     absurd (not_lawful document.version (events_of_traces traces) f lawful p)
 one_traces_report document traces a b (of_messages f p) (of_answers messages answers well is each) =

@@ -30,8 +30,9 @@ pub of_session : (bytes : List ℕ) (streams : List RawStream) (document : Docum
 of_session bytes streams document traces report holds right =
     of_judgement bytes streams document holds.results traces report holds.read holds.are_results holds.joined right
 
-traces_judged : (document : Document) (traces : List Trace) (report : Report) → IsWellFormed document.version (events_of_traces traces)
-    → IsTracesReport document traces report → is_judged report ≡ true
+traces_judged : (document : Document) (traces : List Trace) (report : Report)
+    → IsWellFormed document.version (events_of_traces traces) → IsTracesReport document traces report
+    → is_judged report ≡ true
 traces_judged document traces report well (of_messages fault found) =
     absurd (not_lawful document.version (events_of_traces traces) fault well.messages found)
 traces_judged document traces report well (of_cycle cycle lawful found) =

@@ -74,8 +74,8 @@ pub record TellsTruth (document : Document) (traces : List Trace) (report : Repo
 abbrev pub Headline : Type 0
 Headline =
     (document : Document) (traces : List Trace) (report : Report)
-    → IsWellFormed document.version (events_of_traces traces) → IsNarrow (events_of_traces traces) document.width → IsTracesReport document traces report
-    → TellsTruth document traces report
+    → IsWellFormed document.version (events_of_traces traces) → IsNarrow (events_of_traces traces) document.width
+    → IsTracesReport document traces report → TellsTruth document traces report
 
 -- The report has an answer for each predicate, and is no refusal.
 abbrev pub is_judged : Report → Bool

@@ -163,7 +163,10 @@ pub some_one : (c : Computation) (keys more : List ℕ) (from to first last : �
     → IsMoreBySome c keys from to first last more
 some_one c keys more from to first last one asc just = record {
   ascending = asc;
-  just = λ x. (λ has. let w = (just x).0 has in ((first, omega arith, omega arith, w.0), w.1), λ w. (just x).1 (back x w.0, w.1));
+  just = λ x. (
+    λ has. let w = (just x).0 has in ((first, omega arith, omega arith, w.0), w.1),
+    λ w. (just x).1 (back x w.0, w.1),
+  );
 }
   where
     back : (x : ℕ) → (p : ℕ) × (first ≤ p) × (p < last) × IsMoreBy c keys p x → IsMoreBy c keys first x

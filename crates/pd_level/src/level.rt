@@ -92,10 +92,10 @@ impl Level {
         Level::successors_between(alloc, computation, level, 0, level.len())
     }
 
-    /// Those of the cuts that have one event more than one of the level's that lie between two of the level's: not before
-    /// the cut with the index `from`, and before the one with the index `to`, both from 0. If `from` is 0 there is no
-    /// first bound, and no last one if `to` is the number of cuts or more. They are in lexicographic order, however many
-    /// they are. The number stays at the greatest `u64` once it is there.
+    /// Those of the cuts that have one event more than one of the level's that lie between two of the level's: not
+    /// before the cut with the index `from`, and before the one with the index `to`, both from 0. If `from` is 0 there
+    /// is no first bound, and no last one if `to` is the number of cuts or more. They are in lexicographic order,
+    /// however many they are. The number stays at the greatest `u64` once it is there.
     ///
     /// # Errors
     /// An allocation was refused.

@@ -46,8 +46,8 @@ fn is_below(left: &[u128], right: &[u128]) -> bool
     left[left.len() - 1] < right[0]
 }
 
-/// The numbers that stand in one of the two ascending lists or in both, each once and ascending. If all of the last ones
-/// come after the first ones, they are written at their end.
+/// The numbers that stand in one of the two ascending lists or in both, each once and ascending. If all of the last
+/// ones come after the first ones, they are written at their end.
 pub(crate) fn joined(
     alloc: Global,
     left: Vec<u128>,

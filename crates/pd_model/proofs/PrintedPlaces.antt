@@ -60,7 +60,8 @@ place_of_fault (SelfMessage e) = e
 place_of_fault (ReceivedTwice e) = e
 
 -- it is an event's
-pub fault_is_event : (version : Version) (c : Computation) (fault : Fault) → IsReported version c fault → IsEvent c (place_of_fault fault)
+pub fault_is_event : (version : Version) (c : Computation) (fault : Fault) → IsReported version c fault
+    → IsEvent c (place_of_fault fault)
 fault_is_event version c (SendTwice e) r = event_from_kind c e _ r.0.2
 fault_is_event version c (Orphan e) r = event_from_kind c e _ r.2.1
 fault_is_event version c (SelfMessage e) r = event_from_kind c e _ r.3.2

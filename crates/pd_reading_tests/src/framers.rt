@@ -1,4 +1,4 @@
-//! Lines from pieces: `Framer::feed`, `copy` and `finish`, again after a refusal, in pieces of any size, and at a fault.
+//! Lines from pieces: `Framer::feed`, `copy` and `finish`, again after a refusal, in pieces of any size, at a fault.
 ghost use Rattle.std.specs.Prelude.{◌≡◌, ◌<◌, IfSome, false};
 
 use pd_format::LINE_BYTE_LIMIT;

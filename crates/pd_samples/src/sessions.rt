@@ -10,8 +10,8 @@ use pd_traces::Trace;
 use std::alloc::{AllocError, Global};
 
 /// Three processes with ten events each, whose levels have up to 91 cuts. Of the predicates the first holds at no cut
-/// and the second at the empty cut, the third all along a level, the next two beside some observations, the sixth at the
-/// full cut and near it, and the last at the full cut alone.
+/// and the second at the empty cut, the third all along a level, the next two beside some observations, the sixth at
+/// the full cut and near it, and the last at the full cut alone.
 pub const THREE: &str = r#"{
   "processes": [
     {"name": "a", "vars": {"n": 0}},

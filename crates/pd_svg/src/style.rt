@@ -1,7 +1,8 @@
 //! The rules by which classes are drawn.
 //!
-//! The colours are black, greys, and of the palette of Okabe and Ito (2008) blue, vermilion and bluish green: readers who
-//! are blind to some colours can tell them apart, also by their lightness, and no two things differ by colour alone.
+//! The colours are black, greys, and of the palette of Okabe and Ito (2008) blue, vermilion and bluish green: readers
+//! who are blind to some colours can tell them apart, also by their lightness, and no two things differ by colour
+//! alone.
 ghost use Rattle.pd_svg.specs.Svg.{class_rule, classes_rules, declarations, style_start, style_text};
 ghost use Rattle.std.specs.Prelude.{◌≡◌, ◌++◌, OnOk};
 

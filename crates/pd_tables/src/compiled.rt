@@ -89,8 +89,8 @@ impl<'a, 'b> Compiled<'a, 'b> {
         may(&self.node, prefix)
     }
 
-    /// How many comparisons are made at a cut, at most the greatest `u64`. It is a measure of the time that an evaluation
-    /// takes, and nothing is promised of it.
+    /// How many comparisons are made at a cut, at most the greatest `u64`. It is a measure of the time that an
+    /// evaluation takes, and nothing is promised of it.
     pub fn comparisons(&self) -> u64 {
         comparisons(&self.node)
     }

@@ -99,7 +99,8 @@ module _ (given : List Turn) where
           → get_or (slice_set stages i turn.stage) j stage ≡ (get_or given j d).stage
       same j d stage low within (inl at) =
           subst (λ (n : ℕ). get_or (slice_set stages i turn.stage) n stage ≡ (get_or given n d).stage) (sym at)
-          (get_or-set_same stages i turn.stage stage (omega (arith, known.places)) ∙ ap (λ (t : Turn). t.stage) (here d))
+          (get_or-set_same stages i turn.stage stage (omega (arith, known.places))
+          ∙ ap (λ (t : Turn). t.stage) (here d))
       same j d stage low within (inr (inl before)) =
           get_or-set_other stages i j turn.stage stage (λ at. absurd (omega arith)) ∙ known.same j d stage before within
       same j d stage low within (inr (inr after)) = absurd (omega arith)

@@ -6,8 +6,8 @@ use pd_marks::Skips;
 use pd_runs::Whole;
 use pd_tables::Compiled;
 
-/// From this many comparisons at the cuts of a level on, threads share them: several milliseconds of work, where a thread
-/// takes tens of microseconds to start.
+/// From this many comparisons at the cuts of a level on, threads share them: several milliseconds of work, where a
+/// thread takes tens of microseconds to start.
 const SHARED_COMPARISONS: u64 = 200_000;
 
 /// Whether this many comparisons at this many cuts are worth several threads.

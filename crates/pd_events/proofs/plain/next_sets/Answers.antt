@@ -15,7 +15,9 @@ returns-in-Some-EndObject c = λ yes.
     let found = c.in_ok-find_sets-in-Some-EndObject in
     brace_read (map string_bytes c.args.vars.now) c.members.room.row.items c.find_sets.new.sets.items
     c.args.reader.now c.members.reader c.next.new.self
-    (rw c.in-Some-EndObject.field-0-is at c.in-Some-EndObject.ensures.value) (rw (c.deref.ensures.value) at found.ensures) c.members.invariant
+    (rw c.in-Some-EndObject.field-0-is at c.in-Some-EndObject.ensures.value)
+    (rw (c.deref.ensures.value) at found.ensures)
+    c.members.invariant
 
 pub members-preserved : goal.members-preserved
 members-preserved c =

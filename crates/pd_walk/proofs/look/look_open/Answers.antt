@@ -8,4 +8,5 @@ settle-requires-clause-split g c =
     split_here c.avoidance.ensures.all (events_of c.args.test.now) c.requires.acyclic (meaning_of c.args.test.now)
     c.args.width c.args.gap c.args.level.now.number
     (record { possibly = c.in-Some.possibly; first = c.number.result; held = c.new.result }) c.requires.opened
-    c.requires.within (rw c.in-Some.is at c.in_ok-found.ensures.found) c.number.ensures c.new.ensures.levels c.new.ensures.most
+    c.requires.within (rw c.in-Some.is at c.in_ok-found.ensures.found) c.number.ensures c.new.ensures.levels
+    c.new.ensures.most

@@ -18,7 +18,8 @@ loop-i-preserved c =
     (one_handed_back c.args.turns.now c.loop-i.i c.loop-i.turns c.loop-i.stages.items c.replace-turn.new.dest
     c.replace-turn.result lt c.loop-i.invariant
     (λ d. c.replace-turn.ensures.value
-    ∙ get_or_default c.loop-i.turns c.loop-i.i c.index-turns-i.result d (omega (arith, lt, c.loop-i.invariant.one_each)))
+    ∙ get_or_default c.loop-i.turns c.loop-i.i c.index-turns-i.result d
+    (omega (arith, lt, c.loop-i.invariant.one_each)))
     c.if-turn.false)
 
 pub returns : goal.returns
