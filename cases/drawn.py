@@ -31,7 +31,7 @@ FEW = 8
 # its messages have at most, and what came of it; all others are the program's.
 LINES_WANTED = {
     "session 1 ": 15, "session 2 ": 45, "session 3 ": 60, "session 4 ": 4,
-    " 0 messages": 40, " [12] messages": 40, " [3-6] messages": 40,
+    " 0 messages": 40, " [12] messages": 40, " [3-6] messages": 30,
     " possibly yes .*[1-9]": 80, " possibly no": 80, " possibly unknown ": 40,
     " definitely yes [1-9]": 40, " definitely no .*,": 80, " definitely unknown ": 40,
     "refused cycle .*,": 15, "refused cycle .*,.*,": 2, "refused sendtwice ": 4, "refused orphan ": 4,
