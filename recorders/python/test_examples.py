@@ -1,5 +1,5 @@
-"""That the program of examples/failover records what is stored, and that the traces of examples/traces make what is
-stored: python3 -m unittest discover -s recorders/python"""
+"""That the program of examples/failover records what is stored, that of examples/key-rotation what has the stored
+answers, and that the traces of examples/traces make what is stored: python3 -m unittest discover -s recorders/python"""
 import contextlib
 import io
 import os
@@ -19,16 +19,23 @@ def text_of(*path):
         return file.read()
 
 
-class Failover(unittest.TestCase):
-    def recorded(self, *words):
-        """The streams of a run, by their names."""
-        with tempfile.TemporaryDirectory() as folder:
-            program = os.path.join(EXAMPLES, "failover", "failover.py")
-            subprocess.run([sys.executable, program, folder, *words], check=True, capture_output=True, timeout=60)
-            return {name: text_of(folder, name) for name in os.listdir(folder)}
+def recorded(program, *words):
+    """The streams of a run of an example's program, by their names."""
+    with tempfile.TemporaryDirectory() as folder:
+        words = [sys.executable, os.path.join(EXAMPLES, program), folder, *words]
+        subprocess.run(words, check=True, capture_output=True, timeout=60)
+        return {name: text_of(folder, name) for name in os.listdir(folder)}
 
+
+def without_evidence(report):
+    """The first line of a report, and of each answer its first three words."""
+    head, *answers = report.splitlines()
+    return [head, *(answer.split()[:3] for answer in answers)]
+
+
+class Failover(unittest.TestCase):
     def check(self, example, *words):
-        streams = self.recorded(*words)
+        streams = recorded("failover/failover.py", *words)
         self.assertEqual(sorted(streams), ["east.stream", "manager.stream", "west.stream"])
         for name, text in streams.items():
             self.assertEqual(text, text_of(EXAMPLES, example, name))
@@ -46,6 +53,29 @@ class Failover(unittest.TestCase):
             streams = [text_of(EXAMPLES, example, f"{name}.stream") for name in ("east", "manager", "west")]
             self.assertEqual(report_of(text_of(EXAMPLES, example, "session.json"), streams),
                              text_of(EXAMPLES, example, "report"))
+
+
+class Rotation(unittest.TestCase):
+    """What comes first differs between two runs, and neither how much is recorded nor the answers do."""
+
+    @classmethod
+    def setUpClass(cls):
+        cls.streams = {"key-rotation": recorded("key-rotation/rotation.py"),
+                       "key-rotation-accepted": recorded("key-rotation/rotation.py", "--accept-first")}
+
+    def test_the_streams(self):
+        for example, streams in self.streams.items():
+            self.assertEqual(sorted(streams), ["keys.stream", "north.stream", "south.stream", "west.stream"])
+            for name, text in streams.items():
+                stored = text_of(EXAMPLES, example, name)
+                self.assertEqual(text.count("\n"), stored.count("\n"))
+                self.assertEqual(text.count('"keys-'), stored.count('"keys-'))
+
+    @needs_program
+    def test_the_reports(self):
+        for example, streams in self.streams.items():
+            report = report_of(text_of(EXAMPLES, example, "session.json"), [streams[name] for name in sorted(streams)])
+            self.assertEqual(without_evidence(report), without_evidence(text_of(EXAMPLES, example, "report")))
 
 
 class Traces(unittest.TestCase):
