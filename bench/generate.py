@@ -3,6 +3,7 @@
 
 lattice   6 processes in 30 rounds: 7 local events each, then a message of each to one of them and back; levels of tens
           of thousands of cuts, and one conjunction that no cut satisfies
+several   the same rounds, in which the one process answers all others by one message, as version 2 has it
 terms     the same processes in 3 rounds of 5 local events; 16 predicates of nearly 4,096 bytes that no cut satisfies
 streams   8 processes of 10,000 events each, every event setting 16 variables; one predicate that the empty cut
           satisfies
@@ -33,11 +34,12 @@ def size(large, small):
     return small if SMALL else large
 
 
-def document(processes, predicates, width):
+def document(processes, predicates, width, version=1):
     return json.dumps({
         "processes": [{"name": name, "vars": {var: 0 for var in variables}} for name, variables in processes],
         "predicates": [{"name": name, "text": text} for name, text in predicates],
         "width": width,
+        **({"version": version} if version > 1 else {}),
     })
 
 
@@ -57,33 +59,39 @@ def bundle(head, streams):
             out.write(line + "\n")
 
 
-def meeting(names, hub, number):
-    """Of each process the events with which all send to one of them, and are answered by it."""
+def meeting(names, hub, number, version):
+    """Of each process the events with which all send to one of them, and are answered by it: by a message for each or,
+    in version 2, by one for all."""
     others = [name for name in names if name != hub]
     asked = {name: f"{name}-{number}" for name in others}
-    answered = {name: f"{hub}-{name}-{number}" for name in others}
+    answered = {name: f"{hub}-{number}" if version == 2 else f"{hub}-{name}-{number}" for name in others}
     events = {name: [{"send": asked[name]}, {"recv": answered[name]}] for name in others}
-    events[hub] = [{"recv": asked[name]} for name in others] + [{"send": answered[name]} for name in others]
+    events[hub] = [{"recv": asked[name]} for name in others]
+    events[hub] += [{"send": message} for message in dict.fromkeys(answered.values())]
     return events
 
 
-def rounds(processes, steps, count, predicates):
+def rounds(processes, steps, count, predicates, version=1):
     """In each round each process takes steps of its own, and then all of them meet. The seed is fixed."""
     rng = random.Random(2)
     names = [f"p{k}" for k in range(processes)]
     lists = {name: [] for name in names}
     for number in range(count):
-        met = meeting(names, names[number % processes], number)
+        met = meeting(names, names[number % processes], number, version)
         for name in names:
             lists[name] += [{"set": {"n": 2 * rng.randrange(1000)}} for _ in range(steps)] + met[name]
-    head = document([(name, ["n"]) for name in names], predicates, 65536)
+    head = document([(name, ["n"]) for name in names], predicates, 65536, version)
     bundle(head, [[json.dumps({"process": name}), *map(json.dumps, lists[name]), json.dumps({"end": True})]
                   for name in names])
 
 
-def lattice():
+def lattice(version=1):
     text = " and ".join([f"p{k}.n > 1200" for k in range(5)] + ["p5.n == 1"])
-    rounds(6, size(7, 4), size(30, 3), [("never", text)])
+    rounds(6, size(7, 4), size(30, 3), [("never", text)], version)
+
+
+def several():
+    lattice(2)
 
 
 def long_text(k):
@@ -207,6 +215,6 @@ def locals_alone():
     talkers(local)
 
 
-{"lattice": lattice, "terms": terms, "streams": streams, "messages": messages, "locals": locals_alone,
+{"lattice": lattice, "several": several, "terms": terms, "streams": streams, "messages": messages, "locals": locals_alone,
  "avoiding": avoiding, "sums": open_sums, "heavy": heavy_sums, "marked": marked_sums, "many": many_sums,
  "lists": listed_sums}[sys.argv[1]]()
