@@ -1,11 +1,12 @@
 #!/usr/bin/env python3
 """pages.py [--write]: checks the pages, that is each `.md` file of the repository: that each relative link leads to a
-file; that no line is over 120 columns, but for the definitions of links, and for tables on the pages of WIDE; that the
-limits in docs/SPECIFICATION.md are those of the definitions; that the line counts in docs/READING.md are those of the
-files; and of docs/PROMISES.md that each name of code stands in the crates, that each row of a table with a column
-*Where* names a clause and links to the line that declares it (see .ci/clauses.py), and that the line below a heading
-names the crates of its rows. With --write it puts the right counts, lines, files and crates into the pages. The status
-is 1 if anything was wrong."""
+file; that no line is over 120 columns, but for the definitions of links, and for tables on the pages of WIDE; the same
+of each `.rt` and `.antt` file of the crates, but for the lines that import names; that the limits in
+docs/SPECIFICATION.md are those of the definitions; that the line counts in docs/READING.md are those of the files; and
+of docs/PROMISES.md that each name of code stands in the crates, that each row of a table with a column *Where* names a
+clause and links to the line that declares it (see .ci/clauses.py), and that the line below a heading names the crates
+of its rows. With --write it puts the right counts, lines, files and crates into the pages. The status is 1 if anything
+was wrong."""
 import glob
 import os
 import re
@@ -21,6 +22,7 @@ COUNTED, PROMISES, LIMITED = "docs/READING.md", "docs/PROMISES.md", "docs/SPECIF
 LINK = re.compile(r"\]\(([^)#: ]+)(?:#[^)]*)?\)")
 DEFINITION = re.compile(r"^\[[^]]+\]: ([^#: \n]+)(?:#(?!L\d)\S*)?$", re.M)
 TO_LINE = re.compile(r"(?:\]\(|^\[[^]]+\]: )([^) ]+#L\d+)", re.M)
+IMPORT = re.compile(r"\s*(?:pub |ghost )?use ")
 COUNT = re.compile(r"^(\| \[[^]]*\]\(([^)]+)\) \| )(\d+)( \|)", re.M)
 found_wrong = []
 
@@ -60,6 +62,14 @@ def look_at_width(page, text):
             wrong(f"{page}:{number} has {len(line)} columns, and may have {COLUMNS}")
 
 
+def look_at_code():
+    for folder in ("src", "specs", "proofs"):
+        for path in sorted(glob.glob(f"crates/*/{folder}/**/*.*", recursive=True)):
+            for number, line in enumerate(read(path).split("\n") if path.endswith((".rt", ".antt")) else [], 1):
+                if len(line) > COLUMNS and not IMPORT.match(line):
+                    wrong(f"{path}:{number} has {len(line)} columns, and may have {COLUMNS}")
+
+
 def look_at_limits():
     rows = [row for row in read(LIMITED).split("\n") if row.startswith("| ")]
     for name, number in re.findall(r"^(\w+) = (\d+)$", read("crates/pd_format/specs/Limits.antt"), re.M):
@@ -97,6 +107,7 @@ def main():
         text = read(page)
         look_at_links(page, text)
         look_at_width(page, text)
+    look_at_code()
     look_at_limits()
     look_at_names(read(PROMISES))
     mended = {COUNTED: COUNT.sub(counted, read(COUNTED)), PROMISES: clauses.mended(PROMISES, read(PROMISES), wrong)}

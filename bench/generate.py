@@ -215,6 +215,6 @@ def locals_alone():
     talkers(local)
 
 
-{"lattice": lattice, "several": several, "terms": terms, "streams": streams, "messages": messages, "locals": locals_alone,
- "avoiding": avoiding, "sums": open_sums, "heavy": heavy_sums, "marked": marked_sums, "many": many_sums,
+{"lattice": lattice, "several": several, "terms": terms, "streams": streams, "messages": messages,
+ "locals": locals_alone, "avoiding": avoiding, "sums": open_sums, "heavy": heavy_sums, "marked": marked_sums, "many": many_sums,
  "lists": listed_sums}[sys.argv[1]]()
