@@ -93,6 +93,21 @@ class Judged(Case):
         with MonitoredRun("turns", DOCUMENT, never=[]) as run:
             early(run)
 
+    def test_a_message_that_two_receive(self):
+        document = {"processes": [{"name": name, "vars": {"new": 0}} for name in ("main", "left", "right")],
+                    "predicates": [{"name": "early", "text": "left.new + right.new > 0 and main.new == 0"}]}
+
+        def broadcast(run):
+            message = run.recorder("main").send(new=1)
+            for name in ("left", "right"):
+                run.recorder(name).receive(message, new=1)
+
+        with MonitoredRun("turns", {**document, "version": 2}) as run:
+            broadcast(run)
+        self.assertEqual(run.report.splitlines()[:2], ["session 3 processes 3 events 1 messages", "early possibly no"])
+        self.assertEqual(self.failure(broadcast, document).splitlines()[:2],
+                         ["the recordings are refused:", "  refused receivedtwice right#1"])
+
     def test_what_is_not_settled(self):
         self.assertEqual(self.failure(early, {**DOCUMENT, "width": 1}, never=["both"]),
                          "not settled, since the document's width is too small:\n"
