@@ -79,10 +79,10 @@ received : (c : Computation) (pairs : List (Place × Place)) (sends : List Place
 received c pairs sends list are = record {
   ascending = are.ascending;
   just = λ send. (
-      λ has. let w : (receipt : Place) × Contains pairs (send, receipt) = (are.just send).0 has in
-          (w.0, (list.just send w.0).0 w.1),
-      λ is. (are.just send).1 (is.0, (list.just send is.0).1 is.1),
-    );
+    λ has. let w : (receipt : Place) × Contains pairs (send, receipt) = (are.just send).0 has in
+        (w.0, (list.just send w.0).0 w.1),
+    λ is. (are.just send).1 (is.0, (list.just send is.0).1 is.1),
+  );
 }
 
 pub counts_messages : (c : Computation) (pairs : List (Place × Place)) (count : ℕ) → IsMessageList c pairs
