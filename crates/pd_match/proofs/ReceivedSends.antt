@@ -1,5 +1,5 @@
 -- How many sends are received, step by step.
-use Rattle.std.proofs.Common.{◌≡◌, ◌≢◌, ℕ, zero, suc, ◌+◌, ◌<◌, List, [], ◌∷◌, length, cond, Some, Contains, refl, sym, ◌∙◌, ap, subst, inl, inr, ◌⊎◌, ◌↔◌, arith}
+use Rattle.std.proofs.Common.{◌≡◌, ℕ, zero, suc, ◌+◌, ◌<◌, List, [], ◌∷◌, length, cond, Some, Contains, refl, sym, ◌∙◌, ap, subst, inl, inr, ◌⊎◌, ◌↔◌, arith}
 use Rattle.std.specs.Prelude.{nat_eq}
 use Rattle.std.proofs.Math.Dec.{eqb-suc-zero}
 use Rattle.std.proofs.lemmas.Bool.{cases_order}
@@ -7,7 +7,7 @@ use Rattle.std.proofs.lemmas.Option.{same_Some}
 use Rattle.pd_model.specs.Events.{Send, Receive, Computation, Place, IsBefore, Linked, kind_at, event_count}
 use Rattle.pd_model.specs.Messages.{Version, IsMessage, IsMessageList, AreReceived, HasMessages, self_message}
 use Rattle.pd_model.proofs.Chains.{event_from_kind, same_place}
-use Rattle.pd_match.specs.Noted.{AreSendsOf, CountsSends, HasAll, HasReceived, NoneBadBefore, event_place}
+use Rattle.pd_match.specs.Noted.{CountsSends, HasReceived, NoneBadBefore, event_place}
 use Rattle.pd_match.specs.Progress.{SendsBefore}
 use Rattle.pd_match.proofs.Places.{before_more, before_next, before_next_process, before_process_end, before_transitive, each_before_end, here_before_next, none_before_first}
 use Rattle.pd_match.proofs.Reports.{same_receive, same_send}

@@ -1,5 +1,5 @@
 -- Matches the receipts with the sends.
-use Rattle.std.proofs.Common.{◌≡◌, ◌∙◌, ◌+◌, [], add-one, ap, arith, false, length, length-append, replicate, rules, suc, subst, sym, ℕ, List}
+use Rattle.std.proofs.Common.{◌≡◌, ◌∙◌, ◌+◌, [], add-one, ap, arith, length, replicate, rules, suc, subst, sym, ℕ, List}
 use Rattle.std.proofs.lemmas.List.{length-map, length-replicate}
 use Rattle.indexmap.specs.IndexMap.{index_map_len}
 use Rattle.pd_traces.specs.declared.event.Trace.{Trace}
@@ -10,7 +10,7 @@ use Rattle.pd_match.specs.Noted.{CountsSends, event_place, last_receiver, pairs_
 use Rattle.pd_match.specs.Progress.{MatchedBefore, RowsTell, SendsBefore}
 use Rattle.pd_match.proofs.ReceivedSends.{sends_all, sends_first}
 use Rattle.pd_match.proofs.Marks.{no_sends_marked, none_marked, received_first}
-use Rattle.pd_match.proofs.Pairs.{pairs_all, pairs_in_push, rows_first, rows_next, table_agrees}
+use Rattle.pd_match.proofs.Pairs.{pairs_all, rows_first, rows_next, table_agrees}
 use Rattle.pd_match.proofs.Reports.{lawful, none_bad_first}
 use Rattle.pd_match.proofs.matching.match_receipts.Goals as goal
 

@@ -1,5 +1,5 @@
 -- For each event of process `p` its send, if it is a receipt.
-use Rattle.std.proofs.Common.{◌≡◌, ◌↔◌, Some, option_map, ◌∙◌, ◌+◌, add-one, arith, ap, length, length-append, refl, suc, subst, sym}
+use Rattle.std.proofs.Common.{◌≡◌, ◌↔◌, Some, option_map, ◌∙◌, ◌+◌, add-one, arith, refl, suc, subst, sym}
 use Rattle.pd_spec.specs.Views.{version_view}
 use Rattle.pd_traces.specs.Views.{computation_view}
 use Rattle.pd_model.specs.Events.{event_count}
@@ -10,7 +10,7 @@ use Rattle.pd_match.specs.Noted.{HasReceived, NoneBadBefore, event_place, last_r
 use Rattle.pd_match.specs.Progress.{MatchedBefore, RowTells, SendsBefore}
 use Rattle.pd_match.proofs.ReceivedSends.{sends_process}
 use Rattle.pd_match.proofs.Marks.{received_process}
-use Rattle.pd_match.proofs.Pairs.{pairs_from_push, row_first, row_next}
+use Rattle.pd_match.proofs.Pairs.{row_first, row_next}
 use Rattle.pd_match.proofs.Reports.{none_bad_process, send_numbered}
 use Rattle.pd_match.proofs.Traces.{length_read}
 use Rattle.pd_match.proofs.receiving.senders_in.Goals as goal
