@@ -6,7 +6,7 @@ The plain judge is written from the definitions in docs/SPECIFICATION.md, with n
 closed as a relation, cuts are all counts of events that are closed under it, and if a session has few events,
 Definitely is judged by all of its observations too. PROGRAM is ../crates/monitor/out/monitor if it isn't given. Each
 session is judged as a bundle; one of four also from files, by 2 and 16 workers, and its report is checked, as it is and
-forged. Each kind of line has to stand in the reports and findings so often that the drawing can't go empty. The last
+forged. Half of the sessions are of version 2, in which a message may have several receivers. Each kind of line has to stand in the reports and findings so often that the drawing can't go empty. The last
 line says how many sessions there are, how often the program ran, and how many sessions differ; the status is 1 if any
 does, or if lines are missing. With --only the session K is drawn alone.
 """
@@ -27,14 +27,18 @@ from run import Differs, HERE, Place, checked
 
 # How many events a session has at most whose observations are all looked at.
 FEW = 8
-# What stands in lines, and in how many lines of 400 sessions at least.
+# What stands in lines, and in how many lines of 400 sessions at least. One line for each session says how many receivers
+# its messages have at most, and what came of it; all others are the program's.
 LINES_WANTED = {
-    "session 1 ": 15, "session 2 ": 60, "session 3 ": 60,
-    " 0 messages": 40, " [12] messages": 40, " [3-6] messages": 40,
+    "session 1 ": 15, "session 2 ": 45, "session 3 ": 60, "session 4 ": 4,
+    " 0 messages": 40, " [12] messages": 40, " [3-6] messages": 30,
     " possibly yes .*[1-9]": 80, " possibly no": 80, " possibly unknown ": 40,
     " definitely yes [1-9]": 40, " definitely no .*,": 80, " definitely unknown ": 40,
     "refused cycle .*,": 15, "refused cycle .*,.*,": 2, "refused sendtwice ": 4, "refused orphan ": 4,
-    "refused selfmessage ": 2, "refused receivedtwice ": 3, "session bad": 3,
+    "refused selfmessage ": 2, "refused receivedtwice ": 4, "refused spec version": 2, "session bad": 3,
+    "version 1, one receiver, judged": 80, "version 1, [2-9] receivers, refused": 4,
+    "version 2, one receiver, judged": 50, "version 2, 2 receivers, judged": 18, "version 2, 3 receivers, judged": 1,
+    "version 2, [2-9] receivers, cycle": 5, "version 2, [2-9] receivers, refused": 6,
     " possibly good": 20, " possibly bad": 40, " definitely good": 30, " definitely bad": 30,
 }
 RELATIONS = {"==": operator.eq, "!=": operator.ne, "<": operator.lt, "<=": operator.le, ">": operator.gt,
@@ -49,11 +53,12 @@ class Event:
 
 
 class Session:
-    """Processes with their variables and events, predicates, and a width. A place is the number of a process, from 0,
-    and the number of its event, from 1."""
+    """Processes with their variables and events, predicates, a width and a version, which is None if it is another one
+    than 1 and 2; `fields` says it in the document. A place is the number of a process, from 0, and the number of its
+    event, from 1."""
 
-    def __init__(self, names, initial, events):
-        self.names, self.initial, self.events = names, initial, events
+    def __init__(self, names, initial, events, version, fields):
+        self.names, self.initial, self.events, self.version, self.fields = names, initial, events, version, fields
         self.places = [(process, number) for process, of_process in enumerate(events)
                        for number in range(1, len(of_process) + 1)]
         self.predicates, self.width = [], 4096
@@ -82,7 +87,8 @@ def first_fault(session):
             return "orphan", place
         if sent[0][0] == place[0]:
             return "selfmessage", place
-        if any(other < place for other in session.with_id_of(place, receipts)):
+        earlier = [other for other in session.with_id_of(place, receipts) if other < place]
+        if any(session.version == 1 or other[0] == place[0] for other in earlier):
             return "receivedtwice", place
     return None
 
@@ -225,19 +231,30 @@ class Judged:
     def __init__(self, session):
         fault, before = first_fault(session), happened_before(session)
         self.session, self.cuts, self.satisfying = session, None, []
-        if fault:
+        if session.version is None:
+            self.report = "refused spec version\n"
+        elif fault:
             self.report = f"refused {fault[0]} {self.place(fault[1])}\n"
         elif around := cycle(session, before):
             self.report = "refused cycle " + ",".join(map(self.place, around)) + "\n"
         else:
             self.cuts = consistent_cuts(session, before)
-            messages = len(session.of_kind("recv"))
+            receipts = session.of_kind("recv")
+            messages = sum(bool(session.with_id_of(send, receipts)) for send in session.of_kind("send"))
             self.first_line = (f"session {len(session.names)} processes {len(session.places)} events "
                                f"{messages} messages\n")
             self.report = self.first_line + "".join(map(self.answers, session.predicates))
 
     def place(self, place):
         return f"{self.session.names[place[0]]}#{place[1]}"
+
+    def summary(self):
+        """A line on the receivers of the session's messages and on what came of it."""
+        session, words = self.session, self.report.split()
+        receipts = session.of_kind("recv")
+        most = max([len(session.with_id_of(send, receipts)) for send in session.of_kind("send")], default=0)
+        came = "judged" if self.cuts is not None else words[1] if words[1] in ("spec", "cycle") else "refused"
+        return f"version {session.version}, {f'{most} receivers' if most > 1 else 'one receiver'}, {came}\n"
 
     def answers(self, named_predicate):
         session, (name, predicate) = self.session, named_predicate
@@ -257,12 +274,23 @@ def draw_value(draw):
     return draw.choice([2 ** 63 - 1, -2 ** 63]) if draw.random() < 0.02 else draw.randint(-2, 2)
 
 
+def draw_version(draw):
+    """A version, and the fields of a document that say it."""
+    version = None if draw.random() < 0.02 else draw.choice([1, 2])
+    if version is None:
+        return None, {"version": draw.choice([0, 3, -2, 1.0, 2.0, "1", "2", None, True, [2], {}, 2 ** 32 + 2])}
+    return version, {} if version == 1 and draw.random() < 0.5 else {"version": version}
+
+
 def draw_processes(draw):
-    names = draw.sample(["a", "b", "c", "_d", "e2", "x"], draw.choice([1, 2, 2, 2, 3, 3, 3, 3, 3]))
+    version, fields = draw_version(draw)
+    count = draw.choice([1, 2, 2, 2, 3, 3, 3, 3, 3] if version == 1 else [2, 3, 3, 3, 3, 4])
+    names = draw.sample(["a", "b", "c", "_d", "e2", "x"], count)
     initial = [{name: draw_value(draw) for name in draw.choice([["x"], ["x", "n"]])} for _ in names]
     events = [[Event({name: draw_value(draw) for name in variables if draw.random() < 0.7})
-               for _ in range(draw.choice([0, 1, 2, 3, 3, 4, 4, 4]))] for variables in initial]
-    return Session(names, initial, events)
+               for _ in range(draw.choice([0, 1, 2, 3, 3, 4, 4, 4] if count < 4 else [1, 2, 2, 3]))]
+              for variables in initial]
+    return Session(names, initial, events, version, fields)
 
 
 def draw_id(draw, number):
@@ -273,9 +301,17 @@ def make_message(send, receipt, identity):
     send.kind, receipt.kind, send.id, receipt.id = "send", "recv", identity, identity
 
 
+def add_receiver(draw, session, send, may_receive):
+    """Has one process more receive a message, if one can, at a local event that may be its receipt."""
+    taken = {send[0], *(place[0] for place in session.with_id_of(send, session.of_kind("recv")))}
+    able = [place for place in session.of_kind("local") if place[0] not in taken and may_receive(place)]
+    if able:
+        make_message(session.at(send), session.at(draw.choice(able)), session.at(send).id)
+
+
 def draw_messages(draw, session):
-    """Makes pairs of local events of different processes messages; in half of the sessions only if the send comes first
-    in some order of all events, so that there is no cycle."""
+    """Makes pairs of local events of different processes messages, and in version 2 has others receive some of these
+    too; in half of the sessions only if the send comes first in some order of all events, so that there is no cycle."""
     order = {}
     left = [list(range(1, len(events) + 1)) for events in session.events]
     while any(left):
@@ -289,6 +325,8 @@ def draw_messages(draw, session):
         send, receipt = draw.choice(local), draw.choice(local)
         if send[0] != receipt[0] and not (ordered and order[receipt] < order[send]):
             make_message(session.at(send), session.at(receipt), draw_id(draw, number))
+            while session.version == 2 and draw.random() < 0.5:
+                add_receiver(draw, session, send, lambda place: not ordered or order[send] < order[place])
     for place in session.of_kind("local"):
         if draw.random() < 0.05:
             session.at(place).kind, session.at(place).id = "send", "in flight " + str(place)
@@ -310,6 +348,9 @@ def draw_ring(draw, session):
              if event.kind == "local"]
     if waiting and later:
         make_message(draw.choice(later), draw.choice(waiting), "to one that waits")
+    for place in session.of_kind("send"):
+        if session.version == 2 and draw.random() < 0.3:
+            add_receiver(draw, session, place, lambda place: True)
 
 
 def muddle(draw, session):
@@ -433,7 +474,7 @@ def document_text(draw, session):
     fields = {"processes": processes, "predicates": predicates}
     if session.width != 4096 or draw.random() < 0.5:
         fields["width"] = session.width
-    return json.dumps(fields) + "\n"
+    return json.dumps({**fields, **session.fields} if draw.random() < 0.5 else {**session.fields, **fields}) + "\n"
 
 
 def stream_text(draw, session, process):
@@ -532,7 +573,7 @@ def tried(program, seed, number):
             return place.runs, "", f"{error}\n{bundle}"
         except subprocess.TimeoutExpired:
             return place.runs, "", f"no end\n{bundle}"
-        return place.runs, judged.report + finding, None
+        return place.runs, judged.report + finding + judged.summary(), None
 
 
 def main():

@@ -32,6 +32,13 @@ DOCUMENT = (b'{"processes":[{"name":"a","vars":{"x":0}},{"name":"b","vars":{"y":
 OF_A = b'{"process":"a"}\n{"set":{"x":1}}\n{"set":{"x":0}}\n{"end":true}\n'
 OF_B = b'{"process":"b"}\n{"set":{"y":1}}\n{"set":{"y":0}}\n{"end":true}\n'
 REPORT = b"session 2 processes 4 events 0 messages\nboth possibly yes 1,1\nboth definitely no b,b,a,a\n"
+# A message that two processes receive, as version 2 has it.
+BROADCAST = (b'{"processes":[{"name":"a","vars":{"x":0}},{"name":"b","vars":{"y":0}},{"name":"c","vars":{"z":0}}],'
+             b'"predicates":[{"name":"lag","text":"a.x == 1 and b.y + c.z == 1"}],"version":2}')
+OF_RECEIVERS = [b'{"process":"a"}\n{"send":"m","set":{"x":1}}\n{"end":true}\n',
+                b'{"process":"b"}\n{"recv":"m","set":{"y":1}}\n{"end":true}\n',
+                b'{"process":"c"}\n{"recv":"m","set":{"z":1}}\n{"end":true}\n']
+OF_BROADCAST = b"session 3 processes 3 events 1 messages\nlag possibly yes 1,0,1\nlag definitely yes 2\n"
 NO_NETWORK = b"monitor: network\n"
 FRESH = b"stream 1 process - events 0 fresh\nstream 2 process - events 0 fresh\n"
 SHOWN = re.compile(rb"stream 1 process [-ab] events [012] (fresh|joined|ended|faulted)\n"
@@ -142,6 +149,12 @@ def clients(streams, watchers=0):
     return act
 
 
+def three(server):
+    """Those who send the streams of three processes."""
+    for stream in OF_RECEIVERS:
+        send(server.connect(), stream)
+
+
 def watched_first(server):
     """All that the server waits for connect, and the streams are sent once the watcher has read."""
     senders = [server.connect(), server.connect()]
@@ -171,6 +184,11 @@ def cases():
         for watchers, workers in OTHERS:
             options = {"watchers": watchers, "workers": workers}
             yield f"{name}, {watchers} watchers", clients(streams, watchers), options, (status, report, b"")
+    yield "a message with two receivers", three, {"document": BROADCAST}, (0, OF_BROADCAST, b"")
+    options = {"document": BROADCAST.replace(b":2}", b":1}")}
+    yield "a message with two receivers, in version 1", three, options, (1, b"refused receivedtwice c#1\n", b"")
+    options = {"document": BROADCAST.replace(b":2}", b":3}")}
+    yield "another version", nobody, options, (1, b"refused spec version\n", b"")
     yield "streams that nobody sends yet", watched_first, {"watchers": 1}, (0, REPORT, b"")
     yield "the port is taken", nobody, {"taken": [0]}, (3, b"", NO_NETWORK)
     yield "the watchers' port is taken", nobody, {"taken": [1], "watchers": 1}, (3, b"", NO_NETWORK)

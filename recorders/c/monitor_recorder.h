@@ -73,8 +73,9 @@ monitor_status monitor_to_descriptor(const char *process, int descriptor, monito
 /* Something happened in this process; these variables have these values from now on. */
 monitor_status monitor_event(monitor_recorder *recorder, const monitor_setting *settings, size_t count);
 
-/* This process sends a message to one other: call it BEFORE the message leaves. The id that it makes, the process's
- * name and a counter as in left-1, has to travel with the message. */
+/* This process sends a message to one other or, if the document is of version 2, to several: call it once, BEFORE the
+ * message leaves. The id that it makes, the process's name and a counter as in left-1, has to travel with the message.
+ */
 monitor_status monitor_send(monitor_recorder *recorder, char id[MONITOR_ID_ROOM], const monitor_setting *settings,
                             size_t count);
 

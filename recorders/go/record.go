@@ -180,8 +180,9 @@ func (r *Recorder) Event(settings ...Setting) error {
 	return r.record("", "", settings)
 }
 
-// Send records that this process sends a message to one other: call it BEFORE the message leaves. The id that it makes,
-// the process's name and a counter as in left-1, has to travel with the message. With an error the id is empty.
+// Send records that this process sends a message to one other or, if the document is of version 2, to several: call it
+// once, BEFORE the message leaves. The id that it makes, the process's name and a counter as in left-1, has to travel
+// with the message. With an error the id is empty.
 func (r *Recorder) Send(settings ...Setting) (id string, err error) {
 	r.mutex.Lock()
 	defer r.mutex.Unlock()

@@ -59,8 +59,9 @@ export class Recorder {
   event(variables?: Variables): void;
 
   /**
-   * This process sends a message to one other: call it BEFORE the message leaves. The id that it makes, the process's
-   * name and a counter as in `left-1`, has to travel with the message.
+   * This process sends a message to one other or, if the document is of version 2, to several: call it once, BEFORE
+   * the message leaves. The id that it makes, the process's name and a counter as in `left-1`, has to travel with the
+   * message.
    */
   send(variables?: Variables): string;
 

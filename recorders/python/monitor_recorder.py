@@ -100,8 +100,9 @@ class Recorder:
             self._record({}, None, variables)
 
     def send(self, message=None, /, **variables):
-        """This process sends a message to one other: call it BEFORE the message leaves. The id is given back and has to
-        travel with the message. If none is given one is made, the process's name and a counter, as `left-1`."""
+        """This process sends a message to one other or, if the document is of version 2, to several: call it once,
+        BEFORE the message leaves. The id is given back and has to travel with the message. If none is given one is
+        made, the process's name and a counter, as `left-1`."""
         with self._ready():
             made = self._made
             if message is None:

@@ -1,11 +1,11 @@
 //! Names, predicates and documents: what each call gives once.
 use super::samples::spec;
 use pd_pred::{Names, Pred, Values};
-use pd_spec::Spec;
+use pd_spec::{Spec, Version};
 use std::test::Fail;
 
 const DOCUMENT: &str =
-    r#"{"width":7,"processes":[{"name":"a","vars":{"y":-2,"x":1}},{"name":"b","vars":{}}],
+    r#"{"version":2,"width":7,"processes":[{"name":"a","vars":{"y":-2,"x":1}},{"name":"b","vars":{}}],
     "predicates":[{"name":"p","text":"a.x == 1"},{"name":"q","text":"true"}]}"#;
 
 /// Whether the names are those of the document above.
@@ -27,6 +27,7 @@ fn is_document(spec: &Spec) -> bool {
     let rows = spec.initial_rows();
     spec.predicates()[1].name.as_str() == "q"
         && spec.width() == 7
+        && spec.version() == Version::Two
         && rows.len() == 2
         && rows[0].as_slice() == [1, -2].as_slice()
         && rows[1].is_empty()

@@ -27,6 +27,7 @@ pub(crate) fn is_spec_word(word: &[u8]) -> bool
             "vars",
             "predicates",
             "width",
+            "version",
         ],
     )
 }

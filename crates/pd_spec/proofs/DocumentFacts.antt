@@ -12,7 +12,7 @@ use Rattle.pd_format.specs.Records.{json_value}
 use Rattle.pd_pred.specs.Views.{predicate_fault_view}
 use Rattle.pd_spec.specs.DocumentParts.{IsDocumentOf}
 use Rattle.pd_spec.specs.Faults.{IsFaultFound}
-use Rattle.pd_spec.specs.Predicates.{IsFaultAmong, IsRefusedAmong}
+use Rattle.pd_spec.specs.Predicates.{IsFaultAmong, IsLateFault, IsRefusedAmong}
 use Rattle.pd_spec.specs.Views.{IsFaultOf}
 use Rattle.pd_spec.specs.declared.fault.SpecFault.{SpecFault}
 use Rattle.pd_spec.specs.declared.fault.SpecFault.TheVariants as kinds
@@ -64,6 +64,7 @@ fault_found bytes outline kinds.Vars e reported = refused_with bytes outline fau
 fault_found bytes outline kinds.Predicates e reported = refused_with bytes outline faults.Predicates e reported
 fault_found bytes outline kinds.Width e reported = refused_with bytes outline faults.Width e reported
 fault_found bytes outline (kinds.Predicate number error) e reported = cc
+fault_found bytes outline kinds.Version e reported = cc
 fault_found bytes outline kinds.Memory e reported = tt
 
 pub outline_fault_reported : (bytes : List ℕ) (value : Data) (outline : Outline) (fault : SpecFault)
@@ -72,7 +73,7 @@ pub outline_fault_reported : (bytes : List ℕ) (value : Data) (outline : Outlin
 outline_fault_reported bytes value outline fault short is shape reported =
     fault_found bytes outline fault (with_shape bytes value outline short is shape) reported
 
-pub predicate_fault : (bytes : List ℕ) (outline : Outline) (fault : SpecFault) → outline_of_bytes bytes ≡ Ok outline
+predicate_fault : (bytes : List ℕ) (outline : Outline) (fault : SpecFault) → outline_of_bytes bytes ≡ Ok outline
     → IsFaultAmong (names_of_outline outline) outline.predicates fault → IsFaultOf bytes fault
 predicate_fault bytes outline kinds.Memory sound reported = tt
 predicate_fault bytes outline (kinds.Predicate number error) sound reported =
@@ -96,6 +97,15 @@ predicate_fault bytes outline (kinds.Predicate number error) sound reported =
         }
 predicate_fault bytes outline _ sound reported = absurd reported
 
+pub late_fault : (bytes : List ℕ) (outline : Outline) (fault : SpecFault) → outline_of_bytes bytes ≡ Ok outline
+    → IsLateFault outline fault → IsFaultOf bytes fault
+late_fault bytes outline kinds.Version sound reported =
+    record { outline = outline; sound = sound; spelled = reported.0; none = reported.1 }
+late_fault bytes outline kinds.Memory sound reported = tt
+late_fault bytes outline (kinds.Predicate number error) sound reported =
+    predicate_fault bytes outline (kinds.Predicate number error) sound reported
+late_fault bytes outline _ sound reported = absurd reported
+
 pub document_of_bytes : (bytes : List ℕ) (outline : Outline) (document : Document) → outline_of_bytes bytes ≡ Ok outline
     → IsDocumentOf outline document → IsDocument bytes document
 document_of_bytes bytes outline document sound is =
@@ -105,6 +115,7 @@ document_of_bytes bytes outline document sound is =
       names = is.names;
       initial = is.initial;
       width = is.width;
+      version = is.version;
       predicates =
           is.predicates;
     }

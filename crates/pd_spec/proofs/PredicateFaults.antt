@@ -3,7 +3,7 @@ use Rattle.std.proofs.Common.{◌≡◌, ℕ, suc, ◌+◌, ◌<◌, List, [], �
 use Rattle.std.specs.Prelude.{MatchOption}
 use Rattle.std.specs.List.{AllByRecursion, AllZip}
 use Rattle.std.proofs.lemmas.List.{map-append, length-map, length-take-le, take-append-drop, take_more}
-use Rattle.pd_format.specs.Documents.{IsNamedPredicate, NamedPredicate}
+use Rattle.pd_format.specs.Documents.{IsNamedPredicate, NamedPredicate, Outline, IsSpelled, names_of_outline}
 use Rattle.pd_format.specs.Names.{ProcessNames}
 use Rattle.pd_format.specs.PredicateTexts.{PredicateFault, IsRefusedPredicate}
 use Rattle.pd_pred.specs.Views.{predicate_fault_view}
@@ -91,3 +91,10 @@ all_more names predicates i one done new made within at all pushed is =
     )
     (zip_push (IsNamedPredicate names) (map predicate_outline_view (take i predicates)) (map named_view done)
     (predicate_outline_view one) (named_view made) all is)
+
+-- each text is a predicate, by the names of the outline
+pub all_spelled : (outline : Outline) (names : List ProcessNames) (written : List (List ℕ × List ℕ))
+    (parsed : List NamedPredicate) → names ≡ names_of_outline outline → written ≡ outline.predicates
+    → AllZip (IsNamedPredicate names) written parsed → AllByRecursion (IsSpelled outline) outline.predicates
+all_spelled outline names written parsed names_are written_are all =
+    some_of_each (names_of_outline outline) outline.predicates parsed (rw (← names_are, ← written_are) all)

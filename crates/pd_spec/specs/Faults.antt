@@ -6,7 +6,7 @@ use Rattle.pd_spec.specs.declared.fault.SpecFault.TheVariants as kinds
 use Rattle.pd_spec.specs.declared.fault.SpecFault.{SpecFault}
 use Rattle.pd_spec.specs.declared.fault.SpecFault.TheVariants.{Memory}
 
--- the document's fault that a fault of the program is, but for those in predicates
+-- the document's fault that a fault of the program is, but for those in predicates and that of the version
 abbrev pub document_fault_view : SpecFault → Option DocumentFault
 document_fault_view kinds.Long = Some faults.Long
 document_fault_view kinds.Json = Some faults.Json
@@ -18,6 +18,7 @@ document_fault_view kinds.Vars = Some faults.Vars
 document_fault_view kinds.Predicates = Some faults.Predicates
 document_fault_view kinds.Width = Some faults.Width
 document_fault_view (kinds.Predicate number error) = None
+document_fault_view kinds.Version = None
 document_fault_view kinds.Memory = None
 
 -- the fault is the one that is found, or out of memory

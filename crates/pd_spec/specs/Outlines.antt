@@ -31,6 +31,7 @@ outline_view outline = record {
   predicates =
       map predicate_outline_view outline.predicates.items;
   width = option_map (λ value. view value.now) outline.width;
+  version = option_map (λ value. view value.now) outline.version;
 }
 
 -- each process, each variable and each predicate has a name that is one

@@ -1,7 +1,8 @@
--- The faults in the texts of predicates.
-use Rattle.std.specs.Prelude.{◌≡◌, ℕ, ◌+◌, List, ◌∷◌, ◌++◌, length, MatchOption}
+-- The faults in the texts of predicates, and the one that is looked for after them.
+use Rattle.std.specs.Prelude.{◌≡◌, ℕ, ◌+◌, List, ◌∷◌, ◌++◌, length, None, MatchOption}
 use Rattle.std.specs.List.{AllByRecursion}
 use Rattle.pd_model.specs.Predicates.{Predicate}
+use Rattle.pd_format.specs.Documents.{Outline, IsSpelled, names_of_outline, version_of}
 use Rattle.pd_format.specs.Names.{ProcessNames}
 use Rattle.pd_format.specs.PredicateTexts.{PredicateFault, IsPredicate, IsRefusedPredicate}
 use Rattle.pd_pred.specs.Views.{predicate_fault_view}
@@ -37,3 +38,10 @@ IsFaultAmong names written kinds.Memory = Unit {0}
 IsFaultAmong names written (kinds.Predicate number error) =
     MatchOption (predicate_fault_view error.kind) ⊥ (λ fault. IsRefusedAmong names written number fault error.at)
 IsFaultAmong names written _ = ⊥
+
+-- The fault is that of an outline with none of its own: that of its first predicate that is refused, that of its version
+-- if no predicate is refused and its field says no version, or that memory ran out.
+abbrev pub IsLateFault : Outline → SpecFault → Type 0
+IsLateFault outline kinds.Version =
+    AllByRecursion (IsSpelled outline) outline.predicates × (version_of outline.version ≡ None)
+IsLateFault outline fault = IsFaultAmong (names_of_outline outline) outline.predicates fault

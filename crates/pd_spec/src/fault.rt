@@ -25,6 +25,8 @@ pub enum SpecFault {
     Width,
     /// The text of this predicate, counted from 1, is refused with this error. The error is never out of memory.
     Predicate(u64, PredError),
+    /// The field `version` is there and is not the whole number 1 or 2. This is looked for last.
+    Version,
     /// Memory ran out.
     Memory,
 }

@@ -1,11 +1,13 @@
-//! The session document: a JSON object with the fields `processes`, `predicates` and, if it is there, `width`. A
-//! process has a `name`, and in `vars` its variables with their initial values; a predicate has a `name` and a `text`.
+//! The session document: a JSON object with the fields `processes`, `predicates` and, if they are there, `width` and
+//! `version`. A process has a `name`, and in `vars` its variables with their initial values; a predicate has a `name`
+//! and a `text`. The version is 1 or 2, and 1 where there is no such field.
 //!
 //! `Spec::read` answers `Ok` exactly with the document that the bytes are, and otherwise with the first fault that
 //! applies. Only out of memory is reported without a claim about the bytes. A `Spec` keeps the bounds of its parts as a
 //! ghost field, on which callers rely.
 //!
 //! - `spec`: the document, and its reader
+//! - `version`: the version of a document, and its reader
 //! - `named`: a predicate with its name
 //! - `fault`: why bytes are no document
 //! - `json`: the JSON value of bytes, for readers of other formats too
@@ -27,9 +29,11 @@ mod parts;
 mod predicates;
 mod spec;
 mod twice;
+mod version;
 
 pub use fault::SpecFault;
 pub use fields::{are_whole, has_only, value_at};
 pub use json::json_value;
 pub use named::NamedPred;
 pub use spec::Spec;
+pub use version::Version;

@@ -28,6 +28,7 @@ pub(crate) struct Outline<'a> {
     pub(crate) processes: Vec<ProcessOutline<'a>>,
     pub(crate) predicates: Vec<PredicateOutline<'a>>,
     pub(crate) width: Option<&'a Value>,
+    pub(crate) version: Option<&'a Value>,
 }
 
 fn process_outline(value: &Value) -> Option<ProcessOutline<'_>>
@@ -99,7 +100,7 @@ impl<'a> Outline<'a> {
         let Some(fields) = value.as_object() else {
             return Ok(None);
         };
-        if !has_only(&["processes", "predicates", "width"], fields) {
+        if !has_only(&["processes", "predicates", "width", "version"], fields) {
             return Ok(None);
         }
         let Some(processes) = array_at(fields, "processes") else {
@@ -118,6 +119,7 @@ impl<'a> Outline<'a> {
             processes,
             predicates,
             width: value_at(fields, "width"),
+            version: value_at(fields, "version"),
         }))
     }
 }

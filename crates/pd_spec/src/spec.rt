@@ -7,19 +7,22 @@ ghost use Rattle.pd_spec.specs.Sound.{IsSound};
 use super::json::json_value;
 use super::outline::Outline;
 use super::predicates::parse_all;
-use super::{NamedPred, SpecFault};
+use super::version::version_of;
+use super::{NamedPred, SpecFault, Version};
 use pd_format::{DEFAULT_WIDTH, DOCUMENT_BYTE_LIMIT};
 use pd_pred::Names;
 use serde_json::Value;
 use std::alloc::Global;
 
-/// What a session document says: the processes with their variables and initial values, the predicates, and the width.
+/// What a session document says: the processes with their variables and initial values, the predicates, the width and
+/// the version.
 #[derive(Drop)]
 pub struct Spec {
     names: Names,
     initial: Vec<Vec<i64>>,
     predicates: Vec<NamedPred>,
     width: u64,
+    version: Version,
     /// What holds of each document: the bounds of its parts, and that their names are names.
     pub ghost sound: { IsSound names (map (λ row. row.items) initial.items)
         (map (λ predicate. string_bytes predicate.name) predicates.items) width },
@@ -44,14 +47,14 @@ fn value_in(row: &[i64], v: usize) -> i64
 
 impl Spec {
     ghost use Rattle.std.specs.Prelude.{Err, IfOk, IfErr, None, [], slice_index_or};
-    ghost use Rattle.pd_format.specs.Documents.{IsDocument, names_of_outline, outline_fault};
+    ghost use Rattle.pd_format.specs.Documents.{IsDocument, outline_fault};
     ghost use Rattle.pd_format.specs.Limits.{document_byte_limit};
     ghost use Rattle.pd_format.specs.Names.{vars_of};
     ghost use Rattle.pd_spec.specs.DocumentParts.{IsDocumentOf};
     ghost use Rattle.pd_spec.specs.Named.{named_view};
     ghost use Rattle.pd_spec.specs.Outlines.{outline_view};
-    ghost use Rattle.pd_spec.specs.Predicates.{IsFaultAmong};
-    ghost use Rattle.pd_spec.specs.Views.{document_view, IsFaultOf};
+    ghost use Rattle.pd_spec.specs.Predicates.{IsLateFault};
+    ghost use Rattle.pd_spec.specs.Views.{document_view, version_view, IsFaultOf};
 
     /// The document that these bytes are.
     ///
@@ -79,17 +82,20 @@ impl Spec {
     fn of_outline(alloc: Global, outline: &Outline<'_>) -> Result<Spec, SpecFault>
         requires { outline_fault (outline_view outline.now) ≡ None }
         ensures ok { IfOk result (λ spec. IsDocumentOf (outline_view outline.now) (document_view spec)) }
-        ensures err { IfErr result (λ fault. IsFaultAmong (names_of_outline (outline_view outline.now))
-            (outline_view outline.now).predicates fault) }
+        ensures err { IfErr result (λ fault. IsLateFault (outline_view outline.now) fault) }
     {
         let names = outline.names(alloc)?;
         let initial = outline.initial(alloc)?;
         let predicates = parse_all(alloc, &names, &outline.predicates)?;
+        let Some(version) = version_of(outline.version) else {
+            return Err(SpecFault::Version);
+        };
         Ok(Spec {
             names,
             initial,
             predicates,
             width: width_of(outline.width),
+            version,
         })
     }
 
@@ -135,5 +141,12 @@ impl Spec {
         ensures { result ≡ (document_view self.now).width }
     {
         self.width
+    }
+
+    /// Which processes may receive a message.
+    pub fn version(&self) -> Version
+        ensures { version_view result ≡ (document_view self.now).version }
+    {
+        self.version
     }
 }

@@ -179,8 +179,9 @@ public final class Recorder implements AutoCloseable {
     }
 
     /**
-     * This process sends a message to one other: call it BEFORE the message leaves. The id that it makes, the process's
-     * name and a counter as in {@code left-1}, has to travel with the message.
+     * This process sends a message to one other or, if the document is of version 2, to several: call it once, BEFORE
+     * the message leaves. The id that it makes, the process's name and a counter as in {@code left-1}, has to travel
+     * with the message.
      *
      * @return the id
      * @throws NotRecordedException if it is refused: nothing is written then

@@ -6,7 +6,7 @@ use Rattle.pd_format.specs.Documents.{outline_of, outline_of_bytes}
 use Rattle.pd_format.specs.Records.{json_value}
 use Rattle.pd_spec.specs.Outlines.{outline_view}
 use Rattle.pd_spec.specs.Views.{document_view}
-use Rattle.pd_spec.proofs.DocumentFacts.{long_bytes, no_json, no_shape, sound_bytes, outline_fault_reported, predicate_fault, document_of_bytes}
+use Rattle.pd_spec.proofs.DocumentFacts.{long_bytes, no_json, no_shape, sound_bytes, outline_fault_reported, late_fault, document_of_bytes}
 use Rattle.pd_spec.proofs.spec.Spec.read.Goals as goal
 
 pub returns-then-bytes-gt-DOCUMENT_BYTE_LIMIT-clause-err : goal.returns-then-bytes-gt-DOCUMENT_BYTE_LIMIT-clause-err
@@ -59,4 +59,4 @@ returns-clause-err c =
     sound_bytes c.args.bytes.now (view c.in-Some.value) (outline_view c.in-Some-2.outline)
     c.if-bytes-gt-DOCUMENT_BYTE_LIMIT.false value outline c.in_ok-check.ensures.ok in
     MatchResult-weaker c.of_outline.result c.of_outline.ensures.err (λ spec h. h) (λ fault.
-    predicate_fault c.args.bytes.now (outline_view c.in-Some-2.outline) fault sound)
+    late_fault c.args.bytes.now (outline_view c.in-Some-2.outline) fault sound)

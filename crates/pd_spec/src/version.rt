@@ -1,0 +1,36 @@
+//! The version of a document.
+ghost use Rattle.std.specs.Prelude.{◌≡◌, option_map};
+ghost use Rattle.serde_json.specs.View.{view};
+ghost use Rattle.pd_format.specs.Documents.{numbered_version, version_of};
+ghost use Rattle.pd_spec.specs.Views.{version_view};
+
+use serde_json::Value;
+
+/// Which processes may receive a message.
+#[derive(Clone, Copy, Debug, PartialEq, Eq)]
+pub enum Version {
+    /// One of them, once. A document without the field `version` has this version.
+    One,
+    /// Several of them, each once.
+    Two,
+}
+
+fn numbered(number: i64) -> Option<Version>
+    ensures { option_map version_view result ≡ numbered_version number }
+{
+    match number {
+        1 => Some(Version::One),
+        2 => Some(Version::Two),
+        _ => None,
+    }
+}
+
+/// The version that the field `version` says, if it says one.
+pub(crate) fn version_of(version: Option<&Value>) -> Option<Version>
+    ensures { option_map version_view result ≡ version_of (option_map (λ value. view value.now) version.entry) }
+{
+    match version {
+        None => Some(Version::One),
+        Some(value) => numbered(value.as_i64()?),
+    }
+}
