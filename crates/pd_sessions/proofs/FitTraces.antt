@@ -1,9 +1,9 @@
 -- The traces of a session fit its document, and what they record.
-use Rattle.std.proofs.Common.{◌≡◌, ℕ, List, [], ◌∷◌, length, map, refl, ap, ◌∙◌, subst, Some, None, Option, ◌↔◌}
-use Rattle.std.specs.Prelude.{Contains, IfSome, MatchOption}
+use Rattle.std.proofs.Common.{◌≡◌, ℕ, List, [], ◌∷◌, length, map, refl, ap, ◌∙◌, subst, Some, None, Option}
+use Rattle.std.specs.Prelude.{IfSome, MatchOption}
 use Rattle.std.proofs.lemmas.List.{length-map}
 use Rattle.pd_model.specs.Events.{Computation, Place}
-use Rattle.pd_model.specs.Messages.{AreReceived, Fault, HasLawfulMessages, HasMessages, IsMessageList, IsReported, Version}
+use Rattle.pd_model.specs.Messages.{Fault, HasLawfulMessages, HasMessages, IsReported, Version}
 use Rattle.pd_model.specs.Order.{HasNoCycle, IsReportedCycle}
 use Rattle.pd_model.specs.Predicates.{Recorded}
 use Rattle.pd_format.specs.Documents.{Document}
@@ -17,7 +17,6 @@ use Rattle.pd_traces.specs.Views.{computation_view}
 use Rattle.pd_traces.specs.declared.event.Trace.{Trace}
 use Rattle.pd_traces.specs.SessionTraces.{AreTraces}
 use Rattle.pd_gather.specs.Views.{traces_view}
-use Rattle.pd_match.specs.Noted.{AreSendsOf}
 use Rattle.pd_clock.specs.Computations.{recorded_view}
 use Rattle.pd_sessions.specs.Computations.{AreWellFormed}
 
@@ -72,22 +71,6 @@ cycle_report document traces cycle lawful r =
     (subst (λ (c : Computation). IsReportedCycle c cycle) (same_events traces) r)
 
 -- ---- the computation of traces whose messages are lawful
-
--- the sends of the messages are those that are received
-received : (c : Computation) (pairs : List (Place × Place)) (sends : List Place) → IsMessageList c pairs
-    → AreSendsOf pairs sends → AreReceived c sends
-received c pairs sends list are = record {
-  ascending = are.ascending;
-  just = λ send. (
-    λ has. let w : (receipt : Place) × Contains pairs (send, receipt) = (are.just send).0 has in
-        (w.0, (list.just send w.0).0 w.1),
-    λ is. (are.just send).1 (is.0, (list.just send is.0).1 is.1),
-  );
-}
-
-pub counts_messages : (c : Computation) (pairs : List (Place × Place)) (count : ℕ) → IsMessageList c pairs
-    → (sends : List Place) × AreSendsOf pairs sends × (count ≡ length sends) → HasMessages c count
-counts_messages c pairs count list (sends, are, same) = (sends, received c pairs sends list are, same)
 
 pub well_formed : (document : Document) (traces : List Trace) (count : ℕ)
     → length (computation_view traces) ≡ length document.names

@@ -9,11 +9,12 @@ use Rattle.pd_gather.specs.Views.{traces_view}
 use Rattle.pd_spec.specs.Views.{document_view}
 use Rattle.pd_traces.specs.Views.{computation_view}
 use Rattle.pd_match.specs.Views.{place_view}
+use Rattle.pd_match.proofs.ReceivedSends.{counts_messages}
 use Rattle.pd_clock.specs.Orders.{places_view}
 use Rattle.pd_clock.specs.Computations.{recorded_view}
 use Rattle.pd_sessions.specs.Computations.{AreWellFormed}
 use Rattle.pd_sessions.specs.Refusals.{HasNames}
-use Rattle.pd_sessions.proofs.FitTraces.{counts_messages, well_formed, cycle_report, traces_length}
+use Rattle.pd_sessions.proofs.FitTraces.{well_formed, cycle_report, traces_length}
 use Rattle.pd_sessions.proofs.RefusedPlaces.{cycle_named, cycle_reported}
 use Rattle.pd_sessions.proofs.computations.build.Goals as goal
 
