@@ -37,8 +37,6 @@ SERVER, CLIENT, PRODUCER, CONSUMER = 2, 3, 4, 5
 KINDS = {f"SPAN_KIND_{name}": number for number, name in enumerate(
     ["UNSPECIFIED", "INTERNAL", "SERVER", "CLIENT", "PRODUCER", "CONSUMER"])}
 STATUS_CODES = {f"STATUS_CODE_{name}": number for number, name in enumerate(["UNSET", "OK", "ERROR"])}
-# Kinds of spans of which each sends one message; others may have sent one to each instance that their context reached.
-SENDING_ONE = (CLIENT, PRODUCER)
 INSTANCE = ("service.namespace", "service.name", "service.instance.id")
 OTHER_SIGNALS = ("resourceMetrics", "resourceLogs", "resourceProfiles")
 DROPPED = ("droppedAttributesCount", "droppedEventsCount", "droppedLinksCount")
@@ -418,10 +416,11 @@ def find_messages(spans, left_out, unanswered):
 
 
 def refuse_second(sender, instances):
-    """A message has one receiver."""
-    if sender.kind in SENDING_ONE and len(instances) > 1:
+    """A request has one receiver. What a producer sends may have several, and so has a context that has reached
+    several instances."""
+    if sender.kind == CLIENT and len(instances) > 1:
         _, (second, *_), *_ = instances.values()
-        raise second.refused(f"it is a second receiver of the message of {sender.place}, and a message has one")
+        raise second.refused(f"it is a second receiver of the request of {sender.place}, and a request has one")
 
 
 def first_of(moments):

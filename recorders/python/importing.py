@@ -21,8 +21,8 @@ class Refused(Exception):
 
 class Event:
     """Something that happened in one process. `place` says where the input has it, and `text` is what patterns are
-    held against. `sources` are the events from which it received a message, `receivers` those that received one of
-    it."""
+    held against. `sources` are the events from which it received a message, `receivers` those that received the one
+    that it sent: one of a process, and of one process no two."""
 
     def __init__(self, place, text):
         self.place = place
@@ -36,7 +36,7 @@ class Event:
 
     def lines(self):
         """How many events of a stream stand for it."""
-        return max(1, len(self.sources) + len(self.receivers))
+        return max(1, len(self.sources) + bool(self.receivers))
 
 
 def compiled(pattern):
@@ -151,27 +151,23 @@ def check_lengths(processes):
 
 
 def message_ids(processes):
-    """An id for each sender and receiver: the name of the sender's process and a counter."""
+    """An id for each event that sends: the name of its process and a counter."""
     ids = {}
     for name, events in processes.items():
-        counter = 0
-        for event in events:
-            for receiver in event.receivers:
-                counter += 1
-                ids[event, receiver] = f"{name}-{counter}"
+        senders = [event for event in events if event.receivers]
+        ids.update((event, f"{name}-{number}") for number, event in enumerate(senders, 1))
     return ids
 
 
 def write_stream(recorder, events, ids, table):
-    """Each event as one line, or as one for each of its receipts and then one for each of its sends. What it sets
-    stands with its last receipt or, if it has none, with its first send: so no state is added and none is lost."""
+    """Each event as one line, or as one for each of its receipts and then one for its send. What it sets stands with
+    its last receipt or, if it has none, with its send: so no state is added and none is lost."""
     for event in events:
         for source in event.sources:
-            recorder.receive(ids[source, event], **(event.settings if source is event.sources[-1] else {}))
-        for receiver in event.receivers:
-            is_first = receiver is event.receivers[0] and not event.sources
-            recorder.send(ids[event, receiver], **(event.settings if is_first else {}))
-        if not event.sources and not event.receivers:
+            recorder.receive(ids[source], **(event.settings if source is event.sources[-1] else {}))
+        if event.receivers:
+            recorder.send(ids[event], **({} if event.sources else event.settings))
+        elif not event.sources:
             recorder.event(**event.settings)
         for number in range(recorder.events - event.lines() + 1, recorder.events + 1):
             table.write(f"{recorder.process}#{number}\t{event.place}\t{event.text}\n")
@@ -188,8 +184,9 @@ def write_files(folder, document, processes, ids):
 
 
 def write_session(given, processes):
-    """Writes the session of these processes, each with its events in their order, and gives a line on it. `given` is
-    what the command line says."""
+    """Writes the session of these processes, each with its events in their order, and gives a line on it, and another
+    one if its document is of version 2, since several processes received a message. `given` is what the command line
+    says."""
     check_lengths(processes)
     values = initial_values(processes, given.all_variables, given.initial)
     document = {"processes": [{"name": name, "vars": values[name]} for name in processes],
@@ -197,11 +194,15 @@ def write_session(given, processes):
     if given.width is not None:
         document["width"] = given.width
     ids = message_ids(processes)
+    shared = sum(len(event.receivers) > 1 for event in ids)
+    if shared:
+        document["version"] = 2
     os.makedirs(given.out, exist_ok=True)
     write_files(given.out, document, processes, ids)
     events = [event for events in processes.values() for event in events]
     split = sum(event.lines() > 1 for event in events)
-    return f"{len(processes)} processes, {len(events)} events, {len(ids)} messages, {split} events written as several"
+    line = f"{len(processes)} processes, {len(events)} events, {len(ids)} messages, {split} events written as several"
+    return line + (f"\nmessages with several receivers: {shared}, so the document is of version 2" if shared else "")
 
 
 # The command line

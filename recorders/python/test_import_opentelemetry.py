@@ -279,8 +279,10 @@ class Messages(Case):
             resource(span(1, 1, 9, values={"x": 1}), span(2, 2, 3, parent=1)),
             resource(span(3, 1, 2, SERVER, parent=1), span(4, 3, 4, SERVER, parent=1), service="b"),
             resource(span(5, 1, 2, INTERNAL, parent=1), service="c"), words=["--variables", "^start .*x=(?<x>.)"])
-        self.assertEqual(streams, {"a": [{"send": "a-1", "set": {"x": 1}}, {"send": "a-2"}, {}, {}, {}],
-                                   "b": [{"recv": "a-1"}, {}, {}, {}], "c": [{"recv": "a-2"}, {}]})
+        self.assertEqual(streams, {"a": [{"send": "a-1", "set": {"x": 1}}, {}, {}, {}],
+                                   "b": [{"recv": "a-1"}, {}, {}, {}], "c": [{"recv": "a-1"}, {}]})
+        self.assertEqual(self.written, "3 processes, 10 events, 1 messages, 0 events written as several\n"
+                                       "messages with several receivers: 1, so the document is of version 2\n")
 
     def test_a_client_is_answered_by_a_server_alone(self):
         for kind in (INTERNAL, CONSUMER, CLIENT):
@@ -292,6 +294,7 @@ class Messages(Case):
             resource(CLIENT_SPAN), resource({**SERVER_SPAN, "attributes": attributes({"x": 1})}, service="b"),
             resource(span(3, 1, 2, SERVER, parent=2), service="c"), words=["--variables", "^start .*x=(?<x>.)"])
         self.assertEqual(streams["b"], [{"recv": "a-1", "set": {"x": 1}}, {"send": "b-1"}, {"send": "b-2"}])
+        self.assertNotIn("version", json.loads(self.written_file("session.json")))
 
     def test_clients_without_an_answer(self):
         for others in ({"values": {"error.type": "timeout"}}, {"status": {"code": 2, "message": "timeout"}}):
@@ -300,17 +303,40 @@ class Messages(Case):
                              words=["--unanswered", "status_code=OK", "--unanswered", "^end .*=timeout$"]),
                 {"a": [{"send": "a-1"}, {}], "b": [{"recv": "a-1"}, {}]})
 
-    def test_several_receivers(self):
-        # A later form of streams may have several receivers for a message.
-        for kind, receivers in ((PRODUCER, CONSUMER), (CLIENT, SERVER), (PRODUCER, INTERNAL)):
-            self.refused_span("it is a second receiver of the message of 1.json span 0000000000000001 (work), and a "
-                              "message has one",
-                              resource(span(1, 1, 2, kind)), resource(span(2, 1, 2, receivers, parent=1), service="b"),
-                              resource(span(3, 1, 2, receivers, parent=1), service="c"), number=3)
-        self.refused_span("it is a second receiver of the message of 1.json span 0000000000000001 (work), and a "
-                          "message has one",
-                          resource(span(1, 1, 2, PRODUCER)), resource(span(3, 1, 2, CONSUMER, parent=1), service="c"),
-                          resource(span(2, 1, 2, CONSUMER, links=[link(1)]), service="b"), number=2)
+    def test_a_message_with_several_consumers(self):
+        for receivers in (CONSUMER, INTERNAL):
+            streams = self.streams(resource(span(1, 1, 2, PRODUCER)),
+                                   resource(span(2, 1, 2, receivers, parent=1), service="b"),
+                                   resource(span(3, 1, 2, receivers, parent=1), service="c"))
+            self.assertEqual(streams, {"a": [{"send": "a-1"}, {}], "b": [{"recv": "a-1"}, {}],
+                                       "c": [{"recv": "a-1"}, {}]})
+            self.assertEqual(self.written, "3 processes, 6 events, 1 messages, 0 events written as several\n"
+                                           "messages with several receivers: 1, so the document is of version 2\n")
+            self.assertEqual(json.loads(self.written_file("session.json"))["version"], 2)
+
+    def test_a_consumer_by_its_parent_and_one_by_a_link(self):
+        streams = self.streams(
+            resource(span(1, 1, 2, PRODUCER), span(4, 3, 4, PRODUCER)),
+            resource(span(3, 1, 2, CONSUMER, parent=1), service="c"),
+            resource(span(2, 1, 2, CONSUMER, links=[link(4), link(1)], values={"x": 7}), service="b"),
+            words=["--variables", "^start .*x=(?<x>.)"])
+        self.assertEqual(streams, {"a": [{"send": "a-1"}, {}, {"send": "a-2"}, {}], "c": [{"recv": "a-1"}, {}],
+                                   "b": [{"recv": "a-1"}, {"recv": "a-2", "set": {"x": 7}}, {}]})
+
+    def test_consumers_of_one_instance_are_one_receiver(self):
+        streams = self.streams(
+            resource(span(1, 1, 2, PRODUCER)),
+            resource(span(2, 1, 2, CONSUMER, parent=1), span(3, 3, 4, CONSUMER, parent=1), service="b"),
+            resource(span(4, 1, 2, CONSUMER, parent=1), service="c"), words=["--leave-out", "c"])
+        self.assertEqual(streams, {"a": [{"send": "a-1"}, {}], "b": [{"recv": "a-1"}, {}, {}, {}]})
+        self.assertNotIn("version", json.loads(self.written_file("session.json")))
+
+    def test_a_request_with_several_receivers(self):
+        for others in ({"parent": 1}, {"parent": 1, "links": [link(1)]}):
+            self.refused_span("it is a second receiver of the request of 1.json span 0000000000000001 (work), and a "
+                              "request has one",
+                              resource(span(1, 1, 2, CLIENT)), resource(span(2, 1, 2, SERVER, parent=1), service="b"),
+                              resource(span(3, 1, 2, SERVER, **others), service="c"), number=3)
 
 
 class Variables(Case):
@@ -581,6 +607,7 @@ class RandomRun:
         inside = [each for each in self.open if each["instance"] == instance and self.generator.random() < 0.7]
         parent = parent or (inside[-1]["number"] if inside and kind != SERVER else None)
         one = {"number": next(self.numbers), "instance": instance, "kind": kind, "clock": clock, "answer": None,
+               "takers": [],
                "span": span(0, time, time, kind, parent=parent, values={"at_start": number}, **others)}
         one["span"]["spanId"] = f"{one['number']:016x}"
         self.open.append(one)
@@ -609,10 +636,14 @@ class RandomRun:
             self.start(instance, SERVER, client["number"], client["clock"])["client"] = client
 
     def consume(self, instance):
-        taken = [each for each in self.messages if each["instance"] != instance][:self.generator.choice((1, 2, 2))]
+        others = [each for each in self.messages if instance not in (each["instance"], *each["takers"])]
+        taken = others[:self.generator.choice((1, 2, 2))]
         if not taken:
             return
-        self.messages = [each for each in self.messages if each not in taken]
+        for each in taken:
+            each["takers"].append(instance)
+            if self.generator.random() < 0.5:
+                self.messages.remove(each)
         source = [max(column) for column in zip(*(each["clock"] for each in taken))]
         linked = [link(each["number"]) for each in taken]
         parent = taken[0]["number"] if self.generator.random() < 0.5 else None
@@ -672,7 +703,7 @@ class Answers(Case):
             yield names, [streams[name] for name in names], original, states
 
     def test_the_streams_have_the_order_of_the_run(self):
-        same = messages = yes = split = 0
+        same = messages = yes = split = shared = 0
         for _, lines, original, states in self.runs(150):
             found = with_clocks(lines)
             if sum(map(len, lines)) == sum(map(len, original)):
@@ -684,8 +715,9 @@ class Answers(Case):
             self.assertEqual(answers(found, states), expected)
             messages += sum("recv" in line for own in lines for line in own)
             yes += sum(expected[:2])
+            shared += json.loads(self.written_file("session.json")).get("version") == 2
         self.assertGreater(min(same, messages, yes), 50)
-        self.assertGreater(split, 3)
+        self.assertGreater(min(split, shared), 3)
 
     @needs_program
     def test_reports_of_what_is_imported(self):
@@ -693,7 +725,7 @@ class Answers(Case):
             streams = [self.written_file(f"{name}.stream") for name in names]
             any_of = " or ".join("(" + " and ".join(f"{name}.x == {held}" for name, held in zip(names, state)) + ")"
                                  for state in sorted(states))
-            document = {"processes": [{"name": name, "vars": {"x": 0}} for name in names],
+            document = {**json.loads(self.written_file("session.json")),
                         "predicates": [{"name": "state", "text": any_of}]}
             lines = report_of(document, streams).splitlines()
             found = tuple(line.split()[2] == "yes" for line in lines[1:])

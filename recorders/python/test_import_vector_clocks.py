@@ -116,13 +116,28 @@ class Messages(Case):
         self.assertEqual(streams, {"a": [{"send": "a-1"}, {"recv": "b-1"}],
                                    "b": [{"recv": "a-1"}, {"send": "b-1"}, {}]})
 
-    def test_a_broadcast_is_a_send_for_each_receiver(self):
-        _, streams = self.imported([log(
+    def test_a_broadcast_is_a_send_with_several_receipts(self):
+        document, streams = self.imported([log(
             ("a", {"a": 1}, "x=1"), ("b", {"a": 1, "b": 1}, ""), ("c", {"a": 1, "c": 1}, ""), ("a", {"a": 2}, "x=2"))],
             "--variables", "x=(?<x>.)")
-        self.assertEqual(streams, {"a": [{"send": "a-1", "set": {"x": 1}}, {"send": "a-2"}, {"set": {"x": 2}}],
-                                   "b": [{"recv": "a-1"}], "c": [{"recv": "a-2"}]})
-        self.assertEqual(self.written, "3 processes, 4 events, 2 messages, 1 events written as several\n")
+        self.assertEqual(streams, {"a": [{"send": "a-1", "set": {"x": 1}}, {"set": {"x": 2}}],
+                                   "b": [{"recv": "a-1"}], "c": [{"recv": "a-1"}]})
+        self.assertEqual(document["version"], 2)
+        self.assertEqual(self.written, "3 processes, 4 events, 1 messages, 0 events written as several\n"
+                                       "messages with several receivers: 1, so the document is of version 2\n")
+
+    def test_without_a_broadcast_a_document_has_no_version(self):
+        document, _ = self.imported([log(("a", {"a": 1}, ""), ("b", {"a": 1, "b": 1}, ""), ("c", {"c": 1}, ""),
+                                         ("a", {"a": 2}, ""), ("c", {"a": 2, "c": 2}, ""))], "--width", "9")
+        self.assertEqual(sorted(document), ["predicates", "processes", "width"])
+
+    def test_who_hears_of_an_event_by_another_host_is_no_receiver(self):
+        document, streams = self.imported([log(
+            ("a", {"a": 1}, ""), ("b", {"a": 1, "b": 1}, ""), ("c", {"a": 1, "c": 1}, ""),
+            ("d", {"a": 1, "b": 1, "d": 1}, ""))])
+        self.assertEqual(streams, {"a": [{"send": "a-1"}], "b": [{"recv": "a-1"}, {"send": "b-1"}],
+                                   "c": [{"recv": "a-1"}], "d": [{"recv": "b-1"}]})
+        self.assertEqual(document["version"], 2)
 
     def test_two_messages_that_come_at_once(self):
         _, streams = self.imported([log(
@@ -136,7 +151,10 @@ class Messages(Case):
         _, streams = self.imported([log(
             ("a", {"a": 1}, ""), ("b", {"a": 1, "b": 1}, "x=1"), ("a", {"a": 2, "b": 1}, ""),
             ("c", {"a": 1, "b": 1, "c": 1}, ""))], "--variables", "x=(?<x>.)")
-        self.assertEqual(streams["b"], [{"recv": "a-1", "set": {"x": 1}}, {"send": "b-1"}, {"send": "b-2"}])
+        self.assertEqual(streams, {"a": [{"send": "a-1"}, {"recv": "b-1"}],
+                                   "b": [{"recv": "a-1", "set": {"x": 1}}, {"send": "b-1"}], "c": [{"recv": "b-1"}]})
+        self.assertEqual(self.written_file("events.tsv").splitlines()[2:4],
+                         ["b#1\t1.log line 3\tx=1", "b#2\t1.log line 3\tx=1"])
 
 
 class Variables(Case):
@@ -239,9 +257,9 @@ class RefusedLogs(Case):
         self.out = "other"
         self.refused("1.log line 20001: with this event a has over 10000 events in its stream",
                      [log(*events, ("a", {"a": 10_001}, ""))])
-        both = [("b", {"a": 5, "b": 1}, ""), ("c", {"a": 5, "c": 1}, "")]
+        both = [("a", {"a": n, **({"b": 1} if n >= 5 else {})}, "") for n in range(1, 10_001)]
         self.refused("1.log line 19999: with this event a has over 10000 events in its stream",
-                     [log(*events, *both)])
+                     [log(*both, ("b", {"b": 1}, ""), ("c", {"a": 5, "b": 1, "c": 1}, ""))])
 
     def test_files(self):
         status, _, errors = self.run_on([CLIENT, SERVER], "none.log")
@@ -279,15 +297,18 @@ class RefusedLogs(Case):
 # Whether splitting changes an answer: small runs at random, judged as they are and as they are imported.
 
 def random_run(generator):
-    """(host, clock, value) for some events, of which many both send and receive, or receive twice."""
-    hosts = "abc"[:generator.randrange(2, 4)]
+    """(host, clock, value) for some events, of which many both send and receive, or receive twice, or are heard of by
+    several hosts."""
+    hosts = "abcd"[:generator.randrange(2, 5)]
     clocks = {host: collections.Counter() for host in hosts}
-    events = []
+    events, heard = [], []
     for _ in range(generator.randrange(4, 10)):
         host = generator.choice(hosts)
         clock = clocks[host].copy()
-        for _, source, _ in generator.sample(events, min(len(events), generator.randrange(3))):
+        sources = generator.sample(events + heard, min(len(events), generator.randrange(3)))
+        for _, source, _ in sources:
             clock |= source
+        heard += sources
         clock[host] += 1
         clocks[host] = clock
         events.append((host, clock, generator.randrange(3)))
@@ -310,15 +331,16 @@ class Answers(Case):
             yield hosts, self.imported([text], "--variables", "x=(?<x>.)")[1], original, states
 
     def test_splitting_changes_no_answer(self):
-        split = yes = 0
+        split = yes = shared = 0
         for hosts, streams, original, states in self.runs(120):
             lines = [streams[host] for host in hosts]
             expected = answers(original, states)
             self.assertEqual(answers(with_clocks(lines), states), expected)
             split += sum(map(len, lines)) > sum(map(len, original))
             yes += sum(expected[:2])
-        self.assertGreater(split, 40)
-        self.assertGreater(yes, 40)
+            shared += json.loads(self.written_file("session.json")).get("version") == 2
+        self.assertGreater(min(split, yes), 40)
+        self.assertGreater(shared, 20)
 
     @needs_program
     def test_reports_of_what_is_imported(self):
@@ -326,7 +348,7 @@ class Answers(Case):
             streams = [self.written_file(f"{host}.stream") for host in hosts]
             any_of = " or ".join("(" + " and ".join(f"{host}.x == {value}" for host, value in zip(hosts, state)) + ")"
                                  for state in sorted(states))
-            document = {"processes": [{"name": host, "vars": {"x": 0}} for host in hosts],
+            document = {**json.loads(self.written_file("session.json")),
                         "predicates": [{"name": "state", "text": any_of}]}
             lines = report_of(document, streams).splitlines()
             found = tuple(line.split()[2] == "yes" for line in lines[1:])
@@ -334,6 +356,16 @@ class Answers(Case):
 
 
 class Example(Case):
+    @needs_program
+    def test_the_report_of_a_broadcast(self):
+        document, streams = self.imported([log(
+            ("a", {"a": 1}, "x=1"), ("b", {"a": 1, "b": 1}, "x=1"), ("c", {"a": 1, "c": 1}, "x=1"))],
+            "--variables", "x=(?<x>.)", "--predicate", "lag", "a.x == 1 and b.x + c.x == 1")
+        lines = [self.written_file(f"{host}.stream") for host in streams]
+        self.assertEqual(report_of(document, lines), "session 3 processes 3 events 1 messages\n"
+                                                     "none possibly no\nnone definitely no a,c,b\n"
+                                                     "lag possibly yes 1,0,1\nlag definitely yes 2\n")
+
     @needs_program
     def test_the_report_of_a_log(self):
         self.imported([CLIENT, SERVER], "--variables", r"waiting=(?<waiting>\d+)",
