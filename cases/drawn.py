@@ -6,9 +6,10 @@ The plain judge is written from the definitions in docs/SPECIFICATION.md, with n
 closed as a relation, cuts are all counts of events that are closed under it, and if a session has few events,
 Definitely is judged by all of its observations too. PROGRAM is ../crates/monitor/out/monitor if it isn't given. Each
 session is judged as a bundle; one of four also from files, by 2 and 16 workers, and its report is checked, as it is and
-forged. Half of the sessions are of version 2, in which a message may have several receivers. Each kind of line has to stand in the reports and findings so often that the drawing can't go empty. The last
-line says how many sessions there are, how often the program ran, and how many sessions differ; the status is 1 if any
-does, or if lines are missing. With --only the session K is drawn alone.
+forged. Half of the sessions are of version 2, in which a message may have several receivers. Each kind of line has to
+stand in the reports and findings so often that the drawing can't go empty. The last line says how many sessions there
+are, how often the program ran, and how many sessions differ; the status is 1 if any does, or if lines are missing. With
+--only the session K is drawn alone.
 """
 import argparse
 import concurrent.futures
@@ -27,8 +28,8 @@ from run import Differs, HERE, Place, checked
 
 # How many events a session has at most whose observations are all looked at.
 FEW = 8
-# What stands in lines, and in how many lines of 400 sessions at least. One line for each session says how many receivers
-# its messages have at most, and what came of it; all others are the program's.
+# What stands in lines, and in how many lines of 400 sessions at least. One line for each session says how many
+# receivers its messages have at most, and what came of it; all others are the program's.
 LINES_WANTED = {
     "session 1 ": 15, "session 2 ": 45, "session 3 ": 60, "session 4 ": 4,
     " 0 messages": 40, " [12] messages": 40, " [3-6] messages": 30,
