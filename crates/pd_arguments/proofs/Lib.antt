@@ -1,4 +1,5 @@
 -- The modules of lemmas of this crate.
+pub mod Builders
 pub mod Numbers
 pub mod Parsed
 pub mod ParserEnds

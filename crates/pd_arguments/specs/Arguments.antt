@@ -1,8 +1,9 @@
 -- What the arguments after the program's name ask for, as the command line's parser takes them.
-use Rattle.std.specs.Prelude.{◌≡◌, ◌≢◌, ◌⊎◌, ◌<◌, ◌≤◌, ◌^◌, ℕ, true, List, [], ◌∷◌, codes, Option, Some, None}
+use Rattle.std.specs.Prelude.{◌≡◌, ◌≢◌, ◌⊎◌, ◌<◌, ◌≤◌, ◌^◌, ℕ, true, List, [], ◌∷◌, codes, Option, Some, None, Result, IsOkAnd}
 use Rattle.std.specs.Str.Parse.{IsNumeral, digits_value, without_leading_plus}
 use Rattle.clap.specs.Lexer.{usize_max}
-use Rattle.clap.specs.Words.{App, Row, Rule, Shape, Text, IsAmong, all_of, fault_of, first_of, new_app, new_rule, subcommand_of, with_rule, with_subcommand}
+use Rattle.clap.specs.Words.{App, Row, Rule, Shape, Text, IsAmong, all_of, app_of, fault_of, first_of, new_app, new_rule, subcommand_of, with_rule, with_subcommand}
+use Rattle.clap.specs.declared.builder.command.Command.{Command}
 use Rattle.clap.specs.declared.builder.value_parser.ValueParser.TheVariants.{Unsigned}
 use Rattle.clap.specs.declared.error.kind.ErrorKind.{ErrorKind}
 use Rattle.clap.specs.declared.error.kind.ErrorKind.TheVariants.{DisplayHelp, DisplayVersion, OutOfMemory}
@@ -50,35 +51,33 @@ watchers_rule = record (number_rule (codes "WATCHERS") (codes "watchers") 0 watc
 abbrev pub workers_rule : Rule
 workers_rule = record (number_rule (codes "WORKERS") (codes "workers") 1 worker_limit) { defaults = codes "1" ∷ [] }
 
--- `judge SPEC STREAM... [--workers WORKERS]`
-abbrev pub judge_app : App
-judge_app = with_rule (with_rule (with_rule (new_app (codes "judge")) (required_rule (codes "SPEC"))) stream_rule)
-    workers_rule
-
--- `check SPEC REPORT STREAM...`
-abbrev pub check_app : App
-check_app = with_rule (with_rule (with_rule (new_app (codes "check")) (required_rule (codes "SPEC")))
-    (required_rule (codes "REPORT"))) stream_rule
-
 -- the name of a predicate
 abbrev pub predicate_rule : Rule
 predicate_rule = record (new_rule (codes "PREDICATE")) { long = Some (codes "predicate") }
 
--- the document and the report of a picture
-abbrev pub drawn_app : App
-drawn_app = with_rule (with_rule (new_app (codes "draw")) (required_rule (codes "SPEC"))) (required_rule (codes "REPORT"))
+-- `NAME SPEC`
+abbrev pub document_app : (name : Text) → App
+document_app name = with_rule (new_app name) (required_rule (codes "SPEC"))
+
+-- `NAME SPEC REPORT STREAM...`
+abbrev pub report_app : (name : Text) → App
+report_app name = with_rule (with_rule (document_app name) (required_rule (codes "REPORT"))) stream_rule
+
+-- `judge SPEC STREAM... [--workers WORKERS]`
+abbrev pub judge_app : App
+judge_app = with_rule (with_rule (document_app (codes "judge")) stream_rule) workers_rule
+
+-- `check SPEC REPORT STREAM...`
+abbrev pub check_app : App
+check_app = report_app (codes "check")
 
 -- `draw SPEC REPORT STREAM... [--predicate PREDICATE]`
 abbrev pub draw_app : App
-draw_app = with_rule (with_rule drawn_app stream_rule) predicate_rule
-
--- the document and the port of a server
-abbrev pub port_app : App
-port_app = with_rule (with_rule (new_app (codes "serve")) (required_rule (codes "SPEC"))) port_rule
+draw_app = with_rule (report_app (codes "draw")) predicate_rule
 
 -- `serve SPEC --port PORT [--watchers WATCHERS] [--workers WORKERS]`
 abbrev pub serve_app : App
-serve_app = with_rule (with_rule port_app watchers_rule) workers_rule
+serve_app = with_rule (with_rule (with_rule (document_app (codes "serve")) port_rule) watchers_rule) workers_rule
 
 -- the program alone: its name isn't among the arguments that are parsed
 abbrev pub plain_shape : Shape
@@ -88,14 +87,14 @@ plain_shape =
 abbrev pub plain_app : App
 plain_app = record { top = plain_shape; subs = [] }
 
--- with the commands `judge` and `check`
-abbrev pub files_app : App
-files_app = with_subcommand (with_subcommand plain_app judge_app.top) check_app.top
-
--- with the commands `draw` and `serve` too
+-- with its commands
 abbrev pub monitor_app : App
-monitor_app =
-    with_subcommand (with_subcommand files_app draw_app.top) serve_app.top
+monitor_app = with_subcommand (with_subcommand (with_subcommand (with_subcommand plain_app judge_app.top) check_app.top)
+    draw_app.top) serve_app.top
+
+-- a command line that is another one with this command too
+abbrev pub AddsCommand : {E : Type 0} → (old : Command) → Result Command E → (new : Command) → Type 0
+AddsCommand old command new = IsOkAnd command (λ it. app_of new ≡ with_subcommand (app_of old) (app_of it).top)
 
 -- ---- what the parser found
 

@@ -1,6 +1,6 @@
 //! What the arguments ask for, by what the command line's parser finds in them.
 ghost use Rattle.clap.specs.Matches.{found_of};
-ghost use Rattle.clap.specs.Simple.{subcommand_of, subcommand_rows_of};
+ghost use Rattle.clap.specs.Simple.{app_of, subcommand_of, subcommand_rows_of};
 ghost use Rattle.clap.specs.Values.{kind_of};
 ghost use Rattle.clap.specs.Walk.{Text, rows_of};
 ghost use Rattle.pd_arguments.specs.Arguments.{AreOf, AreTaken, AsksFor, AsksToDraw, FindsSession, IsErrorOf, IsNumberText, IsPort, NamesNumber, NamesWorkers, monitor_app};
@@ -199,6 +199,28 @@ fn missing_argument(command: &mut Command<'_>) -> Error
     }
 }
 
+/// What the arguments ask for, as the program's command line takes them, or what its parser has to say.
+fn request_by<'a>(
+    alloc: Global,
+    command: &mut Command<'a>,
+    arguments: &'a [String],
+) -> Result<Request<'a>, Error>
+    requires { app_of command.old ≡ monitor_app }
+    ensures asked { IfOk result (λ request.
+        IsAsked (map (λ argument. argument.bytes.items) arguments.entry.now) request) }
+    ensures refused { IfErr result (λ error.
+        IsErrorOf (map (λ argument. argument.bytes.items) arguments.entry.now) (kind_of error)) }
+{
+    let matches = match command.try_get_matches_from_mut(arguments) {
+        Ok(matches) => matches,
+        Err(error) => return Err(error),
+    };
+    let Some(request) = request_of(alloc, &matches)? else {
+        return Err(missing_argument(command));
+    };
+    Ok(request)
+}
+
 /// Parses the arguments after the program's name.
 ///
 /// # Errors
@@ -211,12 +233,5 @@ pub fn parse<'a>(alloc: Global, arguments: &'a [String]) -> Result<Request<'a>, 
         IsErrorOf (map (λ argument. argument.bytes.items) arguments.entry.now) (kind_of error)) }
 {
     let mut command = program_command(alloc)?;
-    let matches = match command.try_get_matches_from_mut(arguments) {
-        Ok(matches) => matches,
-        Err(error) => return Err(error),
-    };
-    let Some(request) = request_of(alloc, &matches)? else {
-        return Err(missing_argument(&mut command));
-    };
-    Ok(request)
+    request_by(alloc, &mut command, arguments)
 }

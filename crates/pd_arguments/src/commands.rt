@@ -2,7 +2,7 @@
 ghost use Rattle.clap.specs.Simple.{app_of};
 ghost use Rattle.clap.specs.Walk.{rule_of};
 ghost use Rattle.clap.specs.declared.builder.command.Command.TheViews.{out-Command};
-ghost use Rattle.pd_arguments.specs.Arguments.{check_app, draw_app, drawn_app, files_app, judge_app, monitor_app, number_rule, port_app, port_rule, predicate_rule, required_rule, serve_app, stream_rule, watchers_rule, workers_rule};
+ghost use Rattle.pd_arguments.specs.Arguments.{AddsCommand, check_app, document_app, draw_app, judge_app, monitor_app, number_rule, plain_app, port_rule, predicate_rule, report_app, required_rule, serve_app, stream_rule, watchers_rule, workers_rule};
 ghost use Rattle.std.specs.Prelude.{◌≡◌, IfOk, false};
 
 use super::workers::WORKER_LIMIT;
@@ -36,8 +36,9 @@ const CHECK_ABOUT: &str =
 
 /// What the help of `check` ends with.
 const CHECK_AFTER: &str =
-    "What is found is written to the standard output. The status is 0 if nothing in it is bad, 1 if something is, 2 if the \
-arguments are refused, 3 if a file can't be opened or read or the output can't be written, and 4 if memory runs out.\n\n\
+    "What is found is written to the standard output. The status is 0 if nothing in it is bad, 1 if something is, 2 if \
+the arguments are refused, 3 if a file can't be opened or read or the output can't be written, and 4 if memory runs \
+out.\n\n\
 The formats are described in docs/SPECIFICATION.md. An example, at the top of the repository:\n  \
 crates/monitor/out/monitor check examples/ten-lines/session.json examples/ten-lines/report \
 examples/ten-lines/left.stream examples/ten-lines/right.stream";
@@ -146,15 +147,43 @@ fn workers_option<'a>(alloc: Global) -> Arg<'a>
         )
 }
 
+/// The command line of the command of this name, on a session document, with what its help begins and ends with.
+fn document_command<'a>(
+    alloc: Global,
+    name: &'a str,
+    about: &'a str,
+    after_help: &'a str,
+) -> Result<Command<'a>, AllocError>
+    ensures app { IfOk result (λ command. app_of command ≡ document_app name.now) }
+    ensures local { IfOk result (λ command. (out-Command command).has_globals ≡ false) }
+{
+    Command::new(alloc, name)
+        .about(about)
+        .after_help(after_help)
+        .arg(file_argument(alloc, "SPEC", "The session document"))
+}
+
+/// The command line of the command of this name, on a report with its session document and streams.
+fn report_command<'a>(
+    alloc: Global,
+    name: &'a str,
+    about: &'a str,
+    after_help: &'a str,
+) -> Result<Command<'a>, AllocError>
+    ensures app { IfOk result (λ command. app_of command ≡ report_app name.now) }
+    ensures local { IfOk result (λ command. (out-Command command).has_globals ≡ false) }
+{
+    document_command(alloc, name, about, after_help)?
+        .arg(file_argument(alloc, "REPORT", "The report"))?
+        .arg(streams_argument(alloc))
+}
+
 /// The command line of a judgement.
 fn judge_command<'a>(alloc: Global) -> Result<Command<'a>, AllocError>
     ensures app { IfOk result (λ command. app_of command ≡ judge_app) }
     ensures local { IfOk result (λ command. (out-Command command).has_globals ≡ false) }
 {
-    Command::new(alloc, "judge")
-        .about(JUDGE_ABOUT)
-        .after_help(JUDGE_AFTER)
-        .arg(file_argument(alloc, "SPEC", "The session document"))?
+    document_command(alloc, "judge", JUDGE_ABOUT, JUDGE_AFTER)?
         .arg(streams_argument(alloc))?
         .arg(workers_option(alloc))
 }
@@ -164,24 +193,7 @@ fn check_command<'a>(alloc: Global) -> Result<Command<'a>, AllocError>
     ensures app { IfOk result (λ command. app_of command ≡ check_app) }
     ensures local { IfOk result (λ command. (out-Command command).has_globals ≡ false) }
 {
-    Command::new(alloc, "check")
-        .about(CHECK_ABOUT)
-        .after_help(CHECK_AFTER)
-        .arg(file_argument(alloc, "SPEC", "The session document"))?
-        .arg(file_argument(alloc, "REPORT", "The report"))?
-        .arg(streams_argument(alloc))
-}
-
-/// The command line of a picture with the document and the report.
-fn drawn_command<'a>(alloc: Global) -> Result<Command<'a>, AllocError>
-    ensures app { IfOk result (λ command. app_of command ≡ drawn_app) }
-    ensures local { IfOk result (λ command. (out-Command command).has_globals ≡ false) }
-{
-    Command::new(alloc, "draw")
-        .about(DRAW_ABOUT)
-        .after_help(DRAW_AFTER)
-        .arg(file_argument(alloc, "SPEC", "The session document"))?
-        .arg(file_argument(alloc, "REPORT", "The report"))
+    report_command(alloc, "check", CHECK_ABOUT, CHECK_AFTER)
 }
 
 /// The command line of a picture.
@@ -189,21 +201,7 @@ fn draw_command<'a>(alloc: Global) -> Result<Command<'a>, AllocError>
     ensures app { IfOk result (λ command. app_of command ≡ draw_app) }
     ensures local { IfOk result (λ command. (out-Command command).has_globals ≡ false) }
 {
-    drawn_command(alloc)?
-        .arg(streams_argument(alloc))?
-        .arg(predicate_option(alloc))
-}
-
-/// The command line of a server with what must be given.
-fn port_command<'a>(alloc: Global) -> Result<Command<'a>, AllocError>
-    ensures app { IfOk result (λ command. app_of command ≡ port_app) }
-    ensures local { IfOk result (λ command. (out-Command command).has_globals ≡ false) }
-{
-    Command::new(alloc, "serve")
-        .about(SERVE_ABOUT)
-        .after_help(SERVE_AFTER)
-        .arg(file_argument(alloc, "SPEC", "The session document"))?
-        .arg(port_option(alloc))
+    report_command(alloc, "draw", DRAW_ABOUT, DRAW_AFTER)?.arg(predicate_option(alloc))
 }
 
 /// The command line of a server.
@@ -211,29 +209,41 @@ fn serve_command<'a>(alloc: Global) -> Result<Command<'a>, AllocError>
     ensures app { IfOk result (λ command. app_of command ≡ serve_app) }
     ensures local { IfOk result (λ command. (out-Command command).has_globals ≡ false) }
 {
-    port_command(alloc)?
+    document_command(alloc, "serve", SERVE_ABOUT, SERVE_AFTER)?
+        .arg(port_option(alloc))?
         .arg(watchers_option(alloc))?
         .arg(workers_option(alloc))
 }
 
-/// The program's command line with the commands that judge and check files.
-fn files_command<'a>(alloc: Global) -> Result<Command<'a>, AllocError>
-    ensures { IfOk result (λ command. app_of command ≡ files_app) }
+/// The program's command line without its commands.
+fn plain_command<'a>(alloc: Global) -> Result<Command<'a>, AllocError>
+    ensures { IfOk result (λ program. app_of program ≡ plain_app) }
 {
     Command::new(alloc, "monitor")
         .about(ABOUT)
         .no_binary_name(true)
-        .bin_name("monitor")?
         .disable_help_subcommand(true)
-        .subcommand(judge_command(alloc)?)?
-        .subcommand(check_command(alloc)?)
+        .bin_name("monitor")
+}
+
+/// The program's command line with this command too, if there was memory for it.
+fn with_command<'a>(
+    program: Command<'a>,
+    command: Result<Command<'a>, AllocError>,
+) -> Result<Command<'a>, AllocError>
+    requires { IfOk command (λ command. (out-Command command).has_globals ≡ false) }
+    ensures { IfOk result (AddsCommand program.entry command.entry) }
+{
+    program.subcommand(command?)
 }
 
 /// The program's command line.
 pub(crate) fn program_command<'a>(alloc: Global) -> Result<Command<'a>, AllocError>
     ensures { IfOk result (λ command. app_of command ≡ monitor_app) }
 {
-    files_command(alloc)?
-        .subcommand(draw_command(alloc)?)?
-        .subcommand(serve_command(alloc)?)
+    let program = plain_command(alloc)?;
+    let program = with_command(program, judge_command(alloc))?;
+    let program = with_command(program, check_command(alloc))?;
+    let program = with_command(program, draw_command(alloc))?;
+    with_command(program, serve_command(alloc))
 }

@@ -1,4 +1,5 @@
-//! The command line, from the arguments after the program's name to what they ask for, or to what the parser has to say.
+//! The command line, from the arguments after the program's name to what they ask for, or to what the parser has to
+//! say.
 //!
 //! `parse` takes the arguments by the kit's parser of command lines, and gives a request. What they ask for stands in
 //! `specs/Arguments.antt`, and how a request shows that in `specs/Views.antt`.

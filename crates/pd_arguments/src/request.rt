@@ -33,8 +33,8 @@ pub enum Request<'a> {
     Judge(SessionNames<'a>, Workers),
     /// To check the report in the file of this name against a session document and streams.
     Check(&'a str, SessionNames<'a>),
-    /// To draw the report in the file of this name with a session document and streams: the evidence of the predicate of
-    /// this name, if there is one, or else of the first predicate that has evidence.
+    /// To draw the report in the file of this name with a session document and streams: the evidence of the predicate
+    /// of this name, if there is one, or else of the first predicate that has evidence.
     Draw(&'a str, Option<&'a str>, SessionNames<'a>),
     /// To judge a session document and streams that come by connections.
     Serve(Service<'a>),

@@ -1,7 +1,6 @@
 -- What is found of a report is what a check of its bytes finds.
 use Rattle.std.proofs.Common.{◌≡◌, ◌↔◌, ℕ, Bool, IsTrue, List, Option, length, subst}
 use Rattle.pd_model.specs.Cuts.{total}
-use Rattle.pd_model.specs.Events.{Place}
 use Rattle.pd_model.specs.Predicates.{Recorded}
 use Rattle.pd_format.specs.Documents.{Document}
 use Rattle.pd_format.specs.OtherTexts.{Checked, Finding, OfSession}
@@ -22,7 +21,7 @@ finding_of_refused bytes report streams refusal claimed finding read refused (of
 
 -- of a well-formed session
 pub finding_of_session : (bytes report : List ℕ) (streams : List RawStream) (document : Document) (traces : List Trace)
-    (messages : List (Place × Place)) (claimed : Report) (finding : Finding) → IsReport report claimed
+    (messages : ℕ) (claimed : Report) (finding : Finding) → IsReport report claimed
     → IsSessionOf bytes streams document traces messages → IsFoundOf document traces messages claimed finding
     → IsFinding bytes report streams finding
 finding_of_session bytes report streams document traces messages claimed finding read held (of_refusal refusal is) =
@@ -33,19 +32,16 @@ finding_of_session bytes report streams document traces messages claimed finding
     (subst (IsReport report) is read) held counts verdicts
 
 -- what a computation shows of a report with answers
-pub found_of_computation : (document : Document) (traces : List Trace) (messages : List (Place × Place))
-    (recorded : Recorded) (count : ℕ) (claimed : Report) (processes events matched : ℕ) (answers : List Answer)
-    (good : Bool) (found : Option (List Checked)) → recorded ≡ recorded_of document traces → count ≡ length messages
+pub found_of_computation : (document : Document) (traces : List Trace) (messages : ℕ) (recorded : Recorded)
+    (claimed : Report) (processes events matched : ℕ) (answers : List Answer) (good : Bool)
+    (found : Option (List Checked)) → recorded ≡ recorded_of document traces
     → claimed ≡ Judged processes events matched answers
-    → IsTrue good ↔ ((processes ≡ length document.names) × (events ≡ total recorded.events) × (matched ≡ count))
+    → IsTrue good ↔ ((processes ≡ length document.names) × (events ≡ total recorded.events) × (matched ≡ messages))
     → IsAnswersFinding document traces answers found
     → IsFoundOf document traces messages claimed (OfSession good found)
-found_of_computation document traces messages recorded count claimed processes events matched answers good found same
-    counted is counts verdicts =
+found_of_computation document traces messages recorded claimed processes events matched answers good found same is
+    counts verdicts =
     of_session processes events matched answers good found is
     (subst (λ (r : Recorded). IsTrue good
-    ↔ ((processes ≡ length document.names) × (events ≡ total r.events) × (matched ≡ length messages)))
-    same
-    (subst (λ (n : ℕ). IsTrue good ↔ ((processes ≡ length document.names) × (events ≡ total recorded.events)
-    × (matched ≡ n))) counted counts))
+    ↔ ((processes ≡ length document.names) × (events ≡ total r.events) × (matched ≡ messages))) same counts)
     verdicts

@@ -1,6 +1,5 @@
 -- What is found of a report that is read, by what its session comes to.
 use Rattle.std.specs.Prelude.{◌≡◌, ℕ, Bool, false, IsTrue, ◌↔◌, List, Option}
-use Rattle.pd_model.specs.Events.{Place}
 use Rattle.pd_format.specs.Documents.{Document}
 use Rattle.pd_format.specs.OtherTexts.{Checked, Finding, OfRefusal, OfSession}
 use Rattle.pd_format.specs.Readings.{Trace}
@@ -12,9 +11,9 @@ pub data IsFoundOfRefused (refusal : Refusal) (claimed : Report) : Finding → T
   of_refused_session : (good : Bool) → (IsTrue good ↔ (claimed ≡ Refused refusal))
       → IsFoundOfRefused refusal claimed (OfRefusal good)
 
--- If the session is well formed, with these traces and messages: the report is a refusal, so it is wrong; or its counts
--- and answers are judged.
-pub data IsFoundOf (document : Document) (traces : List Trace) (messages : List (Place × Place)) (claimed : Report) :
+-- If the session is well formed, with these traces and this many messages: the report is a refusal, so it is wrong; or
+-- its counts and answers are judged.
+pub data IsFoundOf (document : Document) (traces : List Trace) (messages : ℕ) (claimed : Report) :
     Finding → Type 0 where
   of_refusal : (refusal : Refusal) → claimed ≡ Refused refusal
       → IsFoundOf document traces messages claimed (OfRefusal false)

@@ -5,7 +5,7 @@ ghost use Rattle.pd_format.specs.Readings as readings;
 ghost use Rattle.pd_format.specs.Reports as reports;
 ghost use Rattle.pd_judgement.specs.Judgements.{recorded_of};
 ghost use Rattle.pd_model.specs.Cuts.{total};
-ghost use Rattle.pd_model.specs.Events.{Place};
+ghost use Rattle.pd_model.specs.Messages.{HasMessages};
 ghost use Rattle.pd_report.specs.Views as views;
 ghost use Rattle.pd_spec.specs.Views.{document_view};
 ghost use Rattle.std.specs.Prelude.{◌≡◌, ◌↔◌, List, IfOk, IsTrue, length};
@@ -61,10 +61,11 @@ pub fn find_formed(
     computation: &Computation<'_>,
     messages: u64,
 ) -> Result<Finding, AllocError>
-    requires { length computation.now.events ≡ length (document_view spec.now).names }
-    ensures { IfOk result (λ finding. (traces : List readings.Trace) (list : List (Place × Place))
-        → computation.now ≡ recorded_of (document_view spec.now) traces → messages ≡ length list
-        → IsFoundOf (document_view spec.now) traces list (views.report_view claimed.now) (finding_view finding)) }
+    requires one_each { length computation.now.events ≡ length (document_view spec.now).names }
+    requires counted { HasMessages computation.now.events messages }
+    ensures { IfOk result (λ finding. (traces : List readings.Trace)
+        → computation.now ≡ recorded_of (document_view spec.now) traces
+        → IsFoundOf (document_view spec.now) traces messages (views.report_view claimed.now) (finding_view finding)) }
 {
     match claimed {
         Report::Judged {

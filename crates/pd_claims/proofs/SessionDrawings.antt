@@ -34,23 +34,25 @@ events_recorded document traces recorded count well =
     same_events traces ∙ ap (λ (r : Recorded). r.events) (sym well.same)
 
 -- the messages of the traces are those of what is recorded
-pub messages_recorded : (document : Document) (traces : List Read) (recorded : Recorded) (count : ℕ)
-    (messages : List (Place × Place)) → AreWellFormed document (traces_view traces) recorded count
-    → IsMessageList (computation_view traces) messages → IsMessageList recorded.events messages
-messages_recorded document traces recorded count messages well list =
-    subst (λ (c : Computation). IsMessageList c messages) (events_recorded document traces recorded count well) list
+pub pairs_recorded : (document : Document) (traces : List Read) (recorded : Recorded) (count : ℕ)
+    (pairs : List (Place × Place)) → AreWellFormed document (traces_view traces) recorded count
+    → IsMessageList (computation_view traces) pairs → IsMessageList recorded.events pairs
+pairs_recorded document traces recorded count pairs well list =
+    subst (λ (c : Computation). IsMessageList c pairs) (events_recorded document traces recorded count well) list
 
 -- what comes of a session's traces
-pub traces_drawn : (document : Document) (traces : List Read) (recorded : Recorded) (count : ℕ)
-    (messages : List (Place × Place)) (claimed : Report) (name : Option (List ℕ)) (given : Drawn)
-    → AreWellFormed document (traces_view traces) recorded count
-    → IsMessageList (computation_view traces) messages
-    → Comes document (traces_view traces) messages claimed name given
+pub traces_drawn : (document : Document) (traces : List Read) (recorded : Recorded) (messages : ℕ)
+    (pairs : List (Place × Place)) (claimed : Report) (name : Option (List ℕ)) (given : Drawn)
+    → AreWellFormed document (traces_view traces) recorded messages
+    → IsMessageList (computation_view traces) pairs
+    → Comes document (traces_view traces) pairs messages claimed name given
     → DrawsTraces document (traces_view traces) claimed name given
-traces_drawn document traces recorded count messages claimed name given well list comes = record {
+traces_drawn document traces recorded messages pairs claimed name given well list comes = record {
   messages = messages;
   formed = well.formed;
-  are_messages = subst (λ (c : Computation). IsMessageList c messages) (same_events traces) list;
+  counted = well.counted;
+  pairs = pairs;
+  are_pairs = subst (λ (c : Computation). IsMessageList c pairs) (same_events traces) list;
   comes = comes;
 }
 
@@ -67,7 +69,7 @@ module _ (bytes : List ℕ) (inputs : List (Option (List ℕ))) (never_fails : B
     are_results = read.2.are_results;
     joined = sym read.2.same_session ∙ joined;
     formed = draws.formed;
-    are_messages = draws.are_messages;
+    counted = draws.counted;
   }
 
   pub session_drawn : (given : Drawn) → DrawsTraces document traces claimed name given
@@ -79,6 +81,8 @@ module _ (bytes : List ℕ) (inputs : List (Option (List ℕ))) (never_fails : B
     traces = traces;
     messages = draws.messages;
     held = held (drawn.Picture picture) draws;
+    pairs = draws.pairs;
+    are_pairs = draws.are_pairs;
     claimed = claimed;
     read = is_report;
     drawn = draws.comes;

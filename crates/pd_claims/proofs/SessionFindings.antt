@@ -1,6 +1,8 @@
 -- What is found of a report by the session that readers gave.
-use Rattle.std.proofs.Common.{◌≡◌, ℕ, List, sym, ◌∙◌, Ok}
+use Rattle.std.proofs.Common.{◌≡◌, ℕ, List, sym, ap, ◌∙◌, subst, Ok}
 use Rattle.std.specs.Prelude.{Bool, Option}
+use Rattle.pd_model.specs.Events.{Computation}
+use Rattle.pd_model.specs.Messages.{HasMessages}
 use Rattle.pd_model.specs.Predicates.{Recorded}
 use Rattle.pd_format.specs.Documents.{Document, IsDocument}
 use Rattle.pd_format.specs.OtherTexts.{Finding, NotRead}
@@ -16,26 +18,32 @@ use Rattle.pd_sessions.specs.Computations.{AreWellFormed}
 use Rattle.pd_sessions.specs.SessionReports.{IsReportOfInputs}
 use Rattle.pd_sessions.proofs.SessionReports.{AreGiven}
 
+-- what is recorded of a well-formed session has as many messages
+pub messages_counted : (document : Document) (traces : List Trace) (recorded : Recorded) (messages : ℕ)
+    → AreWellFormed document traces recorded messages → HasMessages recorded.events messages
+messages_counted document traces recorded messages well =
+    subst (λ (c : Computation). HasMessages c messages) (ap (λ (r : Recorded). r.events) (sym well.same)) well.counted
+
 -- a well-formed session
 pub session_found : (bytes : List ℕ) (inputs : List (Option (List ℕ))) (never_fails : Bool) (document : Document)
     (count : ℕ) (results : List StreamResult) (traces : List Trace) (recorded : Recorded) (messages : ℕ)
     (claimed : Report) (finding : Finding) → IsDocument bytes document → AreGiven document inputs never_fails count results
     → session document.names count results ≡ Ok traces
-    → (well : AreWellFormed document traces recorded messages)
-    → IsFoundOf document traces well.messages claimed finding → FindsOf bytes claimed inputs never_fails finding
+    → AreWellFormed document traces recorded messages
+    → IsFoundOf document traces messages claimed finding → FindsOf bytes claimed inputs never_fails finding
 session_found bytes inputs never_fails document count results traces recorded messages claimed finding is given joined well
     found =
     record {
       streams = given.0;
       are_given = given.1;
-      right = λ report read. finding_of_session bytes report given.0 document traces well.messages claimed finding read
+      right = λ report read. finding_of_session bytes report given.0 document traces messages claimed finding read
           (record {
             read = is;
             results = given.2.given_results;
             are_results = given.2.are_results;
             joined = sym given.2.same_session ∙ joined;
             formed = well.formed;
-            are_messages = well.are_messages;
+            counted = well.counted;
           })
           found;
     }

@@ -2,7 +2,7 @@
 use Rattle.std.specs.Prelude.{◌≡◌, ℕ, Bool, true, false, List, Option, Some, Result, Ok, Err}
 use Rattle.std.specs.List.{AllZip}
 use Rattle.pd_model.specs.Events.{Place}
-use Rattle.pd_model.specs.Messages.{IsMessageList}
+use Rattle.pd_model.specs.Messages.{HasMessages, IsMessageList}
 use Rattle.pd_model.specs.Order.{IsWellFormed}
 use Rattle.pd_format.specs.Documents.{Document}
 use Rattle.pd_format.specs.OtherTexts.{Checked, Finding, OfSession, check_text}
@@ -26,10 +26,12 @@ use Rattle.pd_sessions.specs.declared.fault.EngineFault.{EngineFault}
 -- what comes of a session's traces and a report on it
 pub record DrawsTraces (document : Document) (traces : List Trace) (claimed : Report) (name : Option (List ℕ))
     (given : Drawn) : Type 0 where
-  pub messages : List (Place × Place)
-  pub formed : IsWellFormed (events_of_traces traces)
-  pub are_messages : IsMessageList (events_of_traces traces) messages
-  pub comes : Comes document traces messages claimed name given
+  pub messages : ℕ
+  pub formed : IsWellFormed document.version (events_of_traces traces)
+  pub counted : HasMessages (events_of_traces traces) messages
+  pub pairs : List (Place × Place)
+  pub are_pairs : IsMessageList (events_of_traces traces) pairs
+  pub comes : Comes document traces pairs messages claimed name given
 
 -- the picture of the session that the streams hold, which readers with this left gave, of which no read ever fails, if
 -- that is said; and of the report in these bytes
@@ -39,11 +41,13 @@ pub record IsPictureOf (bytes report : List ℕ) (inputs : List (Option (List �
   pub are_given : AllZip (IsGivenAs never_fails) inputs streams
   pub document : Document
   pub traces : List Trace
-  pub messages : List (Place × Place)
+  pub messages : ℕ
   pub held : IsSessionOf bytes streams document traces messages
+  pub pairs : List (Place × Place)
+  pub are_pairs : IsMessageList (events_of_traces traces) pairs
   pub claimed : Report
   pub read : IsReport report claimed
-  pub drawn : IsDrawn document traces messages claimed name picture
+  pub drawn : IsDrawn document traces pairs messages claimed name picture
 
 -- what a check finds, which stands against a picture
 pub record IsAgainst (bytes report : List ℕ) (inputs : List (Option (List ℕ))) (never_fails : Bool)

@@ -52,9 +52,18 @@ fn draw_traces<S: RandomSource>(
         (traces_view traces.now))) }
 {
     let matched = messages_of(rt, alloc, spec, traces)?;
-    let messages = matched.pairs(alloc)?;
-    let (computation, _count) = build(alloc, spec, traces, matched)?;
-    let drawn = pd_draw::draw(alloc, spec, claimed, &computation, traces, &messages, name)?;
+    let pairs = matched.pairs(alloc)?;
+    let (computation, messages) = build(alloc, spec, traces, matched)?;
+    let drawn = pd_draw::draw(
+        alloc,
+        spec,
+        claimed,
+        &computation,
+        messages,
+        traces,
+        &pairs,
+        name,
+    )?;
     Ok(drawn)
 }
 

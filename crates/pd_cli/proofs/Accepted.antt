@@ -70,6 +70,7 @@ refused_unless_memory bytes (kinds.Predicate number error) e h = go (predicate_f
         → (refused : DocumentFault) × IsRefusedDocument bytes refused
     go None h = absurd h
     go (Some fault) h = (faults.InPredicate number fault error.at, h)
+refused_unless_memory bytes kinds.Version e h = (faults.OtherVersion, h)
 refused_unless_memory bytes kinds.Memory e h = cc
 
 accepted_text : (document : List ℕ) (G : Option (List ℕ) → Type 0) (inputs : List (Option (List ℕ)))

@@ -3,11 +3,10 @@ use Rattle.std.proofs.Common.{◌≡◌, ℕ, ◌+◌, ◌<◌, ◌≤◌, List,
 use Rattle.std.proofs.lemmas.Bool.{cases_lt, lt-ltb}
 use Rattle.std.proofs.lemmas.List.{take_all}
 use Rattle.std.specs.Prelude.{Option, Bool}
-use Rattle.pd_format.specs.Documents.{Document, DocumentFault, Long, Json, Shape, Processes, Name, NameTwice, Vars, Predicates, Width, InPredicate, IsDocument, IsRefusedDocument, outline_of_bytes}
+use Rattle.pd_format.specs.Documents.{Document, DocumentFault, Long, Json, Shape, Processes, Name, NameTwice, Vars, Predicates, Width, OtherVersion, InPredicate, IsDocument, IsRefusedDocument, outline_of_bytes}
 use Rattle.pd_format.specs.Limits.{document_byte_limit}
 use Rattle.pd_judgement.specs.Judgements.{IsJudgement, of_refused, of_read, RawStream}
 use Rattle.pd_format.specs.Readings.{Trace}
-use Rattle.pd_model.specs.Events.{Place}
 use Rattle.pd_format.specs.OtherTexts.{Finding}
 use Rattle.pd_format.specs.Reports.{Report}
 use Rattle.pd_judgement.specs.Findings.{IsFinding, IsSessionOf, of_unread, of_refused_session, of_refusal, of_session}
@@ -26,6 +25,7 @@ same_document a b document e h = record {
   initial =
       h.initial;
   width = h.width;
+  version = h.version;
   predicates = h.predicates;
 }
 
@@ -40,6 +40,8 @@ same_refusal a b NameTwice e h = sym e ∙ h
 same_refusal a b Vars e h = sym e ∙ h
 same_refusal a b Predicates e h = sym e ∙ h
 same_refusal a b Width e h = sym e ∙ h
+same_refusal a b OtherVersion e h =
+    record { outline = h.outline; sound = sym e ∙ h.sound; spelled = h.spelled; none = h.none }
 same_refusal a b (InPredicate number inner at) e h =
     record {
       outline = h.outline;
@@ -62,7 +64,7 @@ same_judgement a b streams report e (of_read document results read are reported)
     of_read document results (same_document a b document e read) are reported
 
 pub same_session : (a b : List ℕ) (streams : List RawStream) (document : Document) (traces : List Trace)
-    (messages : List (Place × Place)) → SameOutline a b → IsSessionOf a streams document traces messages
+    (messages : ℕ) → SameOutline a b → IsSessionOf a streams document traces messages
     → IsSessionOf b streams document traces messages
 same_session a b streams document traces messages e held = record {
   read = same_document a b document e held.read;
@@ -70,7 +72,7 @@ same_session a b streams document traces messages e held = record {
   are_results = held.are_results;
   joined = held.joined;
   formed = held.formed;
-  are_messages = held.are_messages;
+  counted = held.counted;
 }
 
 same_holding : (a b : List ℕ) (streams : List RawStream) (document : Document) (traces : List Trace) → SameOutline a b

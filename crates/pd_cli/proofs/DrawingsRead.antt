@@ -31,6 +31,8 @@ module _ (read document report : List ℕ) (files lefts : List (Option (List ℕ
           traces = is.traces;
           messages = is.messages;
           held = same_session read document is.streams is.document is.traces is.messages same is.held;
+          pairs = is.pairs;
+          are_pairs = is.are_pairs;
           claimed = is.claimed;
           read = is.read;
           drawn = is.drawn;

@@ -221,7 +221,8 @@ fn is_out_of_memory(fault: &SpecFault) -> bool
         | SpecFault::Vars
         | SpecFault::Predicates
         | SpecFault::Width
-        | SpecFault::Predicate(_, _) => false,
+        | SpecFault::Predicate(_, _)
+        | SpecFault::Version => false,
     }
 }
 

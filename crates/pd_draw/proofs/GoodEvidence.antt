@@ -6,7 +6,7 @@ use Rattle.std.specs.Str.{bytes_eq}
 use Rattle.std.proofs.lemmas.Bool.{false≢true}
 use Rattle.std.proofs.lemmas.List.Quantifiers.{position-Some}
 use Rattle.std.proofs.lemmas.Option.{slice_get-get_or}
-use Rattle.pd_model.specs.Events.{Computation, Place}
+use Rattle.pd_model.specs.Events.{Computation}
 use Rattle.pd_model.specs.Predicates.{Predicate, Recorded, test_of}
 use Rattle.pd_format.specs.Documents.{Document, NamedPredicate}
 use Rattle.pd_format.specs.Names.{ProcessNames}
@@ -124,7 +124,7 @@ module _ (document : Document) (traces : List Trace) (name : Option (List ℕ)) 
             asked answer (get_or checked i nothing) all is_asked is_answer found) clean;
       }
 
-  found_at : (messages : List (Place × Place)) (claimed : Report) (p e m : ℕ) (answers : List Answer)
+  found_at : (messages : ℕ) (claimed : Report) (p e m : ℕ) (answers : List Answer)
       (checked : List Checked) → claimed ≡ Judged p e m answers
       → IsFoundOf document traces messages claimed (OfSession true (Some checked))
       → choice name checked ≡ Of i → stands_against name (OfSession true (Some checked)) ≡ false
@@ -137,7 +137,7 @@ module _ (document : Document) (traces : List Trace) (name : Option (List ℕ)) 
       (good_at others checked verdicts chosen stands)
 
 -- what the choice draws is good
-pub good_choice : (document : Document) (traces : List Trace) (messages : List (Place × Place)) (recorded : Recorded)
+pub good_choice : (document : Document) (traces : List Trace) (messages : ℕ) (recorded : Recorded)
     (claimed : Report) (p e m : ℕ) (answers : List Answer) (name : Option (List ℕ)) (finding : Finding)
     (chosen : Choice) → recorded ≡ recorded_of document traces → claimed ≡ Judged p e m answers
     → IsFoundOf document traces messages claimed finding → IsLetBy name finding (Some chosen)

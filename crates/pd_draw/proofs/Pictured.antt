@@ -23,19 +23,19 @@ seen_at view xs ys i x same lt is =
     ap (λ (list : List _). slice_get list i) (sym same)
     ∙ (slice_get-map view xs i ∙ ap (option_map view) (slice_get_read xs (length xs) i x refl there is))
 
-pub pictured : (document : Document) (traces : List Trace) (messages : List (Place × Place)) (recorded : Recorded)
+pub pictured : (document : Document) (traces : List Trace) (pairs : List (Place × Place)) (recorded : Recorded)
     (ShowsIt : Evidence → List ℕ → Type 0) (result : Result Drawing AllocError) (evidence : Evidence) (title : List ℕ)
     → recorded ≡ recorded_of document traces → ShowsIt evidence title
-    → IfOk result (IsPicture recorded.events messages (process_names document) title evidence)
-    → IfOk result (IsPictureOf document traces messages ShowsIt)
-pictured document traces messages recorded ShowsIt result evidence title same shows is =
-    IfOk-weaker result (IsPicture recorded.events messages (process_names document) title evidence)
-    (IsPictureOf document traces messages ShowsIt)
+    → IfOk result (IsPicture recorded.events pairs (process_names document) title evidence)
+    → IfOk result (IsPictureOf document traces pairs ShowsIt)
+pictured document traces pairs recorded ShowsIt result evidence title same shows is =
+    IfOk-weaker result (IsPicture recorded.events pairs (process_names document) title evidence)
+    (IsPictureOf document traces pairs ShowsIt)
     (λ drawing picture. record {
       evidence = evidence;
       title = title;
       shows = shows;
       is_picture =
-          subst (λ (r : Recorded). IsPicture r.events messages (process_names document) title evidence drawing) same
+          subst (λ (r : Recorded). IsPicture r.events pairs (process_names document) title evidence drawing) same
           picture;
     }) is

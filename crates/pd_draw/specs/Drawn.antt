@@ -39,18 +39,18 @@ ShowsChoice document traces answers Unknown evidence title = ⊥
 abbrev pub process_names : Document → List (List ℕ)
 process_names document = map (λ (process : ProcessNames). process.name) document.names
 
--- The picture of a session with this evidence and this title.
-pub record IsPictureOf (document : Document) (traces : List Trace) (messages : List (Place × Place))
+-- The picture of a session with this evidence and this title. The pairs are the sends and the receipts of its messages.
+pub record IsPictureOf (document : Document) (traces : List Trace) (pairs : List (Place × Place))
     (ShowsIt : Evidence → (title : List ℕ) → Type 0) (drawing : Drawing) : Type 0 where
   pub evidence : Evidence
   pub title : List ℕ
   pub shows : ShowsIt evidence title
-  pub is_picture : IsPicture (events_of_traces traces) messages (process_names document) title evidence drawing
+  pub is_picture : IsPicture (events_of_traces traces) pairs (process_names document) title evidence drawing
 
 -- The picture of a session and a report on it: nothing stands against it in what a check finds; the run is that of the
 -- session, and the evidence is that of the predicate of this name, or without a name of the first with evidence.
-pub record IsDrawn (document : Document) (traces : List Trace) (messages : List (Place × Place)) (claimed : Report)
-    (name : Option (List ℕ)) (drawing : Drawing) : Type 0 where
+pub record IsDrawn (document : Document) (traces : List Trace) (pairs : List (Place × Place)) (messages : ℕ)
+    (claimed : Report) (name : Option (List ℕ)) (drawing : Drawing) : Type 0 where
   pub processes : ℕ
   pub events : ℕ
   pub matched : ℕ
@@ -59,27 +59,29 @@ pub record IsDrawn (document : Document) (traces : List Trace) (messages : List 
   pub checked : List Checked
   pub found : IsFoundOf document traces messages claimed (OfSession true (Some checked))
   pub stands : stands_against name (OfSession true (Some checked)) ≡ false
-  pub shows : IsPictureOf document traces messages (ShowsChoice document traces answers (choice name checked)) drawing
+  pub shows : IsPictureOf document traces pairs (ShowsChoice document traces answers (choice name checked)) drawing
 
 -- the finding, which stands against a picture
-pub record IsUndrawn (document : Document) (traces : List Trace) (messages : List (Place × Place)) (claimed : Report)
+pub record IsUndrawn (document : Document) (traces : List Trace) (messages : ℕ) (claimed : Report)
     (name : Option (List ℕ)) (finding : Finding) : Type 0 where
   pub found : IsFoundOf document traces messages claimed finding
   pub stands : stands_against name finding ≡ true
 
 -- nothing else stands against a picture, but there is no predicate of this name
-pub record IsUnknown (document : Document) (traces : List Trace) (messages : List (Place × Place)) (claimed : Report)
+pub record IsUnknown (document : Document) (traces : List Trace) (messages : ℕ) (claimed : Report)
     (name : Option (List ℕ)) : Type 0 where
   pub checked : List Checked
   pub found : IsFoundOf document traces messages claimed (OfSession true (Some checked))
   pub is_unknown : LacksName name checked
 
 -- what comes of it: the picture, or what stands against it
-abbrev pub Comes : Document → List Trace → List (Place × Place) → Report → (name : Option (List ℕ)) → Drawn → Type 0
-Comes document traces messages claimed name (Picture drawing) = IsDrawn document traces messages claimed name drawing
-Comes document traces messages claimed name (Bad finding) =
+abbrev pub Comes : Document → List Trace → (pairs : List (Place × Place)) → (messages : ℕ) → Report
+    → (name : Option (List ℕ)) → Drawn → Type 0
+Comes document traces pairs messages claimed name (Picture drawing) =
+    IsDrawn document traces pairs messages claimed name drawing
+Comes document traces pairs messages claimed name (Bad finding) =
     IsUndrawn document traces messages claimed name (finding_view finding)
-Comes document traces messages claimed name NoPredicate = IsUnknown document traces messages claimed name
+Comes document traces pairs messages claimed name NoPredicate = IsUnknown document traces messages claimed name
 
 -- ---- on the way
 
@@ -104,11 +106,11 @@ IsGoodChoice document recorded answers (Of i) = IsGoodAt document recorded answe
 IsGoodChoice document recorded answers Unknown = Unit {0}
 
 -- the picture by this choice; there is none of a predicate that isn't there
-abbrev pub IsChosenPicture : Document → List Trace → List (Place × Place) → List Answer → Choice → Option Drawing
-    → Type 0
-IsChosenPicture document traces messages answers chosen None = chosen ≡ Unknown
-IsChosenPicture document traces messages answers chosen (Some drawing) =
-    IsPictureOf document traces messages (ShowsChoice document traces answers chosen) drawing
+abbrev pub IsChosenPicture : Document → List Trace → (pairs : List (Place × Place)) → List Answer → Choice
+    → Option Drawing → Type 0
+IsChosenPicture document traces pairs answers chosen None = chosen ≡ Unknown
+IsChosenPicture document traces pairs answers chosen (Some drawing) =
+    IsPictureOf document traces pairs (ShowsChoice document traces answers chosen) drawing
 
 -- the report has these answers
 pub record IsJudged (claimed : Report) (answers : List Answer) : Type 0 where
@@ -116,3 +118,11 @@ pub record IsJudged (claimed : Report) (answers : List Answer) : Type 0 where
   pub events : ℕ
   pub matched : ℕ
   pub is : claimed ≡ Judged processes events matched answers
+
+-- the finding is that of a report with these answers
+pub record IsFoundFor (document : Document) (traces : List Trace) (answers : List Answer) (finding : Finding) :
+    Type 0 where
+  pub messages : ℕ
+  pub claimed : Report
+  pub judged : IsJudged claimed answers
+  pub found : IsFoundOf document traces messages claimed finding

@@ -2,17 +2,18 @@
 ghost use Rattle.pd_check.specs.Found.{IsFoundOf};
 ghost use Rattle.pd_check.specs.Views.{finding_view};
 ghost use Rattle.pd_draw.specs.Choices.{name_view};
-ghost use Rattle.pd_draw.specs.Drawn.{Comes, IsChosenPicture, IsGoodAt, IsGoodChoice, IsJudged, IsLetBy, IsPictureOf, ShowsPredicate, process_names};
+ghost use Rattle.pd_draw.specs.Drawn.{Comes, IsChosenPicture, IsFoundFor, IsGoodAt, IsGoodChoice, IsJudged, IsLetBy, IsPictureOf, ShowsPredicate, process_names};
 ghost use Rattle.pd_draw.specs.Exhibits.{ShowsNothing, run_title};
 ghost use Rattle.pd_traces.specs.Views.{computation_view};
+ghost use Rattle.pd_format.specs.Reports as reports;
 ghost use Rattle.pd_gather.specs.Views.{traces_view};
 ghost use Rattle.pd_judgement.specs.Judgements.{recorded_of};
 ghost use Rattle.pd_match.specs.Views.{pairs_view};
-ghost use Rattle.pd_model.specs.Messages.{IsMessageList};
+ghost use Rattle.pd_model.specs.Messages.{HasMessages, IsMessageList};
 ghost use Rattle.pd_picture.specs.Pictures.{IsPicture, texts_view};
 ghost use Rattle.pd_report.specs.Views as views;
 ghost use Rattle.pd_spec.specs.Views.{document_view};
-ghost use Rattle.std.specs.Prelude.{◌≡◌, IfOk, length, map};
+ghost use Rattle.std.specs.Prelude.{◌≡◌, ℕ, IfOk, length, map};
 
 use super::choice::{Choice, chosen, is_chosen_bad};
 use super::exhibit::{evidence_of, title_of};
@@ -79,25 +80,17 @@ fn run_picture(
     spec: &Spec,
     computation: &Computation<'_>,
     traces: &[Trace],
-    messages: &[(Place, Place)],
+    pairs: &[(Place, Place)],
     title: &str,
     evidence: &Evidence,
 ) -> Result<Drawing, AllocError>
     requires traces { computation_view traces.now ≡ computation.now.events }
-    requires messages { IsMessageList computation.now.events (pairs_view messages.now) }
-    ensures { IfOk result (IsPicture computation.now.events (pairs_view messages.now)
+    requires pairs { IsMessageList computation.now.events (pairs_view pairs.now) }
+    ensures { IfOk result (IsPicture computation.now.events (pairs_view pairs.now)
         (process_names (document_view spec.now)) title.now evidence.now) }
 {
     let lanes = lane_names(alloc, spec.names())?;
-    picture(
-        alloc,
-        computation,
-        traces,
-        messages,
-        &lanes,
-        title,
-        evidence,
-    )
+    picture(alloc, computation, traces, pairs, &lanes, title, evidence)
 }
 
 /// The picture of the run alone.
@@ -106,12 +99,12 @@ fn draw_run(
     spec: &Spec,
     computation: &Computation<'_>,
     traces: &[Trace],
-    messages: &[(Place, Place)],
+    pairs: &[(Place, Place)],
 ) -> Result<Drawing, AllocError>
     requires recorded { computation.now ≡ recorded_of (document_view spec.now) (traces_view traces.now) }
     requires traces { computation_view traces.now ≡ computation.now.events }
-    requires messages { IsMessageList computation.now.events (pairs_view messages.now) }
-    ensures { IfOk result (IsPictureOf (document_view spec.now) (traces_view traces.now) (pairs_view messages.now)
+    requires pairs { IsMessageList computation.now.events (pairs_view pairs.now) }
+    ensures { IfOk result (IsPictureOf (document_view spec.now) (traces_view traces.now) (pairs_view pairs.now)
         (λ evidence title. ShowsNothing evidence × (title ≡ run_title))) }
 {
     run_picture(
@@ -119,7 +112,7 @@ fn draw_run(
         spec,
         computation,
         traces,
-        messages,
+        pairs,
         "The run",
         &Evidence::Absent,
     )
@@ -132,29 +125,21 @@ fn draw_predicate(
     answers: &[Answer],
     computation: &Computation<'_>,
     traces: &[Trace],
-    messages: &[(Place, Place)],
+    pairs: &[(Place, Place)],
     i: usize,
 ) -> Result<Drawing, AllocError>
     requires good { IsGoodAt (document_view spec.now) computation.now (map views.answer_view answers.now) i }
     requires recorded { computation.now ≡ recorded_of (document_view spec.now) (traces_view traces.now) }
     requires traces { computation_view traces.now ≡ computation.now.events }
-    requires messages { IsMessageList computation.now.events (pairs_view messages.now) }
+    requires pairs { IsMessageList computation.now.events (pairs_view pairs.now) }
     requires one_each { length computation.now.events ≡ length (document_view spec.now).names }
-    ensures { IfOk result (IsPictureOf (document_view spec.now) (traces_view traces.now) (pairs_view messages.now)
+    ensures { IfOk result (IsPictureOf (document_view spec.now) (traces_view traces.now) (pairs_view pairs.now)
         (ShowsPredicate (document_view spec.now) (traces_view traces.now) (map views.answer_view answers.now) i)) }
 {
     let asked = &spec.predicates()[i];
     let evidence = evidence_of(alloc, spec.names(), computation, asked, &answers[i])?;
     let title = title_of(alloc, &asked.name, &evidence)?;
-    run_picture(
-        alloc,
-        spec,
-        computation,
-        traces,
-        messages,
-        &title,
-        &evidence,
-    )
+    run_picture(alloc, spec, computation, traces, pairs, &title, &evidence)
 }
 
 /// The picture by this choice of a predicate, unless there is none of the name that was asked for.
@@ -164,72 +149,57 @@ fn draw_choice(
     answers: &[Answer],
     computation: &Computation<'_>,
     traces: &[Trace],
-    messages: &[(Place, Place)],
+    pairs: &[(Place, Place)],
     chosen: Choice,
 ) -> Result<Option<Drawing>, AllocError>
     requires good { IsGoodChoice (document_view spec.now) computation.now (map views.answer_view answers.now) chosen }
     requires recorded { computation.now ≡ recorded_of (document_view spec.now) (traces_view traces.now) }
     requires traces { computation_view traces.now ≡ computation.now.events }
-    requires messages { IsMessageList computation.now.events (pairs_view messages.now) }
+    requires pairs { IsMessageList computation.now.events (pairs_view pairs.now) }
     requires one_each { length computation.now.events ≡ length (document_view spec.now).names }
-    ensures { IfOk result (IsChosenPicture (document_view spec.now) (traces_view traces.now) (pairs_view messages.now)
+    ensures { IfOk result (IsChosenPicture (document_view spec.now) (traces_view traces.now) (pairs_view pairs.now)
         (map views.answer_view answers.now) chosen) }
 {
     match chosen {
         Choice::Unknown => Ok(None),
         Choice::Alone => {
-            let drawing = draw_run(alloc, spec, computation, traces, messages)?;
+            let drawing = draw_run(alloc, spec, computation, traces, pairs)?;
             Ok(Some(drawing))
         }
         Choice::Of(i) => {
-            let drawing = draw_predicate(alloc, spec, answers, computation, traces, messages, i)?;
+            let drawing = draw_predicate(alloc, spec, answers, computation, traces, pairs, i)?;
             Ok(Some(drawing))
         }
     }
 }
 
-/// What is found of the report.
-fn finding_of(
+/// The picture of a report with these answers, of which this is found, or what stands against it.
+fn draw_found(
     alloc: Global,
     spec: &Spec,
-    claimed: &Report,
-    computation: &Computation<'_>,
-    traces: &[Trace],
-    messages: &[(Place, Place)],
-) -> Result<Finding, AllocError>
-    requires recorded { computation.now ≡ recorded_of (document_view spec.now) (traces_view traces.now) }
-    requires one_each { length computation.now.events ≡ length (document_view spec.now).names }
-    ensures { IfOk result (λ finding. IsFoundOf (document_view spec.now) (traces_view traces.now)
-        (pairs_view messages.now) (views.report_view claimed.now) (finding_view finding)) }
-{
-    let _traces = traces;
-    find_formed(alloc, spec, claimed, computation, messages.len() as u64)
-}
-
-/// The picture of a session and a report with these answers, or what stands against it.
-fn draw_judged(
-    alloc: Global,
-    spec: &Spec,
-    claimed: &Report,
+    finding: Finding,
     answers: &[Answer],
     computation: &Computation<'_>,
     traces: &[Trace],
-    messages: &[(Place, Place)],
+    pairs: &[(Place, Place)],
     name: Option<&str>,
 ) -> Result<Drawn, AllocError>
-    requires judged { IsJudged (views.report_view claimed.now) (map views.answer_view answers.now) }
+    requires found { IsFoundFor (document_view spec.now) (traces_view traces.now) (map views.answer_view answers.now)
+        (finding_view finding) }
     requires recorded { computation.now ≡ recorded_of (document_view spec.now) (traces_view traces.now) }
     requires traces { computation_view traces.now ≡ computation.now.events }
-    requires messages { IsMessageList computation.now.events (pairs_view messages.now) }
+    requires pairs { IsMessageList computation.now.events (pairs_view pairs.now) }
     requires one_each { length computation.now.events ≡ length (document_view spec.now).names }
-    ensures { IfOk result (Comes (document_view spec.now) (traces_view traces.now) (pairs_view messages.now)
-        (views.report_view claimed.now) (name_view name.entry)) }
+    ensures { IfOk result (λ drawn. (messages : ℕ) (claimed : reports.Report)
+        → IsJudged claimed (map views.answer_view answers.now)
+        → IsFoundOf (document_view spec.now) (traces_view traces.now) messages claimed (finding_view finding)
+        → Comes (document_view spec.now) (traces_view traces.now) (pairs_view pairs.now) messages claimed
+        (name_view name.entry) drawn) }
 {
-    let finding = finding_of(alloc, spec, claimed, computation, traces, messages)?;
     let Some(chosen) = let_by(&finding, name) else {
         return Ok(Drawn::Bad(finding));
     };
-    match draw_choice(alloc, spec, answers, computation, traces, messages, chosen)? {
+    match draw_choice(alloc, spec, answers, computation, traces, pairs, chosen)? {
         Some(drawing) => Ok(Drawn::Picture(drawing)),
         None => Ok(Drawn::NoPredicate),
     }
@@ -237,7 +207,7 @@ fn draw_judged(
 
 /// The picture of a session and a report on it, or what stands against it. It shows the evidence of the predicate of
 /// this name, and without a name that of the first predicate that has evidence; if none has, the run alone. The
-/// computation and the messages are those of the traces.
+/// computation, the number of messages and the pairs of their sends and receipts are those of the traces.
 ///
 /// # Errors
 /// Out of memory.
@@ -246,28 +216,33 @@ pub fn draw(
     spec: &Spec,
     claimed: &Report,
     computation: &Computation<'_>,
+    messages: u64,
     traces: &[Trace],
-    messages: &[(Place, Place)],
+    pairs: &[(Place, Place)],
     name: Option<&str>,
 ) -> Result<Drawn, AllocError>
     requires recorded { computation.now ≡ recorded_of (document_view spec.now) (traces_view traces.now) }
+    requires counted { HasMessages computation.now.events messages }
     requires traces { computation_view traces.now ≡ computation.now.events }
-    requires messages { IsMessageList computation.now.events (pairs_view messages.now) }
+    requires pairs { IsMessageList computation.now.events (pairs_view pairs.now) }
     requires one_each { length computation.now.events ≡ length (document_view spec.now).names }
-    ensures { IfOk result (Comes (document_view spec.now) (traces_view traces.now) (pairs_view messages.now)
+    ensures { IfOk result (Comes (document_view spec.now) (traces_view traces.now) (pairs_view pairs.now) messages
         (views.report_view claimed.now) (name_view name.entry)) }
 {
     match claimed {
         Report::Refused(_) => Ok(Drawn::Bad(Finding::OfRefusal(false))),
-        Report::Judged { answers, .. } => draw_judged(
-            alloc,
-            spec,
-            claimed,
-            answers,
-            computation,
-            traces,
-            messages,
-            name,
-        ),
+        Report::Judged { answers, .. } => {
+            let finding = find_formed(alloc, spec, claimed, computation, messages)?;
+            draw_found(
+                alloc,
+                spec,
+                finding,
+                answers,
+                computation,
+                traces,
+                pairs,
+                name,
+            )
+        }
     }
 }

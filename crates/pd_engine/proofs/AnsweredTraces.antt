@@ -23,8 +23,8 @@ answers_report document traces recorded count answers well answered =
     document.predicates answers =
     subst (λ (r : Recorded). AllZip (IsAnswered document.names r document.width) document.predicates answers)
     well.same answered in
-    rw (ap (λ (r : Recorded). total r.events) well.same, well.counted)
-    (of_answers well.messages answers well.formed well.are_messages zip)
+    rw (ap (λ (r : Recorded). total r.events) well.same)
+    (of_answers count answers well.formed well.counted zip)
 
 -- the same of streams that make these traces
 pub answered_report : (document : Document) (streams : ℕ) (results : List StreamResult) (traces : List readings.Trace)

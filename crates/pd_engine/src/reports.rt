@@ -71,7 +71,8 @@ pub fn report_of<S: RandomSource + Threads + Wait + Sync, G: Gate + Sync>(
     // If the streams make a well-formed computation with no level over the width, it tells the truth of each predicate.
     ensures headline { IfOk result (λ report. (traces : List readings.Trace)
         → session (document_view spec.now).names gathered.streams (results_view gathered.readings.items) ≡ Ok traces
-        → IsWellFormed (events_of_traces traces) → IsNarrow (events_of_traces traces) (document_view spec.now).width
+        → IsWellFormed (document_view spec.now).version (events_of_traces traces)
+        → IsNarrow (events_of_traces traces) (document_view spec.now).width
         → TellsTruth (document_view spec.now) traces (report_view report)) }
     // The answers for each predicate agree, also with a level over the width.
     ensures agrees { IfOk result (λ report. ReportAgrees (report_view report)) }

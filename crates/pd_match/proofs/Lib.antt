@@ -3,6 +3,7 @@ mod Places
 mod Ids
 mod Marks
 mod Reports
+pub mod ReceivedSends
 mod Traces
 mod Pairs
 mod Senders

@@ -1,16 +1,25 @@
 -- How far the receipts have been matched.
-use Rattle.std.specs.Prelude.{◌≡◌, ◌++◌, ◌↔◌, ◌<◌, ℕ, Bool, List, Some, Contains, length, slice_get, Vec}
+use Rattle.std.specs.Prelude.{◌≡◌, ◌++◌, ◌↔◌, ◌<◌, ℕ, List, Some, Contains, length, slice_get, Vec}
 use Rattle.std.specs.declared.alloc.Global.{Global}
 use Rattle.pd_model.specs.Events.{Computation, IsBefore, Linked, event_count}
 use Rattle.pd_model.specs.Events as events
-use Rattle.pd_model.specs.Messages.{IsMessage}
+use Rattle.pd_model.specs.Messages.{IsMessage, Version}
 use Rattle.pd_match.specs.declared.sender.Sender.{Sender}
 use Rattle.pd_match.specs.Noted.{HasReceived, NoneBadBefore, event_place, pairs_from, pairs_in, row_at, sender_view}
 
 -- the receipts before this place are marked, and none is at fault
-pub record MatchedBefore (c : Computation) (here : events.Place) (received : List ℕ → Bool) : Type 0 where
-  pub marked : HasReceived c here received
-  pub good : NoneBadBefore c here
+pub record MatchedBefore (version : Version) (c : Computation) (here : events.Place) (last : List ℕ → ℕ) :
+    Type 0 where
+  pub marked : HasReceived c here last
+  pub good : NoneBadBefore version c here
+
+-- this many sends are received before this place
+pub record SendsBefore (c : Computation) (here : events.Place) (n : ℕ) : Type 0 where
+  pub sends : List events.Place
+  pub ascending : Linked IsBefore sends
+  pub just : (send : events.Place) → Contains sends send
+      ↔ ((receipt : events.Place) × IsMessage c send receipt × IsBefore receipt here)
+  pub counted : n ≡ length sends
 
 -- The pairs are the messages whose receipts stand before this place, in the order of the receipts.
 pub record PairsBefore (c : Computation) (here : events.Place) (pairs : List (events.Place × events.Place)) :

@@ -11,9 +11,10 @@ pub enum MatchFault {
     Orphan(Place),
     /// The send with the id of this receipt is of its own process.
     SelfMessage(Place),
-    /// The id of this receipt is received at an earlier place.
+    /// The id of this receipt is received at an earlier place: in version 1 by any process, in version 2 by its own.
     ReceivedTwice(Place),
-    /// Memory ran out, or a send stands at a process or a number of 2^32 or more.
+    /// Memory ran out; or a send stands at a process or a number of 2^32 or more, or a receipt at a process of 2^32 - 1
+    /// or more.
     Memory,
 }
 

@@ -1,5 +1,5 @@
 //! The messages of a session.
-ghost use Rattle.pd_match.specs.Noted.{pairs_from, pairs_in, sender_at};
+ghost use Rattle.pd_match.specs.Noted.{CountsSends, pairs_from, pairs_in, sender_at};
 ghost use Rattle.pd_match.specs.Views.{pairs_view, place_view};
 ghost use Rattle.pd_model.specs.Events as events;
 ghost use Rattle.std.specs.Prelude.{◌≡◌, ◌↔◌, ◌++◌, ◌<◌, ◌^◌, Contains, IfOk, OnOk, Some, length, option_map};
@@ -14,19 +14,20 @@ use std::marker::Model;
 pub struct Matched {
     // For each process and each of its events the send, if it is a receipt.
     senders: Vec<Vec<Sender>>,
+    // How many sends are received.
     messages: u64,
 }
 
 impl Model for Matched {
-    ghost use Rattle.std.specs.Prelude.{◌≡◌, ◌↔◌, List, Contains, Some, length};
+    ghost use Rattle.std.specs.Prelude.{◌≡◌, ◌↔◌, List, Contains, Some};
     ghost use Rattle.pd_model.specs.Events as events;
-    ghost use Rattle.pd_match.specs.Noted.{pairs_in, sender_at};
+    ghost use Rattle.pd_match.specs.Noted.{CountsSends, pairs_in, sender_at};
 
     ghost Value = { List (events.Place × events.Place) };
 
     ghost view = { λ m. pairs_in 0 m.senders.items };
 
-    ghost invariant = { λ m. (m.messages ≡ length (pairs_in 0 m.senders.items))
+    ghost invariant = { λ m. CountsSends (pairs_in 0 m.senders.items) m.messages
         × ((send receipt : events.Place) → Contains (pairs_in 0 m.senders.items) (send, receipt)
         ↔ (sender_at m.senders.items receipt ≡ Some send)) };
 }
@@ -56,9 +57,10 @@ fn pairs_in(alloc: Global, rows: &[Vec<Sender>]) -> Result<Vec<(Place, Place)>, 
 }
 
 impl Matched {
-    /// The messages of this table, which has for each process and each of its events the send, if it is a receipt.
+    /// The messages of this table, which has for each process and each of its events the send, if it is a receipt; and
+    /// how many sends are received.
     pub(crate) fn new(senders: Vec<Vec<Sender>>, messages: u64) -> Matched
-        requires count { messages ≡ length (pairs_in 0 senders.items) }
+        requires count { CountsSends (pairs_in 0 senders.items) messages }
         requires found { (send receipt : events.Place) → Contains (pairs_in 0 senders.items) (send, receipt)
             ↔ (sender_at senders.items receipt ≡ Some send) }
         ensures { result ≡ pairs_in 0 senders.items }
@@ -66,8 +68,8 @@ impl Matched {
         Matched { senders, messages }
     }
 
-    /// The messages, each as its send and its receipt, in the order of the receipts. It is for programs that list them:
-    /// this workspace looks each up by its receipt.
+    /// The messages, each as its send and its receipt, in the order of the receipts: a send that several processes
+    /// receive stands once for each. A picture has an arrow for each of them.
     ///
     /// # Errors
     /// An allocation was refused.
@@ -87,9 +89,9 @@ impl Matched {
         row.get(index as usize)?.send()
     }
 
-    /// How many messages there are.
+    /// How many messages there are: how many sends are received, by one process or by several.
     pub fn messages(&self) -> u64
-        ensures { result ≡ length self.now }
+        ensures { CountsSends self.now result }
     {
         self.messages
     }

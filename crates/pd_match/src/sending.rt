@@ -3,7 +3,7 @@ ghost use Rattle.pd_traces.specs.Views.{computation_view};
 ghost use Rattle.pd_match.specs.Noted.{HasAll, HasBefore, event_place, place_noted};
 ghost use Rattle.pd_match.specs.Views.{match_fault_view};
 ghost use Rattle.pd_model.specs.Events.{Send, event_count};
-ghost use Rattle.pd_model.specs.Messages.{IsReported};
+ghost use Rattle.pd_model.specs.Messages.{IsReported, Version};
 ghost use Rattle.std.specs.Prelude.{◌<◌, IfErr, IfOk, IfSome, OnOk, length, suc};
 
 use super::kinds::kind_of;
@@ -27,7 +27,7 @@ fn note_send<'a, S: BuildHasher>(
     ensures noted { OnOk result (HasBefore Send (computation_view traces.now) (event_place p (suc n))
         (place_noted sends.new)) }
     ensures fault { IfErr result (λ reported.
-        IfSome (match_fault_view reported) (λ fault. IsReported (computation_view traces.now) fault)) }
+        (version : Version) → IfSome (match_fault_view reported) (IsReported version (computation_view traces.now))) }
 {
     if let Kind::Send(id) = kind_of(traces, p, n) {
         let here = Place::of_event(p, n);
@@ -49,7 +49,7 @@ fn note_sends<'a, S: BuildHasher>(
     ensures noted { OnOk result (HasBefore Send (computation_view traces.now) (event_place (suc p) 0)
         (place_noted sends.new)) }
     ensures fault { IfErr result (λ reported.
-        IfSome (match_fault_view reported) (λ fault. IsReported (computation_view traces.now) fault)) }
+        (version : Version) → IfSome (match_fault_view reported) (IsReported version (computation_view traces.now))) }
 {
     for n in 0..traces[p].events.len() {
         note_send(traces, p, n, sends)?;
@@ -68,7 +68,7 @@ pub(crate) fn sends_of<'a, S: BuildHasher + Drop>(
 ) -> Result<IndexMap<&'a [u8], Place, S>, MatchFault>
     ensures noted { IfOk result (λ sends. HasAll Send (computation_view traces.now) (place_noted sends)) }
     ensures fault { IfErr result (λ reported.
-        IfSome (match_fault_view reported) (λ fault. IsReported (computation_view traces.now) fault)) }
+        (version : Version) → IfSome (match_fault_view reported) (IsReported version (computation_view traces.now))) }
 {
     let mut sends = IndexMap::with_hasher(alloc, hasher);
     for p in 0..traces.len() {

@@ -27,4 +27,5 @@ refused_judged bytes streams (faults.Predicate k error) refusal is tells = go (p
     go : (o : Option PredicateFault) → predicate_fault_view error.kind ≡ o → IsJudgement bytes streams (Refused refusal)
     go None at = absurd (rw at at is)
     go (Some fault) at = of_refused (InPredicate k fault error.at) (rw at at is) (ap Refused (rw at at tells))
+refused_judged bytes streams faults.Version refusal is tells = of_refused documents.OtherVersion is (ap Refused tells)
 refused_judged bytes streams faults.Memory refusal is tells = absurd tells

@@ -1,7 +1,6 @@
 -- The computation of a session's traces.
 use Rattle.std.specs.Prelude.{◌≡◌, ℕ, List, length}
-use Rattle.pd_model.specs.Events.{Place}
-use Rattle.pd_model.specs.Messages.{IsMessageList}
+use Rattle.pd_model.specs.Messages.{HasMessages}
 use Rattle.pd_model.specs.Order.{IsWellFormed}
 use Rattle.pd_model.specs.Predicates.{Recorded}
 use Rattle.pd_format.specs.Documents.{Document}
@@ -9,11 +8,9 @@ use Rattle.pd_format.specs.Readings as readings
 use Rattle.pd_judgement.specs.Judgements.{events_of_traces, recorded_of}
 
 -- the traces make a well-formed computation, of which this was recorded, with this many messages
-pub record AreWellFormed (document : Document) (traces : List readings.Trace) (recorded : Recorded) (count : ℕ) :
+pub record AreWellFormed (document : Document) (traces : List readings.Trace) (recorded : Recorded) (messages : ℕ) :
     Type 0 where
   pub same : recorded ≡ recorded_of document traces
   pub one_each : length recorded.events ≡ length document.names
-  pub formed : IsWellFormed (events_of_traces traces)
-  pub messages : List (Place × Place)
-  pub are_messages : IsMessageList (events_of_traces traces) messages
-  pub counted : count ≡ length messages
+  pub formed : IsWellFormed document.version (events_of_traces traces)
+  pub counted : HasMessages (events_of_traces traces) messages

@@ -33,6 +33,7 @@ document_fault_view faults.Predicates = Some documents.Predicates
 document_fault_view faults.Width = Some documents.Width
 document_fault_view (faults.Predicate k error) =
     option_map (λ fault. documents.InPredicate k fault error.at) (predicate_fault_view error.kind)
+document_fault_view faults.Version = Some documents.OtherVersion
 document_fault_view faults.Memory = None
 
 -- the refusal is that of the document's fault

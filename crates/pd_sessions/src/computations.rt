@@ -29,12 +29,13 @@ pub fn messages_of<S: RandomSource>(
     traces: &[Trace],
 ) -> Result<Matched, Unanswered>
     requires { AreTraces (document_view spec.now).names traces.now }
-    ensures lawful { IfOk result (λ matched. HasLawfulMessages (computation_view traces.now)) }
+    ensures lawful { IfOk result (λ matched. HasLawfulMessages (document_view spec.now).version
+        (computation_view traces.now)) }
     ensures messages { IfOk result (λ matched. IsMessageList (computation_view traces.now) matched) }
     ensures refused { IfErr result (IsUnanswered (IsTracesReport (document_view spec.now)
         (traces_view traces.now))) }
 {
-    match match_messages(rt, alloc, traces) {
+    match match_messages(rt, alloc, spec.version(), traces) {
         Ok(matched) => Ok(matched),
         Err(fault) => Err(Unanswered::Refused(of_messages(alloc, spec.names(), fault)?)),
     }
@@ -72,7 +73,7 @@ pub fn build<'a>(
     matched: Matched,
 ) -> Result<(Computation<'a>, u64), Unanswered>
     requires traces { AreTraces (document_view spec.now).names traces.now }
-    requires lawful { HasLawfulMessages (computation_view traces.now) }
+    requires lawful { HasLawfulMessages (document_view spec.now).version (computation_view traces.now) }
     requires messages { IsMessageList (computation_view traces.now) matched }
     ensures formed { IfOk result (λ formed. AreWellFormed (document_view spec.now) (traces_view traces.now)
         formed.0 formed.1) }

@@ -74,6 +74,7 @@ pub fn of_document(alloc: Global, fault: SpecFault) -> Result<Refusal, AllocErro
         SpecFault::Predicates => of_word(alloc, "predicates")?,
         SpecFault::Width => of_word(alloc, "width")?,
         SpecFault::Predicate(k, error) => of_predicate(alloc, k, error)?,
+        SpecFault::Version => of_word(alloc, "version")?,
         SpecFault::Memory => return Err(AllocError),
     };
     Ok(refusal)

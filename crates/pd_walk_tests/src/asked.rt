@@ -55,7 +55,7 @@ pub(crate) fn is_right<K: RandomSource, T: Threads + Wait + Sync>(
     let Ok(traces) = traces_of(alloc, &spec, streams) else {
         return None;
     };
-    let Ok(matched) = match_messages(keys, alloc, &traces) else {
+    let Ok(matched) = match_messages(keys, alloc, spec.version(), &traces) else {
         return None;
     };
     let Ok(pairs) = matched.pairs(alloc) else {

@@ -11,7 +11,8 @@ use Rattle.pd_arguments.proofs.arguments.check_request.Goals as goal
 
 pub returns-in_default : goal.returns-in_default
 returns-in_default c arguments taken are =
-    of_missing_report (codes "check") (rows_of (found_of c.args.matches.now)) (inl refl) are (λ found. not_none _ c.get_str.result found.0
+    of_missing_report (codes "check") (rows_of (found_of c.args.matches.now)) (inl refl) are
+    (λ found. not_none _ c.get_str.result found.0
     (c.get_str.ensures ∙ (first_value-rows (found_of c.args.matches.now) (codes "REPORT") ∙ found.1)) c.in_default.is)
 
 pub returns-in_default-2 : goal.returns-in_default-2

@@ -1,12 +1,23 @@
--- The program's command line has the commands `draw` and `serve` too.
-use Rattle.std.proofs.Common.{ap, ap₂, ◌∙◌}
-use Rattle.std.proofs.lemmas.Result.{IfOk-weaker}
-use Rattle.clap.specs.Words.{App, with_subcommand}
+-- The program's command line has its four commands.
+use Rattle.pd_arguments.proofs.Builders.{with_command, with_last_command}
 use Rattle.pd_arguments.proofs.commands.program_command.Goals as goal
+
+pub with_command-requires : goal.with_command-requires
+with_command-requires c = c.judge_command.ensures.local
+
+pub with_command-requires-2 : goal.with_command-requires-2
+with_command-requires-2 c = c.check_command.ensures.local
+
+pub with_command-requires-3 : goal.with_command-requires-3
+with_command-requires-3 c = c.draw_command.ensures.local
+
+pub with_command-requires-4 : goal.with_command-requires-4
+with_command-requires-4 c = c.serve_command.ensures.local
 
 pub returns : goal.returns
 returns c =
-    let draw_is = c.in_ok-subcommand.ensures.shape c.in_ok-draw_command.ensures.local
-    ∙ ap₂ with_subcommand c.in_ok-files_command.ensures (ap (λ (a : App). a.top) c.in_ok-draw_command.ensures.app) in
-    IfOk-weaker c.subcommand-2.result _ _ (λ command h. h.shape c.in_ok-serve_command.ensures.local
-    ∙ ap₂ with_subcommand draw_is (ap (λ (a : App). a.top) c.in_ok-serve_command.ensures.app)) c.subcommand-2.ensures
+    let judge_is = with_command _ _ _ _ _ c.in_ok-program.ensures c.judge_command.ensures.app c.in_ok-program-2.ensures in
+    let check_is = with_command _ _ _ _ _ judge_is c.check_command.ensures.app c.in_ok-program-3.ensures in
+    let draw_is = with_command _ _ _ _ _ check_is c.draw_command.ensures.app c.in_ok-program-4.ensures in
+    with_last_command _ c.serve_command.result c.with_command-4.result _ _ draw_is c.serve_command.ensures.app
+    c.with_command-4.ensures

@@ -10,7 +10,7 @@ use Rattle.pd_spec.specs.Views.{document_view}
 use Rattle.pd_sessions.specs.Computations.{AreWellFormed}
 use Rattle.pd_sessions.specs.SessionReports.{IsReportOfInputs}
 use Rattle.pd_sessions.specs.Unanswered.{IsUnanswered}
-use Rattle.pd_claims.proofs.SessionFindings.{session_found}
+use Rattle.pd_claims.proofs.SessionFindings.{messages_counted, session_found}
 use Rattle.pd_sessions.proofs.SessionReports.{inputs_report, refusal_given, refused_inputs_report, traces_report}
 use Rattle.pd_claims.proofs.checks.find_in_session.Goals as goal
 
@@ -56,6 +56,11 @@ returns-in_err-computation-clause-refused g c =
     (subst (λ (all : List Trace). IsUnanswered (IsTracesReport document (traces_view all))
     c.in_err-computation.field-0.0) c.deref.ensures.value c.in_err-computation.ensures.refused)
 
+pub find_formed-requires-clause-counted : goal.find_formed-requires-clause-counted
+find_formed-requires-clause-counted g c =
+    messages_counted (document_view c.in_ok-spec.spec) (traces_view c.deref.result.now) c.in_ok-computation.computation
+    c.in_ok-computation.messages c.in_ok-computation.ensures.formed
+
 pub returns-clause-found : goal.returns-clause-found
 returns-clause-found g c =
     let bytes = c.args.document.now in
@@ -70,4 +75,4 @@ returns-clause-found g c =
     session_found bytes inputs g.R.ByteSource.never_fails document count results traces c.in_ok-computation.computation
     c.in_ok-computation.messages (report_view c.args.claimed.now) (finding_view c.in_ok-find_formed.field-0)
     c.in_ok-spec.ensures.read c.in_ok-gathered.ensures.given c.in_ok-traces.ensures.joined well
-    (c.in_ok-find_formed.ensures traces well.messages well.same well.counted)
+    (c.in_ok-find_formed.ensures traces well.same)

@@ -36,7 +36,7 @@ returns c =
     subst (λ (names : List ProcessNames). Shows names (recorded_of document traces) asked.predicate answer evidence)
     c.names.ensures (subst (λ (r : Recorded). Shows c.names.result.now r asked.predicate answer evidence)
     c.requires.recorded c.in_ok-evidence.ensures) in
-    pictured document traces (pairs_view c.args.messages.now) c.args.computation.now
+    pictured document traces (pairs_view c.args.pairs.now) c.args.computation.now
     (ShowsPredicate document traces answers c.args.i) c.run_picture.result evidence c.deref-2.result.now
     c.requires.recorded
     (record {

@@ -1,14 +1,16 @@
 -- Matches the receipts with the sends.
-use Rattle.std.proofs.Common.{◌≡◌, ◌∙◌, ◌+◌, [], add-one, ap, arith, false, length, length-append, replicate, rules, suc, subst, sym, ℕ, List}
+use Rattle.std.proofs.Common.{◌≡◌, ◌∙◌, ◌+◌, [], add-one, ap, arith, length, replicate, rules, suc, subst, sym, ℕ, List}
 use Rattle.std.proofs.lemmas.List.{length-map, length-replicate}
 use Rattle.indexmap.specs.IndexMap.{index_map_len}
 use Rattle.pd_traces.specs.declared.event.Trace.{Trace}
+use Rattle.pd_spec.specs.Views.{version_view}
 use Rattle.pd_traces.specs.Views.{computation_view}
 use Rattle.pd_model.specs.Messages.{IsMessageList}
-use Rattle.pd_match.specs.Noted.{event_place, is_marked, marks_set, pairs_from, pairs_in, place_noted}
-use Rattle.pd_match.specs.Progress.{MatchedBefore, RowsTell}
-use Rattle.pd_match.proofs.Marks.{no_marks_set, none_marked, received_first}
-use Rattle.pd_match.proofs.Pairs.{pairs_all, pairs_in_push, rows_first, rows_next, table_agrees}
+use Rattle.pd_match.specs.Noted.{CountsSends, event_place, last_receiver, pairs_in, place_noted, sends_marked}
+use Rattle.pd_match.specs.Progress.{MatchedBefore, RowsTell, SendsBefore}
+use Rattle.pd_match.proofs.ReceivedSends.{sends_all, sends_first}
+use Rattle.pd_match.proofs.Marks.{no_sends_marked, none_marked, received_first}
+use Rattle.pd_match.proofs.Pairs.{pairs_all, rows_first, rows_next, table_agrees}
 use Rattle.pd_match.proofs.Reports.{lawful, none_bad_first}
 use Rattle.pd_match.proofs.matching.match_receipts.Goals as goal
 
@@ -16,17 +18,18 @@ pub loop-p-init : goal.loop-p-init
 loop-p-init g c =
     let all = computation_view c.args.traces.now in
     let many = index_map_len c.args.sends.now in
-    let marks : replicate many false ≡ c.in_ok-received.received.items = search rules in
+    let marks : replicate many 0 ≡ c.in_ok-received.received.items = search rules in
     let none : [] ≡ c.in_ok-senders.senders.items = sym c.in_ok-senders.ensures.items in record {
       matched = record {
-        marked = received_first all (is_marked c.args.sends.now c.in_ok-received.received.items)
-            (subst (λ marks. (id : List ℕ) → is_marked c.args.sends.now marks id ≡ false) marks
+        marked = received_first all (last_receiver c.args.sends.now c.in_ok-received.received.items)
+            (subst (λ marks. (id : List ℕ) → last_receiver c.args.sends.now marks id ≡ 0) marks
             (none_marked c.args.sends.now many));
-        good = none_bad_first all;
+        good = none_bad_first (version_view c.args.version) all;
       };
       rows = subst (λ rows. RowsTell all rows 0) none (rows_first all);
-      same = ap length (sym marks) ∙ length-replicate many false;
-      count = ap marks_set (sym marks) ∙ (no_marks_set many ∙ ap (λ rows. length (pairs_in 0 rows)) none);
+      same = ap length (sym marks) ∙ length-replicate many 0;
+      count = subst (SendsBefore all (event_place 0 0)) (sym (ap sends_marked (sym marks) ∙ no_sends_marked many))
+          (sends_first all);
     }
 
 pub senders_in-requires-clause-before : goal.senders_in-requires-clause-before
@@ -40,18 +43,14 @@ loop-p-preserved g c =
     subst (λ rows. RowsTell all rows (suc c.loop-p.p)) (sym c.in_ok-push.ensures.items)
     (rows_next all c.loop-p.p c.loop-p.senders.items row c.loop-p.invariant.rows c.in_ok-senders_in.ensures.row) in
     let next : suc c.loop-p.p ≡ c.loop-p.p + 1 = sym (add-one c.loop-p.p) in
-    let more : length (pairs_in 0 c.push.new.self.items) ≡ length (pairs_in 0 c.loop-p.senders.items)
-    + length (pairs_from c.loop-p.p 0 row.items) =
-    ap (λ rows. length (pairs_in 0 rows)) c.in_ok-push.ensures.items
-    ∙ (ap length (pairs_in_push 0 c.loop-p.p c.loop-p.senders.items row
-    (let same : length c.loop-p.senders.items ≡ c.loop-p.p = c.loop-p.invariant.rows.same in omega arith))
-    ∙ length-append (pairs_in 0 c.loop-p.senders.items) (pairs_from c.loop-p.p 0 row.items)) in record {
+    record {
       matched =
-          subst (λ p. MatchedBefore all (event_place p 0)
-          (is_marked c.args.sends.now c.senders_in.new.received.items)) next c.in_ok-senders_in.ensures.after;
+          subst (λ p. MatchedBefore (version_view c.args.version) all (event_place p 0)
+          (last_receiver c.args.sends.now c.senders_in.new.received.items)) next c.in_ok-senders_in.ensures.after;
       rows = subst (λ p. RowsTell all c.push.new.self.items p) next rows;
       same = c.in_ok-senders_in.ensures.same ∙ c.loop-p.invariant.same;
-      count = omega (arith, c.in_ok-senders_in.ensures.count, c.loop-p.invariant.count, more);
+      count = subst (λ p. SendsBefore all (event_place p 0)
+          (sends_marked c.senders_in.new.received.items)) next c.in_ok-senders_in.ensures.count;
     }
 
 -- all processes are done
@@ -68,15 +67,32 @@ new-requires-clause-found g c =
     table_agrees all c.loop-p.senders.items whole (pairs_in 0 c.loop-p.senders.items)
     (pairs_all all (pairs_in 0 c.loop-p.senders.items) whole.pairs)
 
+pub new-requires-clause-count : goal.new-requires-clause-count
+new-requires-clause-count g c =
+    let all = computation_view c.args.traces.now in
+    let at : c.loop-p.p ≡ length all = processes c.args.traces.now c.loop-p.p (omega arith) in
+    let whole : RowsTell all c.loop-p.senders.items (length all) =
+    subst (λ k. RowsTell all c.loop-p.senders.items k) at c.loop-p.invariant.rows in
+    let marked = sends_marked c.loop-p.received.items in
+    let so_far : SendsBefore all (event_place (length all) 0) marked =
+    subst (λ k. SendsBefore all (event_place k 0) marked) at c.loop-p.invariant.count in
+    subst (CountsSends (pairs_in 0 c.loop-p.senders.items)) (sym (c.count_of.ensures ∙ ap sends_marked c.deref.ensures.value))
+    (sends_all all marked (pairs_in 0 c.loop-p.senders.items) so_far
+    (pairs_all all (pairs_in 0 c.loop-p.senders.items) whole.pairs))
+
+pub senders_in-requires-clause-counted : goal.senders_in-requires-clause-counted
+senders_in-requires-clause-counted g c = c.loop-p.invariant.count
+
 pub returns-clause-lawful : goal.returns-clause-lawful
 returns-clause-lawful g c =
     let all = computation_view c.args.traces.now in
     let at : c.loop-p.p ≡ length all = processes c.args.traces.now c.loop-p.p (omega arith) in
-    let matched : MatchedBefore all (event_place (length all) 0)
-    (is_marked c.args.sends.now c.loop-p.received.items) =
-    subst (λ k. MatchedBefore all (event_place k 0) (is_marked c.args.sends.now c.loop-p.received.items)) at
+    let v = version_view c.args.version in
+    let matched : MatchedBefore v all (event_place (length all) 0)
+    (last_receiver c.args.sends.now c.loop-p.received.items) =
+    subst (λ k. MatchedBefore v all (event_place k 0) (last_receiver c.args.sends.now c.loop-p.received.items)) at
     c.loop-p.invariant.matched in
-    lawful all (place_noted c.args.sends.now) c.requires matched.good
+    lawful v all (place_noted c.args.sends.now) c.requires matched.good
 
 pub returns-clause-messages : goal.returns-clause-messages
 returns-clause-messages g c =

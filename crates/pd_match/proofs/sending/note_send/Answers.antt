@@ -16,9 +16,9 @@ returns-then-branch-clause-fault g c =
     let id = c.in-Send.id.now in
     let is : kind_at all (event_place c.args.p c.args.n) ≡ Some (Send id) =
     c.kind_of.ensures.kind ∙ ap (λ k. Some (seen_kind_view k)) c.in-Send.is in
-    subst (λ f. IsReported all (SendTwice f)) (sym c.of_event-here.ensures)
+    λ version. subst (λ f. IsReported version all (SendTwice f)) (sym c.of_event-here.ensures)
     (sent_twice all (event_place c.args.p c.args.n) (place_noted c.args.sends.now) id c.requires.before is
-    (sym c.in_ok-note.ensures.before ∙ c.if-branch.true))
+    (sym c.in_ok-note.ensures.before ∙ c.if-branch.true) version)
 
 pub returns-else-branch-clause-noted : goal.returns-else-branch-clause-noted
 returns-else-branch-clause-noted g c =

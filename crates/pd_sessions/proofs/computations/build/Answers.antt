@@ -9,6 +9,7 @@ use Rattle.pd_gather.specs.Views.{traces_view}
 use Rattle.pd_spec.specs.Views.{document_view}
 use Rattle.pd_traces.specs.Views.{computation_view}
 use Rattle.pd_match.specs.Views.{place_view}
+use Rattle.pd_match.proofs.ReceivedSends.{counts_messages}
 use Rattle.pd_clock.specs.Orders.{places_view}
 use Rattle.pd_clock.specs.Computations.{recorded_view}
 use Rattle.pd_sessions.specs.Computations.{AreWellFormed}
@@ -29,11 +30,13 @@ pub returns-in-Ok-clause-formed : goal.returns-in-Ok-clause-formed
 returns-in-Ok-clause-formed c =
     let names : List ProcessNames = (document_view c.args.spec.now).names in
     let well : AreWellFormed (document_view c.args.spec.now) (traces_view c.args.traces.now)
-    (recorded_view (document_view c.args.spec.now).initial c.args.traces.now) (length c.args.matched) =
-    well_formed (document_view c.args.spec.now) c.args.traces.now c.args.matched
+    (recorded_view (document_view c.args.spec.now).initial c.args.traces.now) c.messages-messages.result =
+    well_formed (document_view c.args.spec.now) c.args.traces.now c.messages-messages.result
     (traces_length names c.args.traces.now c.requires.traces) c.requires.lawful
-    c.in-Ok.ensures.acyclic c.requires.messages in
-    rw (c.in-Ok.ensures.recorded, c.messages-messages.ensures) well
+    c.in-Ok.ensures.acyclic
+    (counts_messages (computation_view c.args.traces.now) c.args.matched c.messages-messages.result
+    c.requires.messages c.messages-messages.ensures) in
+    rw c.in-Ok.ensures.recorded well
 
 pub returns-in_ok-refusal-in-Err-Cycle-clause-refused : goal.returns-in_ok-refusal-in-Err-Cycle-clause-refused
 returns-in_ok-refusal-in-Err-Cycle-clause-refused c =

@@ -1,12 +1,20 @@
 -- The messages of a session's traces, or their refusal.
+use Rattle.std.proofs.Common.{subst}
+use Rattle.pd_model.specs.Messages.{HasLawfulMessages, Version}
 use Rattle.pd_match.specs.Views.{match_fault_view}
-use Rattle.pd_spec.specs.Views.{document_view}
+use Rattle.pd_spec.specs.Views.{document_view, version_view}
+use Rattle.pd_traces.specs.Views.{computation_view}
 use Rattle.pd_report.specs.Views as views
 use Rattle.pd_sessions.proofs.FitTraces.{refused_report}
 use Rattle.pd_sessions.proofs.computations.messages_of.Goals as goal
 
+pub returns-in-Ok-clause-lawful : goal.returns-in-Ok-clause-lawful
+returns-in-Ok-clause-lawful g c =
+    subst (λ (version : Version). HasLawfulMessages version (computation_view c.args.traces.now)) c.version.ensures
+    c.in-Ok.ensures.lawful
+
 pub returns-in_ok-of_messages-in-Err-clause-refused : goal.returns-in_ok-of_messages-in-Err-clause-refused
 returns-in_ok-of_messages-in-Err-clause-refused g c =
-    refused_report (document_view c.args.spec.now) c.names.result.now c.args.traces.now
-    (match_fault_view c.in-Err.fault) (views.refusal_view c.in_ok-of_messages-in-Err.field-0) c.names.ensures
-    c.in-Err.ensures.fault c.in_ok-of_messages-in-Err.ensures
+    refused_report (document_view c.args.spec.now) c.names.result.now (version_view c.version.result)
+    c.args.traces.now (match_fault_view c.in-Err.fault) (views.refusal_view c.in_ok-of_messages-in-Err.field-0)
+    c.names.ensures c.version.ensures c.in-Err.ensures.fault c.in_ok-of_messages-in-Err.ensures

@@ -3,11 +3,11 @@ use Rattle.std.proofs.Common.{map, ℕ, List, Option, subst}
 use Rattle.pd_arguments.specs.Views.{IsAskedIf}
 use Rattle.pd_arguments.specs.declared.request.Request.{Request}
 use Rattle.pd_arguments.proofs.Parsed.{error_found, program_fault, program_matches, program_taken, unclear_found}
-use Rattle.pd_arguments.proofs.arguments.parse.Goals as goal
+use Rattle.pd_arguments.proofs.arguments.request_by.Goals as goal
 
 pub returns-in-Err-clause-refused : goal.returns-in-Err-clause-refused
 returns-in-Err-clause-refused c =
-    error_found _ c.in-Err.error (program_fault _ _ c.in-Err.error c.in_ok-command.ensures c.in-Err.ensures.kinds)
+    error_found _ c.in-Err.error (program_fault _ _ c.in-Err.error c.requires c.in-Err.ensures.kinds)
 
 pub returns-in_default-clause-refused : goal.returns-in_default-clause-refused
 returns-in_default-clause-refused c =
@@ -15,13 +15,13 @@ returns-in_default-clause-refused c =
     unclear_found arguments c.missing_argument.result
     (subst (λ (request : Option Request). IsAskedIf arguments request) c.in_default.is
     (c.in_ok-request.ensures arguments
-    (program_taken _ _ c.in_ok-command.ensures c.in-Ok.ensures.kinds)
-    (program_matches _ _ c.in-Ok.matches c.in_ok-command.ensures c.in-Ok.ensures.ok.2))) c.missing_argument.ensures
+    (program_taken _ _ c.requires c.in-Ok.ensures.kinds)
+    (program_matches _ _ c.in-Ok.matches c.requires c.in-Ok.ensures.ok.2))) c.missing_argument.ensures
 
 pub returns-clause-asked : goal.returns-clause-asked
 returns-clause-asked c =
     let arguments : List (List ℕ) = map (λ argument. argument.bytes.items) c.args.arguments.now in
     subst (λ (request : Option Request). IsAskedIf arguments request) c.in-Some.is
     (c.in_ok-request.ensures arguments
-    (program_taken _ _ c.in_ok-command.ensures c.in-Ok.ensures.kinds)
-    (program_matches _ _ c.in-Ok.matches c.in_ok-command.ensures c.in-Ok.ensures.ok.2))
+    (program_taken _ _ c.requires c.in-Ok.ensures.kinds)
+    (program_matches _ _ c.in-Ok.matches c.requires c.in-Ok.ensures.ok.2))

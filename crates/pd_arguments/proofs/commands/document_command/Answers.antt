@@ -1,0 +1,19 @@
+-- The command has one argument, the document.
+use Rattle.std.proofs.Common.{◌≡◌, false, ap, ◌∙◌}
+use Rattle.clap.specs.Simple.{app_of_fields}
+use Rattle.clap.specs.Words.{app_of, new_app}
+use Rattle.clap.specs.declared.builder.command.Command.{Command, Command-F}
+use Rattle.clap.specs.declared.builder.command.Command.TheViews.{out-Command}
+use Rattle.pd_arguments.proofs.Builders.{with_last_argument}
+use Rattle.pd_arguments.proofs.commands.document_command.Goals as goal
+
+pub returns : goal.returns
+returns c =
+    let app_is : app_of c.after_help.result ≡ new_app c.args.name.now =
+    ap app_of_fields c.after_help.ensures ∙ (ap app_of_fields c.about.ensures ∙ c.new.ensures.app) in
+    let no_globals : (out-Command c.after_help.result).has_globals ≡ false =
+    ap (λ (fields : Command-F Command). fields.has_globals) c.after_help.ensures
+    ∙ (ap (λ (fields : Command-F Command). fields.has_globals) c.about.ensures ∙ c.new.ensures.local) in
+    let both = with_last_argument c.after_help.result c.file_argument.result c.arg.result _ _ (app_is, no_globals)
+    (c.file_argument.ensures.rule, c.file_argument.ensures.local) c.arg.ensures in
+    record { app = both.0; local = both.1 }

@@ -1,0 +1,13 @@
+-- The command has the document, the port, the number of watchers and the number of workers.
+use Rattle.pd_arguments.proofs.Builders.{with_argument, with_last_argument}
+use Rattle.pd_arguments.proofs.commands.serve_command.Goals as goal
+
+pub returns : goal.returns
+returns c =
+    let port = with_argument _ _ _ _ _ (c.in_ok-document_command.ensures.app, c.in_ok-document_command.ensures.local)
+    (c.port_option.ensures.rule, c.port_option.ensures.local) c.in_ok-arg.ensures in
+    let watchers = with_argument _ _ _ _ _ port (c.watchers_option.ensures.rule, c.watchers_option.ensures.local)
+    c.in_ok-arg-2.ensures in
+    let both = with_last_argument _ _ c.arg-3.result _ _ watchers
+    (c.workers_option.ensures.rule, c.workers_option.ensures.local) c.arg-3.ensures in
+    record { app = both.0; local = both.1 }
