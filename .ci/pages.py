@@ -1,12 +1,12 @@
 #!/usr/bin/env python3
-"""pages.py [--write]: checks the pages, that is each `.md` file of the repository: that each relative link leads to a
-file; that no line is over 120 columns, but for the definitions of links, and for tables on the pages of WIDE; the same
-of each `.rt` and `.antt` file of the crates, but for the lines that import names; that the limits in
-docs/SPECIFICATION.md are those of the definitions; that the line counts in docs/READING.md are those of the files; and
-of docs/PROMISES.md that each name of code stands in the crates, that each row of a table with a column *Where* names a
-clause and links to the line that declares it (see .ci/clauses.py), and that the line below a heading names the crates
-of its rows. With --write it puts the right counts, lines, files and crates into the pages. The status is 1 if anything
-was wrong."""
+"""pages.py [--write] [--crates]: checks the pages, that is each `.md` file of the repository: that each relative link
+leads to a file; that no line is over 120 columns, but for the definitions of links, and for tables on the pages of
+WIDE; that the limits in docs/SPECIFICATION.md are those of the definitions; that the line counts in docs/READING.md are
+those of the files; and of docs/PROMISES.md that each name of code stands in the crates, that each row of a table with a
+column *Where* names a clause and links to the line that declares it (see .ci/clauses.py), and that the line below a
+heading names the crates of its rows. With --write it puts the right counts, lines, files and crates into the pages.
+With --crates it looks too that no line of a crate's `.rt` and `.antt` files is over 120 columns, but for imports. The
+status is 1 if anything was wrong."""
 import glob
 import os
 import re
@@ -107,7 +107,8 @@ def main():
         text = read(page)
         look_at_links(page, text)
         look_at_width(page, text)
-    look_at_code()
+    if "--crates" in sys.argv[1:]:
+        look_at_code()
     look_at_limits()
     look_at_names(read(PROMISES))
     mended = {COUNTED: COUNT.sub(counted, read(COUNTED)), PROMISES: clauses.mended(PROMISES, read(PROMISES), wrong)}
