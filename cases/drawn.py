@@ -335,7 +335,7 @@ def draw_messages(draw, session):
 
 def draw_ring(draw, session):
     """Has each of some processes receive a message of the next one before it sends its own to the one before, and
-    another process wait for one of them."""
+    another process wait for one of them; in version 2 others receive some of these messages too."""
     able = [process for process, events in enumerate(session.events) if len(events) > 1]
     if len(able) < 2:
         return
