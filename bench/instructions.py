@@ -19,7 +19,8 @@ import tempfile
 
 FOLDER = os.path.dirname(os.path.abspath(__file__))
 STORED = os.path.join(FOLDER, "instructions.json")
-LOADS = ("lattice", "terms", "avoiding", "sums", "marked", "heavy", "many", "lists", "streams", "messages")
+LOADS = ("lattice", "terms", "avoiding", "sums", "marked", "heavy", "many", "lists", "streams", "messages",
+         "several")
 MARGIN = 0.05  # which part of the stored count a load may take more
 SHARE = 0.002  # functions with a smaller part of a load's instructions aren't stored
 POSITION = re.compile(r"(fn|cfn)=\((\d+)\)(?: (.*))?")
