@@ -15,8 +15,8 @@ HasRule a rule = (rule_of a ≡ rule) × (a.global ≡ false)
 abbrev pub HasApp : Command → App → Type 0
 HasApp command app = (app_of command ≡ app) × ((out-Command command).has_globals ≡ false)
 
-pub with_argument : (old : Command) (a : Arg) (new : Command) (app : App) (rule : Rule) → HasApp old app → HasRule a rule
-    → AddsArg old a new → HasApp new (with_rule app rule)
+pub with_argument : (old : Command) (a : Arg) (new : Command) (app : App) (rule : Rule) → HasApp old app
+    → HasRule a rule → AddsArg old a new → HasApp new (with_rule app rule)
 with_argument old a new app rule (app_is, no_globals) (rule_is, local) adds =
     (adds.shape local ∙ ap₂ with_rule app_is rule_is, adds.globals ∙ ap₂ ◌||◌ no_globals local)
 

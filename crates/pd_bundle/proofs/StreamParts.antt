@@ -93,7 +93,7 @@ too_many names count results over = go (nat_lt stream_count_limit count) refl
     go true e = rw e refl
     go false e = absurd (grind (arith, nat_tests, e, over))
 
--- more than 16 streams were read, and the others skipped
+-- more streams than there may be were read, and the others skipped
 pub too_many_streams : (names : List ProcessNames) (begin left : Option (List ℕ)) (first state : State)
     (began begins : Bool) (results : List StreamResult) (count : ℕ) → begins ≡ true
     → stream_count_limit ≤ length results → stream_count_limit < count

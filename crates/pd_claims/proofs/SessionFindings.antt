@@ -27,12 +27,12 @@ messages_counted document traces recorded messages well =
 -- a well-formed session
 pub session_found : (bytes : List ℕ) (inputs : List (Option (List ℕ))) (never_fails : Bool) (document : Document)
     (count : ℕ) (results : List StreamResult) (traces : List Trace) (recorded : Recorded) (messages : ℕ)
-    (claimed : Report) (finding : Finding) → IsDocument bytes document → AreGiven document inputs never_fails count results
-    → session document.names count results ≡ Ok traces
+    (claimed : Report) (finding : Finding) → IsDocument bytes document
+    → AreGiven document inputs never_fails count results → session document.names count results ≡ Ok traces
     → AreWellFormed document traces recorded messages
     → IsFoundOf document traces messages claimed finding → FindsOf bytes claimed inputs never_fails finding
-session_found bytes inputs never_fails document count results traces recorded messages claimed finding is given joined well
-    found =
+session_found bytes inputs never_fails document count results traces recorded messages claimed finding is given joined
+    well found =
     record {
       streams = given.0;
       are_given = given.1;

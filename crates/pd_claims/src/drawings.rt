@@ -156,8 +156,8 @@ fn write_picture<W: Write>(
     }
 }
 
-/// Draws a session and a report on it, and writes the picture as SVG: the run, and the evidence of the predicate of this
-/// name, or without a name of the first predicate that has evidence. It reads and judges both as `check` does. If
+/// Draws a session and a report on it, and writes the picture as SVG: the run, and the evidence of the predicate of
+/// this name, or without a name of the first predicate that has evidence. It reads and judges both as `check` does. If
 /// something in what a check finds stands against the picture, nothing is written, and the text of what it finds is
 /// given: the report isn't read, or it is a refusal or the session is refused, or the counts or the names are wrong, or
 /// the evidence that would be drawn is bad.

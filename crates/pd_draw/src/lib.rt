@@ -1,7 +1,7 @@
 //! What is drawn of a session and a report on it.
 //!
-//! A report is held against its session as a check holds it. If nothing stands against the picture, it shows the run and,
-//! of one predicate, the evidence that the check found good: the cut of a *possibly yes* with what the predicate's
+//! A report is held against its session as a check holds it. If nothing stands against the picture, it shows the run
+//! and, of one predicate, the evidence that the check found good: the cut of a *possibly yes* with what the predicate's
 //! variables are worth there, else the observation of a *definitely no*. Without a name the predicate is the first one
 //! that has evidence, and if none has, the run stands alone. If something stands against it, what the check finds is
 //! given in the picture's place. Nothing here calls a walk.

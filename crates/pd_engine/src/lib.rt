@@ -1,9 +1,9 @@
 //! The engine: a session's document and streams in, its report out.
 //!
 //! It goes a straight way: the document is read, its streams are read each on its own thread and make a session, the
-//! session's traces make a computation (`pd_sessions`), each predicate is answered, and the answers are the report. What
-//! is written is exactly the text that the definitions give, whole, or the call fails. If no level is over the width, it
-//! tells the truth of each predicate. Only a refused allocation is reported as out of memory.
+//! session's traces make a computation (`pd_sessions`), each predicate is answered, and the answers are the report.
+//! What is written is exactly the text that the definitions give, whole, or the call fails. If no level is over the
+//! width, it tells the truth of each predicate. Only a refused allocation is reported as out of memory.
 //!
 //! While the streams are read an observer may watch the register of their steps, and write snapshots of it
 //! (`judge_watched`, `write_snapshot`); the report doesn't depend on it.

@@ -10,7 +10,7 @@ document_byte_limit = 262144
 
 -- processes of a document
 abbrev pub process_limit : ℕ
-process_limit = 8
+process_limit = 16
 
 -- variables of a process
 abbrev pub var_limit : ℕ
@@ -46,7 +46,7 @@ depth_limit = 64
 
 -- streams of a session
 abbrev pub stream_count_limit : ℕ
-stream_count_limit = 16
+stream_count_limit = 32
 
 -- bytes of a line, its LF aside
 abbrev pub line_byte_limit : ℕ

@@ -4,7 +4,7 @@
 pub const DOCUMENT_BYTE_LIMIT: usize = 262_144;
 
 /// The most processes of a document.
-pub const PROCESS_LIMIT: usize = 8;
+pub const PROCESS_LIMIT: usize = 16;
 
 /// The most variables of a process.
 pub const VAR_LIMIT: usize = 16;
@@ -28,7 +28,7 @@ pub const PREDICATE_BYTE_LIMIT: usize = 4_096;
 pub const DEPTH_LIMIT: usize = 64;
 
 /// The most streams of a session.
-pub const STREAM_COUNT_LIMIT: usize = 16;
+pub const STREAM_COUNT_LIMIT: usize = 32;
 
 /// The most bytes of a line, its LF aside.
 pub const LINE_BYTE_LIMIT: usize = 65_536;

@@ -50,7 +50,8 @@ sent_once c noted has d again =
     not_before_itself d (subst (λ f. IsBefore f d) (same_Some _ _ (sym two ∙ one)) again.4)
 
 -- what a receipt has for its fault
-kind_of_bad : (version : Version) (c : Computation) (e : Place) → IsBadReceipt version c e → (id : List ℕ) × (kind_at c e ≡ Some (Receive id))
+kind_of_bad : (version : Version) (c : Computation) (e : Place) → IsBadReceipt version c e → (id : List ℕ)
+    × (kind_at c e ≡ Some (Receive id))
 kind_of_bad version c e (orphan w) = (w.0, w.1)
 kind_of_bad version c e (self_message w) = (w.0, w.2)
 kind_of_bad version c e (received_again w) = (w.0, w.2)

@@ -25,8 +25,8 @@ abbrev pub mark_at : List ℕ → Option ℕ → ℕ
 mark_at marks None = 0
 mark_at marks (Some index) = slice_index_or marks index 0
 
--- The mark of an id, which has the index that the id has in the map: 0 if the id isn't received, and else 1 and the last
--- process that received it.
+-- The mark of an id, which has the index that the id has in the map: 0 if the id isn't received, and else 1 and the
+-- last process that received it.
 abbrev pub last_receiver : {S : Type 0} → IndexMap (Bor (List ℕ)) Place S → List ℕ → List ℕ → ℕ
 last_receiver places marks id = mark_at marks (index_of_by (λ k. bytes_eq id k.now) places)
 

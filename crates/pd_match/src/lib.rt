@@ -1,8 +1,8 @@
 //! The messages of a session: which send each receipt has.
 //!
 //! Traces are matched by the ids of their sends and receipts. If every id is sent once, and received by other processes
-//! alone, by one of them at most once, or in version 2 of the document by several of them at most once each, the messages
-//! are the pairs of a send and its receipt. Otherwise the first fault is reported, in the order of places.
+//! alone, by one of them at most once, or in version 2 of the document by several of them at most once each, the
+//! messages are the pairs of a send and its receipt. Otherwise the first fault is reported, in the order of places.
 //!
 //! Two passes go over the events, in the order of places. The first notes where each id is sent, and stops where one is
 //! sent again. The second looks up the send of each receipt, and stops at the first receipt at fault. An id is looked

@@ -21,7 +21,8 @@ module _ (c : Computation) (columns : Place → ℕ) (zeros : (p : ℕ) → colu
   earlier_left : (p m k : ℕ) → 1 ≤ m → IsEvent c (place p (m + suc k)) → columns (place p m)
       < columns (place p (m + suc k))
   earlier_left p m zero some is =
-      let own : columns (place_before (place p (m + 1))) < columns (place p (m + 1)) = (steps (place p (m + 1)) is).own in
+      let own : columns (place_before (place p (m + 1))) < columns (place p (m + 1)) =
+      (steps (place p (m + 1)) is).own in
       let same : m + 1 - 1 ≡ m = omega arith in
       subst (λ (n : ℕ). columns (place p n) < columns (place p (m + 1))) same own
   earlier_left p m (suc k) some is =

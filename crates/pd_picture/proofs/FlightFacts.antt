@@ -84,8 +84,8 @@ received_from (message ∷ rest) e receipt (suc k) lt is =
     or_any true later = refl
     or_any false later = later
 
-pub flights_are : (c : Computation) (messages : List (MatchedPlace × MatchedPlace)) → IsMessageList c (pairs_view messages)
-    → (e : Place) → IsTrue (is_flight c messages e) ↔ IsInFlight c e
+pub flights_are : (c : Computation) (messages : List (MatchedPlace × MatchedPlace))
+    → IsMessageList c (pairs_view messages) → (e : Place) → IsTrue (is_flight c messages e) ↔ IsInFlight c e
 flights_are c messages are e = (there, back)
   where
     there : IsTrue (is_flight c messages e) → IsInFlight c e

@@ -46,7 +46,8 @@ step_more window columns whole shapes after counts path step number within read 
     added_here : after ≡ shapes ++ step_shapes window columns (step + 1)
         (place (get_or path step 0) (get_or counts (get_or path step 0) 0 + 1))
     added_here =
-        added ∙ ap (λ (n : ℕ). shapes ++ step_shapes window columns (step + 1) (place (get_or path step 0) (n + 1))) read
+        added
+        ∙ ap (λ (n : ℕ). shapes ++ step_shapes window columns (step + 1) (place (get_or path step 0) (n + 1))) read
 
     first : drop step path ≡ get_or path step 0 ∷ drop (step + 1) path
     first =

@@ -31,7 +31,8 @@ columns_none c n done rows many none each zeros = record {
   lengths = λ p lt. let z : get_or done p 0 ≡ 0 = zeros_at done n p none in let one : length (row_of rows p) ≡ 1 =
       ap length (zeros p (omega arith)) in omega arith;
   zero_first = λ p. zero_first p (cases_lt p n);
-  steps = λ e is in_order. let z : get_or done e.process 0 ≡ 0 = zeros_at done n e.process none in let some : 1 ≤ e.number =
+  steps = λ e is in_order. let z : get_or done e.process 0 ≡ 0 =
+      zeros_at done n e.process none in let some : 1 ≤ e.number =
       is.0 in absurd (omega arith);
   small = λ e in_order. let z : get_or done e.process 0 ≡ 0 =
       zeros_at done n e.process none in let number : e.number ≡ 0 =
@@ -205,16 +206,20 @@ module _ (c : Computation) (done : List ℕ) (rows : List (Vec ℕ Global)) (acy
   table_is = record {
     one_each = has.one_each;
     lengths = λ p lt. let long : length (row_of rows p) ≡ get_or done p 0 + 1 =
-        has.lengths p lt in let all : get_or done p 0 ≡ event_count c p = same p (cases_lt 0 (event_count c p)) in omega arith;
+        has.lengths p lt in let all : get_or done p 0 ≡ event_count c p =
+        same p (cases_lt 0 (event_count c p)) in omega arith;
     zero_first = has.zero_first;
-    small = λ e is. let s : column_at rows e ≤ sum done = has.small e (all_done e is) in let t : sum done ≤ total c =
-        sum_le done (full_cut c) (λ q. rw full_at (leaves.within q)) (leaves.one_each ∙ sym (length_full c)) in omega arith;
+    small = λ e is. let s : column_at rows e ≤ sum done =
+        has.small e (all_done e is) in let t : sum done ≤ total c =
+        sum_le done (full_cut c) (λ q. rw full_at (leaves.within q))
+        (leaves.one_each ∙ sym (length_full c)) in omega arith;
   }
     where
       same : (p : ℕ) → (0 < event_count c p) ⊎ (event_count c p ≤ 0) → get_or done p 0 ≡ event_count c p
       same p (inr none) = let w : get_or done p 0 ≤ event_count c p = leaves.within p in omega arith
       same p (inl some) =
-          let all : event_count c p ≤ get_or done p 0 = all_done (place p (event_count c p)) (omega arith, omega arith) in
+          let all : event_count c p ≤ get_or done p 0 =
+          all_done (place p (event_count c p)) (omega arith, omega arith) in
           let w : get_or done p 0 ≤ event_count c p = leaves.within p in
           omega arith
 

@@ -1,5 +1,6 @@
 -- Where things stand in a picture. Lengths are in the units of the page.
 use Rattle.std.specs.Prelude.{ℕ, zero, suc, ◌+◌, ◌-◌, ◌*◌, min, max, Bool, ◌&&◌, nat_le, nat_lt, List, [], ◌++◌}
+use Rattle.pd_format.specs.Limits.{process_limit}
 use Rattle.pd_model.specs.Events.{Place, place}
 use Rattle.pd_svg.specs.declared.point.Point.{Point}
 use Rattle.pd_picture.specs.declared.window.Window.{Window}
@@ -64,9 +65,9 @@ column_x window column = left + column_width * min (column + 1 - window.first) (
 abbrev pub right : Window → ℕ
 right window = left + column_width * (window.shown + 1)
 
--- where the lane of a process stands; there are no more than 8
+-- where the lane of a process stands; there are no more than `process_limit`
 abbrev pub lane_y : ℕ → ℕ
-lane_y p = 150 + lane_height * min p 8
+lane_y p = 150 + lane_height * min p process_limit
 
 -- where an event stands
 abbrev pub event_point : Window → (Place → ℕ) → Place → Point

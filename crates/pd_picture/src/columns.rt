@@ -133,8 +133,8 @@ fn add(computation: &Computation<'_>, table: &mut Table, p: usize) -> Result<(),
 
 /// The columns of the events of each process: a row for each process, which begins with a 0 before its first event.
 ///
-/// It goes through a topological order (Kahn, Topological Sorting of Large Networks, 1962), and each event that it comes
-/// to stands right of the event before it in its process and of the send of its message.
+/// It goes through a topological order (Kahn, Topological Sorting of Large Networks, 1962), and each event that it
+/// comes to stands right of the event before it in its process and of the send of its message.
 ///
 /// # Errors
 /// Out of memory.

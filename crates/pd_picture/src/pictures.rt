@@ -178,8 +178,9 @@ fn drawn(
 
 /// The picture of a run: a line for each process with its events in order, an arrow for each message from its send to
 /// each of its receipts, and the evidence. The traces and the messages, as pairs of a send and a receipt, are those of
-/// the computation, and the names those of its processes. An event's column is the length of the longest chain that ends
-/// in it. If there are more columns than fit a page, those around the evidence are shown, and the picture says which.
+/// the computation, and the names those of its processes. An event's column is the length of the longest chain that
+/// ends in it. If there are more columns than fit a page, those around the evidence are shown, and the picture says
+/// which.
 ///
 /// # Errors
 /// Out of memory.

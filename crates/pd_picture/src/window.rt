@@ -5,6 +5,7 @@ ghost use Rattle.pd_picture.specs.Tables.{column_at, row_of};
 ghost use Rattle.std.specs.Prelude.{◌≡◌, ◌-◌, length, slice_index};
 
 use pd_clock::Place;
+use pd_format::PROCESS_LIMIT;
 use pd_svg::Point;
 
 /// How many columns are shown at most.
@@ -70,11 +71,11 @@ impl Window {
     }
 }
 
-/// Where the lane of a process stands; there are no more than 8.
+/// Where the lane of a process stands; there are no more than `PROCESS_LIMIT`.
 pub(crate) fn lane_y(process: usize) -> u32
     ensures { result ≡ lane_y process }
 {
-    150 + 100 * (process.min(8) as u32)
+    150 + 100 * (process.min(PROCESS_LIMIT) as u32)
 }
 
 /// The column of a place, and 0 if there is no such event.

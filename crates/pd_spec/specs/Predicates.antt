@@ -39,8 +39,8 @@ IsFaultAmong names written (kinds.Predicate number error) =
     MatchOption (predicate_fault_view error.kind) ⊥ (λ fault. IsRefusedAmong names written number fault error.at)
 IsFaultAmong names written _ = ⊥
 
--- The fault is that of an outline with none of its own: that of its first predicate that is refused, that of its version
--- if no predicate is refused and its field says no version, or that memory ran out.
+-- The fault is that of an outline with none of its own: that of its first predicate that is refused, that of its
+-- version if no predicate is refused and its field says no version, or that memory ran out.
 abbrev pub IsLateFault : Outline → SpecFault → Type 0
 IsLateFault outline kinds.Version =
     AllByRecursion (IsSpelled outline) outline.predicates × (version_of outline.version ≡ None)

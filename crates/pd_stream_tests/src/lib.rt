@@ -2,8 +2,8 @@
 //! turns, are cut from a bundle, or are read at the same time. `cases/` has what a stream means.
 //!
 //! The test whose name ends in `_again` makes each of its calls once more if it meets a refusal, looks that what the
-//! call may change is as it was, and expects what the call gives with memory. So it passes with ample memory, and if any
-//! one of its allocations is refused: `bench/refuse_calls.py` refuses them in turn.
+//! call may change is as it was, and expects what the call gives with memory. So it passes with ample memory, and if
+//! any one of its allocations is refused: `bench/refuse_calls.py` refuses them in turn.
 //!
 //! - `samples`: a document with two streams
 //! - `sources`: readers that tests are given

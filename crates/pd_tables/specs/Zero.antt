@@ -11,7 +11,7 @@ compares_with_zero comparison value = model.compares (comparison_view comparison
 
 -- no number of a table is further from 0
 abbrev pub part_limit : ℕ
-part_limit = 2 ^ 59
+part_limit = 2 ^ 58
 
 abbrev pub IsSmall : ℤ → Type 0
 IsSmall value = unsigned_abs value ≤ part_limit

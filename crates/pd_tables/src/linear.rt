@@ -29,7 +29,7 @@ pub(crate) struct Linear {
 }
 
 impl Linear {
-    ghost use Rattle.pd_format.specs.Limits.{event_limit};
+    ghost use Rattle.pd_format.specs.Limits.{event_limit, process_limit};
     ghost use Rattle.pd_bits.specs.Words.{has_bit};
     ghost use Rattle.pd_tables.specs.Tables.{columns_value, linear_holds, linear_value};
     ghost use Rattle.pd_tables.specs.Zero.{IsBetween, part_limit};
@@ -39,7 +39,7 @@ impl Linear {
     /// The constant and what the first processes add.
     fn base(&self, prefix: &[u64]) -> i64
         ensures value { result ≡ self.now.constant +ℤ columns_value self.now.columns.items prefix.now }
-        ensures small { unsigned_abs result ≤ 9 * part_limit }
+        ensures small { unsigned_abs result ≤ (process_limit + 1) * part_limit }
     {
         let mut total = self.constant;
         for column in &self.columns {
@@ -51,7 +51,7 @@ impl Linear {
     /// Whether the comparison holds at the cut with these counts of the last two processes, where the constant and the
     /// first processes add up to `base`.
     fn holds(&self, base: i64, x: u64, y: u64) -> bool
-        requires { unsigned_abs base ≤ 9 * part_limit }
+        requires { unsigned_abs base ≤ (process_limit + 1) * part_limit }
         ensures { (prefix : List ℕ) → base ≡ self.now.constant +ℤ columns_value self.now.columns.items prefix
             → result ≡ linear_holds self.now prefix x y }
     {
@@ -100,7 +100,7 @@ impl Linear {
     /// Whether the comparison holds at each cut where the constant and the first processes add up to `base`, or at
     /// none; nothing if neither is sure.
     fn decided_after(&self, base: i64) -> Option<bool>
-        requires { unsigned_abs base ≤ 9 * part_limit }
+        requires { unsigned_abs base ≤ (process_limit + 1) * part_limit }
         ensures { IfSome result (λ truth. (prefix : List ℕ) (x y : ℕ)
             → base ≡ self.now.constant +ℤ columns_value self.now.columns.items prefix
             → linear_holds self.now prefix x y ≡ truth) }
@@ -133,8 +133,8 @@ impl Linear {
     fn range(&self) -> (i64, i64)
         ensures between { (prefix : List ℕ) → IsBetween result.0 result.1
             (self.now.constant +ℤ columns_value self.now.columns.items prefix) }
-        ensures low { unsigned_abs result.0 ≤ 9 * part_limit }
-        ensures high { unsigned_abs result.1 ≤ 9 * part_limit }
+        ensures low { unsigned_abs result.0 ≤ (process_limit + 1) * part_limit }
+        ensures high { unsigned_abs result.1 ≤ (process_limit + 1) * part_limit }
     {
         let mut least = self.constant;
         let mut greatest = self.constant;

@@ -3,7 +3,7 @@ ghost use Rattle.pd_tables.specs.Zero.{IsBetween, IsSmall};
 ghost use Rattle.std.specs.Prelude.{ℕ, ◌≤ℤ◌, slice_index_or};
 
 /// No number of a table is further from 0: the sum of one for each process and a constant then fits 64 bits.
-pub(crate) const PART_LIMIT: i128 = 576_460_752_303_423_488;
+pub(crate) const PART_LIMIT: i128 = 288_230_376_151_711_744;
 
 /// What a process adds to a sum, by the count of its events. Past its end a table goes on with one number, so that one
 /// without numbers stands for a process that adds the same at each count.

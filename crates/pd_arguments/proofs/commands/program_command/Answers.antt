@@ -16,8 +16,10 @@ with_command-requires-4 c = c.serve_command.ensures.local
 
 pub returns : goal.returns
 returns c =
-    let judge_is = with_command _ _ _ _ _ c.in_ok-program.ensures c.judge_command.ensures.app c.in_ok-program-2.ensures in
-    let check_is = with_command _ _ _ _ _ judge_is c.check_command.ensures.app c.in_ok-program-3.ensures in
+    let judge_is =
+    with_command _ _ _ _ _ c.in_ok-program.ensures c.judge_command.ensures.app c.in_ok-program-2.ensures in
+    let check_is =
+    with_command _ _ _ _ _ judge_is c.check_command.ensures.app c.in_ok-program-3.ensures in
     let draw_is = with_command _ _ _ _ _ check_is c.draw_command.ensures.app c.in_ok-program-4.ensures in
     with_last_command _ c.serve_command.result c.with_command-4.result _ _ draw_is c.serve_command.ensures.app
     c.with_command-4.ensures

@@ -1,5 +1,5 @@
 -- Each part that is read is one stream more, and streams that are too many are skipped.
-use Rattle.std.proofs.Common.{rules, ◌≡◌, ◌≤◌, All, length, subst, sym, arith}
+use Rattle.std.proofs.Common.{rules, ◌≡◌, ◌+◌, ◌≤◌, All, length, subst, sym, arith}
 use Rattle.std.proofs.lemmas.List.Elements.{All-push}
 use Rattle.std.proofs.lemmas.List.{length-map, map_push}
 use Rattle.pd_events.specs.Views.{result_view}
@@ -46,7 +46,8 @@ returns-then-begins-clause-read g c =
     ] in
     rw c.new.ensures.items
     (too_many_streams names (g.R.ByteSource.remaining c.args.reader.now) (g.R.ByteSource.remaining c.streams.reader)
-    c.args.bundle.now c.streams.bundle c.args.begins c.streams.begins (results_view readings) 17 c.if-begins.true
+    c.args.bundle.now c.streams.bundle c.args.begins c.streams.begins (results_view readings)
+    (stream_count_limit + 1) c.if-begins.true
     (omega (arith, many, length-map readings result_view)) (omega arith) c.streams.invariant.has
     c.in_ok-skip_parts.ensures.parts)
 

@@ -28,7 +28,7 @@ returns-clause-clocks c =
     rows_read c.args.order.now.clocks.items c.args.p c.index_mut.result.now within c.index_mut.ensures.value in
     let row : List ℕ = take (length c.args.traces.now) c.next_row-row.result in
     let wide : length row ≡ length (computation_view c.args.traces.now) =
-    let eight : length c.next_row-row.result ≡ process_limit =
+    let room : length c.next_row-row.result ≡ process_limit =
     c.next_row-row.ensures.room in omega (
       arith,
       length-take (length c.args.traces.now) c.next_row-row.result,

@@ -75,7 +75,7 @@ returns-clause-clock c = λ q lt.
             ∙ ap (λ (n : ℕ). Some (place c.args.p n)) read,
       )
     ] in
-    let eight : length c.loop-q.row ≡ process_limit = c.loop-q.invariant.eight in
+    let room : length c.loop-q.row ≡ process_limit = c.loop-q.invariant.room in
     let greater : (k : ℕ) → k < length (computation_view c.args.traces.now)
     → get_or c.loop-q.row k 0 ≡ max (count_of (length (computation_view c.args.traces.now))
     c.args.order.now.clocks.items (option_map place_view c.if-number-eq0.previous) k)

@@ -8,7 +8,7 @@ use Rattle.pd_clock.proofs.order.next_row.Given as goal
 
 abbrev pub invariant-loop-q : goal.invariant-loop-q
 invariant-loop-q l = record {
-  eight : length l.row ≡ process_limit;
+  room : length l.row ≡ process_limit;
   so_far : (k : ℕ) → k < l.q → get_or l.row k 0
       ≡ max (count_of (length l.order.done.items) l.order.clocks.items (option_map place_view l.previous) k)
       (count_of (length l.order.done.items) l.order.clocks.items (option_map place_view l.send) k);

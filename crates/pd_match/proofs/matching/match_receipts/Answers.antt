@@ -76,7 +76,8 @@ new-requires-clause-count g c =
     let marked = sends_marked c.loop-p.received.items in
     let so_far : SendsBefore all (event_place (length all) 0) marked =
     subst (λ k. SendsBefore all (event_place k 0) marked) at c.loop-p.invariant.count in
-    subst (CountsSends (pairs_in 0 c.loop-p.senders.items)) (sym (c.count_of.ensures ∙ ap sends_marked c.deref.ensures.value))
+    subst (CountsSends (pairs_in 0 c.loop-p.senders.items))
+    (sym (c.count_of.ensures ∙ ap sends_marked c.deref.ensures.value))
     (sends_all all marked (pairs_in 0 c.loop-p.senders.items) so_far
     (pairs_all all (pairs_in 0 c.loop-p.senders.items) whole.pairs))
 

@@ -53,7 +53,9 @@ loop-n-preserved g c =
         marked =
             subst (λ n. HasReceived all (event_place c.args.p n)
             (last_receiver c.args.sends.now c.sender_of.new.received.items)) next c.in_ok-send.ensures.marked;
-        good = subst (λ n. NoneBadBefore (version_view c.args.version) all (event_place c.args.p n)) next c.in_ok-send.ensures.good;
+        good =
+            subst (λ n. NoneBadBefore (version_view c.args.version) all (event_place c.args.p n)) next
+            c.in_ok-send.ensures.good;
       };
       row = subst (λ n. RowTells all c.args.p c.push.new.self.items n) next row;
       same = c.in_ok-send.ensures.same ∙ c.loop-n.invariant.same;

@@ -53,4 +53,7 @@ returns-in-Some-clause-waits c = λ no.
 
 pub returns-in-None-clause-goes : goal.returns-in-None-clause-goes
 returns-in-None-clause-goes c = λ yes.
-    record { there = omega (arith, c.events.ensures, c.if-done-p.false); sent = λ send message. absurd (none-some send ((c.in-None.ensures send).1 message)) }
+    record {
+      there = omega (arith, c.events.ensures, c.if-done-p.false);
+      sent = λ send message. absurd (none-some send ((c.in-None.ensures send).1 message));
+    }
