@@ -8,6 +8,7 @@ use Rattle.pd_model.specs.Events.{Computation}
 use Rattle.pd_model.specs.Cuts.{one_more, empty_cut}
 use Rattle.pd_model.specs.Answers.{LexBelow}
 use Rattle.pd_keys.specs.Keys.{count_base, key_of, digits, AreDigits}
+use Rattle.pd_keys.specs.Pairs.{single_limit}
 
 pub weight_pos : (n : ℕ) → 0 < count_base ^ n
 weight_pos zero = rw (pow-zero) (omega arith)
@@ -17,10 +18,10 @@ pub length-digits : (n key : ℕ) → length (digits n key) ≡ n
 length-digits zero key = refl
 length-digits (suc n) key = ap suc (length-digits n (key % count_base ^ n))
 
-all_rest : (x : ℕ) (xs : List ℕ) → AreDigits (x ∷ xs) → AreDigits xs
+pub all_rest : (x : ℕ) (xs : List ℕ) → AreDigits (x ∷ xs) → AreDigits xs
 all_rest x xs small k d lt = small (suc k) d (omega arith)
 
-all_cons : (x : ℕ) (xs : List ℕ) → x < count_base → AreDigits xs → AreDigits (x ∷ xs)
+pub all_cons : (x : ℕ) (xs : List ℕ) → x < count_base → AreDigits xs → AreDigits (x ∷ xs)
 all_cons x xs lt small zero d in_ = lt
 all_cons x xs lt small (suc k) d in_ = small k d (omega arith)
 
@@ -165,14 +166,14 @@ pub weight_le : (i j : ℕ) → i ≤ j → count_base ^ i ≤ count_base ^ j
 weight_le i j le = let pos : 0 < count_base = omega arith in pow-le-pow_right pos le
 
 -- there is room for one more digit
-pub key_room : (counts : List ℕ) (i : ℕ) → i < length counts → length counts ≤ 8 → AreDigits (take i counts)
-    → key_of (take i counts) < count_base ^ 7
+pub key_room : (counts : List ℕ) (i : ℕ) → i < length counts → length counts ≤ single_limit → AreDigits (take i counts)
+    → key_of (take i counts) < count_base ^ (single_limit - 1)
 key_room counts i lt few small =
     let many : length (take i counts) ≡ i = length-take-le i counts (omega arith) in
     let below : key_of (take i counts) < count_base ^ length (take i counts) = key_below (take i counts) small in
     let below_i : key_of (take i counts) < count_base ^ i =
     subst (λ (n : ℕ). key_of (take i counts) < count_base ^ n) many below in
-    let most : count_base ^ i ≤ count_base ^ 7 = weight_le i 7 (omega arith) in
+    let most : count_base ^ i ≤ count_base ^ (single_limit - 1) = weight_le i (single_limit - 1) (omega arith) in
     omega arith
 
 pub pack_more : (counts : List ℕ) (i : ℕ) → i < length counts → get_or counts i 0 < count_base

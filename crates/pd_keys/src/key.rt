@@ -1,63 +1,60 @@
-//! A cut as one number, whose digits are its counts.
-ghost use Rattle.pd_keys.specs.Keys.{AreDigits, IsPacked, count_base, digits};
-ghost use Rattle.pd_format.specs.Limits.{process_limit};
-ghost use Rattle.std.specs.Prelude.{◌≡◌, ◌-◌, ◌^◌, ◌<◌, ◌≤◌, ℕ, length, slice_index, take};
+//! What a key is.
+ghost use Rattle.pd_keys.specs.Keys.{AreDigits, count_base, digits, key_of};
+ghost use Rattle.std.specs.Prelude.{◌≡◌, ◌+◌, ◌-◌, ◌*◌, ◌/◌, ◌^◌, ◌<◌, ◌≤◌, ◌↔◌, ℕ, IfNone, IfSome, IsTrue, length, slice_index};
 
-use pd_format::PROCESS_LIMIT;
+/// A cut as a number whose digits are its counts, one for each process, the count of process 0 highest.
+pub trait Key: Copy {
+    /// How many digits it has room for.
+    ghost room: { ℕ };
 
-/// The base of the digits: each count is one digit, as a process has fewer events.
-const COUNT_BASE: u128 = 65_536;
+    /// The number.
+    ghost number: { Self → ℕ };
 
-/// How many bits a digit has.
-const COUNT_BITS: u32 = 16;
+    /// The key of no event.
+    fn none() -> Self
+        ensures { number result ≡ 0 };
 
-/// The number whose digits are these counts, or none if a count is no digit.
-pub fn pack(counts: &[u64]) -> Option<u128>
-    requires { length counts.now ≤ process_limit }
-    ensures { IsPacked counts.now result }
-{
-    let mut key: u128 = 0;
-    for &count in counts {
-        if u128::from(count) >= COUNT_BASE {
-            return None;
-        }
-        key = key * COUNT_BASE + u128::from(count);
-    }
-    Some(key)
-}
+    /// The key of these counts, or none if a count is no digit.
+    fn pack(counts: &[u64]) -> Option<Self>
+        requires { length counts.now ≤ room }
+        ensures some { IfSome result (λ key. AreDigits counts.now × (number key ≡ key_of counts.now)) }
+        ensures none { IfNone result (¬ AreDigits counts.now) };
 
-/// The counts of which a number is made, with zeros after them.
-pub fn unpack(key: u128, processes: usize) -> [u64; PROCESS_LIMIT]
-    requires few { processes ≤ process_limit }
-    requires below { key < count_base ^ processes }
-    ensures { take processes result ≡ digits processes key }
-{
-    let mut counts = [0; PROCESS_LIMIT];
-    let mut rest = key;
-    for p in (0..processes).rev() {
-        counts[p] = (rest % COUNT_BASE) as u64;
-        rest /= COUNT_BASE;
-    }
-    counts
-}
+    /// The count of process `p` of `n`, from 0.
+    fn digit(self, n: usize, p: usize) -> u64
+        requires few { n ≤ room }
+        requires within { p < n }
+        requires below { number self < count_base ^ n }
+        ensures { result ≡ slice_index (digits n (number self)) p };
 
-/// The count of process `p` among those of which a number is made.
-pub fn digit(key: u128, processes: usize, p: usize) -> u64
-    requires few { processes ≤ process_limit }
-    requires within { p < processes }
-    requires below { key < count_base ^ processes }
-    ensures { result ≡ slice_index (digits processes key) p }
-{
-    let shift = COUNT_BITS * (processes - 1 - p) as u32;
-    ((key >> shift) % COUNT_BASE) as u64
-}
+    /// One more event of process `p` of `n`, from 0.
+    fn one_more(self, n: usize, p: usize) -> Self
+        requires few { n ≤ room }
+        requires within { p < n }
+        requires below { number self < count_base ^ n }
+        requires small { slice_index (digits n (number self)) p + 1 < count_base }
+        ensures { number result ≡ number self + count_base ^ (n - 1 - p) };
 
-/// What one more event of process `p` adds to a number.
-pub fn weight(processes: usize, p: usize) -> u128
-    requires few { processes ≤ process_limit }
-    requires within { p < processes }
-    ensures { result ≡ count_base ^ (processes - 1 - p) }
-{
-    let places = processes - 1 - p;
-    1 << (COUNT_BITS * places as u32)
+    /// One event less of process `p` of `n`, from 0.
+    fn one_less(self, n: usize, p: usize) -> Self
+        requires few { n ≤ room }
+        requires within { p < n }
+        requires below { number self < count_base ^ n }
+        requires some { 0 < slice_index (digits n (number self)) p }
+        ensures { number result ≡ number self - count_base ^ (n - 1 - p) };
+
+    /// The counts, and those of two more processes.
+    fn with_two(self, x: u64, y: u64) -> Self
+        requires few { number self < count_base ^ (room - 2) }
+        requires x { x < count_base }
+        requires y { y < count_base }
+        ensures { number result ≡ (number self * count_base + x) * count_base + y };
+
+    /// The counts but for those of the last two processes.
+    fn without_two(self) -> Self
+        ensures { number result ≡ number self / count_base / count_base };
+
+    /// Whether the number is below the other.
+    fn is_below(self, other: Self) -> bool
+        ensures { IsTrue result ↔ number self < number other };
 }

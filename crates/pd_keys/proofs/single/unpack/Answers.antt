@@ -3,7 +3,7 @@ use Rattle.std.proofs.Common.{◌≡◌, ◌-◌, ◌/◌, ◌%◌, ◌^◌, ◌
 use Rattle.std.proofs.lemmas.List.{length-set}
 use Rattle.pd_keys.specs.Keys.{count_base, digits}
 use Rattle.pd_keys.proofs.Keys.{unpack_more}
-use Rattle.pd_keys.proofs.key.unpack.Goals as goal
+use Rattle.pd_keys.proofs.single.unpack.Goals as goal
 
 pub loop-p-preserved : goal.loop-p-preserved
 loop-p-preserved c =

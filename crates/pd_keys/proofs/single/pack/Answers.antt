@@ -1,18 +1,19 @@
 -- The number grows by one digit at a time, up to as many as there may be processes.
-use Rattle.std.proofs.Common.{◌≡◌, ◌+◌, ◌*◌, ◌^◌, ◌<◌, length, get_or, take, arith}
+use Rattle.std.proofs.Common.{◌≡◌, ◌+◌, ◌-◌, ◌*◌, ◌^◌, ◌<◌, length, get_or, take, arith}
 use Rattle.pd_keys.specs.Keys.{count_base, key_of}
 use Rattle.pd_keys.proofs.Keys.{key_room, pack_more, key_more}
-use Rattle.pd_keys.proofs.key.pack.Goals as goal
+use Rattle.pd_keys.proofs.single.pack.Goals as goal
+use Rattle.pd_keys.specs.Pairs.{single_limit}
 
 pub overflow_mul-key : goal.overflow_mul-key
 overflow_mul-key c =
-    let room : key_of (take c.loop-count.count-index c.args.counts.now) < count_base ^ 7 =
+    let room : key_of (take c.loop-count.count-index c.args.counts.now) < count_base ^ (single_limit - 1) =
     key_room c.args.counts.now c.loop-count.count-index (omega arith) c.requires c.loop-count.invariant.small in
     omega (arith, c.loop-count.invariant.so_far)
 
 pub overflow_add-key : goal.overflow_add-key
 overflow_add-key c =
-    let room : key_of (take c.loop-count.count-index c.args.counts.now) < count_base ^ 7 =
+    let room : key_of (take c.loop-count.count-index c.args.counts.now) < count_base ^ (single_limit - 1) =
     key_room c.args.counts.now c.loop-count.count-index (omega arith) c.requires c.loop-count.invariant.small in
     omega (arith, c.loop-count.invariant.so_far, c.from.ensures)
 

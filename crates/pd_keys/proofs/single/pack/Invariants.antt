@@ -1,7 +1,7 @@
 -- What the loops of `pack` keep.
 use Rattle.std.proofs.Common.{◌≡◌, take}
 use Rattle.pd_keys.specs.Keys.{AreDigits, key_of}
-use Rattle.pd_keys.proofs.key.pack.Given as goal
+use Rattle.pd_keys.proofs.single.pack.Given as goal
 
 abbrev pub invariant-loop-count : goal.invariant-loop-count
 invariant-loop-count l = record {

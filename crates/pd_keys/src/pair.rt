@@ -1,0 +1,109 @@
+//! Counts in a pair of numbers.
+ghost use Rattle.pd_keys.specs.Pairs.{single_limit};
+ghost use Rattle.std.specs.Prelude.{◌≡◌, ◌-◌};
+
+use super::Key;
+use super::single::{COUNT_BASE, SINGLE_LIMIT, digit_before, one_before, pack};
+
+/// The weight of the digits that go from the second number to the first one when two digits are added.
+const ROOM: u128 = 79_228_162_514_264_337_593_543_950_336;
+
+/// A number of twice as many digits as one `u128` has room for: the lowest `SINGLE_LIMIT` digits are `second`, and
+/// those before them are `first`. So of sixteen processes the first eight are in `first`.
+#[derive(Clone, Copy)]
+pub struct Pair {
+    first: u128,
+    second: u128,
+}
+
+/// How many of the counts stand in the first number.
+fn in_first(n: usize) -> usize
+    ensures { result ≡ n - single_limit }
+{
+    n.saturating_sub(SINGLE_LIMIT)
+}
+
+impl Key for Pair {
+    ghost use Rattle.pd_format.specs.Limits.{process_limit};
+    ghost use Rattle.pd_keys.specs.Pairs.{pair_number};
+
+    ghost room = { process_limit };
+
+    ghost number = { λ pair. pair_number pair.first pair.second };
+
+    fn none() -> Pair {
+        Pair {
+            first: 0,
+            second: 0,
+        }
+    }
+
+    fn pack(counts: &[u64]) -> Option<Pair> {
+        let middle = in_first(counts.len());
+        let first = pack(&counts[..middle])?;
+        let second = pack(&counts[middle..])?;
+        Some(Pair { first, second })
+    }
+
+    fn digit(self, n: usize, p: usize) -> u64 {
+        let places = n - 1 - p;
+        if places < SINGLE_LIMIT {
+            digit_before(self.second, places)
+        } else {
+            digit_before(self.first, places - SINGLE_LIMIT)
+        }
+    }
+
+    fn one_more(self, n: usize, p: usize) -> Pair {
+        let places = n - 1 - p;
+        if places < SINGLE_LIMIT {
+            Pair {
+                first: self.first,
+                second: self.second + one_before(places),
+            }
+        } else {
+            Pair {
+                first: self.first + one_before(places - SINGLE_LIMIT),
+                second: self.second,
+            }
+        }
+    }
+
+    fn one_less(self, n: usize, p: usize) -> Pair {
+        let places = n - 1 - p;
+        if places < SINGLE_LIMIT {
+            Pair {
+                first: self.first,
+                second: self.second - one_before(places),
+            }
+        } else {
+            Pair {
+                first: self.first - one_before(places - SINGLE_LIMIT),
+                second: self.second,
+            }
+        }
+    }
+
+    fn with_two(self, x: u64, y: u64) -> Pair {
+        Pair {
+            first: self.first * COUNT_BASE * COUNT_BASE + self.second / ROOM,
+            second: (self.second % ROOM * COUNT_BASE + u128::from(x)) * COUNT_BASE + u128::from(y),
+        }
+    }
+
+    fn without_two(self) -> Pair {
+        Pair {
+            first: self.first / COUNT_BASE / COUNT_BASE,
+            second: self.first % (COUNT_BASE * COUNT_BASE) * ROOM
+                + self.second / COUNT_BASE / COUNT_BASE,
+        }
+    }
+
+    fn is_below(self, other: Pair) -> bool {
+        if self.first == other.first {
+            self.second < other.second
+        } else {
+            self.first < other.first
+        }
+    }
+}
