@@ -1,9 +1,13 @@
 //! Counts in a pair of numbers.
 ghost use Rattle.pd_keys.specs.Pairs.{single_limit};
+ghost use Rattle.pd_keys.specs.Pairs.{pair_number};
+ghost use Rattle.std.specs.Ordering.{nat_cmp};
 ghost use Rattle.std.specs.Prelude.{◌≡◌, ◌-◌};
 
 use super::Key;
 use super::single::{COUNT_BASE, SINGLE_LIMIT, digit_before, one_before, pack};
+use std::alloc::AllocError;
+use std::cmp::Ordering;
 
 /// The weight of the digits that go from the second number to the first one when two digits are added.
 const ROOM: u128 = 79_228_162_514_264_337_593_543_950_336;
@@ -21,6 +25,17 @@ fn in_first(n: usize) -> usize
     ensures { result ≡ n - single_limit }
 {
     n.saturating_sub(SINGLE_LIMIT)
+}
+
+/// How the numbers of two pairs compare.
+fn order(a: Pair, b: Pair) -> Ordering
+    ensures { result ≡ nat_cmp (pair_number a.first a.second) (pair_number b.first b.second) }
+{
+    if a.first == b.first {
+        a.second.cmp(&b.second)
+    } else {
+        a.first.cmp(&b.first)
+    }
 }
 
 impl Key for Pair {
@@ -105,5 +120,10 @@ impl Key for Pair {
         } else {
             self.first < other.first
         }
+    }
+
+    fn sort(keys: &mut Vec<Pair>) -> Result<(), AllocError> {
+        keys.sort_by(|a, b| order(*a, *b))?;
+        Ok(())
     }
 }

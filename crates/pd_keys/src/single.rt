@@ -4,6 +4,7 @@ ghost use Rattle.pd_keys.specs.Pairs.{single_limit};
 ghost use Rattle.std.specs.Prelude.{◌≡◌, ◌-◌, ◌/◌, ◌%◌, ◌^◌, ◌<◌, ◌≤◌, length, slice_index, take};
 
 use super::Key;
+use std::alloc::AllocError;
 
 /// How many counts one number has room for.
 pub const SINGLE_LIMIT: usize = 8;
@@ -116,5 +117,10 @@ impl Key for u128 {
 
     fn is_below(self, other: u128) -> bool {
         self < other
+    }
+
+    fn sort(keys: &mut Vec<u128>) -> Result<(), AllocError> {
+        keys.sort()?;
+        Ok(())
     }
 }
