@@ -1,6 +1,5 @@
 //! Counts in a pair of numbers.
-ghost use Rattle.pd_keys.specs.Pairs.{single_limit};
-ghost use Rattle.pd_keys.specs.Pairs.{pair_number};
+ghost use Rattle.pd_keys.specs.Pairs.{pair_number, single_limit};
 ghost use Rattle.std.specs.Ordering.{nat_cmp};
 ghost use Rattle.std.specs.Prelude.{◌≡◌, ◌-◌};
 
