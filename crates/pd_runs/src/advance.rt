@@ -138,7 +138,7 @@ pub(crate) fn push_born<K: Key>(
         IsBornRun steps.now (K.number cut) runs.old.items born.old runs.new.items born.new) }
 {
     steps.limits();
-    let point = point_of(cut, steps.prefix());
+    let point = point_of(cut, steps.prefix() + 2);
     runs.push(KeptRun {
         key: point.key,
         lo: point.x,

@@ -86,17 +86,18 @@ pub(crate) fn key_of_cut<K: Key>(point: &Point<K>, prefix: usize) -> K
     point.key.with_two(u64::from(point.x), u64::from(point.y))
 }
 
-/// The cut with these digits.
-pub(crate) fn point_of<K: Key>(cut: K, prefix: usize) -> Point<K>
-    requires few { prefix + 2 ≤ K.room }
-    requires below { K.number cut < count_base ^ (prefix + 2) }
-    ensures below { result.key < count_base ^ prefix }
-    ensures cut { point_cut prefix result ≡ digits (prefix + 2) (K.number cut) }
+/// The cut of `n` processes with these digits.
+pub(crate) fn point_of<K: Key>(cut: K, n: usize) -> Point<K>
+    requires few { n ≤ K.room }
+    requires two { 2 ≤ n }
+    requires below { K.number cut < count_base ^ n }
+    ensures below { result.key < count_base ^ (n - 2) }
+    ensures cut { point_cut (n - 2) result ≡ digits n (K.number cut) }
     ensures key { result.key ≡ K.number cut / 65536 / 65536 }
 {
     Point {
         key: cut.without_two(),
-        x: cut.digit(prefix + 2, prefix) as u32,
-        y: cut.digit(prefix + 2, prefix + 1) as u32,
+        x: cut.digit(n, n - 2) as u32,
+        y: cut.digit(n, n - 1) as u32,
     }
 }

@@ -4,7 +4,7 @@ use Rattle.pd_runs.proofs.Pushing.{grow_ends}
 use Rattle.pd_runs.proofs.advance.add_births_of.Goals as goal
 
 pub returns : goal.returns
-returns c =
+returns g c =
     let q_is : c.prefix-x.result + 1 ≡ length c.args.steps.now - 1 =
     omega (arith, c.prefix-x.ensures, c.limits.ensures.two) in
     grow_ends c.args.steps.now c.args.next.run c.args.next.top c.args.next.low c.prefix-x.result

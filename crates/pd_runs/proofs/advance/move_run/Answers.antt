@@ -12,13 +12,13 @@ use Rattle.pd_runs.proofs.advance.move_run.Goals as goal
 use Rattle.pd_runs.proofs.advance.move_run.Goals.{then-stays, else-stays, then-goes, else-goes, then-goes-2, else-goes-2}
 
 pub overflow_add-x : goal.overflow_add-x
-overflow_add-x c = omega (arith, c.prefix-x.ensures, c.limits.ensures.few)
+overflow_add-x g c = omega (arith, c.prefix-x.ensures, c.limits.ensures.few)
 
 pub can_add-stays-requires-clause-within : goal.can_add-stays-requires-clause-within
-can_add-stays-requires-clause-within c = omega (arith, c.prefix-x.ensures, c.limits.ensures.two)
+can_add-stays-requires-clause-within g c = omega (arith, c.prefix-x.ensures, c.limits.ensures.two)
 
 pub overflow_add-lo : goal.overflow_add-lo
-overflow_add-lo c =
+overflow_add-lo g c =
     let ends : KeptEnds c.args.steps.now c.args.run = kept_ends c.args.steps.now c.args.run c.requires.run in
     let w = last_counts c.args.steps.now c.limits.ensures.two c.args.run.key c.args.run.hi
     (c.args.run.rest - c.args.run.hi) ends.greatest in
@@ -28,7 +28,7 @@ overflow_add-lo c =
     omega (arith, ends.some)
 
 pub overflow_add-hi : goal.overflow_add-hi
-overflow_add-hi c =
+overflow_add-hi g c =
     let ends : KeptEnds c.args.steps.now c.args.run = kept_ends c.args.steps.now c.args.run c.requires.run in
     let w = last_counts c.args.steps.now c.limits.ensures.two c.args.run.key c.args.run.hi
     (c.args.run.rest - c.args.run.hi) ends.greatest in
@@ -38,7 +38,7 @@ overflow_add-hi c =
     omega arith
 
 pub overflow_add-rest : goal.overflow_add-rest
-overflow_add-rest c =
+overflow_add-rest g c =
     let ends : KeptEnds c.args.steps.now c.args.run = kept_ends c.args.steps.now c.args.run c.requires.run in
     let w = last_counts c.args.steps.now c.limits.ensures.two c.args.run.key c.args.run.hi
     (c.args.run.rest - c.args.run.hi) ends.greatest in
@@ -51,7 +51,7 @@ overflow_add-rest c =
     omega arith
 
 pub may_send_y-low-requires : goal.may_send_y-low-requires
-may_send_y-low-requires c =
+may_send_y-low-requires g c =
     let last : c.prefix-x.result + 1 ≡ length c.args.steps.now - 1 =
     omega (arith, c.prefix-x.ensures, c.limits.ensures.two) in
     let ok : IsConsistent c.args.steps.now (cut_at (digits (length c.args.steps.now - 2) c.args.run.key) c.args.run.lo
@@ -69,7 +69,7 @@ may_send_y-low-requires c =
     omega (arith, c.from-then-stays-2.ensures)
 
 pub returns-then-lo-hi-clause-none : goal.returns-then-lo-hi-clause-none
-returns-then-lo-hi-clause-none c =
+returns-then-lo-hi-clause-none g c =
     let p_is : c.prefix-x.result ≡ length c.args.steps.now - 2 = c.prefix-x.ensures in
     let q_is : c.prefix-x.result + 1 ≡ length c.args.steps.now - 1 =
     omega (arith, c.prefix-x.ensures, c.limits.ensures.two) in
@@ -88,7 +88,7 @@ returns-then-lo-hi-clause-none c =
     c.if-goes.hi lo_is hi_is c.if-lo-hi.true
 
 pub returns-then-stays-2-clause-some : goal.returns-then-stays-2-clause-some
-returns-then-stays-2-clause-some c =
+returns-then-stays-2-clause-some g c =
     let p_is : c.prefix-x.result ≡ length c.args.steps.now - 2 = c.prefix-x.ensures in
     let q_is : c.prefix-x.result + 1 ≡ length c.args.steps.now - 1 =
     omega (arith, c.prefix-x.ensures, c.limits.ensures.two) in
@@ -117,7 +117,7 @@ returns-then-stays-2-clause-some c =
     (length c.args.steps.now - 2) (place (length c.args.steps.now - 1) m)) (sym c.from-then-stays-2.ensures) sends))
 
 pub returns-else-stays-2-clause-some : goal.returns-else-stays-2-clause-some
-returns-else-stays-2-clause-some c =
+returns-else-stays-2-clause-some g c =
     let p_is : c.prefix-x.result ≡ length c.args.steps.now - 2 = c.prefix-x.ensures in
     let q_is : c.prefix-x.result + 1 ≡ length c.args.steps.now - 1 =
     omega (arith, c.prefix-x.ensures, c.limits.ensures.two) in

@@ -13,7 +13,7 @@ use Rattle.pd_runs.proofs.RunSteps.{last_counts}
 use Rattle.pd_runs.proofs.advance.push_born.Goals as goal
 
 pub overflow_add-point : goal.overflow_add-point
-overflow_add-point c =
+overflow_add-point g c =
     let e : c.prefix.result + 2 ≡ length c.args.steps.now = omega (arith, c.prefix.ensures, c.limits.ensures.two) in
     let same : point_cut (length c.args.steps.now - 2) c.point_of-point.result
     ≡ digits (length c.args.steps.now) c.args.cut =
@@ -32,7 +32,7 @@ overflow_add-point c =
     omega arith
 
 pub returns : goal.returns
-returns c =
+returns g c =
     let e : c.prefix.result + 2 ≡ length c.args.steps.now = omega (arith, c.prefix.ensures, c.limits.ensures.two) in
     let same : point_cut (length c.args.steps.now - 2) c.point_of-point.result
     ≡ digits (length c.args.steps.now) c.args.cut =
