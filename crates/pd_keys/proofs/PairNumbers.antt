@@ -2,9 +2,8 @@
 use Rattle.std.proofs.Common.{◌≡◌, ◌≢◌, ℕ, zero, suc, ◌+◌, ◌-◌, ◌*◌, ◌/◌, ◌%◌, ◌^◌, ◌<◌, ◌≤◌, List, [], ◌∷◌, ◌++◌, length, length-append, get_or, set, take, drop, sym, ap, ◌∙◌, subst, inl, inr, ◌⊎◌, ◌↔◌, arith}
 use Rattle.std.proofs.Math.Nat.{mul-le-mul_right}
 use Rattle.std.proofs.lemmas.Bool.{cases_lt, cases_order}
-use Rattle.std.proofs.lemmas.List.{length-drop, length-set, length-take-le, take-append-drop}
-use Rattle.std.proofs.lemmas.Nat.{div-mul-add, mod-mul-add, mod_below, div-add-mod', pow-add, shr-shr}
-use Rattle.pd_format.specs.Limits.{process_limit}
+use Rattle.std.proofs.lemmas.List.{length-drop, length-set, take-append-drop}
+use Rattle.std.proofs.lemmas.Nat.{div-mul-add, mod_below, div-add-mod', pow-add, shr-shr}
 use Rattle.pd_model.specs.Cuts.{one_more}
 use Rattle.pd_keys.specs.Keys.{count_base, key_of, digits, AreDigits}
 use Rattle.pd_keys.specs.Pairs.{pair_number, single_limit}

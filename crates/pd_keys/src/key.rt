@@ -1,6 +1,10 @@
 //! What a key is.
+ghost use Rattle.pd_format.specs.Limits.{process_limit};
 ghost use Rattle.pd_keys.specs.Keys.{AreDigits, count_base, digits, key_of};
-ghost use Rattle.std.specs.Prelude.{◌≡◌, ◌+◌, ◌-◌, ◌*◌, ◌/◌, ◌^◌, ◌<◌, ◌≤◌, ◌↔◌, ℕ, IfNone, IfSome, IsTrue, length, slice_index};
+ghost use Rattle.std.specs.List.Sorted.{IsNonDecreasingBy, IsPermutation};
+ghost use Rattle.std.specs.Prelude.{◌≡◌, ◌+◌, ◌-◌, ◌*◌, ◌/◌, ◌^◌, ◌<◌, ◌≤◌, ◌↔◌, ℕ, IfNone, IfOk, IfSome, IsTrue, length, slice_index};
+
+use std::alloc::AllocError;
 
 /// A cut as a number whose digits are its counts, one for each process, the count of process 0 highest.
 pub trait Key: Copy {
@@ -57,4 +61,19 @@ pub trait Key: Copy {
     /// Whether the number is below the other.
     fn is_below(self, other: Self) -> bool
         ensures { IsTrue result ↔ number self < number other };
+
+    /// Whether the numbers are the same.
+    fn is_same(self, other: Self) -> bool
+        ensures { IsTrue result ↔ (number self ≡ number other) };
+
+    /// Sorts the keys by their numbers.
+    ///
+    /// # Errors
+    /// An allocation was refused.
+    fn sort(keys: &mut Vec<Self>) -> Result<(), AllocError>
+        ensures same { IsPermutation keys.old.items keys.new.items }
+        ensures ascends { IfOk result (λ _. IsNonDecreasingBy number keys.new.items) };
+
+    /// A row with a place for each process that there may be has one for each digit.
+    ghost few: { room ≤ process_limit };
 }

@@ -1,9 +1,12 @@
 //! Counts in a pair of numbers.
-ghost use Rattle.pd_keys.specs.Pairs.{single_limit};
+ghost use Rattle.pd_keys.specs.Pairs.{pair_number, single_limit};
+ghost use Rattle.std.specs.Ordering.{nat_cmp};
 ghost use Rattle.std.specs.Prelude.{◌≡◌, ◌-◌};
 
 use super::Key;
 use super::single::{COUNT_BASE, SINGLE_LIMIT, digit_before, one_before, pack};
+use std::alloc::AllocError;
+use std::cmp::Ordering;
 
 /// The weight of the digits that go from the second number to the first one when two digits are added.
 const ROOM: u128 = 79_228_162_514_264_337_593_543_950_336;
@@ -23,13 +26,27 @@ fn in_first(n: usize) -> usize
     n.saturating_sub(SINGLE_LIMIT)
 }
 
+/// How the numbers of two pairs compare.
+fn order(a: Pair, b: Pair) -> Ordering
+    ensures { result ≡ nat_cmp (pair_number a.first a.second) (pair_number b.first b.second) }
+{
+    if a.first == b.first {
+        a.second.cmp(&b.second)
+    } else {
+        a.first.cmp(&b.first)
+    }
+}
+
 impl Key for Pair {
     ghost use Rattle.pd_format.specs.Limits.{process_limit};
     ghost use Rattle.pd_keys.specs.Pairs.{pair_number};
+    ghost use Rattle.std.proofs.Common.{arith};
 
     ghost room = { process_limit };
 
     ghost number = { λ pair. pair_number pair.first pair.second };
+
+    ghost few = { Prim.omega arith };
 
     fn none() -> Pair {
         Pair {
@@ -105,5 +122,14 @@ impl Key for Pair {
         } else {
             self.first < other.first
         }
+    }
+
+    fn is_same(self, other: Pair) -> bool {
+        self.first == other.first && self.second == other.second
+    }
+
+    fn sort(keys: &mut Vec<Pair>) -> Result<(), AllocError> {
+        keys.sort_by(|a, b| order(*a, *b))?;
+        Ok(())
     }
 }

@@ -4,6 +4,7 @@ ghost use Rattle.pd_keys.specs.Pairs.{single_limit};
 ghost use Rattle.std.specs.Prelude.{◌≡◌, ◌-◌, ◌/◌, ◌%◌, ◌^◌, ◌<◌, ◌≤◌, length, slice_index, take};
 
 use super::Key;
+use std::alloc::AllocError;
 
 /// How many counts one number has room for.
 pub const SINGLE_LIMIT: usize = 8;
@@ -81,10 +82,13 @@ pub fn weight(processes: usize, p: usize) -> u128
 
 impl Key for u128 {
     ghost use Rattle.pd_keys.specs.Pairs.{single_limit};
+    ghost use Rattle.std.proofs.Common.{arith};
 
     ghost room = { single_limit };
 
     ghost number = { λ key. key };
+
+    ghost few = { Prim.omega arith };
 
     fn none() -> u128 {
         0
@@ -116,5 +120,14 @@ impl Key for u128 {
 
     fn is_below(self, other: u128) -> bool {
         self < other
+    }
+
+    fn is_same(self, other: u128) -> bool {
+        self == other
+    }
+
+    fn sort(keys: &mut Vec<u128>) -> Result<(), AllocError> {
+        keys.sort()?;
+        Ok(())
     }
 }

@@ -1,5 +1,6 @@
 -- Consistent cuts as numbers.
 use Rattle.std.proofs.Common.{◌≡◌, ℕ, ◌+◌, ◌-◌, ◌^◌, ◌<◌, ◌≤◌, List, length, get_or, ap, ◌∙◌, subst, arith}
+use Rattle.std.proofs.lemmas.List.{get_or-set_same, length-set}
 use Rattle.pd_format.specs.Limits.{event_limit}
 use Rattle.pd_keys.specs.Keys.{count_base, key_of, digits, AreDigits}
 use Rattle.pd_keys.proofs.Keys.{get_or_same, key_below, digits-key, key_one_more}
@@ -29,3 +30,12 @@ pub added_key : (c : Computation) (cut : List ℕ) (p : ℕ) → IsConsistent c 
 added_key c cut p ok lt =
     let many : length cut ≡ length c = ok.fits.one_each in
     key_one_more cut p (omega arith) ∙ ap (λ (m : ℕ). key_of cut + count_base ^ (m - 1 - p)) many
+
+-- a process that has one event more has room for it in its digit
+pub room_for_one : (c : Computation) (cut : List ℕ) (p : ℕ) → ((q : ℕ) → event_count c q ≤ event_limit)
+    → IsConsistent c (one_more cut p) → p < length cut → get_or cut p 0 + 1 < count_base
+room_for_one c cut p small ok lt =
+    let size : length (one_more cut p) ≡ length cut = length-set cut p (get_or cut p 0 + 1) in
+    let at : get_or (one_more cut p) p 0 ≡ get_or cut p 0 + 1 = get_or-set_same cut p (get_or cut p 0 + 1) 0 lt in
+    let below : get_or (one_more cut p) p 0 < count_base = cut_digits c (one_more cut p) small ok p 0 (omega arith) in
+    omega arith

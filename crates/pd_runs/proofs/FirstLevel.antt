@@ -14,7 +14,7 @@ use Rattle.pd_runs.specs.Points.{GrowsBy}
 use Rattle.pd_runs.specs.WholeLevels.{Run, IsWhole, IsMadeAt}
 use Rattle.pd_runs.specs.KeptRuns.{run_view, IsKept, AddsBirths}
 use Rattle.pd_runs.specs.Levels.{IsKeptLevel, IsWholeLevel, whole_view, runs_view}
-use Rattle.pd_runs.specs.declared.kept.KeptRun.{KeptRun}
+use Rattle.pd_runs.specs.Kept.{KeyedRun}
 use Rattle.pd_runs.proofs.Ascending.{nothing_in_empty}
 use Rattle.pd_runs.proofs.Born.{candidates_are_cuts}
 use Rattle.pd_runs.proofs.CutKeys.{cut_back, cut_below}
@@ -35,10 +35,10 @@ first_cut c two =
 pub first_consistent : (c : Computation) → 2 ≤ length c → IsConsistent c (cut_at (digits (length c - 2) 0) 0 0)
 first_consistent c two = subst (IsConsistent c) (sym (first_cut c two)) (empty_consistent c)
 
-abbrev pub first_run : KeptRun
+abbrev pub first_run : KeyedRun
 first_run = record { key = 0; lo = 0; hi = 0; rest = 0 }
 
-only_run : (run : KeptRun) → Contains (first_run ∷ []) run → first_run ≡ run
+only_run : (run : KeyedRun) → Contains (first_run ∷ []) run → first_run ≡ run
 only_run run (zero, lt, at) = at
 only_run run (suc k, lt, at) = absurd (omega arith)
 
@@ -85,7 +85,7 @@ module _ (c : Computation) (small : (q : ℕ) → event_count c q ≤ event_limi
         all cut candidate =
             let w = (candidates_in_runs c walkable.no_cycle 0 (runs_view (length c - 2) (first_run ∷ [])) whole
             cut).0 candidate in
-            let v : (r : KeptRun) × Contains (first_run ∷ []) r × (run_view (length c - 2) r ≡ w.0) =
+            let v : (r : KeyedRun) × Contains (first_run ∷ []) r × (run_view (length c - 2) r ≡ w.0) =
             from_map (run_view (length c - 2)) (first_run ∷ []) w.0 w.1 in
             let is : run_view (length c - 2) first_run ≡ w.0 =
             ap (run_view (length c - 2)) (only_run v.0 v.1) ∙ v.2 in
@@ -106,13 +106,13 @@ module _ (c : Computation) (small : (q : ℕ) → event_count c q ≤ event_limi
       few = few;
       two = two;
       keys = λ i j lt in_. absurd (omega arith);
-      kept = λ run has. subst (λ (r : KeptRun). IsKept (length c - 2) 0 r) (only_run run has) record {
+      kept = λ run has. subst (λ (r : KeyedRun). IsKept (length c - 2) 0 r) (only_run run has) record {
         below = weight_pos (length c - 2);
         level = let t : sum (cut_at (digits (length c - 2) 0) 0 0) ≡ sum (digits (length c - 2) 0) + (0 + 0) =
             sum_cut (digits (length c - 2) 0) 0 0 in let s : sum (cut_at (digits (length c - 2) 0) 0 0) ≡ 0 = no_sum in
             omega arith;
       };
-      some = λ run has. subst (λ (r : KeptRun). r.lo ≤ r.hi) (only_run run has) (omega arith);
+      some = λ run has. subst (λ (r : KeyedRun). r.lo ≤ r.hi) (only_run run has) (omega arith);
       sorted = ascends;
       below = λ z has.
           let w : (other : List ℕ) × IsOfLevel c (0 + 1) other × (z ≡ key_of other) = made z has in

@@ -10,7 +10,7 @@ use Rattle.pd_model.specs.Events.{Linked}
 use Rattle.pd_runs.specs.WholeLevels.{Run, HasRun, IsBelowRun}
 use Rattle.pd_runs.specs.KeptRuns.{run_view}
 use Rattle.pd_runs.specs.Levels.{runs_view, keys_of}
-use Rattle.pd_runs.specs.declared.kept.KeptRun.{KeptRun}
+use Rattle.pd_runs.specs.Kept.{KeyedRun}
 
 pub contains_at : {A : Type 0} (xs : List A) (x d : A) → Contains xs x → (k : ℕ) × (k < length xs) × (get_or xs k d ≡ x)
 contains_at [] x d (k, lt, at) = absurd (omega arith)
@@ -64,24 +64,24 @@ ascending_push xs y asc below i j lt in_ = go (cases_lt j (length xs))
         (below (get_or xs i 0) (Contains-get_or xs i 0 (omega arith)))
 
 -- some run of the list has the key
-abbrev pub HasKey : List KeptRun → ℕ → Type 0
-HasKey runs key = (run : KeptRun) × Contains runs run × (run.key ≡ key)
+abbrev pub HasKey : List KeyedRun → ℕ → Type 0
+HasKey runs key = (run : KeyedRun) × Contains runs run × (run.key ≡ key)
 
 pub same_key : (n a b : ℕ) → a < count_base ^ n → b < count_base ^ n → digits n a ≡ digits n b → a ≡ b
 same_key n a b la lb e = sym (key-digits n a la) ∙ (ap key_of e ∙ key-digits n b lb)
 
-pub run_of_key : (n : ℕ) (runs : List KeptRun) (key : ℕ) → HasKey runs key → HasRun (runs_view n runs) (digits n key)
+pub run_of_key : (n : ℕ) (runs : List KeyedRun) (key : ℕ) → HasKey runs key → HasRun (runs_view n runs) (digits n key)
 run_of_key n runs key (run, has, e) = (run_view n run, in_map (run_view n) runs run has, ap (digits n) e)
 
-pub key_of_run : (n : ℕ) (runs : List KeptRun) (key : ℕ)
-    → ((run : KeptRun) → Contains runs run → run.key < count_base ^ n)
+pub key_of_run : (n : ℕ) (runs : List KeyedRun) (key : ℕ)
+    → ((run : KeyedRun) → Contains runs run → run.key < count_base ^ n)
     → key < count_base ^ n → HasRun (runs_view n runs) (digits n key) → HasKey runs key
 key_of_run n runs key below lt (view, has, e) =
-    let w : (run : KeptRun) × Contains runs run × (run_view n run ≡ view) = from_map (run_view n) runs view has in
+    let w : (run : KeyedRun) × Contains runs run × (run_view n run ≡ view) = from_map (run_view n) runs view has in
     (w.0, w.1, same_key n w.0.key key (below w.0 w.1) lt (ap (λ (r : Run). r.prefix) w.2 ∙ e))
 
 -- ascending keys are runs in order
-pub runs_in_order : (n : ℕ) (runs : List KeptRun) → ((run : KeptRun) → Contains runs run → run.key < count_base ^ n)
+pub runs_in_order : (n : ℕ) (runs : List KeyedRun) → ((run : KeyedRun) → Contains runs run → run.key < count_base ^ n)
     → Ascending (keys_of runs) → Linked IsBelowRun (runs_view n runs)
 runs_in_order n [] below asc = tt
 runs_in_order n (x ∷ []) below asc = tt
@@ -92,20 +92,20 @@ runs_in_order n (x ∷ y ∷ rest) below asc = (
 )
 
 -- the key at a place
-pub key_at : (runs : List KeptRun) (i : ℕ) (run : KeptRun) → i < length runs → run ≡ get_or runs i run
+pub key_at : (runs : List KeyedRun) (i : ℕ) (run : KeyedRun) → i < length runs → run ≡ get_or runs i run
     → get_or (keys_of runs) i 0 ≡ run.key
 key_at [] i run lt at = absurd (omega arith)
-key_at (x ∷ runs) zero run lt at = ap (λ (r : KeptRun). r.key) (sym at)
+key_at (x ∷ runs) zero run lt at = ap (λ (r : KeyedRun). r.key) (sym at)
 key_at (x ∷ runs) (suc i) run lt at = key_at runs i run (omega arith) at
 
-pub length-keys : (runs : List KeptRun) → length (keys_of runs) ≡ length runs
-length-keys runs = length-map runs (λ (run : KeptRun). run.key)
+pub length-keys : (runs : List KeyedRun) → length (keys_of runs) ≡ length runs
+length-keys runs = length-map runs (λ (run : KeyedRun). run.key)
 
 -- the run at a place as it is read
-pub run_read : (n : ℕ) (runs : List KeptRun) (i : ℕ) (run : KeptRun) → i < length runs → run ≡ get_or runs i run
+pub run_read : (n : ℕ) (runs : List KeyedRun) (i : ℕ) (run : KeyedRun) → i < length runs → run ≡ get_or runs i run
     → slice_get (runs_view n runs) i ≡ Some (run_view n run)
 run_read n [] i run lt is = absurd (omega arith)
-run_read n (x ∷ runs) zero run lt is = ap (λ (r : KeptRun). Some (run_view n r)) (sym is)
+run_read n (x ∷ runs) zero run lt is = ap (λ (r : KeyedRun). Some (run_view n r)) (sym is)
 run_read n (x ∷ runs) (suc i) run lt is = run_read n runs i run (omega arith) is
 
 pub get_or_default : {A : Type 0} (xs : List A) (i : ℕ) (d e : A) → i < length xs → get_or xs i d ≡ get_or xs i e

@@ -13,7 +13,7 @@ use Rattle.pd_runs.specs.Births.{IsWalkable, IsAlive, IsYoung, IsCandidate}
 use Rattle.pd_runs.specs.WholeLevels.{Run, HasRun, IsRunOf, IsWhole, IsMovedTo, IsBornBeside, IsNextRuns, IsMadeAt}
 use Rattle.pd_runs.specs.KeptRuns.{run_view, level_of, IsKept, AddsBirths, IsPushed, IsBornRun, gone, moved}
 use Rattle.pd_runs.specs.Levels.{IsKeptLevel, IsWholeLevel, whole_view, runs_view, keys_of, prefix_key}
-use Rattle.pd_runs.specs.declared.kept.KeptRun.{KeptRun}
+use Rattle.pd_runs.specs.Kept.{KeyedRun}
 use Rattle.pd_runs.proofs.Ascending.{nothing_in_empty}
 use Rattle.pd_runs.proofs.Born.{candidates_are_cuts}
 use Rattle.pd_runs.proofs.CutKeys.{cut_back, cut_below}
@@ -26,13 +26,13 @@ use Rattle.pd_runs.proofs.RunCuts.{same_parts}
 use Rattle.pd_runs.proofs.RunFlags.{ends_of_run, candidates_in_runs}
 
 -- the level that is gone on from
-pub record IsGiven (c : Computation) (k : ℕ) (olds : List KeptRun) (births : List ℕ) : Type 0 where
+pub record IsGiven (c : Computation) (k : ℕ) (olds : List KeyedRun) (births : List ℕ) : Type 0 where
   pub small : (q : ℕ) → event_count c q ≤ event_limit
   pub walkable : IsWalkable c
   pub kept : IsKeptLevel (length c) k olds births
   pub level : IsWholeLevel c (whole_view (length c) k olds births)
 
-pub given_by : (c : Computation) (k : ℕ) (olds : List KeptRun) (births : List ℕ)
+pub given_by : (c : Computation) (k : ℕ) (olds : List KeyedRun) (births : List ℕ)
     → ((q : ℕ) → event_count c q ≤ event_limit) → IsWalkable c → IsKeptLevel (length c) k olds births
     → IsWholeLevel c (whole_view (length c) k olds births) → IsGiven c k olds births
 given_by c k olds births small walkable kept level = record {
@@ -43,20 +43,20 @@ given_by c k olds births small walkable kept level = record {
 }
 
 -- So far: runs and births of the next level, of which all keys are below the floor.
-pub record IsMade (c : Computation) (k : ℕ) (olds : List KeptRun) (runs : List KeptRun) (born : List ℕ) (floor : ℕ)
+pub record IsMade (c : Computation) (k : ℕ) (olds : List KeyedRun) (runs : List KeyedRun) (born : List ℕ) (floor : ℕ)
     : Type 0 where
   pub keys : Ascending (keys_of runs)
-  pub below : (run : KeptRun) → Contains runs run → run.key < floor
-  pub kept : (run : KeptRun) → Contains runs run → IsKept (length c - 2) (k + 1) run
-  pub made : (run : KeptRun) → Contains runs run
+  pub below : (run : KeyedRun) → Contains runs run → run.key < floor
+  pub kept : (run : KeyedRun) → Contains runs run → IsKept (length c - 2) (k + 1) run
+  pub made : (run : KeyedRun) → Contains runs run
       → ((old : Run) × Contains (runs_view (length c - 2) olds) old × IsMovedTo c k old (run_view (length c - 2) run)
       × (run.lo ≤ run.hi)) ⊎ IsBornBeside c k (runs_view (length c - 2) olds) (run_view (length c - 2) run)
   pub just : (z : ℕ) → Contains born z → (cut : List ℕ) × IsOfLevel c (k + 1 + 1) cut × (z ≡ key_of cut)
-  pub all : (run : KeptRun) → Contains runs run → (p : ℕ) (cut : List ℕ) → p < length c - 2
+  pub all : (run : KeyedRun) → Contains runs run → (p : ℕ) (cut : List ℕ) → p < length c - 2
       → IsMadeAt c (k + 1) (run_view (length c - 2) run) p cut → Contains born (key_of cut)
 
 -- So far: the first i runs have moved, and the first j births are put beside them.
-pub record IsGoing (c : Computation) (k : ℕ) (olds : List KeptRun) (births : List ℕ) (i j : ℕ) (runs : List KeptRun)
+pub record IsGoing (c : Computation) (k : ℕ) (olds : List KeyedRun) (births : List ℕ) (i j : ℕ) (runs : List KeyedRun)
     (born : List ℕ) (floor : ℕ) : Type 0 where
   pub in_olds : i ≤ length olds
   pub in_births : j ≤ length births
@@ -65,32 +65,32 @@ pub record IsGoing (c : Computation) (k : ℕ) (olds : List KeptRun) (births : L
   pub floor_birth : j < length births → floor ≤ prefix_key (get_or births j 0) + 1
   pub top : (key : ℕ) → key + 1 ≡ floor → HasKey runs key ⊎ HasKey olds key
   pub past : (m : ℕ) → m < i → j < length births → get_or (keys_of olds) m 0 < prefix_key (get_or births j 0)
-  pub moved : (old : KeptRun) → Contains (take i olds) old → (new : Run)
+  pub moved : (old : KeyedRun) → Contains (take i olds) old → (new : Run)
       → IsMovedTo c k (run_view (length c - 2) old) new → new.lo ≤ new.hi
       → HasRun (runs_view (length c - 2) runs) new.prefix
   pub seen : (z : ℕ) → Contains (take j births) z → HasKey runs (prefix_key z) ⊎ HasKey olds (prefix_key z)
 
-has_key_push : (runs : List KeptRun) (run : KeptRun) (key : ℕ) → HasKey runs key → HasKey (runs ++ run ∷ []) key
+has_key_push : (runs : List KeyedRun) (run : KeyedRun) (key : ℕ) → HasKey runs key → HasKey (runs ++ run ∷ []) key
 has_key_push runs run key (r, has, e) = (r, Contains-append_left runs (run ∷ []) r has, e)
 
-has_run_push : (n : ℕ) (runs : List KeptRun) (run : KeptRun) (prefix : List ℕ) → HasRun (runs_view n runs) prefix
+has_run_push : (n : ℕ) (runs : List KeyedRun) (run : KeyedRun) (prefix : List ℕ) → HasRun (runs_view n runs) prefix
     → HasRun (runs_view n (runs ++ run ∷ [])) prefix
 has_run_push n runs run prefix (r, has, e) =
-    let w : (s : KeptRun) × Contains runs s × (run_view n s ≡ r) = from_map (run_view n) runs r has in (
+    let w : (s : KeyedRun) × Contains runs s × (run_view n s ≡ r) = from_map (run_view n) runs r has in (
       r,
       subst (λ (s : Run). Contains (runs_view n (runs ++ run ∷ [])) s) w.2
           (in_map (run_view n) (runs ++ run ∷ []) w.0 (Contains-append_left runs (run ∷ []) w.0 w.1)),
       e,
     )
 
-module _ (c : Computation) (k : ℕ) (olds : List KeptRun) (births : List ℕ) (given : IsGiven c k olds births) where
+module _ (c : Computation) (k : ℕ) (olds : List KeyedRun) (births : List ℕ) (given : IsGiven c k olds births) where
   n : ℕ
   n = length c - 2
 
-  old_below : (run : KeptRun) → Contains olds run → run.key < count_base ^ (length c - 2)
+  old_below : (run : KeyedRun) → Contains olds run → run.key < count_base ^ (length c - 2)
   old_below run has = (given.kept.kept run has).below
 
-  pub old_run : (run : KeptRun) → Contains olds run
+  pub old_run : (run : KeyedRun) → Contains olds run
       → IsRunOf c (level_of (length c - 2) run) (run_view (length c - 2) run)
   old_run run has =
       subst (λ (j : ℕ). IsRunOf c j (run_view (length c - 2) run)) (sym (given.kept.kept run has).level)
@@ -149,16 +149,16 @@ module _ (c : Computation) (k : ℕ) (olds : List KeptRun) (births : List ℕ) (
   }
 
   -- a run is added above the floor
-  made_push : (runs : List KeptRun) (born : List ℕ) (floor : ℕ) → IsMade c k olds runs born floor
-      → (run : KeptRun) (new_born : List ℕ) → floor ≤ run.key → IsKept (length c - 2) (k + 1) run
+  made_push : (runs : List KeyedRun) (born : List ℕ) (floor : ℕ) → IsMade c k olds runs born floor
+      → (run : KeyedRun) (new_born : List ℕ) → floor ≤ run.key → IsKept (length c - 2) (k + 1) run
       → ((old : Run) × Contains (runs_view (length c - 2) olds) old × IsMovedTo c k old (run_view (length c - 2) run)
       × (run.lo ≤ run.hi)) ⊎ IsBornBeside c k (runs_view (length c - 2) olds) (run_view (length c - 2) run)
       → AddsBirths c (k + 1) run born new_born → IsMade c k olds (runs ++ run ∷ []) new_born (run.key + 1)
   made_push runs born floor g run new_born above kept made adds = record {
     keys =
-        subst Ascending (sym (map_push (λ (r : KeptRun). r.key) runs run))
+        subst Ascending (sym (map_push (λ (r : KeyedRun). r.key) runs run))
         (ascending_push (keys_of runs) run.key g.keys (λ x has.
-        lower x (from_map (λ (r : KeptRun). r.key) runs x has)));
+        lower x (from_map (λ (r : KeyedRun). r.key) runs x has)));
     below = λ r has. below r (Contains-push_cases runs run r has);
     kept = λ r has. each_kept r (Contains-push_cases runs run r has);
     made = λ r has. each_made r (Contains-push_cases runs run r has);
@@ -169,21 +169,21 @@ module _ (c : Computation) (k : ℕ) (olds : List KeptRun) (births : List ℕ) (
       lower : (x : ℕ) → HasKey runs x → x < run.key
       lower x (r, has, e) = let b : r.key < floor = g.below r has in omega arith
 
-      below : (r : KeptRun) → Contains runs r ⊎ (run ≡ r) → r.key < run.key + 1
+      below : (r : KeyedRun) → Contains runs r ⊎ (run ≡ r) → r.key < run.key + 1
       below r (inl has) = let b : r.key < floor = g.below r has in omega arith
-      below r (inr e) = let same : run.key ≡ r.key = ap (λ (s : KeptRun). s.key) e in omega arith
+      below r (inr e) = let same : run.key ≡ r.key = ap (λ (s : KeyedRun). s.key) e in omega arith
 
-      each_kept : (r : KeptRun) → Contains runs r ⊎ (run ≡ r) → IsKept (length c - 2) (k + 1) r
+      each_kept : (r : KeyedRun) → Contains runs r ⊎ (run ≡ r) → IsKept (length c - 2) (k + 1) r
       each_kept r (inl has) = g.kept r has
-      each_kept r (inr e) = subst (λ (s : KeptRun). IsKept (length c - 2) (k + 1) s) e kept
+      each_kept r (inr e) = subst (λ (s : KeyedRun). IsKept (length c - 2) (k + 1) s) e kept
 
-      each_made : (r : KeptRun) → Contains runs r ⊎ (run ≡ r)
+      each_made : (r : KeyedRun) → Contains runs r ⊎ (run ≡ r)
           → ((old : Run) × Contains (runs_view (length c - 2) olds) old
           × IsMovedTo c k old (run_view (length c - 2) r) × (r.lo ≤ r.hi))
           ⊎ IsBornBeside c k (runs_view (length c - 2) olds) (run_view (length c - 2) r)
       each_made r (inl has) = g.made r has
       each_made r (inr e) =
-          subst (λ (s : KeptRun). ((old : Run) × Contains (runs_view (length c - 2) olds) old
+          subst (λ (s : KeyedRun). ((old : Run) × Contains (runs_view (length c - 2) olds) old
           × IsMovedTo c k old (run_view (length c - 2) s) × (s.lo ≤ s.hi))
           ⊎ IsBornBeside c k (runs_view (length c - 2) olds) (run_view (length c - 2) s)) e made
 
@@ -192,11 +192,11 @@ module _ (c : Computation) (k : ℕ) (olds : List KeptRun) (births : List ℕ) (
       just z (inl has) = g.just z has
       just z (inr w) = w
 
-      all : (r : KeptRun) → Contains runs r ⊎ (run ≡ r) → (p : ℕ) (cut : List ℕ) → p < length c - 2
+      all : (r : KeyedRun) → Contains runs r ⊎ (run ≡ r) → (p : ℕ) (cut : List ℕ) → p < length c - 2
           → IsMadeAt c (k + 1) (run_view (length c - 2) r) p cut → Contains new_born (key_of cut)
       all r (inl has) p cut lt at = adds.kept (key_of cut) (g.all r has p cut lt at)
       all r (inr e) p cut lt at =
-          adds.all p cut lt (subst (λ (s : KeptRun). IsMadeAt c (k + 1) (run_view (length c - 2) s) p cut) (sym e) at)
+          adds.all p cut lt (subst (λ (s : KeyedRun). IsMadeAt c (k + 1) (run_view (length c - 2) s) p cut) (sym e) at)
 
   -- the prefixes of the births ascend
   later_prefix : (j : ℕ) → j + 1 < length births
@@ -209,7 +209,7 @@ module _ (c : Computation) (k : ℕ) (olds : List KeptRun) (births : List ℕ) (
   birth_here j lt = Contains-get_or births j 0 lt
 
   -- a birth is passed over whose prefix has a run already
-  pub going_skip : (i j : ℕ) (runs : List KeptRun) (born : List ℕ) (floor : ℕ)
+  pub going_skip : (i j : ℕ) (runs : List KeyedRun) (born : List ℕ) (floor : ℕ)
       → IsGoing c k olds births i j runs born floor → j < length births
       → HasKey runs (prefix_key (get_or births j 0)) ⊎ HasKey olds (prefix_key (get_or births j 0))
       → IsGoing c k olds births i (j + 1) runs born floor
@@ -234,13 +234,13 @@ module _ (c : Computation) (k : ℕ) (olds : List KeptRun) (births : List ℕ) (
       seen z (inr e) = subst (λ (y : ℕ). HasKey runs (prefix_key y) ⊎ HasKey olds (prefix_key y)) e there
 
   -- a birth between the runs has no run
-  pub no_key : (i j : ℕ) (runs : List KeptRun) (born : List ℕ) (floor : ℕ)
+  pub no_key : (i j : ℕ) (runs : List KeyedRun) (born : List ℕ) (floor : ℕ)
       → IsGoing c k olds births i j runs born floor → j < length births
       → (i < length olds → prefix_key (get_or births j 0) < get_or (keys_of olds) i 0)
       → ¬ HasKey olds (prefix_key (get_or births j 0))
   no_key i j runs born floor g lt before (old, has, e) =
       let w : (m : ℕ) × (m < length (keys_of olds)) × (get_or (keys_of olds) m 0 ≡ old.key) =
-      contains_at (keys_of olds) old.key 0 (in_map (λ (r : KeptRun). r.key) olds old has) in
+      contains_at (keys_of olds) old.key 0 (in_map (λ (r : KeyedRun). r.key) olds old has) in
       let in_ : w.0 < length (keys_of olds) = w.1 in
       let at : get_or (keys_of olds) w.0 0 ≡ old.key = w.2 in
       let size : length (keys_of olds) ≡ length olds = length-keys olds in
@@ -265,14 +265,14 @@ module _ (c : Computation) (k : ℕ) (olds : List KeptRun) (births : List ℕ) (
               absurd (omega arith)
 
   -- a birth is put beside the runs
-  pub going_push : (i j : ℕ) (runs : List KeptRun) (born : List ℕ) (floor : ℕ)
+  pub going_push : (i j : ℕ) (runs : List KeyedRun) (born : List ℕ) (floor : ℕ)
       → IsGoing c k olds births i j runs born floor → j < length births
       → floor ≤ prefix_key (get_or births j 0)
       → (i < length olds → prefix_key (get_or births j 0) < get_or (keys_of olds) i 0)
-      → (new_runs : List KeptRun) (new_born : List ℕ) → IsBornRun c (get_or births j 0) runs born new_runs new_born
+      → (new_runs : List KeyedRun) (new_born : List ℕ) → IsBornRun c (get_or births j 0) runs born new_runs new_born
       → IsGoing c k olds births i (j + 1) new_runs new_born (prefix_key (get_or births j 0) + 1)
   going_push i j runs born floor g lt above before new_runs new_born b =
-      subst (λ (rs : List KeptRun). IsGoing c k olds births i (j + 1) rs new_born (prefix_key (get_or births j 0) + 1))
+      subst (λ (rs : List KeyedRun). IsGoing c k olds births i (j + 1) rs new_born (prefix_key (get_or births j 0) + 1))
       (sym b.pushed) record {
         in_olds = g.in_olds;
         in_births = omega arith;
@@ -326,16 +326,16 @@ module _ (c : Computation) (k : ℕ) (olds : List KeptRun) (births : List ℕ) (
       seen z (inr e) = inl (b.run, Contains-push runs b.run, key_is ∙ ap prefix_key e)
 
   -- a run is moved
-  pub going_move : (i j : ℕ) (runs : List KeptRun) (born : List ℕ) (floor : ℕ)
-      → IsGoing c k olds births i j runs born floor → (old : KeptRun) → i < length olds → get_or olds i old ≡ old
+  pub going_move : (i j : ℕ) (runs : List KeyedRun) (born : List ℕ) (floor : ℕ)
+      → IsGoing c k olds births i j runs born floor → (old : KeyedRun) → i < length olds → get_or olds i old ≡ old
       → get_or (keys_of olds) i 0 ≡ old.key
-      → (j < length births → old.key < prefix_key (get_or births j 0)) → (new_runs : List KeptRun) (new_born : List ℕ)
+      → (j < length births → old.key < prefix_key (get_or births j 0)) → (new_runs : List KeyedRun) (new_born : List ℕ)
       → IsPushed c old runs born new_runs new_born
       → IsGoing c k olds births (i + 1) j new_runs new_born (old.key + 1)
   going_move i j runs born floor g old lt here key_is after new_runs new_born pushed = go pushed
     where
       there : Contains olds old
-      there = subst (λ (r : KeptRun). Contains olds r) here (Contains-get_or olds i old lt)
+      there = subst (λ (r : KeyedRun). Contains olds r) here (Contains-get_or olds i old lt)
 
       old_kept : IsKept (length c - 2) k old
       old_kept = given.kept.kept old there
@@ -350,7 +350,7 @@ module _ (c : Computation) (k : ℕ) (olds : List KeptRun) (births : List ℕ) (
           given.kept.keys i (i + 1) (omega arith) (omega arith) in
           omega (arith, key_is)
 
-      top : (rs : List KeptRun) (key : ℕ) → key + 1 ≡ old.key + 1 → HasKey rs key ⊎ HasKey olds key
+      top : (rs : List KeyedRun) (key : ℕ) → key + 1 ≡ old.key + 1 → HasKey rs key ⊎ HasKey olds key
       top rs key e = inr (old, there, (let same : old.key ≡ key = omega arith in same))
 
       past : (m : ℕ) → m < i + 1 → j < length births → get_or (keys_of olds) m 0 < prefix_key (get_or births j 0)
@@ -359,7 +359,7 @@ module _ (c : Computation) (k : ℕ) (olds : List KeptRun) (births : List ℕ) (
           (λ q early. g.past q early in_)
           (let a : old.key < prefix_key (get_or births j 0) = after in_ in omega (arith, key_is)) m less
 
-      split : (r : KeptRun) → Contains (take (i + 1) olds) r → Contains (take i olds) r ⊎ (old ≡ r)
+      split : (r : KeyedRun) → Contains (take (i + 1) olds) r → Contains (take i olds) r ⊎ (old ≡ r)
       split r has = turn (prefix_more olds i r old lt has)
         where
           turn : Contains (take i olds) r ⊎ (get_or olds i old ≡ r) → Contains (take i olds) r ⊎ (old ≡ r)
@@ -384,7 +384,7 @@ module _ (c : Computation) (k : ℕ) (olds : List KeptRun) (births : List ℕ) (
           → IsGoing c k olds births (i + 1) j new_runs new_born (old.key + 1)
       go (gone none is_runs same_born) =
           subst (λ (bs : List ℕ). IsGoing c k olds births (i + 1) j new_runs bs (old.key + 1)) (sym same_born)
-          (subst (λ (r : List KeptRun). IsGoing c k olds births (i + 1) j r born (old.key + 1)) (sym is_runs) record {
+          (subst (λ (r : List KeyedRun). IsGoing c k olds births (i + 1) j r born (old.key + 1)) (sym is_runs) record {
             in_olds = omega arith;
             in_births = g.in_births;
             made = weaker g.made;
@@ -396,15 +396,15 @@ module _ (c : Computation) (k : ℕ) (olds : List KeptRun) (births : List ℕ) (
             seen = g.seen;
           })
         where
-          earlier : (r : KeptRun) → Contains (take i olds) r ⊎ (old ≡ r) → (new : Run)
+          earlier : (r : KeyedRun) → Contains (take i olds) r ⊎ (old ≡ r) → (new : Run)
               → IsMovedTo c k (run_view (length c - 2) r) new → new.lo ≤ new.hi
               → HasRun (runs_view (length c - 2) runs) new.prefix
           earlier r (inl has) new m le = g.moved r has new m le
           earlier r (inr e) new m le =
               absurd (none new (at_level new
-              (subst (λ (s : KeptRun). IsMovedTo c k (run_view (length c - 2) s) new) (sym e) m)) le)
+              (subst (λ (s : KeyedRun). IsMovedTo c k (run_view (length c - 2) s) new) (sym e) m)) le)
       go (moved new at_top at_low m same_runs adds) =
-          subst (λ (rs : List KeptRun). IsGoing c k olds births (i + 1) j rs new_born (old.key + 1)) (sym same_runs)
+          subst (λ (rs : List KeyedRun). IsGoing c k olds births (i + 1) j rs new_born (old.key + 1)) (sym same_runs)
           record {
             in_olds = omega arith;
             in_births = g.in_births;
@@ -431,13 +431,13 @@ module _ (c : Computation) (k : ℕ) (olds : List KeptRun) (births : List ℕ) (
             seen = λ z has. lift z (g.seen z has);
           }
         where
-          earlier : (r : KeptRun) → Contains (take i olds) r ⊎ (old ≡ r) → (to : Run)
+          earlier : (r : KeyedRun) → Contains (take i olds) r ⊎ (old ≡ r) → (to : Run)
               → IsMovedTo c k (run_view (length c - 2) r) to → to.lo ≤ to.hi
               → HasRun (runs_view (length c - 2) (runs ++ new ∷ [])) to.prefix
           earlier r (inl has) to t le = has_run_push (length c - 2) runs new to.prefix (g.moved r has to t le)
           earlier r (inr e) to t le =
               let same : digits (length c - 2) new.key ≡ to.prefix =
-              ap (digits (length c - 2)) (m.same ∙ ap (λ (s : KeptRun). s.key) e) ∙ sym t.same in (
+              ap (digits (length c - 2)) (m.same ∙ ap (λ (s : KeyedRun). s.key) e) ∙ sym t.same in (
                 run_view (length c - 2) new,
                 in_map (run_view (length c - 2)) (runs ++ new ∷ []) new (Contains-push runs new),
                 same,
@@ -458,7 +458,7 @@ module _ (c : Computation) (k : ℕ) (olds : List KeptRun) (births : List ℕ) (
   old_key_small i lt =
       let size : length (keys_of olds) ≡ length olds = length-keys olds in
       let w : HasKey olds (get_or (keys_of olds) i 0) =
-      from_map (λ (r : KeptRun). r.key) olds (get_or (keys_of olds) i 0)
+      from_map (λ (r : KeyedRun). r.key) olds (get_or (keys_of olds) i 0)
       (Contains-get_or (keys_of olds) i 0 (omega arith)) in
       subst (λ (x : ℕ). x < count_base ^ 6) w.2 (key_small w.0.key (old_below w.0 w.1))
 
@@ -504,7 +504,7 @@ module _ (c : Computation) (k : ℕ) (olds : List KeptRun) (births : List ℕ) (
             absurd (omega arith)
 
   -- why a birth is passed over: the floor is above it, or it meets a run
-  pub met_already : (i j : ℕ) (runs : List KeptRun) (born : List ℕ) (floor : ℕ)
+  pub met_already : (i j : ℕ) (runs : List KeyedRun) (born : List ℕ) (floor : ℕ)
       → IsGoing c k olds births i j runs born floor → j < length births
       → (prefix_key (get_or births j 0) < floor)
       ⊎ ((i < length olds) × (prefix_key (get_or births j 0) ≡ get_or (keys_of olds) i 0))
@@ -515,16 +515,16 @@ module _ (c : Computation) (k : ℕ) (olds : List KeptRun) (births : List ℕ) (
   met_already i j runs born floor g lt (inr (in_, same)) =
       let size : length (keys_of olds) ≡ length olds = length-keys olds in
       inr (subst (λ (x : ℕ). HasKey olds x) (sym same)
-      (from_map (λ (r : KeptRun). r.key) olds (get_or (keys_of olds) i 0)
+      (from_map (λ (r : KeyedRun). r.key) olds (get_or (keys_of olds) i 0)
       (Contains-get_or (keys_of olds) i 0 (omega arith))))
 
-  module _ (runs : List KeptRun) (born : List ℕ) (floor : ℕ)
+  module _ (runs : List KeyedRun) (born : List ℕ) (floor : ℕ)
       (g : IsGoing c k olds births (length olds) (length births) runs born floor) where
     each : (new : Run) → Contains (runs_view (length c - 2) runs) new
         → ((run : Run) × Contains (runs_view (length c - 2) olds) run × IsMovedTo c k run new × (new.lo ≤ new.hi))
         ⊎ IsBornBeside c k (runs_view (length c - 2) olds) new
     each new has =
-        let w : (r : KeptRun) × Contains runs r × (run_view (length c - 2) r ≡ new) =
+        let w : (r : KeyedRun) × Contains runs r × (run_view (length c - 2) r ≡ new) =
         from_map (run_view (length c - 2)) runs new has in
         subst (λ (v : Run).
         ((run : Run) × Contains (runs_view (length c - 2) olds) run × IsMovedTo c k run v × (v.lo ≤ v.hi))
@@ -533,10 +533,10 @@ module _ (c : Computation) (k : ℕ) (olds : List KeptRun) (births : List ℕ) (
     all_moved : (run new : Run) → Contains (runs_view (length c - 2) olds) run → IsMovedTo c k run new
         → new.lo ≤ new.hi → HasRun (runs_view (length c - 2) runs) new.prefix
     all_moved run new has m le =
-        let w : (r : KeptRun) × Contains olds r × (run_view (length c - 2) r ≡ run) =
+        let w : (r : KeyedRun) × Contains olds r × (run_view (length c - 2) r ≡ run) =
         from_map (run_view (length c - 2)) olds run has in
         let whole : take (length olds) olds ≡ olds = take_all (length olds) olds (omega arith) in
-        g.moved w.0 (subst (λ (rs : List KeptRun). Contains rs w.0) (sym whole) w.1) new
+        g.moved w.0 (subst (λ (rs : List KeyedRun). Contains rs w.0) (sym whole) w.1) new
         (subst (λ (r : Run). IsMovedTo c k r new) (sym w.2) m) le
 
     all_born : (prefix : List ℕ) (x y : ℕ) → IsCandidate c k (cut_at prefix x y)
@@ -575,7 +575,7 @@ module _ (c : Computation) (k : ℕ) (olds : List KeptRun) (births : List ℕ) (
         next_whole c given.walkable k (runs_view (length c - 2) olds) (runs_view (length c - 2) runs)
         given.level.whole next_runs
 
-    pub some_cut : (run : KeptRun) → Contains runs run → run.lo ≤ run.hi
+    pub some_cut : (run : KeyedRun) → Contains runs run → run.lo ≤ run.hi
     some_cut run has =
         (whole_next.each (run_view (length c - 2) run) (in_map (run_view (length c - 2)) runs run has)).some
 
@@ -603,7 +603,7 @@ module _ (c : Computation) (k : ℕ) (olds : List KeptRun) (births : List ℕ) (
           all cut candidate =
               let w = (candidates_in_runs c given.walkable.no_cycle (k + 1) (runs_view (length c - 2) runs) whole_next
               cut).0 candidate in
-              let v : (r : KeptRun) × Contains runs r × (run_view (length c - 2) r ≡ w.0) =
+              let v : (r : KeyedRun) × Contains runs r × (run_view (length c - 2) r ≡ w.0) =
               from_map (run_view (length c - 2)) runs w.0 w.1 in
               let size : length (digits (length c - 2) v.0.key) ≡ length c - 2 =
               length-digits (length c - 2) v.0.key in

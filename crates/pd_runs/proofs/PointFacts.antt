@@ -1,20 +1,20 @@
 -- Cuts by the key of their prefix: their counts and their keys.
-use Rattle.std.proofs.Common.{◌≡◌, ℕ, suc, ◌+◌, ◌*◌, ◌/◌, ◌%◌, ◌^◌, ◌<◌, List, [], ◌∷◌, ◌++◌, length, get_or, append_assoc, sym, ap, ◌∙◌, subst, arith}
+use Rattle.std.proofs.Common.{◌≡◌, ℕ, suc, ◌+◌, ◌-◌, ◌*◌, ◌/◌, ◌%◌, ◌^◌, ◌<◌, ◌≤◌, List, [], ◌∷◌, ◌++◌, length, get_or, append_assoc, refl, sym, ap, ◌∙◌, subst, arith}
 use Rattle.std.proofs.Math.Nat.{pow-suc}
 use Rattle.std.proofs.lemmas.Nat.{div_below}
 use Rattle.pd_keys.specs.Keys.{count_base, key_of, digits}
 use Rattle.pd_keys.proofs.Keys.{length-digits, key-digits, key_push, low_digit}
 use Rattle.pd_neighbors.specs.Neighbors.{cut_at}
 use Rattle.pd_runs.specs.Points.{point_cut}
-use Rattle.pd_runs.specs.declared.point.Point.{Point}
+use Rattle.pd_runs.specs.Kept.{KeyedCut}
 use Rattle.pd_runs.proofs.RunCuts.{x_at, y_at}
 
-pub count_x : (n : ℕ) (point : Point) (q : ℕ) → q ≡ n → get_or (point_cut n point) q 0 ≡ point.x
+pub count_x : (n : ℕ) (point : KeyedCut) (q : ℕ) → q ≡ n → get_or (point_cut n point) q 0 ≡ point.x
 count_x n point q e =
     let at : q ≡ length (digits n point.key) = e ∙ sym (length-digits n point.key) in
     ap (λ (p : ℕ). get_or (point_cut n point) p 0) at ∙ x_at (digits n point.key) point.x point.y
 
-pub count_y : (n : ℕ) (point : Point) (q : ℕ) → q ≡ suc n → get_or (point_cut n point) q 0 ≡ point.y
+pub count_y : (n : ℕ) (point : KeyedCut) (q : ℕ) → q ≡ suc n → get_or (point_cut n point) q 0 ≡ point.y
 count_y n point q e =
     let at : q ≡ suc (length (digits n point.key)) = e ∙ ap suc (sym (length-digits n point.key)) in
     ap (λ (p : ℕ). get_or (point_cut n point) p 0) at ∙ y_at (digits n point.key) point.x point.y
@@ -29,7 +29,7 @@ key_of_two prefix x y =
     key_push (prefix ++ x ∷ []) y in
     ap key_of split ∙ (two ∙ ap (λ (k : ℕ). k * count_base + y) one)
 
-pub key_of_point : (n : ℕ) (point : Point) → point.key < count_base ^ n
+pub key_of_point : (n : ℕ) (point : KeyedCut) → point.key < count_base ^ n
     → key_of (point_cut n point) ≡ (point.key * count_base + point.x) * count_base + point.y
 key_of_point n point below =
     key_of_two (digits n point.key) point.x point.y
@@ -62,3 +62,31 @@ split_digits n cut lt =
     append_assoc (digits n (cut / count_base / count_base)) ((cut / count_base % count_base) ∷ [])
     ((cut % count_base) ∷ []) in
     (lt0, sym (ap (λ (m : ℕ). digits m cut) e ∙ (both ∙ joined)))
+
+-- the same for all digits, and each of the last two
+pub last_two : (n cut : ℕ) → 2 ≤ n → cut < count_base ^ n
+    → (cut / count_base / count_base < count_base ^ (n - 2))
+    × (cut_at (digits (n - 2) (cut / count_base / count_base)) (cut / count_base % count_base) (cut % count_base)
+    ≡ digits n cut)
+last_two n cut two lt =
+    let e : n - 2 + 2 ≡ n = omega arith in
+    let w = split_digits (n - 2) cut (subst (λ (m : ℕ). cut < count_base ^ m) (sym e) lt) in
+    (w.0, w.1 ∙ ap (λ (m : ℕ). digits m cut) e)
+
+pub digit_x : (n cut : ℕ) → 2 ≤ n → cut < count_base ^ n → get_or (digits n cut) (n - 2) 0 ≡ cut / count_base % count_base
+digit_x n cut two lt =
+    ap (λ (xs : List ℕ). get_or xs (n - 2) 0) (sym (last_two n cut two lt).1)
+    ∙ count_x (n - 2) (record {
+      key = cut / count_base / count_base;
+      x = cut / count_base % count_base;
+      y = cut % count_base;
+    }) (n - 2) refl
+
+pub digit_y : (n cut : ℕ) → 2 ≤ n → cut < count_base ^ n → get_or (digits n cut) (n - 1) 0 ≡ cut % count_base
+digit_y n cut two lt =
+    ap (λ (xs : List ℕ). get_or xs (n - 1) 0) (sym (last_two n cut two lt).1)
+    ∙ count_y (n - 2) (record {
+      key = cut / count_base / count_base;
+      x = cut / count_base % count_base;
+      y = cut % count_base;
+    }) (n - 1) (omega arith)

@@ -14,7 +14,7 @@ use Rattle.pd_runs.specs.Runs.{IsInterval}
 use Rattle.pd_runs.specs.Points.{IsWanted, GrowsBy, GrowsIf}
 use Rattle.pd_runs.specs.WholeLevels.{rest_at, IsRunOf, IsMadeAt, if_young, if_top, if_low}
 use Rattle.pd_runs.specs.KeptRuns.{run_view, level_of, IsMoved, GrowsAtEnds, AddsBirths}
-use Rattle.pd_runs.specs.declared.kept.KeptRun.{KeptRun}
+use Rattle.pd_runs.specs.Kept.{KeyedRun}
 use Rattle.pd_runs.proofs.NextRuns.{moved_interval}
 use Rattle.pd_runs.proofs.RunCuts.{length_cut, sum_cut, x_at, y_at}
 use Rattle.pd_runs.proofs.RunFlags.{flags_of_moved}
@@ -22,7 +22,7 @@ use Rattle.pd_runs.proofs.RunSteps.{rest_is, KeptEnds, kept_ends}
 use Rattle.pd_runs.proofs.UndoneEvents.{add_met}
 
 -- a moved run is a run of the next level
-pub moved_level : (c : Computation) (old new : KeptRun) (top low : Bool) → IsMoved c old new top low
+pub moved_level : (c : Computation) (old new : KeyedRun) (top low : Bool) → IsMoved c old new top low
     → level_of (length c - 2) new ≡ level_of (length c - 2) old + 1
 moved_level c old new top low m =
     let keys : sum (digits (length c - 2) new.key) ≡ sum (digits (length c - 2) old.key) =
@@ -30,7 +30,7 @@ moved_level c old new top low m =
     let rest : new.rest ≡ old.rest + 1 = m.rest in
     omega arith
 
-pub moved_run : (c : Computation) → HasNoCycle c → (old new : KeptRun) (top low : Bool)
+pub moved_run : (c : Computation) → HasNoCycle c → (old new : KeyedRun) (top low : Bool)
     → IsRunOf c (level_of (length c - 2) old) (run_view (length c - 2) old) → IsMoved c old new top low
     → IsRunOf c (level_of (length c - 2) old + 1) (run_view (length c - 2) new)
 moved_run c acyclic old new top low r m =
@@ -40,7 +40,7 @@ moved_run c acyclic old new top low r m =
     (run_view (length c - 2) new) r m.moved in
     record { below = omega arith; some = m.some; interval = w.1 }
 
-pub moved_ends : (c : Computation) → HasNoCycle c → (old new : KeptRun) (top low : Bool)
+pub moved_ends : (c : Computation) → HasNoCycle c → (old new : KeyedRun) (top low : Bool)
     → IsRunOf c (level_of (length c - 2) old) (run_view (length c - 2) old) → IsMoved c old new top low
     → KeptEnds c new
 moved_ends c acyclic old new top low r m =
@@ -48,7 +48,7 @@ moved_ends c acyclic old new top low r m =
     (sym (moved_level c old new top low m)) (moved_run c acyclic old new top low r m))
 
 -- one more event makes a cut of the next level
-more_level : (c : Computation) (run : KeptRun) (p x : ℕ) → 2 ≤ length c → p < length c - 2 → x ≤ run.rest
+more_level : (c : Computation) (run : KeyedRun) (p x : ℕ) → 2 ≤ length c → p < length c - 2 → x ≤ run.rest
     → IsConsistent c (one_more (cut_at (digits (length c - 2) run.key) x (run.rest - x)) p)
     → IsOfLevel c (level_of (length c - 2) run + 1)
     (one_more (cut_at (digits (length c - 2) run.key) x (run.rest - x)) p)
@@ -65,7 +65,7 @@ more_level c run p x two lt le ok =
     sum_cut (digits (length c - 2) run.key) x (run.rest - x) in
     (ok, omega arith)
 
-module _ (c : Computation) (acyclic : HasNoCycle c) (two : 2 ≤ length c) (old new : KeptRun) (at_top at_low : Bool)
+module _ (c : Computation) (acyclic : HasNoCycle c) (two : 2 ≤ length c) (old new : KeyedRun) (at_top at_low : Bool)
     (r : IsRunOf c (level_of (length c - 2) old) (run_view (length c - 2) old))
     (m : IsMoved c old new at_top at_low) (born new_born : List ℕ)
     (g : GrowsAtEnds c new at_top at_low born new_born) where
@@ -175,7 +175,7 @@ module _ (c : Computation) (acyclic : HasNoCycle c) (two : 2 ≤ length c) (old 
   births_of_moved = record { kept = g.kept; just = just; all = all }
 
 -- the births at both ends of a run
-pub grow_ends : (c : Computation) (run : KeptRun) (at_top at_low : Bool) (p q : ℕ) → p ≡ length c - 2
+pub grow_ends : (c : Computation) (run : KeyedRun) (at_top at_low : Bool) (p q : ℕ) → p ≡ length c - 2
     → q ≡ length c - 1 → run.lo ≤ run.hi → run.hi ≤ run.rest → (old mid new : List ℕ)
     → GrowsIf c (cut_at (digits (length c - 2) run.key) run.hi (run.rest - run.hi)) at_top p (length c - 2) old mid
     → GrowsIf c (cut_at (digits (length c - 2) run.key) run.lo (run.rest - run.lo)) at_low q (length c - 2) mid new
@@ -225,7 +225,7 @@ births_of_born c two k key x y ok level young old new g = record {
   all = all;
 }
   where
-    run : KeptRun
+    run : KeyedRun
     run = record { key = key; lo = x; hi = x; rest = x + y }
 
     total : sum (digits (length c - 2) key) + (x + y) ≡ k

@@ -8,11 +8,11 @@ use Rattle.pd_neighbors.specs.Neighbors.{cut_at}
 use Rattle.pd_runs.specs.Births.{IsReceivedBelow}
 use Rattle.pd_runs.specs.WholeLevels.{Run, rest_at, IsRunOf, IsMovedTo}
 use Rattle.pd_runs.specs.KeptRuns.{run_view, level_of, IsMoved}
-use Rattle.pd_runs.specs.declared.kept.KeptRun.{KeptRun}
+use Rattle.pd_runs.specs.Kept.{KeyedRun}
 use Rattle.pd_runs.proofs.RunCuts.{x_at, y_at, more_x, more_y}
 use Rattle.pd_runs.proofs.RunFlags.{Ends, ends_of_run}
 
-pub rest_is : (n : ℕ) (run : KeptRun) → rest_at (level_of n run) (run_view n run) ≡ run.rest
+pub rest_is : (n : ℕ) (run : KeyedRun) → rest_at (level_of n run) (run_view n run) ≡ run.rest
 rest_is n run = omega arith
 
 -- the counts of a consistent cut by its prefix are those of events
@@ -32,13 +32,13 @@ last_counts c two key x y ok =
     )
 
 -- the ends of a run
-pub record KeptEnds (c : Computation) (run : KeptRun) : Type 0 where
+pub record KeptEnds (c : Computation) (run : KeyedRun) : Type 0 where
   pub some : run.lo ≤ run.hi
   pub within : run.hi ≤ run.rest
   pub least : IsConsistent c (cut_at (digits (length c - 2) run.key) run.lo (run.rest - run.lo))
   pub greatest : IsConsistent c (cut_at (digits (length c - 2) run.key) run.hi (run.rest - run.hi))
 
-pub kept_ends : (c : Computation) (run : KeptRun)
+pub kept_ends : (c : Computation) (run : KeyedRun)
     → IsRunOf c (level_of (length c - 2) run) (run_view (length c - 2) run) → KeptEnds c run
 kept_ends c run r =
     let e : rest_at (level_of (length c - 2) run) (run_view (length c - 2) run) ≡ run.rest =
@@ -69,7 +69,7 @@ more_last_but_one c two key x y p e =
     let at : p ≡ length (digits (length c - 2) key) = omega arith in
     ap (one_more (cut_at (digits (length c - 2) key) x y)) at ∙ more_x (digits (length c - 2) key) x y
 
-module _ (c : Computation) (two : 2 ≤ length c) (run : KeptRun) (p q : ℕ) (p_is : p ≡ length c - 2)
+module _ (c : Computation) (two : 2 ≤ length c) (run : KeyedRun) (p q : ℕ) (p_is : p ≡ length c - 2)
     (q_is : q ≡ length c - 1) (a b : Bool)
     (goes_y : (a ≡ true) ↔ IsConsistent c (one_more (cut_at (digits (length c - 2) run.key) run.lo (run.rest - run.lo))
     q))

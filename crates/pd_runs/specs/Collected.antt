@@ -1,11 +1,11 @@
 -- Births as they are collected, and as they are sorted.
-use Rattle.std.specs.Prelude.{◌≡◌, ◌⊎◌, ℕ, ◌<◌, ◌≤◌, List, [], ◌∷◌, ◌++◌, Contains, length, slice_index, Vec}
+use Rattle.std.specs.Prelude.{◌≡◌, ◌⊎◌, ℕ, ◌<◌, ◌≤◌, List, [], ◌∷◌, ◌++◌, Contains, length, map, slice_index, Vec}
 use Rattle.std.specs.Global.{Global}
 
--- what stands in the lists, one after another
-abbrev pub births_in : List (Vec ℕ Global) → List ℕ
-births_in [] = []
-births_in (list ∷ rest) = list.items ++ births_in rest
+-- the numbers of what stands in the lists, one after another
+abbrev pub births_in : {A : Type 0} → (A → ℕ) → List (Vec A Global) → List ℕ
+births_in number [] = []
+births_in number (list ∷ rest) = map number list.items ++ births_in number rest
 
 -- the new list has what the old one has, and this number
 pub record HasOneMore (old : List ℕ) (added : ℕ) (new : List ℕ) : Type 0 where

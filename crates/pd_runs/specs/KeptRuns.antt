@@ -5,26 +5,26 @@ use Rattle.pd_model.specs.Events.{Computation, place}
 use Rattle.pd_model.specs.Cuts.{IsConsistent, IsOfLevel, one_more}
 use Rattle.pd_neighbors.specs.Neighbors.{cut_at}
 use Rattle.pd_runs.specs.Births.{IsReceivedBelow}
+use Rattle.pd_runs.specs.Kept.{KeyedRun}
 use Rattle.pd_runs.specs.Points.{IsWanted}
 use Rattle.pd_runs.specs.WholeLevels.{Run, IsMovedTo, IsMadeAt}
-use Rattle.pd_runs.specs.declared.kept.KeptRun.{KeptRun}
 
 -- the run, where the prefix has n counts
-abbrev pub run_view : ℕ → KeptRun → Run
+abbrev pub run_view : ℕ → KeyedRun → Run
 run_view n run = record { prefix = digits n run.key; lo = run.lo; hi = run.hi }
 
 -- how many events each of its cuts has
-abbrev pub level_of : ℕ → KeptRun → ℕ
+abbrev pub level_of : ℕ → KeyedRun → ℕ
 level_of n run = sum (digits n run.key) + run.rest
 
 -- the run is kept with its key, at level k, where the prefix has n counts
-pub record IsKept (n k : ℕ) (run : KeptRun) : Type 0 where
+pub record IsKept (n k : ℕ) (run : KeyedRun) : Type 0 where
   pub below : run.key < count_base ^ n
   pub level : level_of n run ≡ k
 
 -- The run has moved to the next level and isn't empty there. The two flags say at which ends births are searched for:
 -- where an end has moved by a send that a process of the prefix receives.
-pub record IsMoved (c : Computation) (old new : KeptRun) (at_top at_low : Bool) : Type 0 where
+pub record IsMoved (c : Computation) (old new : KeyedRun) (at_top at_low : Bool) : Type 0 where
   pub same : new.key ≡ old.key
   pub rest : new.rest ≡ old.rest + 1
   pub moved : IsMovedTo c (level_of (length c - 2) old) (run_view (length c - 2) old) (run_view (length c - 2) new)
@@ -34,7 +34,7 @@ pub record IsMoved (c : Computation) (old new : KeptRun) (at_top at_low : Bool) 
 
 -- The new list has what the old one has, and beside that only cuts that one more event makes of a cut at an end of the
 -- run: all that receive what the last event there sends, at the ends that are flagged.
-pub record GrowsAtEnds (c : Computation) (run : KeptRun) (at_top at_low : Bool) (old new : List ℕ) : Type 0 where
+pub record GrowsAtEnds (c : Computation) (run : KeyedRun) (at_top at_low : Bool) (old new : List ℕ) : Type 0 where
   pub kept : (z : ℕ) → Contains old z → Contains new z
   pub just : (z : ℕ) → Contains new z → Contains old z
       ⊎ ((p x : ℕ) × (p < length c - 2) × (x ≤ run.rest)
@@ -49,7 +49,7 @@ pub record GrowsAtEnds (c : Computation) (run : KeptRun) (at_top at_low : Bool) 
 
 -- The new list has what the old one has, and beside that only cuts of the next level: all candidates that are made at
 -- this run of level k.
-pub record AddsBirths (c : Computation) (k : ℕ) (run : KeptRun) (old new : List ℕ) : Type 0 where
+pub record AddsBirths (c : Computation) (k : ℕ) (run : KeyedRun) (old new : List ℕ) : Type 0 where
   pub kept : (z : ℕ) → Contains old z → Contains new z
   pub just : (z : ℕ) → Contains new z
       → Contains old z ⊎ ((cut : List ℕ) × IsOfLevel c (k + 1) cut × (z ≡ key_of cut))
@@ -57,18 +57,18 @@ pub record AddsBirths (c : Computation) (k : ℕ) (run : KeptRun) (old new : Lis
       → Contains new (key_of cut)
 
 -- What is pushed where a run is moved: nothing, if it is empty one level on; or the run, and its births.
-pub data IsPushed (c : Computation) (old : KeptRun) (runs : List KeptRun) (born : List ℕ) (new_runs : List KeptRun)
+pub data IsPushed (c : Computation) (old : KeyedRun) (runs : List KeyedRun) (born : List ℕ) (new_runs : List KeyedRun)
     (new_born : List ℕ) : Type 0 where
   gone : ((new : Run) → IsMovedTo c (level_of (length c - 2) old) (run_view (length c - 2) old) new
       → ¬ (new.lo ≤ new.hi)) → new_runs ≡ runs → new_born ≡ born → IsPushed c old runs born new_runs new_born
-  moved : (new : KeptRun) (top low : Bool) → IsMoved c old new top low → new_runs ≡ runs ++ new ∷ []
+  moved : (new : KeyedRun) (top low : Bool) → IsMoved c old new top low → new_runs ≡ runs ++ new ∷ []
       → AddsBirths c (level_of (length c - 2) old + 1) new born new_born
       → IsPushed c old runs born new_runs new_born
 
 -- what is pushed where a prefix is born with the cut of this key
-pub record IsBornRun (c : Computation) (cut : ℕ) (runs : List KeptRun) (born : List ℕ) (new_runs : List KeptRun)
+pub record IsBornRun (c : Computation) (cut : ℕ) (runs : List KeyedRun) (born : List ℕ) (new_runs : List KeyedRun)
     (new_born : List ℕ) : Type 0 where
-  pub run : KeptRun
+  pub run : KeyedRun
   pub key : run.key ≡ cut / 65536 / 65536
   pub single : run.lo ≡ run.hi
   pub is : cut_at (digits (length c - 2) run.key) run.lo (run.rest - run.lo) ≡ digits (length c) cut

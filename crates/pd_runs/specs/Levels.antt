@@ -1,13 +1,12 @@
 -- A whole level, and how it is kept.
 use Rattle.std.specs.Prelude.{◌≡◌, ℕ, ◌+◌, ◌-◌, ◌/◌, ◌^◌, ◌<◌, ◌≤◌, List, Contains, length, map, min, slice_index}
-use Rattle.pd_format.specs.Limits.{process_limit}
 use Rattle.pd_keys.specs.Keys.{Ascending, count_base, digits}
 use Rattle.pd_model.specs.Events.{Computation}
 use Rattle.pd_model.specs.Cuts.{IsOfLevel}
 use Rattle.pd_runs.specs.Births.{IsCandidate}
+use Rattle.pd_runs.specs.Kept.{KeyedRun}
 use Rattle.pd_runs.specs.KeptRuns.{IsKept, run_view}
 use Rattle.pd_runs.specs.WholeLevels.{IsWhole, Run, count_of_runs}
-use Rattle.pd_runs.specs.declared.kept.KeptRun.{KeptRun}
 
 -- The number of a level and its runs. Beside them stand the cuts with which the prefixes of the next level are born.
 pub record WholeLevel : Type 0 where
@@ -26,10 +25,10 @@ pub record IsWholeLevel (c : Computation) (level : WholeLevel) : Type 0 where
   pub all : (cut : List ℕ) → IsCandidate c level.number cut → Contains level.born cut
 
 -- the runs that are kept
-abbrev pub runs_view : ℕ → List KeptRun → List Run
+abbrev pub runs_view : ℕ → List KeyedRun → List Run
 runs_view n runs = map (run_view n) runs
 
-abbrev pub whole_view : ℕ → ℕ → List KeptRun → List ℕ → WholeLevel
+abbrev pub whole_view : ℕ → ℕ → List KeyedRun → List ℕ → WholeLevel
 whole_view processes number runs born =
     record {
       processes = processes;
@@ -39,8 +38,8 @@ whole_view processes number runs born =
     }
 
 -- the keys of the prefixes
-abbrev pub keys_of : List KeptRun → List ℕ
-keys_of runs = map (λ (run : KeptRun). run.key) runs
+abbrev pub keys_of : List KeyedRun → List ℕ
+keys_of runs = map (λ (run : KeyedRun). run.key) runs
 
 abbrev pub prefix_key : ℕ → ℕ
 prefix_key cut = cut / 65536 / 65536
@@ -49,12 +48,12 @@ prefix_key cut = cut / 65536 / 65536
 abbrev pub cut_count : List Run → ℕ
 cut_count runs = min (count_of_runs runs) 18446744073709551615
 
--- how a level is kept: ascending keys, and ascending births, of two processes or more
-pub record IsKeptLevel (processes number : ℕ) (runs : List KeptRun) (born : List ℕ) : Type 0 where
-  pub few : processes ≤ process_limit
+-- how a level is kept: ascending keys, and ascending births, of two processes or more, and no more than keys have room for
+pub record IsKeptLevel (room processes number : ℕ) (runs : List KeyedRun) (born : List ℕ) : Type 0 where
+  pub few : processes ≤ room
   pub two : 2 ≤ processes
   pub keys : Ascending (keys_of runs)
-  pub kept : (run : KeptRun) → Contains runs run → IsKept (processes - 2) number run
-  pub some : (run : KeptRun) → Contains runs run → run.lo ≤ run.hi
+  pub kept : (run : KeyedRun) → Contains runs run → IsKept (processes - 2) number run
+  pub some : (run : KeyedRun) → Contains runs run → run.lo ≤ run.hi
   pub sorted : (i j : ℕ) → i ≤ j → j < length born → slice_index born i ≤ slice_index born j
   pub below : (cut : ℕ) → Contains born cut → cut < count_base ^ processes

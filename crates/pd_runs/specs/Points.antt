@@ -6,10 +6,10 @@ use Rattle.pd_model.specs.Messages.{IsMessage}
 use Rattle.pd_model.specs.Cuts.{IsConsistent, one_more}
 use Rattle.pd_neighbors.specs.Neighbors.{cut_at}
 use Rattle.pd_runs.specs.Births.{next_of}
-use Rattle.pd_runs.specs.declared.point.Point.{Point}
+use Rattle.pd_runs.specs.Kept.{KeyedCut}
 
 -- the cut, where the prefix has n counts
-abbrev pub point_cut : ℕ → Point → List ℕ
+abbrev pub point_cut : ℕ → KeyedCut → List ℕ
 point_cut n point = cut_at (digits n point.key) point.x point.y
 
 -- the next event of process p may be added; or receives what the last event of a process in the cut sends

@@ -12,23 +12,25 @@ use super::birth::{add_births, add_births_if};
 use super::births::Births;
 use super::kept::KeptRun;
 use super::point::{Point, can_add, point_of};
+use pd_keys::Key;
 use std::alloc::AllocError;
 
 /// A run one level on, and whether births have to be searched for at its two ends.
-#[derive(Clone, Copy)]
-pub(crate) struct Moved {
-    pub(crate) run: KeptRun,
+#[derive(Drop)]
+pub(crate) struct Moved<K: Key> {
+    pub(crate) run: KeptRun<K>,
     pub(crate) top: bool,
     pub(crate) low: bool,
 }
 
 /// The run one level on, if it isn't empty there.
-fn move_run(steps: &Steps<'_, '_>, run: KeptRun) -> Option<Moved>
-    requires kept { IsKept (length steps.now - 2) (level_of (length steps.now - 2) run) run }
-    requires run { IsRunOf steps.now (level_of (length steps.now - 2) run) (run_view (length steps.now - 2) run) }
-    ensures some { IfSome result (λ next. IsMoved steps.now run next.run next.top next.low) }
+fn move_run<K: Key>(steps: &Steps<'_, '_>, run: &KeptRun<K>) -> Option<Moved<K>>
+    requires few { length steps.now ≤ K.room }
+    requires kept { IsKept (length steps.now - 2) (level_of (length steps.now - 2) run.now) run.now }
+    requires run { IsRunOf steps.now (level_of (length steps.now - 2) run.now) (run_view (length steps.now - 2) run.now) }
+    ensures some { IfSome result (λ next. IsMoved steps.now run.now next.run next.top next.low) }
     ensures none { IfNone result ((new : Run)
-        → IsMovedTo steps.now (level_of (length steps.now - 2) run) (run_view (length steps.now - 2) run) new
+        → IsMovedTo steps.now (level_of (length steps.now - 2) run.now) (run_view (length steps.now - 2) run.now) new
         → ¬ (new.lo ≤ new.hi)) }
 {
     steps.limits();
@@ -43,8 +45,8 @@ fn move_run(steps: &Steps<'_, '_>, run: KeptRun) -> Option<Moved>
         x: run.hi,
         y: run.rest - run.hi,
     };
-    let stays = can_add(steps, least, x + 1);
-    let goes = can_add(steps, greatest, x);
+    let stays = can_add(steps, &least, x + 1);
+    let goes = can_add(steps, &greatest, x);
     let lo = if stays { run.lo } else { run.lo + 1 };
     let hi = if goes { run.hi + 1 } else { run.hi };
     if lo > hi {
@@ -63,19 +65,25 @@ fn move_run(steps: &Steps<'_, '_>, run: KeptRun) -> Option<Moved>
 }
 
 /// Adds the births that are searched for at the ends of a run that has moved.
-fn add_births_of(steps: &Steps<'_, '_>, next: Moved, born: &mut Births) -> Result<(), AllocError>
-    requires below { next.run.key < count_base ^ (length steps.now - 2) }
-    requires least { IsConsistent steps.now (cut_at (digits (length steps.now - 2) next.run.key) next.run.lo
-        (next.run.rest - next.run.lo)) }
-    requires greatest { IsConsistent steps.now (cut_at (digits (length steps.now - 2) next.run.key) next.run.hi
-        (next.run.rest - next.run.hi)) }
-    requires within { next.run.hi ≤ next.run.rest }
-    requires some { next.run.lo ≤ next.run.hi }
-    ensures { IfOk result (λ _. GrowsAtEnds steps.now next.run next.top next.low born.old born.new) }
+fn add_births_of<K: Key>(
+    steps: &Steps<'_, '_>,
+    run: &KeptRun<K>,
+    top: bool,
+    low: bool,
+    born: &mut Births<K>,
+) -> Result<(), AllocError>
+    requires few { length steps.now ≤ K.room }
+    requires below { run.now.key < count_base ^ (length steps.now - 2) }
+    requires least { IsConsistent steps.now (cut_at (digits (length steps.now - 2) run.now.key) run.now.lo
+        (run.now.rest - run.now.lo)) }
+    requires greatest { IsConsistent steps.now (cut_at (digits (length steps.now - 2) run.now.key) run.now.hi
+        (run.now.rest - run.now.hi)) }
+    requires within { run.now.hi ≤ run.now.rest }
+    requires some { run.now.lo ≤ run.now.hi }
+    ensures { IfOk result (λ _. GrowsAtEnds steps.now run.now top low born.old born.new) }
 {
     steps.limits();
     let x = steps.prefix();
-    let run = next.run;
     let greatest = Point {
         key: run.key,
         x: run.hi,
@@ -86,27 +94,28 @@ fn add_births_of(steps: &Steps<'_, '_>, next: Moved, born: &mut Births) -> Resul
         x: run.lo,
         y: run.rest - run.lo,
     };
-    add_births_if(steps, next.top, greatest, x, born)?;
-    add_births_if(steps, next.low, least, x + 1, born)?;
+    add_births_if(steps, top, &greatest, x, born)?;
+    add_births_if(steps, low, &least, x + 1, born)?;
     Ok(())
 }
 
 /// Adds the run one level on, if it isn't empty there, and the births that are searched for at its ends.
-pub(crate) fn push_moved(
+pub(crate) fn push_moved<K: Key>(
     steps: &Steps<'_, '_>,
-    run: KeptRun,
-    runs: &mut Vec<KeptRun>,
-    born: &mut Births,
+    run: &KeptRun<K>,
+    runs: &mut Vec<KeptRun<K>>,
+    born: &mut Births<K>,
 ) -> Result<(), AllocError>
-    requires kept { IsKept (length steps.now - 2) (level_of (length steps.now - 2) run) run }
-    requires run { IsRunOf steps.now (level_of (length steps.now - 2) run) (run_view (length steps.now - 2) run) }
-    ensures { IfOk result (λ _. IsPushed steps.now run runs.old.items born.old runs.new.items born.new) }
+    requires few { length steps.now ≤ K.room }
+    requires kept { IsKept (length steps.now - 2) (level_of (length steps.now - 2) run.now) run.now }
+    requires run { IsRunOf steps.now (level_of (length steps.now - 2) run.now) (run_view (length steps.now - 2) run.now) }
+    ensures { IfOk result (λ _. IsPushed steps.now run.now runs.old.items born.old runs.new.items born.new) }
 {
     steps.limits();
     match move_run(steps, run) {
         Some(next) => {
+            add_births_of(steps, &next.run, next.top, next.low, born)?;
             runs.push(next.run)?;
-            add_births_of(steps, next, born)?;
             Ok(())
         }
         None => Ok(()),
@@ -114,26 +123,28 @@ pub(crate) fn push_moved(
 }
 
 /// Adds the run of a cut whose prefix is born with it, and the births that are searched for at it.
-pub(crate) fn push_born(
+pub(crate) fn push_born<K: Key>(
     steps: &Steps<'_, '_>,
-    cut: u128,
-    runs: &mut Vec<KeptRun>,
-    born: &mut Births,
+    cut: K,
+    runs: &mut Vec<KeptRun<K>>,
+    born: &mut Births<K>,
 ) -> Result<(), AllocError>
-    requires below { cut < count_base ^ length steps.now }
-    requires cut { IsConsistent steps.now (digits (length steps.now) cut) }
-    requires young { IsYoung steps.now (sum (digits (length steps.now) cut))
-        (digits (length steps.now - 2) (cut / 65536 / 65536)) }
-    ensures { IfOk result (λ _. IsBornRun steps.now cut runs.old.items born.old runs.new.items born.new) }
+    requires few { length steps.now ≤ K.room }
+    requires below { K.number cut < count_base ^ length steps.now }
+    requires cut { IsConsistent steps.now (digits (length steps.now) (K.number cut)) }
+    requires young { IsYoung steps.now (sum (digits (length steps.now) (K.number cut)))
+        (digits (length steps.now - 2) (K.number cut / 65536 / 65536)) }
+    ensures { IfOk result (λ _.
+        IsBornRun steps.now (K.number cut) runs.old.items born.old runs.new.items born.new) }
 {
     steps.limits();
-    let point = point_of(cut, steps.prefix());
+    let point = point_of(cut, steps.prefix() + 2);
     runs.push(KeptRun {
         key: point.key,
         lo: point.x,
         hi: point.x,
         rest: point.x + point.y,
     })?;
-    add_births(steps, point, None, born)?;
+    add_births(steps, &point, None, born)?;
     Ok(())
 }

@@ -1,13 +1,23 @@
 //! A run as it is kept.
+use pd_keys::Key;
+use std::marker::Model;
 
 /// The cuts of a level that agree in all counts but the last two.
-#[derive(Clone, Copy)]
-pub(crate) struct KeptRun {
+#[derive(Drop)]
+pub(crate) struct KeptRun<K: Key> {
     /// The counts of the prefix as the digits of a number.
-    pub(crate) key: u128,
+    pub(crate) key: K,
     /// The least and the greatest count of the last process but one.
     pub(crate) lo: u32,
     pub(crate) hi: u32,
     /// The sum of the last two counts.
     pub(crate) rest: u32,
+}
+
+impl<K: Key> Model for KeptRun<K> {
+    ghost use Rattle.pd_runs.specs.Kept.{KeyedRun};
+
+    ghost Value = { KeyedRun };
+
+    ghost view = { λ run. record { key = K.number run.key; lo = run.lo; hi = run.hi; rest = run.rest } };
 }

@@ -1,5 +1,4 @@
 //! A cut by the key of its prefix and its last two counts, and which events can be added to it.
-ghost use Rattle.pd_format.specs.Limits.{process_limit};
 ghost use Rattle.pd_keys.specs.Keys.{count_base, digits, key_of};
 ghost use Rattle.pd_model.specs.Cuts.{IsConsistent, one_more};
 ghost use Rattle.pd_model.specs.Events.{place};
@@ -10,25 +9,34 @@ ghost use Rattle.pd_runs.specs.Points.{point_cut};
 ghost use Rattle.std.specs.Prelude.{◌≡◌, ◌+◌, ◌-◌, ◌/◌, ◌^◌, ◌<◌, ◌≤◌, ◌↔◌, IsTrue, length, slice_index};
 
 use super::Steps;
-use pd_keys::digit;
+use pd_keys::Key;
+use std::marker::Model;
 
 /// A cut: the counts of its prefix as the digits of a number, and its last two counts.
-#[derive(Clone, Copy)]
-pub(crate) struct Point {
-    pub(crate) key: u128,
+#[derive(Drop)]
+pub(crate) struct Point<K: Key> {
+    pub(crate) key: K,
     pub(crate) x: u32,
     pub(crate) y: u32,
 }
 
+impl<K: Key> Model for Point<K> {
+    ghost use Rattle.pd_runs.specs.Kept.{KeyedCut};
+
+    ghost Value = { KeyedCut };
+
+    ghost view = { λ point. record { key = K.number point.key; x = point.x; y = point.y } };
+}
+
 /// The count of process `q` in a cut with this many counts before the last two.
-fn count(point: Point, prefix: usize, q: usize) -> u64
-    requires few { prefix ≤ process_limit }
-    requires below { point.key < count_base ^ prefix }
+fn count<K: Key>(point: &Point<K>, prefix: usize, q: usize) -> u64
+    requires few { prefix ≤ K.room }
+    requires below { point.now.key < count_base ^ prefix }
     requires within { q < prefix + 2 }
-    ensures { result ≡ slice_index (point_cut prefix point) q }
+    ensures { result ≡ slice_index (point_cut prefix point.now) q }
 {
     if q < prefix {
-        digit(point.key, prefix, q)
+        point.key.digit(prefix, q)
     } else if q == prefix {
         u64::from(point.x)
     } else {
@@ -37,11 +45,12 @@ fn count(point: Point, prefix: usize, q: usize) -> u64
 }
 
 /// Whether the next event of process `p` can be added to the cut.
-pub(crate) fn can_add(steps: &Steps<'_, '_>, point: Point, p: usize) -> bool
+pub(crate) fn can_add<K: Key>(steps: &Steps<'_, '_>, point: &Point<K>, p: usize) -> bool
+    requires few { length steps.now ≤ K.room }
     requires within { p < length steps.now }
-    requires below { point.key < count_base ^ (length steps.now - 2) }
-    requires cut { IsConsistent steps.now (point_cut (length steps.now - 2) point) }
-    ensures { IsTrue result ↔ IsConsistent steps.now (one_more (point_cut (length steps.now - 2) point) p) }
+    requires below { point.now.key < count_base ^ (length steps.now - 2) }
+    requires cut { IsConsistent steps.now (point_cut (length steps.now - 2) point.now) }
+    ensures { IsTrue result ↔ IsConsistent steps.now (one_more (point_cut (length steps.now - 2) point.now) p) }
 {
     steps.limits();
     let prefix = steps.prefix();
@@ -50,14 +59,15 @@ pub(crate) fn can_add(steps: &Steps<'_, '_>, point: Point, p: usize) -> bool
 }
 
 /// Whether the next event of process `p` can be added to the cut, and needs the last event of process `q` in it.
-pub(crate) fn follows(steps: &Steps<'_, '_>, point: Point, p: usize, q: usize) -> bool
+pub(crate) fn follows<K: Key>(steps: &Steps<'_, '_>, point: &Point<K>, p: usize, q: usize) -> bool
+    requires few { length steps.now ≤ K.room }
     requires within { p < length steps.now }
     requires sender { q < length steps.now }
-    requires below { point.key < count_base ^ (length steps.now - 2) }
-    requires cut { IsConsistent steps.now (point_cut (length steps.now - 2) point) }
-    ensures added { IsTrue result → IsConsistent steps.now (one_more (point_cut (length steps.now - 2) point) p) }
-    ensures all { IsMessage steps.now (place q (slice_index (point_cut (length steps.now - 2) point) q))
-        (next_of (point_cut (length steps.now - 2) point) p) → IsTrue result }
+    requires below { point.now.key < count_base ^ (length steps.now - 2) }
+    requires cut { IsConsistent steps.now (point_cut (length steps.now - 2) point.now) }
+    ensures added { IsTrue result → IsConsistent steps.now (one_more (point_cut (length steps.now - 2) point.now) p) }
+    ensures all { IsMessage steps.now (place q (slice_index (point_cut (length steps.now - 2) point.now) q))
+        (next_of (point_cut (length steps.now - 2) point.now) p) → IsTrue result }
 {
     steps.limits();
     let prefix = steps.prefix();
@@ -66,27 +76,28 @@ pub(crate) fn follows(steps: &Steps<'_, '_>, point: Point, p: usize, q: usize) -
 }
 
 /// The cut as one number, whose digits are its counts.
-pub(crate) fn key_of_cut(point: Point, prefix: usize) -> u128
-    requires few { prefix + 2 ≤ process_limit }
-    requires below { point.key < count_base ^ prefix }
-    requires x { point.x < count_base }
-    requires y { point.y < count_base }
-    ensures { result ≡ key_of (point_cut prefix point) }
+pub(crate) fn key_of_cut<K: Key>(point: &Point<K>, prefix: usize) -> K
+    requires few { prefix + 2 ≤ K.room }
+    requires below { point.now.key < count_base ^ prefix }
+    requires x { point.now.x < count_base }
+    requires y { point.now.y < count_base }
+    ensures { K.number result ≡ key_of (point_cut prefix point.now) }
 {
-    (point.key * 65_536 + u128::from(point.x)) * 65_536 + u128::from(point.y)
+    point.key.with_two(u64::from(point.x), u64::from(point.y))
 }
 
-/// The cut with these digits.
-pub(crate) fn point_of(cut: u128, prefix: usize) -> Point
-    requires { cut < count_base ^ (prefix + 2) }
-    ensures below { result.key < count_base ^ prefix }
-    ensures cut { point_cut prefix result ≡ digits (prefix + 2) cut }
-    ensures key { result.key ≡ cut / 65536 / 65536 }
+/// The cut of `n` processes with these digits.
+pub(crate) fn point_of<K: Key>(cut: K, n: usize) -> Point<K>
+    requires few { n ≤ K.room }
+    requires two { 2 ≤ n }
+    requires below { K.number cut < count_base ^ n }
+    ensures below { result.key < count_base ^ (n - 2) }
+    ensures cut { point_cut (n - 2) result ≡ digits n (K.number cut) }
+    ensures key { result.key ≡ K.number cut / 65536 / 65536 }
 {
-    let rest = cut / 65_536;
     Point {
-        key: rest / 65_536,
-        x: (rest % 65_536) as u32,
-        y: (cut % 65_536) as u32,
+        key: cut.without_two(),
+        x: cut.digit(n, n - 2) as u32,
+        y: cut.digit(n, n - 1) as u32,
     }
 }

@@ -1,12 +1,10 @@
 //! A whole level.
-ghost use Rattle.pd_format.specs.Limits.{process_limit};
 ghost use Rattle.pd_keys.specs.Keys.{AreDigits, key_of};
 ghost use Rattle.pd_neighbors.specs.Neighbors.{cut_at};
-ghost use Rattle.pd_runs.specs.KeptRuns.{run_view};
-ghost use Rattle.pd_runs.specs.Levels.{IsKeptLevel, IsWholeLevel, cut_count, keys_of, prefix_key, runs_view, whole_view};
+ghost use Rattle.pd_runs.specs.Kept.{KeyedRun};
+ghost use Rattle.pd_runs.specs.Levels.{IsKeptLevel, IsWholeLevel, cut_count, keys_of, runs_view, whole_view};
 ghost use Rattle.pd_runs.specs.WholeLevels.{Run, rest_at};
-ghost use Rattle.pd_runs.specs.declared.kept.KeptRun.{KeptRun};
-ghost use Rattle.std.specs.Prelude.{◌≡◌, ◌+◌, ◌<◌, ◌≤◌, ◌==◌, ℕ, Contains, IfOk, IfSome, length, slice_get, slice_index};
+ghost use Rattle.std.specs.Prelude.{◌≡◌, ◌+◌, ◌<◌, ◌≤◌, ◌==◌, ◌↔◌, ℕ, Contains, IfOk, IfSome, IsTrue, length, map, slice_get, slice_index};
 
 use super::Steps;
 use super::advance::{push_born, push_moved};
@@ -14,104 +12,112 @@ use super::birth::add_births;
 use super::births::Births;
 use super::kept::KeptRun;
 use super::point::Point;
-use pd_keys::digit;
+use pd_keys::Key;
 use std::alloc::{AllocError, Global};
 use std::marker::Model;
 
 /// A whole level: its number, its cuts as runs, and the cuts with which the prefixes of the next level are born.
 #[derive(Drop)]
-pub struct Whole {
+pub struct Whole<K: Key> {
     processes: usize,
     number: u64,
     cuts: u64,
-    runs: Vec<KeptRun>,
-    born: Vec<u128>,
+    runs: Vec<KeptRun<K>>,
+    born: Vec<K>,
 }
 
-impl Model for Whole {
+impl<K: Key> Model for Whole<K> {
     ghost use Rattle.pd_runs.specs.Levels.{IsKeptLevel, WholeLevel, cut_count, runs_view, whole_view};
-    ghost use Rattle.std.specs.Prelude.{◌≡◌, ◌-◌};
+    ghost use Rattle.std.specs.Prelude.{◌≡◌, ◌-◌, map};
 
     ghost Value = { WholeLevel };
 
-    ghost view = { λ w. whole_view w.processes w.number w.runs.items w.born.items };
+    ghost view = { λ w. whole_view w.processes w.number w.runs.items (map K.number w.born.items) };
 
-    ghost invariant = { λ w. IsKeptLevel w.processes w.number w.runs.items w.born.items
+    ghost invariant = { λ w. IsKeptLevel K.room w.processes w.number w.runs.items (map K.number w.born.items)
         × (w.cuts ≡ cut_count (runs_view (w.processes - 2) w.runs.items)) };
 }
 
 /// How many cuts the runs have, or the greatest `u64` if they are more.
-fn cuts_in(runs: &[KeptRun]) -> u64
-    requires { (run : KeptRun) → Contains runs.now run → run.lo ≤ run.hi }
+fn cuts_in<K: Key>(runs: &[KeptRun<K>]) -> u64
+    requires { (run : KeyedRun) → Contains runs.now run → run.lo ≤ run.hi }
     ensures { (n : ℕ) → result ≡ cut_count (runs_view n runs.now) }
 {
     let mut cuts: u64 = 0;
     for i in 0..runs.len() {
-        let run = runs[i];
+        let run = &runs[i];
         cuts = cuts.saturating_add(u64::from(run.hi - run.lo) + 1);
     }
     cuts
 }
 
-/// The key of the run with this index, and at the end a number above all keys.
-fn run_key(runs: &[KeptRun], i: usize) -> u128
-    ensures at { i < length runs.now → result ≡ slice_index (keys_of runs.now) i }
-    ensures end { length runs.now ≤ i → result ≡ 340282366920938463463374607431768211455 }
+/// Whether there is a run with this index, and the key of its prefix is below this one.
+fn is_run_below<K: Key>(runs: &[KeptRun<K>], i: usize, prefix: K) -> bool
+    ensures { IsTrue result ↔ ((i < length runs.now) × (slice_index (keys_of runs.now) i < K.number prefix)) }
 {
-    if i < runs.len() {
-        runs[i].key
-    } else {
-        u128::MAX
+    if i >= runs.len() {
+        return false;
     }
+    let run = &runs[i];
+    run.key.is_below(prefix)
 }
 
-/// The key of the prefix of the birth with this index, and at the end a number above all keys.
-fn birth_key(births: &[u128], j: usize) -> u128
-    ensures at { j < length births.now → result ≡ prefix_key (slice_index births.now j) }
-    ensures end { length births.now ≤ j → result ≡ 340282366920938463463374607431768211455 }
+/// Whether the key of a prefix is below that of the run with this index, if there is one.
+fn is_below_run<K: Key>(prefix: K, runs: &[KeptRun<K>], i: usize) -> bool
+    ensures { IsTrue result ↔ (i < length runs.now → K.number prefix < slice_index (keys_of runs.now) i) }
 {
-    if j < births.len() {
-        births[j] / 65_536 / 65_536
-    } else {
-        u128::MAX
+    if i >= runs.len() {
+        return true;
+    }
+    let run = &runs[i];
+    prefix.is_below(run.key)
+}
+
+/// Whether the key of a prefix is above the last one, if there is one.
+fn is_above<K: Key>(prefix: K, last: Option<K>) -> bool
+    ensures { IsTrue result ↔ IfSome last (λ key. K.number key < K.number prefix) }
+{
+    match last {
+        Some(key) => key.is_below(prefix),
+        None => true,
     }
 }
 
 /// The level after the one of these runs and births. Each run moves, and beside them stand the births whose prefix has
-/// no run yet.
-fn next_level(
+/// no run yet: each prefix is born with the first of its births.
+fn next_level<K: Key>(
     alloc: Global,
     steps: &Steps<'_, '_>,
     number: u64,
-    olds: &[KeptRun],
-    births: &[u128],
-) -> Result<Whole, AllocError>
+    olds: &[KeptRun<K>],
+    births: &[K],
+) -> Result<Whole<K>, AllocError>
     requires room { number < 18446744073709551615 }
-    requires kept { IsKeptLevel (length steps.now) number olds.now births.now }
-    requires level { IsWholeLevel steps.now (whole_view (length steps.now) number olds.now births.now) }
+    requires kept { IsKeptLevel K.room (length steps.now) number olds.now (map K.number births.now) }
+    requires level { IsWholeLevel steps.now
+        (whole_view (length steps.now) number olds.now (map K.number births.now)) }
     ensures level { IfOk result (IsWholeLevel steps.now) }
     ensures number { IfOk result (λ next. next.number ≡ number + 1) }
 {
     steps.limits();
     let mut runs = Vec::with_capacity(alloc, olds.len().saturating_add(births.len()))?;
     let mut born = Births::new(alloc)?;
-    let mut floor: u128 = 0;
+    let mut last = None;
     let mut i = 0;
-    let mut j = 0;
-    while i < olds.len() || j < births.len() {
-        let old = run_key(olds, i);
-        let birth = birth_key(births, j);
-        if birth <= old {
-            if floor <= birth && birth < old {
-                push_born(steps, births[j], &mut runs, &mut born)?;
-                floor = birth + 1;
-            }
-            j += 1;
-        } else {
-            push_moved(steps, olds[i], &mut runs, &mut born)?;
-            floor = old + 1;
+    for j in 0..births.len() {
+        let prefix = births[j].without_two();
+        while is_run_below(olds, i, prefix) {
+            push_moved(steps, &olds[i], &mut runs, &mut born)?;
             i += 1;
         }
+        if is_above(prefix, last) && is_below_run(prefix, olds, i) {
+            push_born(steps, births[j], &mut runs, &mut born)?;
+            last = Some(prefix);
+        }
+    }
+    while i < olds.len() {
+        push_moved(steps, &olds[i], &mut runs, &mut born)?;
+        i += 1;
     }
     let born = born.sorted(alloc)?;
     Ok(Whole {
@@ -123,12 +129,13 @@ fn next_level(
     })
 }
 
-impl Whole {
+impl<K: Key> Whole<K> {
     /// Level 0, which has the empty cut alone.
     ///
     /// # Errors
     /// An allocation was refused.
-    pub fn first(alloc: Global, steps: &Steps<'_, '_>) -> Result<Whole, AllocError>
+    pub fn first(alloc: Global, steps: &Steps<'_, '_>) -> Result<Whole<K>, AllocError>
+        requires { length steps.now ≤ K.room }
         ensures level { IfOk result (IsWholeLevel steps.now) }
         ensures number { IfOk result (λ level. level.number ≡ 0) }
     {
@@ -136,12 +143,17 @@ impl Whole {
         let mut runs = Vec::with_capacity(alloc, 1)?;
         let mut born = Births::new(alloc)?;
         runs.push(KeptRun {
-            key: 0,
+            key: K::none(),
             lo: 0,
             hi: 0,
             rest: 0,
         })?;
-        add_births(steps, Point { key: 0, x: 0, y: 0 }, None, &mut born)?;
+        let empty = Point {
+            key: K::none(),
+            x: 0,
+            y: 0,
+        };
+        add_births(steps, &empty, None, &mut born)?;
         let born = born.sorted(alloc)?;
         Ok(Whole {
             processes: steps.prefix() + 2,
@@ -156,7 +168,11 @@ impl Whole {
     ///
     /// # Errors
     /// An allocation was refused.
-    pub fn next(alloc: Global, steps: &Steps<'_, '_>, level: &Whole) -> Result<Whole, AllocError>
+    pub fn next(
+        alloc: Global,
+        steps: &Steps<'_, '_>,
+        level: &Whole<K>,
+    ) -> Result<Whole<K>, AllocError>
         requires room { level.now.number < 18446744073709551615 }
         requires level { IsWholeLevel steps.now level.now }
         ensures level { IfOk result (IsWholeLevel steps.now) }
@@ -195,11 +211,12 @@ impl Whole {
 
     /// The counts of the prefix of run `i`, from 0, as the digits of a number: 16 bits each, the count of process 0
     /// highest. The two lowest digits are 0.
-    pub fn key(&self, i: usize) -> u128
+    pub fn key(&self, i: usize) -> K
         requires { i < length self.now.runs }
-        ensures { IfSome (slice_get self.now.runs i) (λ run. result ≡ key_of (cut_at run.prefix 0 0)) }
+        ensures { IfSome (slice_get self.now.runs i) (λ run. K.number result ≡ key_of (cut_at run.prefix 0 0)) }
     {
-        self.runs[i].key * 4_294_967_296
+        let run = &self.runs[i];
+        run.key.with_two(0, 0)
     }
 
     /// The least count of the last process but one in run `i`, from 0.
@@ -207,7 +224,8 @@ impl Whole {
         requires { i < length self.now.runs }
         ensures { IfSome (slice_get self.now.runs i) (λ run. result ≡ run.lo) }
     {
-        u64::from(self.runs[i].lo)
+        let run = &self.runs[i];
+        u64::from(run.lo)
     }
 
     /// The greatest count of the last process but one in run `i`, from 0.
@@ -215,7 +233,8 @@ impl Whole {
         requires { i < length self.now.runs }
         ensures { IfSome (slice_get self.now.runs i) (λ run. result ≡ run.hi) }
     {
-        u64::from(self.runs[i].hi)
+        let run = &self.runs[i];
+        u64::from(run.hi)
     }
 
     /// The sum of the last two counts of each cut of run `i`, from 0.
@@ -223,7 +242,8 @@ impl Whole {
         requires { i < length self.now.runs }
         ensures { IfSome (slice_get self.now.runs i) (λ run. result ≡ rest_at self.now.number run) }
     {
-        u64::from(self.runs[i].rest)
+        let run = &self.runs[i];
+        u64::from(run.rest)
     }
 
     /// The count of process `p` of the prefix of run `i`, both from 0.
@@ -232,7 +252,8 @@ impl Whole {
         requires prefix { p + 2 < self.now.processes }
         ensures { IfSome (slice_get self.now.runs i) (λ run. result ≡ slice_index run.prefix p) }
     {
-        digit(self.runs[i].key, self.processes - 2, p)
+        let run = &self.runs[i];
+        run.key.digit(self.processes - 2, p)
     }
 
     /// How many processes there are.
@@ -245,7 +266,7 @@ impl Whole {
     /// What holds of each level. It has no code: a caller's proof has these facts by calling it.
     pub fn limits(&self)
         ensures two { 2 ≤ self.now.processes }
-        ensures few { self.now.processes ≤ process_limit }
+        ensures few { self.now.processes ≤ K.room }
         ensures digits { (run : Run) → Contains self.now.runs run → AreDigits run.prefix }
     {
         let _processes = self.processes;

@@ -1,90 +1,104 @@
 -- The births of one cut, one process after another.
-use Rattle.std.proofs.Common.{◌≡◌, ◌+◌, ◌-◌, ◌^◌, ◌<◌, ◌≤◌, ℕ, length, sym, ap, ◌∙◌, subst, arith}
+use Rattle.std.proofs.Common.{◌≡◌, ◌+◌, ◌-◌, ◌^◌, ◌<◌, ◌≤◌, ℕ, List, length, get_or, sym, ap, ◌∙◌, subst, arith}
 use Rattle.std.proofs.lemmas.Bool.{false≢true}
 use Rattle.pd_format.specs.Limits.{event_limit}
-use Rattle.pd_keys.specs.Keys.{count_base, key_of}
-use Rattle.pd_keys.proofs.Keys.{weight_le}
-use Rattle.pd_model.specs.Events.{event_count}
-use Rattle.pd_model.specs.Cuts.{one_more}
+use Rattle.pd_keys.specs.Keys.{count_base, digits, key_of}
+use Rattle.pd_model.specs.Events.{Computation, event_count}
+use Rattle.pd_model.specs.Cuts.{IsConsistent, one_more}
 use Rattle.pd_runs.specs.Collected.{HasOneMore}
+use Rattle.pd_runs.specs.Kept.{KeyedCut}
 use Rattle.pd_runs.specs.Points.{GrowsBy, point_cut}
-use Rattle.pd_runs.proofs.CutKeys.{cut_below, added_key}
+use Rattle.pd_runs.proofs.CutKeys.{added_key, cut_back, cut_below, room_for_one}
 use Rattle.pd_runs.proofs.Growing.{grow_yes, grow_no}
 use Rattle.pd_runs.proofs.RunSteps.{last_counts}
 use Rattle.pd_runs.proofs.birth.add_births.Goals as goal
 use Rattle.pd_runs.proofs.birth.add_births.Goals.{then-adds+in_ok-push, else-adds}
 
 pub key_of_cut-cut-requires-clause-x : goal.key_of_cut-cut-requires-clause-x
-key_of_cut-cut-requires-clause-x c =
-    let w = last_counts c.args.steps.now c.limits.ensures.two c.args.point.key c.args.point.x c.args.point.y
+key_of_cut-cut-requires-clause-x g c =
+    let w = last_counts c.args.steps.now c.limits.ensures.two c.args.point.now.key c.args.point.now.x c.args.point.now.y
     c.requires.cut in
-    let x : c.args.point.x ≤ event_count c.args.steps.now (length c.args.steps.now - 2) = w.0 in
+    let x : c.args.point.now.x ≤ event_count c.args.steps.now (length c.args.steps.now - 2) = w.0 in
     let few : event_count c.args.steps.now (length c.args.steps.now - 2) ≤ event_limit =
     c.limits.ensures.short (length c.args.steps.now - 2) in
     omega arith
 
 pub key_of_cut-cut-requires-clause-y : goal.key_of_cut-cut-requires-clause-y
-key_of_cut-cut-requires-clause-y c =
-    let w = last_counts c.args.steps.now c.limits.ensures.two c.args.point.key c.args.point.x c.args.point.y
+key_of_cut-cut-requires-clause-y g c =
+    let w = last_counts c.args.steps.now c.limits.ensures.two c.args.point.now.key c.args.point.now.x c.args.point.now.y
     c.requires.cut in
-    let y : c.args.point.y ≤ event_count c.args.steps.now (length c.args.steps.now - 1) = w.1 in
+    let y : c.args.point.now.y ≤ event_count c.args.steps.now (length c.args.steps.now - 1) = w.1 in
     let few : event_count c.args.steps.now (length c.args.steps.now - 1) ≤ event_limit =
     c.limits.ensures.short (length c.args.steps.now - 1) in
     omega arith
 
-pub overflow_add-cut : goal.overflow_add-cut
-overflow_add-cut c =
-    let within : c.loop-p.p < length c.args.steps.now = omega (arith, c.prefix-prefix.ensures) in
-    let cut : c.key_of_cut-cut.result ≡ key_of (point_cut (length c.args.steps.now - 2) c.args.point) =
-    c.key_of_cut-cut.ensures ∙ ap (λ (n : ℕ). key_of (point_cut n c.args.point)) c.prefix-prefix.ensures in
-    let exponent : c.prefix-prefix.result + 2 - 1 - c.loop-p.p ≡ length c.args.steps.now - 1 - c.loop-p.p =
-    omega (arith, c.prefix-prefix.ensures, c.limits.ensures.two) in
-    let weight : c.weight.result ≡ count_base ^ (length c.args.steps.now - 1 - c.loop-p.p) =
-    c.weight.ensures ∙ ap (λ (m : ℕ). count_base ^ m) exponent in
-    let made : key_of (one_more (point_cut (length c.args.steps.now - 2) c.args.point) c.loop-p.p)
-    ≡ key_of (point_cut (length c.args.steps.now - 2) c.args.point)
-    + count_base ^ (length c.args.steps.now - 1 - c.loop-p.p) =
-    added_key c.args.steps.now (point_cut (length c.args.steps.now - 2) c.args.point) c.loop-p.p c.requires.cut
-    within in
-    let below : key_of (one_more (point_cut (length c.args.steps.now - 2) c.args.point) c.loop-p.p)
-    < count_base ^ length c.args.steps.now =
-    cut_below c.args.steps.now (one_more (point_cut (length c.args.steps.now - 2) c.args.point) c.loop-p.p)
-    c.limits.ensures.short (c.adds.ensures.added c.if-adds.true) in
-    let most : count_base ^ length c.args.steps.now ≤ count_base ^ 8 =
-    weight_le (length c.args.steps.now) 8 (omega (arith, c.limits.ensures.few)) in
-    omega arith
+-- the number of the cut, which has a digit for each process
+module _ (computation : Computation) (two : 2 ≤ length computation) (small : (q : ℕ) → event_count computation q ≤ event_limit)
+    (point : KeyedCut) (ok : IsConsistent computation (point_cut (length computation - 2) point)) (prefix number p : ℕ)
+    (prefix_is : prefix ≡ length computation - 2) (number_is : number ≡ key_of (point_cut prefix point)) (within : p < prefix)
+    where
+  many : prefix + 2 ≡ length computation
+  many = omega arith
+
+  number_of : number ≡ key_of (point_cut (length computation - 2) point)
+  number_of = number_is ∙ ap (λ (n : ℕ). key_of (point_cut n point)) prefix_is
+
+  number_below : number < count_base ^ (prefix + 2)
+  number_below =
+      subst (λ (n : ℕ). number < count_base ^ n) (sym many) (subst (λ (k : ℕ). k < count_base ^ length computation)
+      (sym number_of) (cut_below computation (point_cut (length computation - 2) point) small ok))
+
+  number_room : IsConsistent computation (one_more (point_cut (length computation - 2) point) p)
+      → get_or (digits (prefix + 2) number) p 0 + 1 < count_base
+  number_room more =
+      let back : digits (prefix + 2) number ≡ point_cut (length computation - 2) point =
+      ap (λ (n : ℕ). digits n number) many ∙ ap (digits (length computation)) number_of
+      ∙ cut_back computation (point_cut (length computation - 2) point) small ok in
+      let one_each : length (point_cut (length computation - 2) point) ≡ length computation = ok.fits.one_each in
+      subst (λ (cut : List ℕ). get_or cut p 0 + 1 < count_base) (sym back)
+      (room_for_one computation (point_cut (length computation - 2) point) p small more (omega arith))
+
+  number_more : number + count_base ^ (prefix + 2 - 1 - p)
+      ≡ key_of (one_more (point_cut (length computation - 2) point) p)
+  number_more =
+      ap (λ (n : ℕ). number + count_base ^ (n - 1 - p)) many
+      ∙ ap (λ (k : ℕ). k + count_base ^ (length computation - 1 - p)) number_of
+      ∙ sym (added_key computation (point_cut (length computation - 2) point) p ok (omega arith))
+
+pub one_more-requires-clause-below : goal.one_more-requires-clause-below
+one_more-requires-clause-below g c =
+    number_below c.args.steps.now c.limits.ensures.two c.limits.ensures.short c.args.point.now c.requires.cut
+    c.prefix-prefix.result (g.K.Key.number c.key_of_cut-cut.result) c.loop-p.p c.prefix-prefix.ensures
+    c.key_of_cut-cut.ensures (omega arith)
+
+pub one_more-requires-clause-small : goal.one_more-requires-clause-small
+one_more-requires-clause-small g c =
+    number_room c.args.steps.now c.limits.ensures.two c.limits.ensures.short c.args.point.now c.requires.cut
+    c.prefix-prefix.result (g.K.Key.number c.key_of_cut-cut.result) c.loop-p.p c.prefix-prefix.ensures
+    c.key_of_cut-cut.ensures (omega arith) (c.adds.ensures.added c.if-adds.true)
 
 pub loop-p-preserved : goal.loop-p-preserved
-loop-p-preserved c =
-    let within : c.loop-p.p < length c.args.steps.now = omega (arith, c.prefix-prefix.ensures) in
-    let cut : c.key_of_cut-cut.result ≡ key_of (point_cut (length c.args.steps.now - 2) c.args.point) =
-    c.key_of_cut-cut.ensures ∙ ap (λ (n : ℕ). key_of (point_cut n c.args.point)) c.prefix-prefix.ensures in
-    let exponent : c.prefix-prefix.result + 2 - 1 - c.loop-p.p ≡ length c.args.steps.now - 1 - c.loop-p.p =
-    omega (arith, c.prefix-prefix.ensures, c.limits.ensures.two) in
-    let made : key_of (one_more (point_cut (length c.args.steps.now - 2) c.args.point) c.loop-p.p)
-    ≡ key_of (point_cut (length c.args.steps.now - 2) c.args.point)
-    + count_base ^ (length c.args.steps.now - 1 - c.loop-p.p) =
-    added_key c.args.steps.now (point_cut (length c.args.steps.now - 2) c.args.point) c.loop-p.p c.requires.cut
-    within in
+loop-p-preserved g c =
     elim c.if-adds.branch [
       | then-adds+in_ok-push w ↦
-          let weight : w.weight.result ≡ count_base ^ (length c.args.steps.now - 1 - c.loop-p.p) =
-          w.weight.ensures ∙ ap (λ (m : ℕ). count_base ^ m) exponent in
-          let is : c.key_of_cut-cut.result + w.weight.result
-          ≡ key_of (one_more (point_cut (length c.args.steps.now - 2) c.args.point) c.loop-p.p) = omega arith in
+          let is : g.K.Key.number w.one_more.result
+          ≡ key_of (one_more (point_cut (length c.args.steps.now - 2) c.args.point.now) c.loop-p.p) =
+          w.one_more.ensures ∙ number_more c.args.steps.now c.limits.ensures.two c.limits.ensures.short c.args.point.now
+          c.requires.cut c.prefix-prefix.result (g.K.Key.number c.key_of_cut-cut.result) c.loop-p.p
+          c.prefix-prefix.ensures c.key_of_cut-cut.ensures (omega arith) in
           rw (w.born-is) (grow_yes c.args.steps.now
-          (point_cut (length c.args.steps.now - 2) c.args.point) c.args.by c.loop-p.p c.args.born.now
+          (point_cut (length c.args.steps.now - 2) c.args.point.now) c.args.by c.loop-p.p c.args.born.now
           c.loop-p.born c.loop-p.invariant (c.adds.ensures.added w.if-adds.true) w.push.new.self
           (subst (λ (key : ℕ). HasOneMore c.loop-p.born key w.push.new.self) is w.in_ok-push.ensures))
       | else-adds w ↦
-          rw (w.born-is) (grow_no c.args.steps.now (point_cut (length c.args.steps.now - 2) c.args.point) c.args.by
+          rw (w.born-is) (grow_no c.args.steps.now (point_cut (length c.args.steps.now - 2) c.args.point.now) c.args.by
           c.loop-p.p c.args.born.now c.loop-p.born c.loop-p.invariant
           (λ wanted. false≢true (sym w.if-adds.false ∙ c.adds.ensures.all wanted)))
     ]
 
 pub returns : goal.returns
-returns c =
+returns g c =
     let end : c.loop-p.p ≡ length c.args.steps.now - 2 =
     omega (arith, c.loop-p-test.false, c.loop-p.auto.p-end, c.prefix-prefix.ensures) in
-    subst (λ (n : ℕ). GrowsBy c.args.steps.now (point_cut (length c.args.steps.now - 2) c.args.point) c.args.by n
+    subst (λ (n : ℕ). GrowsBy c.args.steps.now (point_cut (length c.args.steps.now - 2) c.args.point.now) c.args.by n
     c.args.born.now c.loop-p.born) end c.loop-p.invariant

@@ -1,22 +1,27 @@
 -- The counts of a cut by the key of its prefix.
-use Rattle.std.proofs.Common.{◌≡◌, length, sym, ◌∙◌, arith}
+use Rattle.std.proofs.Common.{◌≡◌, ℕ, length, get_or, sym, ap, ◌∙◌, arith}
 use Rattle.pd_keys.specs.Keys.{digits}
 use Rattle.pd_keys.proofs.Keys.{length-digits}
+use Rattle.pd_runs.specs.Kept.{KeyedCut}
 use Rattle.pd_runs.proofs.RunCuts.{prefix_at}
 use Rattle.pd_runs.proofs.PointFacts.{count_x, count_y}
 use Rattle.pd_runs.proofs.point.count.Goals as goal
 
 pub returns-then-q-prefix : goal.returns-then-q-prefix
-returns-then-q-prefix c =
-    let many : length (digits c.args.prefix c.args.point.key) ≡ c.args.prefix =
-    length-digits c.args.prefix c.args.point.key in
-    c.digit.ensures ∙ sym (prefix_at (digits c.args.prefix c.args.point.key) c.args.point.x c.args.point.y c.args.q
+returns-then-q-prefix g c =
+    let many : length (digits c.args.prefix c.args.point.now.key) ≡ c.args.prefix =
+    length-digits c.args.prefix c.args.point.now.key in
+    c.digit.ensures
+    ∙ ap (λ (point : KeyedCut). get_or (digits c.args.prefix point.key) c.args.q 0) c.point.view_is
+    ∙ sym (prefix_at (digits c.args.prefix c.args.point.now.key) c.args.point.now.x c.args.point.now.y c.args.q
     (omega arith))
 
 pub returns-then-q-prefix-2 : goal.returns-then-q-prefix-2
-returns-then-q-prefix-2 c =
-    c.from.ensures ∙ sym (count_x c.args.prefix c.args.point c.args.q (omega arith))
+returns-then-q-prefix-2 g c =
+    c.from.ensures ∙ ap (λ (point : KeyedCut). point.x) c.point.view_is
+    ∙ sym (count_x c.args.prefix c.args.point.now c.args.q (omega arith))
 
 pub returns-else-q-prefix-2 : goal.returns-else-q-prefix-2
-returns-else-q-prefix-2 c =
-    c.from-else-q-prefix-2.ensures ∙ sym (count_y c.args.prefix c.args.point c.args.q (omega arith))
+returns-else-q-prefix-2 g c =
+    c.from-else-q-prefix-2.ensures ∙ ap (λ (point : KeyedCut). point.y) c.point.view_is
+    ∙ sym (count_y c.args.prefix c.args.point.now c.args.q (omega arith))

@@ -16,23 +16,23 @@ sent_by c cut p n q m r v need at message =
     (ap (λ (e : Place). e.process) same, ap (λ (e : Place). e.number) same)
 
 pub returns-then-need-q-clause-all : goal.returns-then-need-q-clause-all
-returns-then-need-q-clause-all c = λ message.
-    let at : c.count.result ≡ get_or (point_cut (length c.args.steps.now - 2) c.args.point) c.args.p 0 =
-    c.count.ensures ∙ ap (λ (n : ℕ). get_or (point_cut n c.args.point) c.args.p 0) c.prefix-prefix.ensures in
+returns-then-need-q-clause-all g c = λ message.
+    let at : c.count.result ≡ get_or (point_cut (length c.args.steps.now - 2) c.args.point.now) c.args.p 0 =
+    c.count.ensures ∙ ap (λ (n : ℕ). get_or (point_cut n c.args.point.now) c.args.p 0) c.prefix-prefix.ensures in
     let read : c.count-then-need-q.result
-    ≡ get_or (point_cut (length c.args.steps.now - 2) c.args.point) c.args.q 0 =
-    c.count-then-need-q.ensures ∙ ap (λ (n : ℕ). get_or (point_cut n c.args.point) c.args.q 0)
+    ≡ get_or (point_cut (length c.args.steps.now - 2) c.args.point.now) c.args.q 0 =
+    c.count-then-need-q.ensures ∙ ap (λ (n : ℕ). get_or (point_cut n c.args.point.now) c.args.q 0)
     c.prefix-prefix.ensures in
-    let w = sent_by c.args.steps.now (point_cut (length c.args.steps.now - 2) c.args.point) c.args.p c.count.result
+    let w = sent_by c.args.steps.now (point_cut (length c.args.steps.now - 2) c.args.point.now) c.args.p c.count.result
     c.need-need.result.process c.need-need.result.number c.args.q
-    (get_or (point_cut (length c.args.steps.now - 2) c.args.point) c.args.q 0) c.need-need.ensures at message in
+    (get_or (point_cut (length c.args.steps.now - 2) c.args.point.now) c.args.q 0) c.need-need.ensures at message in
     eq-eqb c.from.result c.count-then-need-q.result (c.from.ensures ∙ (sym w.1 ∙ sym read))
 
 pub returns-else-need-q-clause-all : goal.returns-else-need-q-clause-all
-returns-else-need-q-clause-all c = λ message.
-    let at : c.count.result ≡ get_or (point_cut (length c.args.steps.now - 2) c.args.point) c.args.p 0 =
-    c.count.ensures ∙ ap (λ (n : ℕ). get_or (point_cut n c.args.point) c.args.p 0) c.prefix-prefix.ensures in
-    let w = sent_by c.args.steps.now (point_cut (length c.args.steps.now - 2) c.args.point) c.args.p c.count.result
+returns-else-need-q-clause-all g c = λ message.
+    let at : c.count.result ≡ get_or (point_cut (length c.args.steps.now - 2) c.args.point.now) c.args.p 0 =
+    c.count.ensures ∙ ap (λ (n : ℕ). get_or (point_cut n c.args.point.now) c.args.p 0) c.prefix-prefix.ensures in
+    let w = sent_by c.args.steps.now (point_cut (length c.args.steps.now - 2) c.args.point.now) c.args.p c.count.result
     c.need-need.result.process c.need-need.result.number c.args.q
-    (get_or (point_cut (length c.args.steps.now - 2) c.args.point) c.args.q 0) c.need-need.ensures at message in
+    (get_or (point_cut (length c.args.steps.now - 2) c.args.point.now) c.args.q 0) c.need-need.ensures at message in
     absurd (c.if-need-q.false (sym w.0))

@@ -5,11 +5,11 @@ use Rattle.std.proofs.lemmas.List.Elements.{Contains-get_or}
 use Rattle.pd_runs.specs.Levels.{cut_count, runs_view}
 use Rattle.pd_runs.specs.KeptRuns.{run_view}
 use Rattle.pd_runs.specs.WholeLevels.{Run, count_of_runs}
-use Rattle.pd_runs.specs.declared.kept.KeptRun.{KeptRun}
+use Rattle.pd_runs.specs.Kept.{KeyedRun}
 use Rattle.pd_runs.proofs.KeyLists.{map_push}
 use Rattle.pd_runs.proofs.whole.cuts_in.Goals as goal
 
-abbrev none : KeptRun
+abbrev none : KeyedRun
 none = record { key = 0; lo = 0; hi = 0; rest = 0 }
 
 count_push : (runs : List Run) (run : Run) → count_of_runs (runs ++ run ∷ []) ≡ count_of_runs runs
@@ -19,20 +19,20 @@ count_push (first ∷ runs) run =
     let rest : count_of_runs (runs ++ run ∷ []) ≡ count_of_runs runs + (suc run.hi - run.lo) = count_push runs run in
     omega arith
 
-one_run : (n i : ℕ) (runs : List KeptRun) → i < length runs
+one_run : (n i : ℕ) (runs : List KeyedRun) → i < length runs
     → count_of_runs (runs_view n (take (i + 1) runs))
     ≡ count_of_runs (runs_view n (take i runs)) + (suc (get_or runs i none).hi - (get_or runs i none).lo)
 one_run n i runs lt =
-    ap (λ (rs : List KeptRun). count_of_runs (runs_view n rs)) (take_more runs i none lt)
+    ap (λ (rs : List KeyedRun). count_of_runs (runs_view n rs)) (take_more runs i none lt)
     ∙ (ap count_of_runs (map_push (run_view n) (take i runs) (get_or runs i none))
     ∙ count_push (runs_view n (take i runs)) (run_view n (get_or runs i none)))
 
 pub overflow_sub-run : goal.overflow_sub-run
-overflow_sub-run c = c.requires (get_or c.args.runs.now c.loop-i.i none)
+overflow_sub-run g c = c.requires (get_or c.args.runs.now c.loop-i.i none)
     (Contains-get_or c.args.runs.now c.loop-i.i none c.loop-i-test.true)
 
 pub loop-i-preserved : goal.loop-i-preserved
-loop-i-preserved c = λ n.
+loop-i-preserved g c = λ n.
     let before : c.loop-i.cuts ≡ cut_count (runs_view n (take c.loop-i.i c.args.runs.now)) = c.loop-i.invariant n in
     let more : count_of_runs (runs_view n (take (c.loop-i.i + 1) c.args.runs.now))
     ≡ count_of_runs (runs_view n (take c.loop-i.i c.args.runs.now))
@@ -44,6 +44,6 @@ loop-i-preserved c = λ n.
     omega (arith, c.saturating_add-cuts.ensures, c.from.ensures)
 
 pub returns : goal.returns
-returns c = λ n.
+returns g c = λ n.
     let all : take c.loop-i.i c.args.runs.now ≡ c.args.runs.now = take_all c.loop-i.i c.args.runs.now (omega arith) in
-    subst (λ (rs : List KeptRun). c.loop-i.cuts ≡ cut_count (runs_view n rs)) all (c.loop-i.invariant n)
+    subst (λ (rs : List KeyedRun). c.loop-i.cuts ≡ cut_count (runs_view n rs)) all (c.loop-i.invariant n)

@@ -4,4 +4,4 @@ use Rattle.pd_runs.specs.Levels.{cut_count, runs_view}
 use Rattle.pd_runs.proofs.whole.cuts_in.Given as goal
 
 abbrev pub invariant-loop-i : goal.invariant-loop-i
-invariant-loop-i l = (n : ℕ) → l.cuts ≡ cut_count (runs_view n (take l.i l.runs))
+invariant-loop-i g l = (n : ℕ) → l.cuts ≡ cut_count (runs_view n (take l.i l.runs))

@@ -5,13 +5,13 @@ use Rattle.std.proofs.lemmas.List.Elements.{Contains-get_or}
 use Rattle.pd_keys.specs.Keys.{count_base}
 use Rattle.pd_model.specs.Events.{Computation}
 use Rattle.pd_runs.specs.Levels.{IsKeptLevel, IsWholeLevel, cut_count, keys_of, prefix_key, runs_view, whole_view}
-use Rattle.pd_runs.specs.declared.kept.KeptRun.{KeptRun}
+use Rattle.pd_runs.specs.Kept.{KeyedRun}
 use Rattle.pd_runs.proofs.KeyLists.{key_at, get_or_default}
 use Rattle.pd_runs.proofs.Merging.{IsGoing, given_by, old_run, birth_cut, young_birth, going_skip, no_key, going_push, going_move, met_already, birth_first, run_first, birth_key_small, some_cut, ended_level, ended_kept}
 use Rattle.pd_runs.proofs.whole.next_level.Goals as goal
 use Rattle.pd_runs.proofs.whole.next_level.Goals.{then-i-olds, else-i-olds+then-j-births, then-floor-birth+then-birth-old-2+in_ok-push_born, else-floor-birth, else-floor-birth-via-then-floor-birth+else-birth-old-2, else-floor-birth-via-else-floor-birth}
 
-abbrev none : KeptRun
+abbrev none : KeyedRun
 none = record { key = 0; lo = 0; hi = 0; rest = 0 }
 
 -- a birth that isn't below the run's key has it
@@ -25,7 +25,7 @@ same_place i n old birth key at is here past le ge small = go (cases_lt i n)
     go (inr out) = let h : old ≡ 340282366920938463463374607431768211455 = past out in absurd (omega arith)
 
 pub push_born-requires-clause-below : goal.push_born-requires-clause-below
-push_born-requires-clause-below c =
+push_born-requires-clause-below g c =
     let some : (c.loop-i.i < length c.args.olds.now) ⊎ (c.loop-i.j < length c.args.births.now) =
     elim c.if-i-olds.branch [
       | then-i-olds w ↦ inl w.if-i-olds.true
@@ -41,7 +41,7 @@ push_born-requires-clause-below c =
     (Contains-get_or c.args.births.now c.loop-i.j 0 lt)
 
 pub push_born-requires-clause-cut : goal.push_born-requires-clause-cut
-push_born-requires-clause-cut c =
+push_born-requires-clause-cut g c =
     let some : (c.loop-i.i < length c.args.olds.now) ⊎ (c.loop-i.j < length c.args.births.now) =
     elim c.if-i-olds.branch [
       | then-i-olds w ↦ inl w.if-i-olds.true
@@ -57,7 +57,7 @@ push_born-requires-clause-cut c =
     (get_or c.args.births.now c.loop-i.j 0) (Contains-get_or c.args.births.now c.loop-i.j 0 lt)).0
 
 pub push_born-requires-clause-young : goal.push_born-requires-clause-young
-push_born-requires-clause-young c =
+push_born-requires-clause-young g c =
     let some : (c.loop-i.i < length c.args.olds.now) ⊎ (c.loop-i.j < length c.args.births.now) =
     elim c.if-i-olds.branch [
       | then-i-olds w ↦ inl w.if-i-olds.true
@@ -79,7 +79,7 @@ push_born-requires-clause-young c =
     c.loop-i.runs.items c.loop-i.born c.loop-i.floor c.loop-i.invariant lt before)
 
 pub loop-i-smaller-then-birth-old : goal.loop-i-smaller-then-birth-old
-loop-i-smaller-then-birth-old c =
+loop-i-smaller-then-birth-old g c =
     let some : (c.loop-i.i < length c.args.olds.now) ⊎ (c.loop-i.j < length c.args.births.now) =
     elim c.if-i-olds.branch [
       | then-i-olds w ↦ inl w.if-i-olds.true
@@ -94,7 +94,7 @@ loop-i-smaller-then-birth-old c =
     omega arith
 
 pub loop-i-preserved-then-birth-old : goal.loop-i-preserved-then-birth-old
-loop-i-preserved-then-birth-old c =
+loop-i-preserved-then-birth-old g c =
     let some : (c.loop-i.i < length c.args.olds.now) ⊎ (c.loop-i.j < length c.args.births.now) =
     elim c.if-i-olds.branch [
       | then-i-olds w ↦ inl w.if-i-olds.true
@@ -138,7 +138,7 @@ loop-i-preserved-then-birth-old c =
     ]
 
 pub push_moved-requires-clause-kept : goal.push_moved-requires-clause-kept
-push_moved-requires-clause-kept c =
+push_moved-requires-clause-kept g c =
     let some : (c.loop-i.i < length c.args.olds.now) ⊎ (c.loop-i.j < length c.args.births.now) =
     elim c.if-i-olds.branch [
       | then-i-olds w ↦ inl w.if-i-olds.true
@@ -157,7 +157,7 @@ push_moved-requires-clause-kept c =
     }
 
 pub push_moved-requires-clause-run : goal.push_moved-requires-clause-run
-push_moved-requires-clause-run c =
+push_moved-requires-clause-run g c =
     let some : (c.loop-i.i < length c.args.olds.now) ⊎ (c.loop-i.j < length c.args.births.now) =
     elim c.if-i-olds.branch [
       | then-i-olds w ↦ inl w.if-i-olds.true
@@ -173,7 +173,7 @@ push_moved-requires-clause-run c =
     (get_or c.args.olds.now c.loop-i.i none) (Contains-get_or c.args.olds.now c.loop-i.i none lt)
 
 pub loop-i-preserved : goal.loop-i-preserved
-loop-i-preserved c =
+loop-i-preserved g c =
     let some : (c.loop-i.i < length c.args.olds.now) ⊎ (c.loop-i.j < length c.args.births.now) =
     elim c.if-i-olds.branch [
       | then-i-olds w ↦ inl w.if-i-olds.true
@@ -202,7 +202,7 @@ loop-i-preserved c =
     c.push_moved.new.born c.in_ok-push_moved.ensures)
 
 -- the loop's end
-at_end : (c : Computation) (k : ℕ) (olds : List KeptRun) (births : List ℕ) (i j : ℕ) (runs : List KeptRun)
+at_end : (c : Computation) (k : ℕ) (olds : List KeyedRun) (births : List ℕ) (i j : ℕ) (runs : List KeyedRun)
     (born : List ℕ) (floor : ℕ) → IsGoing c k olds births i j runs born floor → length olds ≤ i → length births ≤ j
     → IsGoing c k olds births (length olds) (length births) runs born floor
 at_end c k olds births i j runs born floor g past out =
@@ -214,7 +214,7 @@ at_end c k olds births i j runs born floor g past out =
     (subst (λ (m : ℕ). IsGoing c k olds births m j runs born floor) i_is g)
 
 pub cuts_in-requires : goal.cuts_in-requires
-cuts_in-requires c =
+cuts_in-requires g c =
     let given = given_by c.args.steps.now c.args.number c.args.olds.now c.args.births.now c.limits.ensures.short
     c.limits.ensures.walkable c.requires.kept c.requires.level in
     rw (c.deref.ensures.value) (some_cut c.args.steps.now c.args.number c.args.olds.now c.args.births.now given
@@ -223,7 +223,7 @@ cuts_in-requires c =
     c.loop-i.invariant c.if-i-olds.false c.if-j-births.false))
 
 pub invariant_of-result : goal.invariant_of-result
-invariant_of-result c =
+invariant_of-result g c =
     let given = given_by c.args.steps.now c.args.number c.args.olds.now c.args.births.now c.limits.ensures.short
     c.limits.ensures.walkable c.requires.kept c.requires.level in
     let end : IsGoing c.args.steps.now c.args.number c.args.olds.now c.args.births.now (length c.args.olds.now)
@@ -235,7 +235,7 @@ invariant_of-result c =
     omega (arith, c.prefix.ensures, c.limits.ensures.two) in
     let counted : c.cuts_in.result ≡ cut_count (runs_view (c.prefix.result + 2 - 2) c.loop-i.runs.items) =
     c.cuts_in.ensures (c.prefix.result + 2 - 2)
-    ∙ ap (λ (rs : List KeptRun). cut_count (runs_view (c.prefix.result + 2 - 2) rs)) c.deref.ensures.value in
+    ∙ ap (λ (rs : List KeyedRun). cut_count (runs_view (c.prefix.result + 2 - 2) rs)) c.deref.ensures.value in
     let kept : IsKeptLevel (length c.args.steps.now) (c.args.number + 1) c.loop-i.runs.items
     c.in_ok-born-2.born.items =
     ended_kept c.args.steps.now c.args.number c.args.olds.now c.args.births.now given c.loop-i.runs.items
@@ -246,7 +246,7 @@ invariant_of-result c =
     )
 
 pub returns-clause-level : goal.returns-clause-level
-returns-clause-level c =
+returns-clause-level g c =
     let given = given_by c.args.steps.now c.args.number c.args.olds.now c.args.births.now c.limits.ensures.short
     c.limits.ensures.walkable c.requires.kept c.requires.level in
     let end : IsGoing c.args.steps.now c.args.number c.args.olds.now c.args.births.now (length c.args.olds.now)

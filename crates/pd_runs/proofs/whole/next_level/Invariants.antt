@@ -4,7 +4,7 @@ use Rattle.pd_runs.proofs.Merging.{IsGoing}
 use Rattle.pd_runs.proofs.whole.next_level.Given as goal
 
 abbrev pub invariant-loop-i : goal.invariant-loop-i
-invariant-loop-i l = IsGoing l.steps l.number l.olds l.births l.i l.j l.runs.items l.born l.floor
+invariant-loop-i g l = IsGoing l.steps l.number l.olds l.births l.i l.j l.runs.items l.born l.floor
 
 abbrev pub decreases-loop-i : goal.decreases-loop-i
-decreases-loop-i l = (length l.olds - l.i) + (length l.births - l.j)
+decreases-loop-i g l = (length l.olds - l.i) + (length l.births - l.j)

@@ -1,6 +1,6 @@
 -- A digit stands in one of the two halves.
-use Rattle.std.proofs.Common.{◌≡◌, ℕ, ◌+◌, ◌-◌, ◌*◌, ◌/◌, ◌%◌, ◌^◌, ◌<◌, ◌≤◌, get_or, sym, ap, ◌∙◌, subst, arith}
-use Rattle.pd_keys.specs.Keys.{count_base, digits}
+use Rattle.std.proofs.Common.{◌-◌, ◌^◌, ◌<◌, sym, ◌∙◌, arith}
+use Rattle.pd_keys.specs.Keys.{count_base}
 use Rattle.pd_keys.specs.Pairs.{pair_number, single_limit}
 use Rattle.pd_keys.proofs.PairNumbers.{high_digit, low_digit, place_digit}
 use Rattle.pd_keys.proofs.pair.PairKey.digit.Goals as goal

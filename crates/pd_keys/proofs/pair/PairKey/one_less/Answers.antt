@@ -1,5 +1,5 @@
 -- The event that is undone is taken from the half that has it.
-use Rattle.std.proofs.Common.{◌≡◌, ℕ, ◌+◌, ◌-◌, ◌*◌, ◌/◌, ◌%◌, ◌^◌, ◌<◌, ◌≤◌, get_or, sym, ap, ◌∙◌, subst, arith}
+use Rattle.std.proofs.Common.{◌≡◌, ℕ, ◌-◌, ◌*◌, ◌^◌, ◌<◌, ◌≤◌, get_or, ◌∙◌, subst, arith}
 use Rattle.pd_keys.specs.Keys.{count_base, digits}
 use Rattle.pd_keys.specs.Pairs.{pair_number, single_limit}
 use Rattle.pd_keys.proofs.PairNumbers.{high_digit, high_one, low_digit, place_digit, some_before}

@@ -1,5 +1,5 @@
 -- One event more is added to one of the two halves.
-use Rattle.std.proofs.Common.{◌≡◌, ℕ, ◌+◌, ◌-◌, ◌*◌, ◌/◌, ◌%◌, ◌^◌, ◌<◌, ◌≤◌, get_or, sym, ap, ◌∙◌, subst, arith}
+use Rattle.std.proofs.Common.{◌≡◌, ℕ, ◌+◌, ◌-◌, ◌*◌, ◌^◌, ◌<◌, ◌≤◌, get_or, ◌∙◌, subst, arith}
 use Rattle.pd_keys.specs.Keys.{count_base, digits}
 use Rattle.pd_keys.specs.Pairs.{pair_number, single_limit}
 use Rattle.pd_format.specs.Limits.{process_limit}

@@ -1,21 +1,23 @@
 -- Lists that are empty.
-use Rattle.std.proofs.Common.{rules, ◌≡◌, ℕ, ◌++◌, List, [], length, ap, ◌∙◌}
+use Rattle.std.proofs.Common.{rules, ◌≡◌, ℕ, ◌++◌, List, [], length, map, ap, ◌∙◌}
 use Rattle.pd_runs.specs.Collected.{births_in}
 use Rattle.pd_runs.proofs.Collecting.{births_append}
 use Rattle.pd_runs.proofs.births.Births.new.Goals as goal
 
 pub loop-init : goal.loop-init
-loop-init c = (ap births_in c.in_ok-lists.ensures.items, ap length c.in_ok-lists.ensures.items)
+loop-init g c = (ap (births_in g.K.Key.number) c.in_ok-lists.ensures.items, ap length c.in_ok-lists.ensures.items)
 
 pub loop-preserved : goal.loop-preserved
-loop-preserved c =
-    let pushed : births_in c.push.new.self.items ≡ [] =
-    ap births_in c.in_ok-push.ensures.items ∙ births_append c.loop.lists.items c.new.result
-    ∙ ap (λ (all : List ℕ). all ++ c.new.result.items) c.loop.invariant.0 ∙ c.new.ensures.items in
+loop-preserved g c =
+    let pushed : births_in g.K.Key.number c.push.new.self.items ≡ [] =
+    ap (births_in g.K.Key.number) c.in_ok-push.ensures.items
+    ∙ births_append g.K.Key.number c.loop.lists.items c.new.result
+    ∙ ap (λ (all : List ℕ). all ++ map g.K.Key.number c.new.result.items) c.loop.invariant.0
+    ∙ ap (map g.K.Key.number) c.new.ensures.items in
     (pushed, search rules)
 
 pub invariant_of-result : goal.invariant_of-result
-invariant_of-result c = search rules
+invariant_of-result g c = search rules
 
 pub returns : goal.returns
-returns c = c.loop.invariant.0
+returns g c = c.loop.invariant.0

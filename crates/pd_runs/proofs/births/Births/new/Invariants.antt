@@ -4,4 +4,4 @@ use Rattle.pd_runs.specs.Collected.{births_in}
 use Rattle.pd_runs.proofs.births.Births.new.Given as goal
 
 abbrev pub invariant-loop : goal.invariant-loop
-invariant-loop l = (births_in l.lists.items ≡ []) × (length l.lists.items ≡ l.counter)
+invariant-loop g l = (births_in g.K.Key.number l.lists.items ≡ []) × (length l.lists.items ≡ l.counter)

@@ -9,16 +9,16 @@ use Rattle.pd_neighbors.specs.Neighbors.{cut_at}
 use Rattle.pd_runs.specs.KeptRuns.{run_view}
 use Rattle.pd_runs.specs.Levels.{WholeLevel, runs_view}
 use Rattle.pd_runs.specs.WholeLevels.{Run}
-use Rattle.pd_runs.specs.declared.kept.KeptRun.{KeptRun}
+use Rattle.pd_runs.specs.Kept.{KeyedRun}
 use Rattle.pd_runs.proofs.KeyLists.{run_read}
 use Rattle.pd_runs.proofs.PointFacts.{key_of_two}
 use Rattle.pd_runs.proofs.whole.Whole.key.Goals as goal
 
-there : (runs : List KeptRun) (i : ℕ) (run : KeptRun) → i < length runs → run ≡ get_or runs i run → Contains runs run
-there runs i run lt is = subst (λ (r : KeptRun). Contains runs r) (sym is) (Contains-get_or runs i run lt)
+there : (runs : List KeyedRun) (i : ℕ) (run : KeyedRun) → i < length runs → run ≡ get_or runs i run → Contains runs run
+there runs i run lt is = subst (λ (r : KeyedRun). Contains runs r) (sym is) (Contains-get_or runs i run lt)
 
 pub overflow_mul-result : goal.overflow_mul-result
-overflow_mul-result c =
+overflow_mul-result g c =
     let same : runs_view (c.self.inside.processes - 2) c.self.inside.runs.items ≡ c.args.self.now.runs =
     ap (λ (l : WholeLevel). l.runs) c.self.view_is in
     let size : length (runs_view (c.self.inside.processes - 2) c.self.inside.runs.items)
@@ -33,7 +33,7 @@ overflow_mul-result c =
     omega arith
 
 pub returns : goal.returns
-returns c =
+returns g c =
     let same : runs_view (c.self.inside.processes - 2) c.self.inside.runs.items ≡ c.args.self.now.runs =
     ap (λ (l : WholeLevel). l.runs) c.self.view_is in
     let size : length (runs_view (c.self.inside.processes - 2) c.self.inside.runs.items)

@@ -4,24 +4,24 @@ use Rattle.pd_keys.specs.Keys.{AreDigits}
 use Rattle.pd_runs.specs.KeptRuns.{run_view}
 use Rattle.pd_runs.specs.Levels.{WholeLevel, runs_view}
 use Rattle.pd_runs.specs.WholeLevels.{Run}
-use Rattle.pd_runs.specs.declared.kept.KeptRun.{KeptRun}
+use Rattle.pd_runs.specs.Kept.{KeyedRun}
 use Rattle.pd_keys.proofs.Keys.{digits_are}
 use Rattle.pd_runs.proofs.whole.Whole.limits.Goals as goal
 
-in_view : (n : ℕ) (runs : List KeptRun) (run : Run) → Contains (runs_view n runs) run
-    → (kept : KeptRun) × Contains runs kept × (run_view n kept ≡ run)
+in_view : (n : ℕ) (runs : List KeyedRun) (run : Run) → Contains (runs_view n runs) run
+    → (kept : KeyedRun) × Contains runs kept × (run_view n kept ≡ run)
 in_view n [] run (k, lt, at) = absurd (omega arith)
 in_view n (first ∷ runs) run (zero, lt, at) = (first, (0, omega arith, refl), at)
 in_view n (first ∷ runs) run (suc k, lt, at) =
-    let w : (kept : KeptRun) × Contains runs kept × (run_view n kept ≡ run) =
+    let w : (kept : KeyedRun) × Contains runs kept × (run_view n kept ≡ run) =
     in_view n runs run (k, omega arith, at) in
     (w.0, (suc w.1.0, omega (arith, w.1.1), w.1.2), w.2)
 
 pub returns-clause-digits : goal.returns-clause-digits
-returns-clause-digits c =
+returns-clause-digits g c =
     subst (λ (l : WholeLevel). (run : Run) → Contains l.runs run → AreDigits run.prefix) c.self.view_is
     (λ run has.
-    let w : (kept : KeptRun) × Contains c.self.inside.runs.items kept
+    let w : (kept : KeyedRun) × Contains c.self.inside.runs.items kept
     × (run_view (c.self.inside.processes - 2) kept ≡ run) =
     in_view (c.self.inside.processes - 2) c.self.inside.runs.items run has in
     subst (λ (r : Run). AreDigits r.prefix) w.2
