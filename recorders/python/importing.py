@@ -8,7 +8,7 @@ import sys
 
 from monitor_recorder import EVENT_LIMIT, NotRecorded, Recorder, checked_name, checked_value, checked_variables
 
-PROCESS_LIMIT = 8
+PROCESS_LIMIT = 16
 PREDICATE_LIMIT = 16
 WIDTH_LIMIT = 65_536
 WHOLE_NUMBER = re.compile(r"[+-]?[0-9]{1,30}")

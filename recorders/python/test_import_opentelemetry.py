@@ -536,10 +536,10 @@ class RefusedTraces(Case):
             span(4, 1, 9, parent=1), span(1, 1, 9, parent=2), span(2, 1, 9, parent=1)))
 
     def test_limits(self):
-        spans = [resource(span(number, 1, 2), service=f"s{number}") for number in range(1, 10)]
-        self.refused_span("'s9' would be instance 9, and a session has at most 8: leave some out by --leave-out",
-                          *spans, number=9)
-        self.assertEqual(len(self.streams(*spans, words=["--leave-out", "s3"])), 8)
+        spans = [resource(span(number, 1, 2), service=f"s{number}") for number in range(1, 18)]
+        self.refused_span("'s17' would be instance 17, and a session has at most 16: leave some out by --leave-out",
+                          *spans, number=17)
+        self.assertEqual(len(self.streams(*spans, words=["--leave-out", "s3"])), 16)
         many = [span(number, number, number) for number in range(1, 5002)]
         self.assertEqual(len(self.streams(resource(*many[:-1]))["a"]), 10_000)
         self.refused_span("with this event a has over 10000 events in its stream", resource(*many), number=5001)

@@ -250,8 +250,10 @@ class RefusedLogs(Case):
         self.refused("--name: there is no host 'b'", [log(("a", {"a": 1}, ""))], "--name", "b=c")
 
     def test_limits(self):
-        self.refused("1.log line 17: h8 would be host 9, and a session has at most 8",
-                     [log(*((f"h{n}", {f"h{n}": 1}, "") for n in range(9)))])
+        hosts = [(f"h{n}", {f"h{n}": 1}, "") for n in range(17)]
+        self.assertEqual(len(self.imported([log(*hosts[:16])])[1]), 16)
+        self.out = "others"
+        self.refused("1.log line 33: h16 would be host 17, and a session has at most 16", [log(*hosts)])
         events = [("a", {"a": n}, "") for n in range(1, 10_001)]
         self.assertEqual(len(self.imported([log(*events)])[1]["a"]), 10_000)
         self.out = "other"
