@@ -1,4 +1,5 @@
 //! What a key is.
+ghost use Rattle.pd_format.specs.Limits.{process_limit};
 ghost use Rattle.pd_keys.specs.Keys.{AreDigits, count_base, digits, key_of};
 ghost use Rattle.std.specs.List.Sorted.{IsNonDecreasingBy, IsPermutation};
 ghost use Rattle.std.specs.Prelude.{◌≡◌, ◌+◌, ◌-◌, ◌*◌, ◌/◌, ◌^◌, ◌<◌, ◌≤◌, ◌↔◌, ℕ, IfNone, IfOk, IfSome, IsTrue, length, slice_index};
@@ -61,6 +62,10 @@ pub trait Key: Copy {
     fn is_below(self, other: Self) -> bool
         ensures { IsTrue result ↔ number self < number other };
 
+    /// Whether the numbers are the same.
+    fn is_same(self, other: Self) -> bool
+        ensures { IsTrue result ↔ (number self ≡ number other) };
+
     /// Sorts the keys by their numbers.
     ///
     /// # Errors
@@ -68,4 +73,7 @@ pub trait Key: Copy {
     fn sort(keys: &mut Vec<Self>) -> Result<(), AllocError>
         ensures same { IsPermutation keys.old.items keys.new.items }
         ensures ascends { IfOk result (λ _. IsNonDecreasingBy number keys.new.items) };
+
+    /// A row with a place for each process that there may be has one for each digit.
+    ghost few: { room ≤ process_limit };
 }

@@ -40,10 +40,13 @@ fn order(a: Pair, b: Pair) -> Ordering
 impl Key for Pair {
     ghost use Rattle.pd_format.specs.Limits.{process_limit};
     ghost use Rattle.pd_keys.specs.Pairs.{pair_number};
+    ghost use Rattle.std.proofs.Common.{arith};
 
     ghost room = { process_limit };
 
     ghost number = { λ pair. pair_number pair.first pair.second };
+
+    ghost few = { Prim.omega arith };
 
     fn none() -> Pair {
         Pair {
@@ -119,6 +122,10 @@ impl Key for Pair {
         } else {
             self.first < other.first
         }
+    }
+
+    fn is_same(self, other: Pair) -> bool {
+        self.first == other.first && self.second == other.second
     }
 
     fn sort(keys: &mut Vec<Pair>) -> Result<(), AllocError> {

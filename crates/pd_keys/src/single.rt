@@ -82,10 +82,13 @@ pub fn weight(processes: usize, p: usize) -> u128
 
 impl Key for u128 {
     ghost use Rattle.pd_keys.specs.Pairs.{single_limit};
+    ghost use Rattle.std.proofs.Common.{arith};
 
     ghost room = { single_limit };
 
     ghost number = { λ key. key };
+
+    ghost few = { Prim.omega arith };
 
     fn none() -> u128 {
         0
@@ -117,6 +120,10 @@ impl Key for u128 {
 
     fn is_below(self, other: u128) -> bool {
         self < other
+    }
+
+    fn is_same(self, other: u128) -> bool {
+        self == other
     }
 
     fn sort(keys: &mut Vec<u128>) -> Result<(), AllocError> {
