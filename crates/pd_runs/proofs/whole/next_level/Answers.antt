@@ -279,6 +279,7 @@ invariant_of-result g c =
     c.in_ok-born-2.ensures.ascends in (
       subst (λ (m : ℕ). IsKeptLevel g.K.Key.room m (c.args.number + 1) c.loop-i.runs.items born) e kept,
       counted,
+      subst g.K.Key.fits e c.requires.fits,
     )
 
 pub returns-clause-level : goal.returns-clause-level
