@@ -3,19 +3,21 @@
 compares its reports with those of a plain judge.
 
 The plain judge is written from the definitions in docs/SPECIFICATION.md, with no thought of speed: happened-before is
-closed as a relation, cuts are all counts of events that are closed under it, and if a session has few events,
-Definitely is judged by all of its observations too. PROGRAM is ../crates/monitor/out/monitor if it isn't given. Each
-session is judged as a bundle; one of four also from files, by 2 and 16 workers, and its report is checked, as it is and
-forged. Half of the sessions are of version 2, in which a message may have several receivers. Each kind of line has to
-stand in the reports and findings so often that the drawing can't go empty. The last line says how many sessions there
-are, how often the program ran, and how many sessions differ; the status is 1 if any does, or if lines are missing. With
---only the session K is drawn alone.
+closed as a relation, cuts are all counts of events that are closed under it, and if a session has few observations,
+Definitely is judged by all of them too. PROGRAM is ../crates/monitor/out/monitor if it isn't given. Each session is
+judged as a bundle; one of four also from files, by 2 and 16 workers, and its report is checked, as it is and forged.
+Half of the sessions are of version 2, in which a message may have several receivers. One of three has 7 to 16 processes,
+of which few have events. Each kind of line has to stand in the reports and findings so often that the drawing can't go
+empty. The last line says how many sessions there are, how often the program ran, and how many sessions differ; the
+status is 1 if any does, or if lines are missing. With --only the session K is drawn alone.
 """
 import argparse
+import collections
 import concurrent.futures
 import functools
 import itertools
 import json
+import math
 import operator
 import os
 import random
@@ -26,12 +28,13 @@ import tempfile
 
 from run import Differs, HERE, Place, checked
 
-# How many events a session has at most whose observations are all looked at.
-FEW = 8
-# What stands in lines, and in how many lines of 400 sessions at least. One line for each session says how many
+# How many observations a session has at most if all of them are looked at.
+FEW = 2600
+# What stands in lines, and in how many lines of 600 sessions at least. One line for each session says how many
 # receivers its messages have at most, and what came of it; all others are the program's.
 LINES_WANTED = {
     "session 1 ": 15, "session 2 ": 45, "session 3 ": 60, "session 4 ": 4,
+    "session 7 ": 6, "session 8 ": 6, "session 9 ": 12, "session 15 ": 6, "session 16 ": 12,
     " 0 messages": 40, " [12] messages": 40, " [3-6] messages": 30,
     " possibly yes .*[1-9]": 80, " possibly no": 80, " possibly unknown ": 40,
     " definitely yes [1-9]": 40, " definitely no .*,": 80, " definitely unknown ": 40,
@@ -160,8 +163,7 @@ def undone(cut, process):
 
 def possibly(cuts, satisfying, width):
     """The answer of all consistent cuts, in the order of their levels."""
-    levels = [sum(cut) for cut in cuts]
-    over = [level for level in levels if levels.count(level) > width]
+    over = [level for level, count in collections.Counter(map(sum, cuts)).items() if count > width]
     found = [cut for cut in cuts if cut in satisfying]
     if over and not any(sum(cut) < over[0] for cut in found):
         return f"unknown {over[0]}"
@@ -170,9 +172,11 @@ def possibly(cuts, satisfying, width):
 
 def definitely(session, cuts, satisfying, width):
     """The answer of the avoiding cuts."""
+    consistent = set(cuts)
+
     @functools.cache
     def avoids(cut):
-        if cut not in cuts or cut in satisfying:
+        if cut not in consistent or cut in satisfying:
             return False
         return sum(cut) == 0 or any(avoids(undone(cut, process)) for process in range(len(cut)) if cut[process])
     full = tuple(len(events) for events in session.events)
@@ -192,6 +196,16 @@ def definitely(session, cuts, satisfying, width):
 
 def named(session, steps):
     return ",".join(session.names[process] for process in steps) or "-"
+
+
+def observation_count(cuts):
+    """How many observations there are: one comes to the empty cut, and to another one all that come to a cut with one
+    event less."""
+    coming = {}
+    for cut in cuts:
+        less = [undone(cut, process) for process in range(len(cut)) if cut[process]]
+        coming[cut] = sum(coming.get(before, 0) for before in less) if less else 1
+    return coming[cuts[-1]]
 
 
 def observations(cuts, full, cut):
@@ -214,7 +228,7 @@ def definitely_observed(session, cuts, satisfying, width):
     least with no avoiding cut; of the observations without such a cut, the one is printed that undoes, from the full
     cut backward, the event of the first process at the first step in which it differs from another."""
     full = tuple(len(events) for events in session.events)
-    lists = list(observations(cuts, full, tuple(0 for _ in full)))
+    lists = list(observations(set(cuts), full, tuple(0 for _ in full)))
     for level in range(sum(full) + 1):
         if len({passed[level] for passed in lists if not satisfying & set(passed[:level + 1])}) > width:
             return f"unknown {level}"
@@ -262,7 +276,7 @@ class Judged:
         satisfying = {cut for cut in self.cuts if holds(session, cut, predicate)}
         self.satisfying.append(satisfying)
         definite = definitely(session, self.cuts, satisfying, session.width)
-        if len(session.places) <= FEW:
+        if observation_count(self.cuts) <= FEW:
             observed = definitely_observed(session, self.cuts, satisfying, session.width)
             if observed != definite:
                 raise Differs(f"all observations say {name} definitely {observed}, the avoiding cuts {definite}")
@@ -283,14 +297,27 @@ def draw_version(draw):
     return version, {} if version == 1 and draw.random() < 0.5 else {"version": version}
 
 
-def draw_processes(draw):
+def draw_counts(draw, count):
+    """How many events each of these processes has. Few of many have any: often the first and the last ones, and those
+    before and after which eight are left, since a cut of more than eight counts is kept as two numbers."""
+    if count < 7:
+        return [draw.choice([0, 1, 2, 3, 3, 4, 4, 4] if count < 4 else [1, 2, 2, 3]) for _ in range(count)]
+    counts, cuts = [0] * count, draw.choice([40, 300, 1200])
+    often = [process for process in (0, 1, 7, 8, count - 9, count - 8, count - 2, count - 1) if 0 <= process < count]
+    while math.prod(number + 1 for number in counts) < cuts:
+        counts[draw.choice(often) if draw.random() < 0.7 else draw.randrange(count)] += 1
+    return counts
+
+
+def draw_processes(draw, has_many):
     version, fields = draw_version(draw)
-    count = draw.choice([1, 2, 2, 2, 3, 3, 3, 3, 3] if version == 1 else [2, 3, 3, 3, 3, 4])
-    names = draw.sample(["a", "b", "c", "_d", "e2", "x"], count)
+    count = draw.choice([7, 8, 9, 9, 15, 16, 16] if has_many else
+                        [1, 2, 2, 2, 3, 3, 3, 3, 3] if version == 1 else [2, 3, 3, 3, 3, 4])
+    others = [f"p{number}" for number in range(10)] if has_many else []
+    names = draw.sample(["a", "b", "c", "_d", "e2", "x", *others], count)
     initial = [{name: draw_value(draw) for name in draw.choice([["x"], ["x", "n"]])} for _ in names]
-    events = [[Event({name: draw_value(draw) for name in variables if draw.random() < 0.7})
-               for _ in range(draw.choice([0, 1, 2, 3, 3, 4, 4, 4] if count < 4 else [1, 2, 2, 3]))]
-              for variables in initial]
+    events = [[Event({name: draw_value(draw) for name in variables if draw.random() < 0.7}) for _ in range(number)]
+              for variables, number in zip(initial, draw_counts(draw, count))]
     return Session(names, initial, events, version, fields)
 
 
@@ -386,8 +413,8 @@ def draw_predicate(draw, session, depth=3):
     return (draw.choice(["==", "==", *RELATIONS]), draw_sum(draw, session), right)
 
 
-def draw_session(draw):
-    session = draw_processes(draw)
+def draw_session(draw, has_many):
+    session = draw_processes(draw, has_many)
     if draw.random() < 0.25:
         draw_ring(draw, session)
     draw_messages(draw, session)
@@ -399,7 +426,7 @@ def draw_session(draw):
         tries = [draw_predicate(draw, session) for _ in range(draw.choice([1, 3, 6]))]
         session.predicates.append((name, min(tries, key=lambda tree: (
             holds(session, start, tree), not any(holds(session, cut, tree) for cut in counts)))))
-    session.width = draw.choice([1, 2, 3, 4, 5, 8, 4096, 4096, 4096])
+    session.width = draw.choice([1, 2, 3, 5, 8, 20, 4096] if has_many else [1, 2, 3, 4, 5, 8, 4096, 4096, 4096])
     return session
 
 
@@ -558,7 +585,7 @@ def tried(program, seed, number):
     """How often the program ran for the session of this number, the lines that it wrote, and in what it differs, if it
     does."""
     draw = random.Random(f"{seed} {number}")
-    session = draw_session(draw)
+    session = draw_session(draw, number % 3 == 2)
     document = document_text(draw, session)
     streams = [stream_text(draw, session, process) for process in range(len(session.names))]
     draw.shuffle(streams)
@@ -580,7 +607,7 @@ def tried(program, seed, number):
 def main():
     parser = argparse.ArgumentParser(description=__doc__, formatter_class=argparse.RawDescriptionHelpFormatter)
     parser.add_argument("program", nargs="?", default=os.path.join(HERE, "..", "crates", "monitor", "out", "monitor"))
-    parser.add_argument("--count", type=int, default=400)
+    parser.add_argument("--count", type=int, default=600)
     parser.add_argument("--seed", type=int, default=1978)
     parser.add_argument("--only", type=int)
     given = parser.parse_args()
@@ -599,9 +626,9 @@ def main():
                 print(f"drawn: session {number} of seed {given.seed}: {why}")
     for part, least in LINES_WANTED.items() if given.only is None and not differing else []:
         stood = sum(re.search(part, line) is not None for line in lines)
-        if stood < least * given.count // 400:
+        if stood < least * given.count // 600:
             missing += 1
-            print(f"drawn: {stood} lines with {part!r}, and {least * given.count // 400} are wanted")
+            print(f"drawn: {stood} lines with {part!r}, and {least * given.count // 600} are wanted")
     print(f"drawn: {len(numbers)} sessions, {runs} runs, {differing} differ")
     sys.exit(1 if differing or missing or not runs else 0)
 

@@ -12,6 +12,7 @@ import argparse
 import contextlib
 import errno
 import fcntl
+import json
 import os
 import random
 import re
@@ -39,6 +40,13 @@ OF_RECEIVERS = [b'{"process":"a"}\n{"send":"m","set":{"x":1}}\n{"end":true}\n',
                 b'{"process":"b"}\n{"recv":"m","set":{"y":1}}\n{"end":true}\n',
                 b'{"process":"c"}\n{"recv":"m","set":{"z":1}}\n{"end":true}\n']
 OF_BROADCAST = b"session 3 processes 3 events 1 messages\nlag possibly yes 1,0,1\nlag definitely yes 2\n"
+# As many processes as there may be, each with one event.
+NAMES = [f"p{number}" for number in range(1, 17)]
+SIXTEEN = json.dumps({"processes": [{"name": name, "vars": {"n": 0}} for name in NAMES],
+                      "predicates": [{"name": "last", "text": "p16.n == 1 and p1.n == 0"}], "width": 16384}).encode()
+OF_SIXTEEN = [f'{{"process":"{name}"}}\n{{"set":{{"n":1}}}}\n{{"end":true}}\n'.encode() for name in NAMES]
+OF_LAST = (b"session 16 processes 16 events 0 messages\nlast possibly yes 0,0,0,0,0,0,0,0,0,0,0,0,0,0,0,1\n"
+           b"last definitely no p1,p16,p15,p14,p13,p12,p11,p10,p9,p8,p7,p6,p5,p4,p3,p2\n")
 NO_NETWORK = b"monitor: network\n"
 FRESH = b"stream 1 process - events 0 fresh\nstream 2 process - events 0 fresh\n"
 SHOWN = re.compile(rb"stream 1 process [-ab] events [012] (fresh|joined|ended|faulted)\n"
@@ -149,10 +157,12 @@ def clients(streams, watchers=0):
     return act
 
 
-def three(server):
-    """Those who send the streams of three processes."""
-    for stream in OF_RECEIVERS:
-        send(server.connect(), stream)
+def senders(streams):
+    """Those who send the streams."""
+    def act(server):
+        for stream in streams:
+            send(server.connect(), stream)
+    return act
 
 
 def watched_first(server):
@@ -184,11 +194,17 @@ def cases():
         for watchers, workers in OTHERS:
             options = {"watchers": watchers, "workers": workers}
             yield f"{name}, {watchers} watchers", clients(streams, watchers), options, (status, report, b"")
+    three = senders(OF_RECEIVERS)
     yield "a message with two receivers", three, {"document": BROADCAST}, (0, OF_BROADCAST, b"")
     options = {"document": BROADCAST.replace(b":2}", b":1}")}
     yield "a message with two receivers, in version 1", three, options, (1, b"refused receivedtwice c#1\n", b"")
     options = {"document": BROADCAST.replace(b":2}", b":3}")}
     yield "another version", nobody, options, (1, b"refused spec version\n", b"")
+    yield "sixteen connections", senders(OF_SIXTEEN), {"document": SIXTEEN}, (0, OF_LAST, b"")
+    options = {"document": SIXTEEN, "workers": 4}
+    yield "sixteen connections in the other order", senders(OF_SIXTEEN[::-1]), options, (0, OF_LAST, b"")
+    twice, refusal = [*OF_SIXTEEN[:15], OF_SIXTEEN[14]], b"refused stream 16 line 1 taken\n"
+    yield "sixteen connections, the last two the same", senders(twice), options, (1, refusal, b"")
     yield "streams that nobody sends yet", watched_first, {"watchers": 1}, (0, REPORT, b"")
     yield "the port is taken", nobody, {"taken": [0]}, (3, b"", NO_NETWORK)
     yield "the watchers' port is taken", nobody, {"taken": [1], "watchers": 1}, (3, b"", NO_NETWORK)
