@@ -17,7 +17,7 @@ import time
 KIB = 1024
 # From the greatest to the least. The last of them hold no more than what the system puts on a stack first.
 STACKS = [resource.RLIM_INFINITY, 8192, 4096, 2048, 1024, 512, 256, 192, 128, 96, 64]
-LONG = [letter * 32 for letter in "abcdefgh"]
+LONG = [letter * 32 for letter in "abcdefghijklmnop"]
 X, JOIN, END = {"a": 0}, '{"process":"a"}', '{"end":true}'
 
 
@@ -48,7 +48,7 @@ def line(written):
 
 
 def longest_report():
-    """Eight processes, one after the other, with 10,000 events each, and 16 predicates that never hold."""
+    """Sixteen processes, one after the other, with 10,000 events each, and 16 predicates that never hold."""
     streams = []
     for place, name in enumerate(LONG):
         events = ["{}"] * 10_000
@@ -63,7 +63,7 @@ def longest_report():
 
 
 def longest_document():
-    """16 predicates of 4,096 bytes over 8 processes with 16 variables, all with the longest names, and then spaces."""
+    """16 predicates of 4,096 bytes over 16 processes with 16 variables, all with the longest names, and then spaces."""
     processes = {name: {f"{k:02}".join("vw").ljust(32, "_"): 2**63 - 1 for k in range(16)} for name in LONG}
     variables = [f"{name}.{variable}" for name, own in processes.items() for variable in own]
     texts = [repeated(f"{variables[k]} < 0", f" or 2147483647 * {variables[-k]} < 0") for k in range(16)]
@@ -114,8 +114,8 @@ def cases():
         ("an id of 64 bytes, each written as an escape", line('{"send":"' + "\\u006d" * 64 + '"}'), 0, judged),
         ("a line of 65,536 bytes", line("{}".ljust(65_536)), 0, judged),
         ("a line of 65,537 bytes", line("{}".ljust(65_537)), 1, "refused stream 1 line 2 linetoolong\n"),
-        ("the longest document", longest_document(), 0, "session 8 processes 8 events 0 messages\n"),
-        ("the longest report", longest_report(), 0, "session 8 processes 80000 events 7 messages\n"),
+        ("the longest document", longest_document(), 0, "session 16 processes 16 events 0 messages\n"),
+        ("the longest report", longest_report(), 0, "session 16 processes 160000 events 15 messages\n"),
     ]
     return deep + long + nesting + lines
 

@@ -1,5 +1,5 @@
 #!/usr/bin/env python3
-"""generate.py NAME [--small]: writes a large bundle to standard output, or a small one of the same kind.
+"""generate.py NAME [PROCESSES] [--small]: writes a large bundle to standard output, or a small one of the same kind.
 
 lattice   6 processes in 30 rounds: 7 local events each, then a message of each to one of them and back; levels of tens
           of thousands of cuts, and one conjunction that no cut satisfies
@@ -16,6 +16,9 @@ marked    the same with one part more, which the cut after p0's first event sati
 heavy     6 processes in 8 rounds of 7 local events, levels of tens of thousands of cuts; an `or` of 46 sums that no cut
           satisfies
 many      8 processes in 3 rounds of 3 local events; 16 predicates of 30 sums each that no cut satisfies
+wide      8 processes, or 2 to 16 if another number is given, in 8 rounds of as many local events as leave the levels
+          within the width, with a message from each process to the next one and back after each round; a sum that no
+          cut satisfies
 lists     8 processes of 20 local events each and no messages; an `or` of 14 sums, which holds unless the processes
           are nearly level, so that the avoiding cuts stand in lists
 locals    the same lines with each send and receipt replaced by a local event of the same length, for comparison with
@@ -71,13 +74,13 @@ def meeting(names, hub, number, version):
     return events
 
 
-def rounds(processes, steps, count, predicates, version=1):
+def rounds(processes, steps, count, predicates, version=1, meet=None):
     """In each round each process takes steps of its own, and then all of them meet. The seed is fixed."""
     rng = random.Random(2)
     names = [f"p{k}" for k in range(processes)]
     lists = {name: [] for name in names}
     for number in range(count):
-        met = meeting(names, names[number % processes], number, version)
+        met = meet(names, number) if meet else meeting(names, names[number % processes], number, version)
         for name in names:
             lists[name] += [{"set": {"n": 2 * rng.randrange(1000)}} for _ in range(steps)] + met[name]
     head = document([(name, ["n"]) for name in names], predicates, 65536, version)
@@ -139,6 +142,24 @@ def heavy_sums():
 
 def many_sums():
     rounds(8, size(3, 1), size(3, 1), [(f"q{k}", " or ".join(sums(8, 30, k))) for k in range(16)])
+
+
+def there_and_back(names, number):
+    """Of each process the events by which a message goes from the first process to the next one and so on, and back."""
+    way = [*names, *names[-2::-1]]
+    events = {name: [] for name in names}
+    for hop, (sender, receiver) in enumerate(zip(way, way[1:])):
+        events[sender].append({"send": f"{number}-{hop}"})
+        events[receiver].append({"recv": f"{number}-{hop}"})
+    return events
+
+
+def wide():
+    given = [int(word) for word in sys.argv[2:] if word.isdigit()]
+    processes = given[0] if given else 8
+    steps = max(steps for steps in range(1, 8) if (steps + 1) ** processes <= 500_000)
+    text = " + ".join(f"p{k}.n" for k in range(processes))
+    rounds(processes, steps, size(8, 1), [("never", f"{text} == {1000 * processes + 1}")], meet=there_and_back)
 
 
 def listed_sums():
@@ -216,5 +237,5 @@ def locals_alone():
 
 
 {"lattice": lattice, "several": several, "terms": terms, "streams": streams, "messages": messages,
- "locals": locals_alone, "avoiding": avoiding, "sums": open_sums, "heavy": heavy_sums, "marked": marked_sums, "many": many_sums,
- "lists": listed_sums}[sys.argv[1]]()
+ "locals": locals_alone, "avoiding": avoiding, "sums": open_sums, "heavy": heavy_sums, "marked": marked_sums,
+ "many": many_sums, "wide": wide, "lists": listed_sums}[sys.argv[1]]()

@@ -1,13 +1,13 @@
 #!/usr/bin/env python3
 """instructions.py PROGRAM [LOAD..] [--write] [--beside OTHER]: counts the instructions of the program on small loads.
 
-Each load is the small form of one of `generate.py`, judged once as a bundle under callgrind (`valgrind`), which counts
-each instruction that is carried out: the count is the same on each machine and however busy it is, but for a few in a
-thousand where a hash of ids has other keys. What is counted is compared with `bench/instructions.json`. A load that
-takes over a twentieth more fails, with the ten functions that grew most. One that takes over a twentieth less is named,
-so that the stored figures are made again. With --write they are: on purpose, since a change of the toolchain or of the
-code made them other ones. With --beside the same of another program that reads bundles is counted too, and the ratio is
-shown. The status is 1 if a load fails.
+Each load is the small form of one of `generate.py`, by its words as "wide 9", judged once as a bundle under callgrind
+(`valgrind`), which counts each instruction that is carried out: the count is the same on each machine and however busy
+it is, but for a few in a thousand where a hash of ids has other keys. What is counted is compared with
+`bench/instructions.json`. A load that takes over a twentieth more fails, with the ten functions that grew most. One
+that takes over a twentieth less is named, so that the stored figures are made again. With --write they are: on purpose,
+since a change of the toolchain or of the code made them other ones. With --beside the same of another program that
+reads bundles is counted too, and the ratio is shown. The status is 1 if a load fails.
 """
 import argparse
 import json
@@ -99,8 +99,8 @@ def main():
         for name in given.loads or LOADS:
             bundle = os.path.join(folder, name)
             with open(bundle, "wb") as file:
-                subprocess.run([sys.executable, os.path.join(FOLDER, "generate.py"), name, "--small"], stdout=file,
-                               check=True)
+                subprocess.run([sys.executable, os.path.join(FOLDER, "generate.py"), *name.split(), "--small"],
+                               stdout=file, check=True)
             total, counts = count(given.program, bundle, folder)
             said, is_over = compare(name, total, counts, stored.get(name))
             if given.beside:
