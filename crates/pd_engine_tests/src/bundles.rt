@@ -67,10 +67,11 @@ ahead possibly yes 1,0\nahead definitely yes 1\n",
         report: "refused spec shape\n",
     },
     Case {
-        name: "seventeen streams",
+        name: "thirty-three streams",
         bundle: "{\"processes\":[{\"name\":\"a\",\"vars\":{\"x\":0}}],\
 \"predicates\":[{\"name\":\"up\",\"text\":\"a.x > 0\"}]}\n\
----\n---\n---\n---\n---\n---\n---\n---\n---\n---\n---\n---\n---\n---\n---\n---\n---\n",
+---\n---\n---\n---\n---\n---\n---\n---\n---\n---\n---\n---\n---\n---\n---\n---\n---\n---\n---\n---\n---\n---\n\
+---\n---\n---\n---\n---\n---\n---\n---\n---\n---\n---\n",
         end: "refused",
         report: "refused streams\n",
     },

@@ -79,7 +79,7 @@ static CASES: [Case; 7] = [
     Case {
         name: "as many streams as may be",
         document: DOCUMENT,
-        streams: 16,
+        streams: 32,
         end: "refused",
         report: "refused stream 3 line 1 taken\n",
         runs: 1,
@@ -87,7 +87,7 @@ static CASES: [Case; 7] = [
     Case {
         name: "too many streams",
         document: DOCUMENT,
-        streams: 17,
+        streams: 33,
         end: "refused",
         report: "refused streams\n",
         runs: 0,

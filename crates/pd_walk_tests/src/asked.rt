@@ -8,8 +8,9 @@ use crate::refusals::are_skipped;
 use crate::runs::{
     FOUR, FOUR_COUNTS, FOUR_RUNS, FOUR_STREAMS, TWO, TWO_COUNTS, TWO_STREAMS, are_whole,
 };
-use crate::{order, refusals};
+use crate::{order, refusals, seams};
 use pd_clock::Computation;
+use pd_format::STREAM_COUNT_LIMIT;
 use pd_match::match_messages;
 use pd_samples::{THREE, THREE_STREAMS, traces_of};
 use pd_spec::Spec;
@@ -46,7 +47,7 @@ pub(crate) fn is_right<K: RandomSource, T: Threads + Wait + Sync>(
     question: Question<'_>,
     again: &mut bool,
 ) -> Option<bool> {
-    if streams.len() > 8 {
+    if streams.len() > STREAM_COUNT_LIMIT {
         return Some(false);
     }
     let Ok(spec) = Spec::read(alloc, document.as_bytes()) else {
@@ -112,6 +113,16 @@ fn sessions_answer_as_they_should(rt: HostRuntime) {
             question: Question::Runs(&FOUR_COUNTS, &FOUR_RUNS),
         },
         Row {
+            document: seams::NINE,
+            streams: &seams::NINE_STREAMS,
+            question: Question::Runs(&seams::COUNTS, &[]),
+        },
+        Row {
+            document: seams::SIXTEEN,
+            streams: &seams::SIXTEEN_STREAMS,
+            question: Question::Runs(&seams::COUNTS, &[]),
+        },
+        Row {
             document: refusals::DOCUMENT,
             streams: &refusals::STREAMS,
             question: Question::Skips,
@@ -119,6 +130,16 @@ fn sessions_answer_as_they_should(rt: HostRuntime) {
         Row {
             document: THREE,
             streams: &THREE_STREAMS,
+            question: Question::Limits,
+        },
+        Row {
+            document: seams::NINE,
+            streams: &seams::NINE_STREAMS,
+            question: Question::Limits,
+        },
+        Row {
+            document: seams::SIXTEEN,
+            streams: &seams::SIXTEEN_STREAMS,
             question: Question::Limits,
         },
     ];

@@ -11,6 +11,7 @@
 //! - `pictures`: values with a character of two bytes where they are cut off in a picture
 //! - `runs`: whole levels as runs, and how many cuts they have
 //! - `refusals`: runs that are skipped
+//! - `seams`: sessions of nine and of sixteen processes, whose cuts have a pair of numbers as their key
 //! - `limits`: the answers, whatever the width of a whole level at which the walk goes on by lists
 //! - `definite`: answers for Definitely, how many levels are held for them, and what is found of evidence
 #![tactic(auto)]
@@ -31,3 +32,5 @@ mod pictures;
 mod refusals;
 #[cfg(test)]
 mod runs;
+#[cfg(test)]
+mod seams;

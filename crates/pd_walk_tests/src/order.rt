@@ -165,8 +165,10 @@ pub(crate) fn is_ordered(alloc: Global, computation: &Computation<'_>) -> Option
 #[test]
 fn cuts_keep_their_counts(rt: HostRuntime) -> Result<(), Fail> {
     let alloc = rt.alloc();
-    let many = Cut::new(alloc, &[1, 2, 3, 4, 5, 6, 7, 8, 9])?;
-    assert!(rt; many.counts() == [1, 2, 3, 4, 5, 6, 7, 8, 9].as_slice());
+    // one count more than a cut of as many processes as there may be
+    let many = [1, 2, 3, 4, 5, 6, 7, 8, 9, 10, 11, 12, 13, 14, 15, 16, 17];
+    let counted = Cut::new(alloc, &many)?;
+    assert!(rt; counted.counts() == many.as_slice());
     let mut cut = Cut::new(alloc, &[3, 0, 2])?;
     assert!(rt; cut.counts() == [3, 0, 2].as_slice());
     cut.undo(2);

@@ -1,4 +1,5 @@
 //! Runs that are skipped: some are, for each predicate.
+ghost use Rattle.pd_keys.specs.Pairs.{single_limit};
 ghost use Rattle.pd_marks.specs.Skips.{HaveNoHits};
 ghost use Rattle.pd_model.specs.Predicates.{test_of};
 ghost use Rattle.pd_refusals.specs.Refusals.{AreRefusals};
@@ -7,6 +8,7 @@ ghost use Rattle.std.specs.Prelude.{◌<◌, ◌≤◌, IfOk, length};
 
 use crate::runs::level_after;
 use pd_clock::Computation;
+use pd_keys::SINGLE_LIMIT;
 use pd_marks::Skips;
 use pd_refusals::Refusals;
 use pd_runs::{Steps, Whole};
@@ -56,7 +58,7 @@ fn skips_of<'r>(
     _test: &Compiled<'_, '_>,
     _tests: &[Compiled<'_, '_>],
     q: usize,
-    _level: &Whole,
+    _level: &Whole<u128>,
     refusals: &'r Refusals,
 ) -> Skips<'r>
     requires within { q < length _tests.now }
@@ -67,7 +69,7 @@ fn skips_of<'r>(
 }
 
 /// Whether a run is skipped.
-fn is_any_skipped(level: &Whole, skips: Skips<'_>) -> bool
+fn is_any_skipped(level: &Whole<u128>, skips: Skips<'_>) -> bool
     requires { skips.bit < 64 }
 {
     for i in 0..level.len() {
@@ -103,9 +105,10 @@ fn skipping_levels<T: Threads + Sync>(
     tests: &[Compiled<'_, '_>],
     q: usize,
 ) -> Result<u64, AllocError>
-    requires { q < length tests.now }
+    requires within { q < length tests.now }
+    requires few { length steps.now ≤ single_limit }
 {
-    let mut level = Whole::first(alloc, steps)?;
+    let mut level = Whole::<u128>::first(alloc, steps)?;
     let mut refusals = Refusals::first(alloc, tests, &level)?;
     let mut found: u64 = 0;
     for _ in 0..levels {
@@ -129,6 +132,9 @@ pub(crate) fn are_skipped<T: Threads + Sync>(
 ) -> Option<bool>
     requires { 2 ≤ length computation.now.events }
 {
+    if computation.processes() > SINGLE_LIMIT {
+        return Some(false);
+    }
     let Ok(tests) = compiled(alloc, computation, spec) else {
         return None;
     };

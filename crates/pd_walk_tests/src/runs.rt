@@ -1,8 +1,10 @@
 //! Whole levels as runs: how many cuts each level has, and the runs of one.
+ghost use Rattle.pd_keys.specs.Pairs.{single_limit};
 ghost use Rattle.pd_runs.specs.Levels.{IsWholeLevel};
 ghost use Rattle.std.specs.Prelude.{◌≤◌, IfOk, length};
 
 use pd_clock::Computation;
+use pd_keys::{Key, Pair, SINGLE_LIMIT};
 use pd_runs::{Steps, Whole};
 use pd_samples::{A, B, C, D};
 use std::alloc::{AllocError, Global};
@@ -59,11 +61,11 @@ pub(crate) const FOUR_COUNTS: [u64; 20] = [
 pub(crate) const FOUR_RUNS: [(usize, [u64; 5]); 2] = [(1, [0, 1, 4, 5, 7]), (9, [3, 0, 4, 4, 5])];
 
 /// The level after this one, if this one's number is small.
-pub(crate) fn level_after(
+pub(crate) fn level_after<K: Key>(
     alloc: Global,
     steps: &Steps<'_, '_>,
-    level: &Whole,
-) -> Result<Whole, AllocError>
+    level: &Whole<K>,
+) -> Result<Whole<K>, AllocError>
     requires { IsWholeLevel steps.now level.now }
     ensures { IfOk result (λ next. IsWholeLevel steps.now next) }
 {
@@ -74,7 +76,7 @@ pub(crate) fn level_after(
 }
 
 /// Whether the run is this one: the counts of its prefix of two processes, the two end points and the sum.
-fn is_run(level: &Whole, i: usize, run: [u64; 5]) -> bool {
+fn is_run(level: &Whole<u128>, i: usize, run: [u64; 5]) -> bool {
     if i >= level.len() {
         return false;
     }
@@ -82,29 +84,37 @@ fn is_run(level: &Whole, i: usize, run: [u64; 5]) -> bool {
     level.key(i) == key && level.lo(i) == run[2] && level.hi(i) == run[3] && level.rest(i) == run[4]
 }
 
-/// Whether this isn't level 8, or it has ten runs and these among them.
-fn has_runs(level: &Whole, runs: &[(usize, [u64; 5])]) -> bool {
-    if level.number() != 8 || runs.is_empty() {
-        return true;
+/// Whether level 8 has ten runs and these among them, or no run is named.
+fn has_runs(
+    alloc: Global,
+    steps: &Steps<'_, '_>,
+    runs: &[(usize, [u64; 5])],
+) -> Result<bool, AllocError>
+    requires { length steps.now ≤ single_limit }
+{
+    let mut level = Whole::<u128>::first(alloc, steps)?;
+    for _ in 0..8 {
+        level = level_after(alloc, steps, &level)?;
     }
     for &(i, run) in runs {
-        if !is_run(level, i, run) {
-            return false;
+        if !is_run(&level, i, run) {
+            return Ok(false);
         }
     }
-    level.len() == 10
+    Ok(runs.is_empty() || level.len() == 10)
 }
 
-/// Whether the levels have these numbers of cuts, and the one after them has none; and whether level 8 has these runs.
-fn have_counts(
+/// Whether the levels have these numbers of cuts, and the one after them has none.
+fn have_counts<K: Key>(
     alloc: Global,
     steps: &Steps<'_, '_>,
     counts: &[u64],
-    runs: &[(usize, [u64; 5])],
-) -> Result<bool, AllocError> {
-    let mut level = Whole::first(alloc, steps)?;
+) -> Result<bool, AllocError>
+    requires { K.fits (length steps.now) }
+{
+    let mut level = Whole::<K>::first(alloc, steps)?;
     for i in 0..counts.len() {
-        if level.cuts() != counts[i] || !has_runs(&level, runs) {
+        if level.cuts() != counts[i] {
             return Ok(false);
         }
         level = level_after(alloc, steps, &level)?;
@@ -112,7 +122,7 @@ fn have_counts(
     Ok(level.is_empty())
 }
 
-/// Whether that is so of the computation.
+/// Whether that is so of the computation, and of level 8 what `has_runs` says if its cuts have one number as their key.
 pub(crate) fn are_whole(
     alloc: Global,
     computation: &Computation<'_>,
@@ -121,6 +131,10 @@ pub(crate) fn are_whole(
 ) -> Result<bool, AllocError>
     requires { 2 ≤ length computation.now.events }
 {
+    computation.limits();
     let steps = Steps::of(alloc, computation)?;
-    have_counts(alloc, &steps, counts, runs)
+    if computation.processes() > SINGLE_LIMIT {
+        return have_counts::<Pair>(alloc, &steps, counts);
+    }
+    Ok(have_counts::<u128>(alloc, &steps, counts)? && has_runs(alloc, &steps, runs)?)
 }
