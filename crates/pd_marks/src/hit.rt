@@ -14,15 +14,24 @@ use super::run;
 use super::skips::Skips;
 use pd_bits::{BITS, least, words};
 use pd_clock::Cut;
+use pd_format::PROCESS_LIMIT;
+use pd_keys::Key;
 use pd_neighbors::RunTest;
 use pd_runs::Whole;
 use std::alloc::Global;
 
 /// The least count of the last process but one in run `i` whose cut satisfies.
-pub(crate) fn hit_in<T: RunTest>(level: &Whole, test: &T, skips: Skips<'_>, i: usize) -> Option<u64>
+pub(crate) fn hit_in<K: Key, T: RunTest>(
+    level: &Whole<K>,
+    test: &T,
+    skips: Skips<'_>,
+    i: usize,
+    counts: &mut [u64],
+) -> Option<u64>
     requires level { IsWholeLevel (T.events test.now) level.now }
     requires skips { HaveNoHits (T.events test.now) (T.test test.now) level.now.runs skips }
     requires within { i < length level.now.runs }
+    requires room { level.now.processes ≤ length counts.old }
     ensures some { IfSome result (λ x. ((run_at level.now.runs i).lo ≤ x) × (x ≤ (run_at level.now.runs i).hi)
         × (T.test test.now (cut_with level.now.number (run_at level.now.runs i) x) ≡ true)
         × ((u : ℕ) → (run_at level.now.runs i).lo ≤ u → u < x
@@ -34,7 +43,7 @@ pub(crate) fn hit_in<T: RunTest>(level: &Whole, test: &T, skips: Skips<'_>, i: u
     let hi = run::hi(level, i);
     for b in 0..(hi - lo) / BITS + 1 {
         let x = lo + b * BITS;
-        let found = hits(level, test, skips, i, x, block(x, hi));
+        let found = hits(level, test, skips, i, x, block(x, hi), counts);
         words(found);
         if found != 0 {
             return Some(x + least(found));
@@ -44,24 +53,26 @@ pub(crate) fn hit_in<T: RunTest>(level: &Whole, test: &T, skips: Skips<'_>, i: u
 }
 
 /// The cut of run `i` with this count of the last process but one. It takes no memory.
-pub(crate) fn cut_in(alloc: Global, level: &Whole, i: usize, x: u64) -> Cut
+pub(crate) fn cut_in<K: Key>(alloc: Global, level: &Whole<K>, i: usize, x: u64) -> Cut
     requires within { i < length level.now.runs }
     requires high { x ≤ rest_at level.now.number (run_at level.now.runs i) }
     requires processes { length (run_at level.now.runs i).prefix + 2 ≡ level.now.processes }
     ensures { result ≡ cut_with level.now.number (run_at level.now.runs i) x }
 {
     level.limits();
+    run::few(level);
     let n = level.processes();
-    let mut counts = run::prefix(level, i);
+    let mut counts = [0; PROCESS_LIMIT];
+    run::read_prefix(level, i, &mut counts);
     counts[n - 2] = x;
     counts[n - 1] = run::rest(level, i) - x;
     Cut::new(alloc, &counts[..n]).unwrap()
 }
 
 /// The first cut of the level that satisfies, in lexicographic order. It takes no memory.
-pub fn first_hit<T: RunTest>(
+pub fn first_hit<K: Key, T: RunTest>(
     alloc: Global,
-    level: &Whole,
+    level: &Whole<K>,
     test: &T,
     skips: Skips<'_>,
 ) -> Option<Cut>
@@ -74,8 +85,10 @@ pub fn first_hit<T: RunTest>(
     ensures none { IfNone result ((cut : List ℕ) → IsOfLevel (T.events test.now) level.now.number cut
         → T.test test.now cut ≡ false) }
 {
+    run::few(level);
+    let mut counts = [0; PROCESS_LIMIT];
     for i in 0..level.len() {
-        match hit_in(level, test, skips, i) {
+        match hit_in(level, test, skips, i, &mut counts) {
             Some(x) => return Some(cut_in(alloc, level, i, x)),
             None => {},
         }

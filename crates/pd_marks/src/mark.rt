@@ -1,6 +1,5 @@
 //! The marks of the first level with a satisfying cut, and those of the next level.
 ghost use Rattle.pd_bits.specs.Words.{has_bit};
-ghost use Rattle.pd_format.specs.Limits.{process_limit};
 ghost use Rattle.pd_marks.specs.Marks.{HasWords, IsBefore, IsMarking, IsShaped, bits_in, last_word, start_of};
 ghost use Rattle.pd_model.specs.Order.{HasNoCycle};
 ghost use Rattle.pd_model.specs.Walks.{NoneBelow};
@@ -18,26 +17,28 @@ use super::run;
 use super::skips::Skips;
 use pd_bits::{BITS, lowest, without, words};
 use pd_format::PROCESS_LIMIT;
+use pd_keys::Key;
 use pd_neighbors::RunTest;
 use pd_runs::Whole;
 use std::alloc::{AllocError, Global};
 
 /// A level and its marks.
 #[derive(Clone, Copy)]
-pub(crate) struct Before<'a, 'b> {
-    pub level: &'a Whole,
+pub(crate) struct Before<'a, 'b, K: Key> {
+    pub level: &'a Whole<K>,
     pub marks: &'b Marks,
 }
 
 /// The bits, without those of the cuts that satisfy.
-fn unsatisfied<T: RunTest>(
-    level: &Whole,
+fn unsatisfied<K: Key, T: RunTest>(
+    level: &Whole<K>,
     test: &T,
     skips: Skips<'_>,
     i: usize,
     x: u64,
     n: u64,
     possible: u64,
+    counts: &mut [u64],
 ) -> u64
     requires level { IsWholeLevel (T.events test.now) level.now }
     requires skips { HaveNoHits (T.events test.now) (T.test test.now) level.now.runs skips }
@@ -47,6 +48,7 @@ fn unsatisfied<T: RunTest>(
     requires low { (run_at level.now.runs i).lo ≤ x }
     requires high { x + n ≤ (run_at level.now.runs i).hi + 1 }
     requires narrow { (j : ℕ) → n ≤ j → has_bit possible j ≡ false }
+    requires room { level.now.processes ≤ length counts.old }
     ensures bits { (j : ℕ) → j < n → has_bit result j ≡ (has_bit possible j
         && not (T.test test.now (cut_at (run_at level.now.runs i).prefix (x + j)
         (rest_at level.now.number (run_at level.now.runs i) - (x + j))))) }
@@ -56,21 +58,22 @@ fn unsatisfied<T: RunTest>(
     if possible == 0 {
         return 0;
     }
-    without(possible, hits(level, test, skips, i, x, n))
+    without(possible, hits(level, test, skips, i, x, n, counts))
 }
 
 /// The cuts of a run that avoid: bit `j` is that of the cut whose count of the last process but one is `x + j`, for
 /// `j` below
 /// `n`. With no level before, none of its cuts satisfies, nor one of a level below it.
-pub(crate) fn avoiding<T: RunTest>(
-    before: Option<Before<'_, '_>>,
-    level: &Whole,
+pub(crate) fn avoiding<K: Key, T: RunTest>(
+    before: Option<Before<'_, '_, K>>,
+    level: &Whole<K>,
     test: &T,
     skips: Skips<'_>,
     i: usize,
     x: u64,
     n: u64,
     places: &mut [usize],
+    counts: &mut [u64],
 ) -> u64
     requires level { IsWholeLevel (T.events test.now) level.now }
     requires skips { HaveNoHits (T.events test.now) (T.test test.now) level.now.runs skips }
@@ -82,7 +85,8 @@ pub(crate) fn avoiding<T: RunTest>(
     requires few { n ≤ 64 }
     requires low { (run_at level.now.runs i).lo ≤ x }
     requires high { x + n ≤ (run_at level.now.runs i).hi + 1 }
-    requires kept { length places.old ≡ process_limit }
+    requires kept { level.now.processes ≤ length places.old }
+    requires room { level.now.processes ≤ length counts.old }
     ensures bits { (j : ℕ) → j < n → IsTrue (has_bit result j)
         ↔ AvoidsAt (T.events test.now) (T.test test.now) level.now.number (run_at level.now.runs i).prefix (x + j) }
     ensures beyond { (j : ℕ) → n ≤ j → has_bit result j ≡ false }
@@ -92,9 +96,9 @@ pub(crate) fn avoiding<T: RunTest>(
         Some(known) => {
             known.level.limits();
             let possible = parents(known.level, known.marks, level, i, x, n, places);
-            unsatisfied(level, test, skips, i, x, n, possible)
+            unsatisfied(level, test, skips, i, x, n, possible, counts)
         },
-        None => unsatisfied(level, test, skips, i, x, n, lowest(n)),
+        None => unsatisfied(level, test, skips, i, x, n, lowest(n), counts),
     }
 }
 
@@ -102,13 +106,14 @@ pub(crate) fn avoiding<T: RunTest>(
 ///
 /// # Errors
 /// An allocation was refused.
-fn push_run<T: RunTest>(
-    before: Option<Before<'_, '_>>,
-    level: &Whole,
+fn push_run<K: Key, T: RunTest>(
+    before: Option<Before<'_, '_, K>>,
+    level: &Whole<K>,
     test: &T,
     skips: Skips<'_>,
     i: usize,
     places: &mut [usize],
+    counts: &mut [u64],
     all: &mut Vec<u64>,
 ) -> Result<(), AllocError>
     requires level { IsWholeLevel (T.events test.now) level.now }
@@ -117,7 +122,8 @@ fn push_run<T: RunTest>(
         (HasNoCycle (T.events test.now) × NoneBelow (T.events test.now) (T.test test.now) level.now.number)
         (λ b. IsBefore (T.events test.now) (T.test test.now) level.now b.level.now b.marks.now) }
     requires within { i < length level.now.runs }
-    requires kept { length places.old ≡ process_limit }
+    requires kept { level.now.processes ≤ length places.old }
+    requires room { level.now.processes ≤ length counts.old }
     ensures more { IfOk result (λ _. length all.new.items ≡ length all.old.items + suc (last_word (run_at
         level.now.runs i))) }
     ensures others { IfOk result (λ _. (k : ℕ) → k < length all.old.items
@@ -129,7 +135,10 @@ fn push_run<T: RunTest>(
     let hi = run::hi(level, i);
     for b in 0..(hi - lo) / BITS + 1 {
         let x = lo + b * BITS;
-        all.push(avoiding(before, level, test, skips, i, x, block(x, hi), places))?;
+        let n = block(x, hi);
+        all.push(avoiding(
+            before, level, test, skips, i, x, n, places, counts,
+        ))?;
     }
     Ok(())
 }
@@ -138,10 +147,10 @@ fn push_run<T: RunTest>(
 ///
 /// # Errors
 /// An allocation was refused.
-fn mark<T: RunTest>(
+fn mark<K: Key, T: RunTest>(
     alloc: Global,
-    before: Option<Before<'_, '_>>,
-    level: &Whole,
+    before: Option<Before<'_, '_, K>>,
+    level: &Whole<K>,
     test: &T,
     skips: Skips<'_>,
 ) -> Result<Marks, AllocError>
@@ -154,10 +163,21 @@ fn mark<T: RunTest>(
 {
     let mut first = Vec::with_capacity(alloc, level.len())?;
     let mut all = Vec::with_capacity(alloc, level.len())?;
+    run::few(level);
     let mut places = [0; PROCESS_LIMIT];
+    let mut counts = [0; PROCESS_LIMIT];
     for i in 0..level.len() {
         first.push(all.len())?;
-        push_run(before, level, test, skips, i, &mut places, &mut all)?;
+        push_run(
+            before,
+            level,
+            test,
+            skips,
+            i,
+            &mut places,
+            &mut counts,
+            &mut all,
+        )?;
     }
     match bits(&all) {
         Some(count) => Ok(Marks::new(first, all, count)),
@@ -169,9 +189,9 @@ fn mark<T: RunTest>(
 ///
 /// # Errors
 /// An allocation was refused.
-pub fn unsatisfying<T: RunTest>(
+pub fn unsatisfying<K: Key, T: RunTest>(
     alloc: Global,
-    level: &Whole,
+    level: &Whole<K>,
     test: &T,
     skips: Skips<'_>,
 ) -> Result<Marks, AllocError>
@@ -188,11 +208,11 @@ pub fn unsatisfying<T: RunTest>(
 ///
 /// # Errors
 /// An allocation was refused.
-pub fn next<T: RunTest>(
+pub fn next<K: Key, T: RunTest>(
     alloc: Global,
-    before: &Whole,
+    before: &Whole<K>,
     marks: &Marks,
-    level: &Whole,
+    level: &Whole<K>,
     test: &T,
     skips: Skips<'_>,
 ) -> Result<Marks, AllocError>
