@@ -1,7 +1,7 @@
 -- Level 0, which has the run of the empty cut alone.
 use Rattle.std.proofs.Common.{◌≡◌, ℕ, zero, suc, ◌+◌, ◌-◌, ◌^◌, ◌<◌, ◌≤◌, List, [], ◌∷◌, length, get_or, map, sum, Contains, refl, sym, ap, ◌∙◌, subst, inl, inr, ◌⊎◌, arith}
 use Rattle.std.specs.Prelude.{None}
-use Rattle.pd_format.specs.Limits.{event_limit, process_limit}
+use Rattle.pd_format.specs.Limits.{event_limit}
 use Rattle.pd_keys.specs.Keys.{count_base, digits, key_of}
 use Rattle.pd_keys.proofs.Keys.{digits-empty, length-digits, weight_pos}
 use Rattle.pd_model.specs.Events.{Computation, event_count}
@@ -43,7 +43,7 @@ only_run run (zero, lt, at) = at
 only_run run (suc k, lt, at) = absurd (omega arith)
 
 module _ (c : Computation) (small : (q : ℕ) → event_count c q ≤ event_limit) (walkable : IsWalkable c)
-    (two : 2 ≤ length c) (few : length c ≤ process_limit) (born sorted : List ℕ)
+    (two : 2 ≤ length c) (born sorted : List ℕ)
     (grown : GrowsBy c (cut_at (digits (length c - 2) 0) 0 0) None (length c - 2) [] born)
     (there : (z : ℕ) → Contains born z → Contains sorted z) (back : (z : ℕ) → Contains sorted z → Contains born z)
   where
@@ -100,9 +100,9 @@ module _ (c : Computation) (small : (q : ℕ) → event_count c q ≤ event_limi
             subst (λ (other : List ℕ). Contains (map (digits (length c)) sorted) other) (cut_back c cut small ok)
             (in_map (digits (length c)) sorted (key_of cut) (there (key_of cut) has))
 
-    pub first_kept : ((i j : ℕ) → i ≤ j → j < length sorted → get_or sorted i 0 ≤ get_or sorted j 0)
-        → IsKeptLevel (length c) 0 (first_run ∷ []) sorted
-    first_kept ascends = record {
+    pub first_kept : (room : ℕ) → length c ≤ room → ((i j : ℕ) → i ≤ j → j < length sorted → get_or sorted i 0 ≤ get_or sorted j 0)
+        → IsKeptLevel room (length c) 0 (first_run ∷ []) sorted
+    first_kept room few ascends = record {
       few = few;
       two = two;
       keys = λ i j lt in_. absurd (omega arith);

@@ -1,11 +1,12 @@
 -- The runs of the next level, as they are put together from the runs of a level and its births.
 use Rattle.std.proofs.Common.{◌≡◌, ℕ, ◌+◌, ◌-◌, ◌/◌, ◌%◌, ◌^◌, ◌<◌, ◌≤◌, List, [], ◌∷◌, ◌++◌, length, get_or, map, take, sum, Contains, refl, sym, ap, ◌∙◌, subst, inl, inr, ◌⊎◌, below_more, arith}
+use Rattle.std.specs.Prelude.{IfSome, None, Option, Some}
 use Rattle.std.proofs.lemmas.Bool.{cases_lt}
 use Rattle.std.proofs.lemmas.List.{take_all}
 use Rattle.std.proofs.lemmas.List.Elements.{Contains-append_left, Contains-push, Contains-push_cases, Contains-get_or}
 use Rattle.pd_format.specs.Limits.{event_limit}
 use Rattle.pd_keys.specs.Keys.{Ascending, count_base, digits, key_of}
-use Rattle.pd_keys.proofs.Keys.{length-digits, weight_le}
+use Rattle.pd_keys.proofs.Keys.{length-digits}
 use Rattle.pd_model.specs.Events.{Computation, event_count}
 use Rattle.pd_model.specs.Cuts.{IsConsistent, IsOfLevel}
 use Rattle.pd_neighbors.specs.Neighbors.{cut_at}
@@ -26,16 +27,16 @@ use Rattle.pd_runs.proofs.RunCuts.{same_parts}
 use Rattle.pd_runs.proofs.RunFlags.{ends_of_run, candidates_in_runs}
 
 -- the level that is gone on from
-pub record IsGiven (c : Computation) (k : ℕ) (olds : List KeyedRun) (births : List ℕ) : Type 0 where
+pub record IsGiven (room : ℕ) (c : Computation) (k : ℕ) (olds : List KeyedRun) (births : List ℕ) : Type 0 where
   pub small : (q : ℕ) → event_count c q ≤ event_limit
   pub walkable : IsWalkable c
-  pub kept : IsKeptLevel (length c) k olds births
+  pub kept : IsKeptLevel room (length c) k olds births
   pub level : IsWholeLevel c (whole_view (length c) k olds births)
 
-pub given_by : (c : Computation) (k : ℕ) (olds : List KeyedRun) (births : List ℕ)
-    → ((q : ℕ) → event_count c q ≤ event_limit) → IsWalkable c → IsKeptLevel (length c) k olds births
-    → IsWholeLevel c (whole_view (length c) k olds births) → IsGiven c k olds births
-given_by c k olds births small walkable kept level = record {
+pub given_by : (room : ℕ) (c : Computation) (k : ℕ) (olds : List KeyedRun) (births : List ℕ)
+    → ((q : ℕ) → event_count c q ≤ event_limit) → IsWalkable c → IsKeptLevel room (length c) k olds births
+    → IsWholeLevel c (whole_view (length c) k olds births) → IsGiven room c k olds births
+given_by room c k olds births small walkable kept level = record {
   small = small;
   walkable = walkable;
   kept = kept;
@@ -70,6 +71,34 @@ pub record IsGoing (c : Computation) (k : ℕ) (olds : List KeyedRun) (births : 
       → HasRun (runs_view (length c - 2) runs) new.prefix
   pub seen : (z : ℕ) → Contains (take j births) z → HasKey runs (prefix_key z) ⊎ HasKey olds (prefix_key z)
 
+-- The same while births are gone through. The bar is one above the last prefix that was born, or 0; where the floor is
+-- above that, it is so by a run that has moved.
+pub record IsMerging (c : Computation) (k : ℕ) (olds : List KeyedRun) (births : List ℕ) (i j : ℕ) (runs : List KeyedRun)
+    (born : List ℕ) (bar : ℕ) : Type 0 where
+  pub floor : ℕ
+  pub going : IsGoing c k olds births i j runs born floor
+  pub least : bar ≤ floor
+  pub most : (floor ≤ bar) ⊎ ((m : ℕ) × (m < i) × (floor ≡ get_or (keys_of olds) m 0 + 1))
+
+-- the bar after this prefix was born last
+abbrev pub bar_of : {A : Type 0} → (A → ℕ) → Option A → ℕ
+bar_of number None = 0
+bar_of number (Some key) = number key + 1
+
+pub above_bar : {A : Type 0} (number : A → ℕ) (last : Option A) (prefix : ℕ)
+    → IfSome last (λ key. number key < prefix) → bar_of number last ≤ prefix
+above_bar number None prefix above = omega arith
+above_bar number (Some key) prefix above = let lt : number key < prefix = above in omega arith
+
+pub below_bar : {A : Type 0} (number : A → ℕ) (last : Option A) (prefix : ℕ)
+    → ¬ IfSome last (λ key. number key < prefix) → prefix < bar_of number last
+below_bar number None prefix none = absurd (none tt)
+below_bar number (Some key) prefix none = go (cases_lt (number key) prefix)
+  where
+    go : (number key < prefix) ⊎ (prefix ≤ number key) → prefix < number key + 1
+    go (inl lt) = absurd (none lt)
+    go (inr le) = omega arith
+
 has_key_push : (runs : List KeyedRun) (run : KeyedRun) (key : ℕ) → HasKey runs key → HasKey (runs ++ run ∷ []) key
 has_key_push runs run key (r, has, e) = (r, Contains-append_left runs (run ∷ []) r has, e)
 
@@ -83,7 +112,8 @@ has_run_push n runs run prefix (r, has, e) =
       e,
     )
 
-module _ (c : Computation) (k : ℕ) (olds : List KeyedRun) (births : List ℕ) (given : IsGiven c k olds births) where
+module _ (room : ℕ) (c : Computation) (k : ℕ) (olds : List KeyedRun) (births : List ℕ)
+    (given : IsGiven room c k olds births) where
   n : ℕ
   n = length c - 2
 
@@ -448,61 +478,6 @@ module _ (c : Computation) (k : ℕ) (olds : List KeyedRun) (births : List ℕ) 
           lift z (inl h) = inl (has_key_push runs new (prefix_key z) h)
           lift z (inr h) = inr h
 
-  key_small : (key : ℕ) → key < count_base ^ (length c - 2) → key < count_base ^ 6
-  key_small key lt =
-      let few : length c ≤ 8 = given.kept.few in
-      let most : count_base ^ (length c - 2) ≤ count_base ^ 6 = weight_le (length c - 2) 6 (omega arith) in
-      omega arith
-
-  old_key_small : (i : ℕ) → i < length olds → get_or (keys_of olds) i 0 < count_base ^ 6
-  old_key_small i lt =
-      let size : length (keys_of olds) ≡ length olds = length-keys olds in
-      let w : HasKey olds (get_or (keys_of olds) i 0) =
-      from_map (λ (r : KeyedRun). r.key) olds (get_or (keys_of olds) i 0)
-      (Contains-get_or (keys_of olds) i 0 (omega arith)) in
-      subst (λ (x : ℕ). x < count_base ^ 6) w.2 (key_small w.0.key (old_below w.0 w.1))
-
-  pub birth_key_small : (j : ℕ) → j < length births → prefix_key (get_or births j 0) < count_base ^ 6
-  birth_key_small j lt =
-      key_small (prefix_key (get_or births j 0)) (birth_parts (get_or births j 0) (birth_here j lt)).0
-
-  -- The two keys that are compared: each is that of the place, or above all at the end.
-  module _ (i j old birth : ℕ) (some : (i < length olds) ⊎ (j < length births))
-      (old_at : i < length olds → old ≡ get_or (keys_of olds) i 0)
-      (old_end : length olds ≤ i → old ≡ 340282366920938463463374607431768211455)
-      (birth_at : j < length births → birth ≡ prefix_key (get_or births j 0))
-      (birth_end : length births ≤ j → birth ≡ 340282366920938463463374607431768211455) where
-    pub birth_first : birth ≤ old → j < length births
-    birth_first le = go (cases_lt j (length births)) (cases_lt i (length olds))
-      where
-        go : (j < length births) ⊎ (length births ≤ j) → (i < length olds) ⊎ (length olds ≤ i) → j < length births
-        go (inl lt) other = lt
-        go (inr past) (inl in_) =
-            let a : birth ≡ 340282366920938463463374607431768211455 = birth_end past in
-            let b : old ≡ get_or (keys_of olds) i 0 = old_at in_ in
-            let s : get_or (keys_of olds) i 0 < count_base ^ 6 = old_key_small i in_ in
-            absurd (omega arith)
-        go (inr past) (inr out) = none some
-          where
-            none : (i < length olds) ⊎ (j < length births) → j < length births
-            none (inl h) = absurd (omega arith)
-            none (inr h) = h
-
-    pub run_first : old < birth → i < length olds
-    run_first less = go (cases_lt i (length olds)) (cases_lt j (length births))
-      where
-        go : (i < length olds) ⊎ (length olds ≤ i) → (j < length births) ⊎ (length births ≤ j) → i < length olds
-        go (inl lt) other = lt
-        go (inr past) (inl in_) =
-            let a : old ≡ 340282366920938463463374607431768211455 = old_end past in
-            let b : birth ≡ prefix_key (get_or births j 0) = birth_at in_ in
-            let s : prefix_key (get_or births j 0) < count_base ^ 6 = birth_key_small j in_ in
-            absurd (omega arith)
-        go (inr past) (inr out) =
-            let a : old ≡ 340282366920938463463374607431768211455 = old_end past in
-            let b : birth ≡ 340282366920938463463374607431768211455 = birth_end out in
-            absurd (omega arith)
-
   -- why a birth is passed over: the floor is above it, or it meets a run
   pub met_already : (i j : ℕ) (runs : List KeyedRun) (born : List ℕ) (floor : ℕ)
       → IsGoing c k olds births i j runs born floor → j < length births
@@ -517,6 +492,59 @@ module _ (c : Computation) (k : ℕ) (olds : List KeyedRun) (births : List ℕ) 
       inr (subst (λ (x : ℕ). HasKey olds x) (sym same)
       (from_map (λ (r : KeyedRun). r.key) olds (get_or (keys_of olds) i 0)
       (Contains-get_or (keys_of olds) i 0 (omega arith))))
+
+  pub merging_start : IsMerging c k olds births 0 0 [] [] 0
+  merging_start = record { floor = 0; going = going_start; least = omega arith; most = inl (omega arith) }
+
+  pub merging_move : (i j : ℕ) (runs : List KeyedRun) (born : List ℕ) (bar : ℕ)
+      → IsMerging c k olds births i j runs born bar → (old : KeyedRun) → i < length olds → get_or olds i old ≡ old
+      → get_or (keys_of olds) i 0 ≡ old.key
+      → (j < length births → old.key < prefix_key (get_or births j 0)) → (new_runs : List KeyedRun) (new_born : List ℕ)
+      → IsPushed c old runs born new_runs new_born → IsMerging c k olds births (i + 1) j new_runs new_born bar
+  merging_move i j runs born bar m old lt here key_is after new_runs new_born pushed = record {
+    floor = old.key + 1;
+    going = going_move i j runs born m.floor m.going old lt here key_is after new_runs new_born pushed;
+    least = let f : m.floor ≤ get_or (keys_of olds) i 0 = m.going.floor_old lt in let b : bar ≤ m.floor = m.least in
+        omega (arith, key_is);
+    most = inr (i, omega arith, ap (λ (x : ℕ). x + 1) (sym key_is));
+  }
+
+  pub merging_push : (i j : ℕ) (runs : List KeyedRun) (born : List ℕ) (bar : ℕ)
+      → IsMerging c k olds births i j runs born bar → j < length births → bar ≤ prefix_key (get_or births j 0)
+      → (i < length olds → prefix_key (get_or births j 0) < get_or (keys_of olds) i 0)
+      → (new_runs : List KeyedRun) (new_born : List ℕ) → IsBornRun c (get_or births j 0) runs born new_runs new_born
+      → IsMerging c k olds births i (j + 1) new_runs new_born (prefix_key (get_or births j 0) + 1)
+  merging_push i j runs born bar m lt above before new_runs new_born b = record {
+    floor = prefix_key (get_or births j 0) + 1;
+    going = going_push i j runs born m.floor m.going lt (low m.most) before new_runs new_born b;
+    least = omega arith;
+    most = inl (omega arith);
+  }
+    where
+      low : (m.floor ≤ bar) ⊎ ((n : ℕ) × (n < i) × (m.floor ≡ get_or (keys_of olds) n 0 + 1))
+          → m.floor ≤ prefix_key (get_or births j 0)
+      low (inl le) = omega arith
+      low (inr (n, less, e)) =
+          let p : get_or (keys_of olds) n 0 < prefix_key (get_or births j 0) = m.going.past n less lt in omega arith
+
+  pub merging_skip : (i j : ℕ) (runs : List KeyedRun) (born : List ℕ) (bar : ℕ)
+      → IsMerging c k olds births i j runs born bar → j < length births
+      → (prefix_key (get_or births j 0) < bar)
+      ⊎ ((i < length olds) × (prefix_key (get_or births j 0) ≡ get_or (keys_of olds) i 0))
+      → IsMerging c k olds births i (j + 1) runs born bar
+  merging_skip i j runs born bar m lt why = record {
+    floor = m.floor;
+    going = going_skip i j runs born m.floor m.going lt (met_already i j runs born m.floor m.going lt (wider why));
+    least = m.least;
+    most = m.most;
+  }
+    where
+      wider : (prefix_key (get_or births j 0) < bar)
+          ⊎ ((i < length olds) × (prefix_key (get_or births j 0) ≡ get_or (keys_of olds) i 0))
+          → (prefix_key (get_or births j 0) < m.floor)
+          ⊎ ((i < length olds) × (prefix_key (get_or births j 0) ≡ get_or (keys_of olds) i 0))
+      wider (inl less) = let b : bar ≤ m.floor = m.least in inl (omega arith)
+      wider (inr met) = inr met
 
   module _ (runs : List KeyedRun) (born : List ℕ) (floor : ℕ)
       (g : IsGoing c k olds births (length olds) (length births) runs born floor) where
@@ -619,7 +647,7 @@ module _ (c : Computation) (k : ℕ) (olds : List KeyedRun) (births : List ℕ) 
               (in_map (digits (length c)) sorted (key_of cut) (there (key_of cut) has))
 
       pub ended_kept : ((i j : ℕ) → i ≤ j → j < length sorted → get_or sorted i 0 ≤ get_or sorted j 0)
-          → IsKeptLevel (length c) (k + 1) runs sorted
+          → IsKeptLevel room (length c) (k + 1) runs sorted
       ended_kept ascends = record {
         few = given.kept.few;
         two = given.kept.two;

@@ -36,34 +36,34 @@ key_of_cut-cut-requires-clause-y g c =
 module _ (computation : Computation) (two : 2 ≤ length computation) (small : (q : ℕ) → event_count computation q ≤ event_limit)
     (point : KeyedCut) (ok : IsConsistent computation (point_cut (length computation - 2) point)) (prefix number p : ℕ)
     (prefix_is : prefix ≡ length computation - 2) (number_is : number ≡ key_of (point_cut prefix point)) (within : p < prefix)
-    where
-  many : prefix + 2 ≡ length computation
-  many = omega arith
+  where
+    many : prefix + 2 ≡ length computation
+    many = omega arith
 
-  number_of : number ≡ key_of (point_cut (length computation - 2) point)
-  number_of = number_is ∙ ap (λ (n : ℕ). key_of (point_cut n point)) prefix_is
+    number_of : number ≡ key_of (point_cut (length computation - 2) point)
+    number_of = number_is ∙ ap (λ (n : ℕ). key_of (point_cut n point)) prefix_is
 
-  number_below : number < count_base ^ (prefix + 2)
-  number_below =
-      subst (λ (n : ℕ). number < count_base ^ n) (sym many) (subst (λ (k : ℕ). k < count_base ^ length computation)
-      (sym number_of) (cut_below computation (point_cut (length computation - 2) point) small ok))
+    number_below : number < count_base ^ (prefix + 2)
+    number_below =
+        subst (λ (n : ℕ). number < count_base ^ n) (sym many) (subst (λ (k : ℕ). k < count_base ^ length computation)
+        (sym number_of) (cut_below computation (point_cut (length computation - 2) point) small ok))
 
-  number_room : IsConsistent computation (one_more (point_cut (length computation - 2) point) p)
-      → get_or (digits (prefix + 2) number) p 0 + 1 < count_base
-  number_room more =
-      let back : digits (prefix + 2) number ≡ point_cut (length computation - 2) point =
-      ap (λ (n : ℕ). digits n number) many ∙ ap (digits (length computation)) number_of
-      ∙ cut_back computation (point_cut (length computation - 2) point) small ok in
-      let one_each : length (point_cut (length computation - 2) point) ≡ length computation = ok.fits.one_each in
-      subst (λ (cut : List ℕ). get_or cut p 0 + 1 < count_base) (sym back)
-      (room_for_one computation (point_cut (length computation - 2) point) p small more (omega arith))
+    number_room : IsConsistent computation (one_more (point_cut (length computation - 2) point) p)
+        → get_or (digits (prefix + 2) number) p 0 + 1 < count_base
+    number_room more =
+        let back : digits (prefix + 2) number ≡ point_cut (length computation - 2) point =
+        ap (λ (n : ℕ). digits n number) many ∙ ap (digits (length computation)) number_of
+        ∙ cut_back computation (point_cut (length computation - 2) point) small ok in
+        let one_each : length (point_cut (length computation - 2) point) ≡ length computation = ok.fits.one_each in
+        subst (λ (cut : List ℕ). get_or cut p 0 + 1 < count_base) (sym back)
+        (room_for_one computation (point_cut (length computation - 2) point) p small more (omega arith))
 
-  number_more : number + count_base ^ (prefix + 2 - 1 - p)
-      ≡ key_of (one_more (point_cut (length computation - 2) point) p)
-  number_more =
-      ap (λ (n : ℕ). number + count_base ^ (n - 1 - p)) many
-      ∙ ap (λ (k : ℕ). k + count_base ^ (length computation - 1 - p)) number_of
-      ∙ sym (added_key computation (point_cut (length computation - 2) point) p ok (omega arith))
+    number_more : number + count_base ^ (prefix + 2 - 1 - p)
+        ≡ key_of (one_more (point_cut (length computation - 2) point) p)
+    number_more =
+        ap (λ (n : ℕ). number + count_base ^ (n - 1 - p)) many
+        ∙ ap (λ (k : ℕ). k + count_base ^ (length computation - 1 - p)) number_of
+        ∙ sym (added_key computation (point_cut (length computation - 2) point) p ok (omega arith))
 
 pub one_more-requires-clause-below : goal.one_more-requires-clause-below
 one_more-requires-clause-below g c =

@@ -1,5 +1,5 @@
 -- The counts of a cut by the key of its prefix.
-use Rattle.std.proofs.Common.{◌≡◌, ℕ, length, get_or, sym, ap, ◌∙◌, arith}
+use Rattle.std.proofs.Common.{◌≡◌, length, get_or, sym, ap, ◌∙◌, arith}
 use Rattle.pd_keys.specs.Keys.{digits}
 use Rattle.pd_keys.proofs.Keys.{length-digits}
 use Rattle.pd_runs.specs.Kept.{KeyedCut}

@@ -1,9 +1,8 @@
 -- Two more digits at the low end.
-use Rattle.std.proofs.Common.{◌≡◌, ℕ, ◌+◌, ◌-◌, ◌*◌, ◌^◌, ◌<◌, ◌≤◌, sym, ap, ◌∙◌, subst, arith}
-use Rattle.pd_keys.specs.Keys.{count_base, key_of}
+use Rattle.std.proofs.Common.{◌≡◌, ◌+◌, ◌-◌, ◌*◌, ◌^◌, ◌≤◌, sym, ap, ◌∙◌, arith}
+use Rattle.pd_keys.specs.Keys.{count_base}
 use Rattle.pd_keys.proofs.Keys.{weight_le}
 use Rattle.pd_runs.specs.Kept.{KeyedCut}
-use Rattle.pd_runs.specs.Points.{point_cut}
 use Rattle.pd_runs.proofs.PointFacts.{key_of_point}
 use Rattle.pd_runs.proofs.point.key_of_cut.Goals as goal
 

@@ -1,5 +1,5 @@
 -- The last two digits are taken off.
-use Rattle.std.proofs.Common.{◌≡◌, ℕ, ◌-◌, ◌/◌, ◌%◌, ◌^◌, ◌<◌, List, sym, ap, ◌∙◌, subst, arith}
+use Rattle.std.proofs.Common.{◌≡◌, ℕ, ◌-◌, ◌/◌, ◌%◌, ◌^◌, ◌<◌, sym, ap, ◌∙◌, subst, arith}
 use Rattle.pd_keys.specs.Keys.{count_base, digits}
 use Rattle.pd_neighbors.specs.Neighbors.{cut_at}
 use Rattle.pd_runs.proofs.PointFacts.{digit_x, digit_y, last_two}

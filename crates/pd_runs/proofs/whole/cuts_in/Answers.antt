@@ -6,7 +6,7 @@ use Rattle.pd_runs.specs.Levels.{cut_count, runs_view}
 use Rattle.pd_runs.specs.KeptRuns.{run_view}
 use Rattle.pd_runs.specs.WholeLevels.{Run, count_of_runs}
 use Rattle.pd_runs.specs.Kept.{KeyedRun}
-use Rattle.pd_runs.proofs.KeyLists.{map_push}
+use Rattle.pd_runs.proofs.KeyLists.{get_or_default, map_push}
 use Rattle.pd_runs.proofs.whole.cuts_in.Goals as goal
 
 abbrev none : KeyedRun
@@ -27,12 +27,27 @@ one_run n i runs lt =
     ∙ (ap count_of_runs (map_push (run_view n) (take i runs) (get_or runs i none))
     ∙ count_push (runs_view n (take i runs)) (run_view n (get_or runs i none)))
 
-pub overflow_sub-run : goal.overflow_sub-run
-overflow_sub-run g c = c.requires (get_or c.args.runs.now c.loop-i.i none)
-    (Contains-get_or c.args.runs.now c.loop-i.i none c.loop-i-test.true)
+pub overflow_sub-run-inside : goal.overflow_sub-run-inside
+overflow_sub-run-inside g c =
+    let is : c.index-runs-i.result ≡ get_or c.args.runs.now c.loop-i.i none =
+    c.index-runs-i.is ∙ get_or_default c.args.runs.now c.loop-i.i c.index-runs-i.result none c.loop-i-test.true in
+    let lo_is : c.run.inside.lo ≡ (get_or c.args.runs.now c.loop-i.i none).lo =
+    ap (λ (r : KeyedRun). r.lo) c.run.view_is ∙ ap (λ (r : KeyedRun). r.lo) is in
+    let hi_is : c.run.inside.hi ≡ (get_or c.args.runs.now c.loop-i.i none).hi =
+    ap (λ (r : KeyedRun). r.hi) c.run.view_is ∙ ap (λ (r : KeyedRun). r.hi) is in
+    let some : (get_or c.args.runs.now c.loop-i.i none).lo ≤ (get_or c.args.runs.now c.loop-i.i none).hi =
+    c.requires (get_or c.args.runs.now c.loop-i.i none)
+    (Contains-get_or c.args.runs.now c.loop-i.i none c.loop-i-test.true) in
+    omega arith
 
 pub loop-i-preserved : goal.loop-i-preserved
 loop-i-preserved g c = λ n.
+    let is : c.index-runs-i.result ≡ get_or c.args.runs.now c.loop-i.i none =
+    c.index-runs-i.is ∙ get_or_default c.args.runs.now c.loop-i.i c.index-runs-i.result none c.loop-i-test.true in
+    let lo_is : c.run.inside.lo ≡ (get_or c.args.runs.now c.loop-i.i none).lo =
+    ap (λ (r : KeyedRun). r.lo) c.run.view_is ∙ ap (λ (r : KeyedRun). r.lo) is in
+    let hi_is : c.run.inside.hi ≡ (get_or c.args.runs.now c.loop-i.i none).hi =
+    ap (λ (r : KeyedRun). r.hi) c.run.view_is ∙ ap (λ (r : KeyedRun). r.hi) is in
     let before : c.loop-i.cuts ≡ cut_count (runs_view n (take c.loop-i.i c.args.runs.now)) = c.loop-i.invariant n in
     let more : count_of_runs (runs_view n (take (c.loop-i.i + 1) c.args.runs.now))
     ≡ count_of_runs (runs_view n (take c.loop-i.i c.args.runs.now))

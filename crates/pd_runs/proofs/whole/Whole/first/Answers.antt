@@ -1,8 +1,9 @@
 -- Level 0 is kept as one run with its births.
-use Rattle.std.proofs.Common.{◌≡◌, ℕ, ◌+◌, ◌-◌, List, [], ◌∷◌, ◌++◌, length, sym, ap, ◌∙◌, subst, arith}
+use Rattle.std.proofs.Common.{◌≡◌, ℕ, ◌+◌, ◌-◌, ◌^◌, ◌<◌, List, [], ◌∷◌, ◌++◌, length, map, sym, ap, ◌∙◌, subst, arith}
 use Rattle.std.specs.Prelude.{None}
-use Rattle.pd_keys.specs.Keys.{digits}
+use Rattle.pd_keys.specs.Keys.{count_base, digits}
 use Rattle.pd_keys.proofs.Keys.{weight_pos}
+use Rattle.pd_model.specs.Cuts.{IsConsistent}
 use Rattle.pd_neighbors.specs.Neighbors.{cut_at}
 use Rattle.pd_runs.specs.Levels.{IsKeptLevel, IsWholeLevel, cut_count, runs_view, whole_view}
 use Rattle.pd_runs.specs.Points.{GrowsBy}
@@ -11,29 +12,38 @@ use Rattle.pd_runs.proofs.FirstLevel.{first_consistent, first_run, first_level, 
 use Rattle.pd_runs.proofs.whole.Whole.first.Goals as goal
 
 pub add_births-requires-clause-below : goal.add_births-requires-clause-below
-add_births-requires-clause-below g c = weight_pos (length c.args.steps.now - 2)
+add_births-requires-clause-below g c =
+    subst (λ (key : ℕ). key < count_base ^ (length c.args.steps.now - 2)) (sym c.none-2.ensures)
+    (weight_pos (length c.args.steps.now - 2))
 
 pub add_births-requires-clause-cut : goal.add_births-requires-clause-cut
-add_births-requires-clause-cut g c = first_consistent c.args.steps.now c.limits.ensures.two
+add_births-requires-clause-cut g c =
+    subst (λ (key : ℕ). IsConsistent c.args.steps.now (cut_at (digits (length c.args.steps.now - 2) key) 0 0))
+    (sym c.none-2.ensures) (first_consistent c.args.steps.now c.limits.ensures.two)
 
 pub invariant_of-result : goal.invariant_of-result
 invariant_of-result g c =
     let e : length c.args.steps.now ≡ c.prefix.result + 2 =
     omega (arith, c.prefix.ensures, c.limits.ensures.two) in
     let runs : c.push.new.self.items ≡ first_run ∷ [] =
-    c.in_ok-push.ensures.items ∙ ap (λ (rs : List KeyedRun). rs ++ first_run ∷ []) c.in_ok-runs.ensures.items in
+    c.in_ok-push.ensures.items
+    ∙ ap (λ (key : ℕ). c.in_ok-runs.runs.items ++ (record { key = key; lo = 0; hi = 0; rest = 0 }) ∷ []) c.none.ensures
+    ∙ ap (λ (rs : List KeyedRun). rs ++ first_run ∷ []) c.in_ok-runs.ensures.items in
     let grown : GrowsBy c.args.steps.now (cut_at (digits (length c.args.steps.now - 2) 0) 0 0) None
     (length c.args.steps.now - 2) [] c.add_births.new.born =
     subst (λ (old : List ℕ). GrowsBy c.args.steps.now (cut_at (digits (length c.args.steps.now - 2) 0) 0 0) None
     (length c.args.steps.now - 2) old c.add_births.new.born) c.in_ok-born.ensures
-    c.in_ok-add_births.ensures in
-    let kept : IsKeptLevel (length c.args.steps.now) 0 (first_run ∷ []) c.in_ok-born-2.born.items =
+    (subst (λ (key : ℕ). GrowsBy c.args.steps.now (cut_at (digits (length c.args.steps.now - 2) key) 0 0) None
+    (length c.args.steps.now - 2) c.in_ok-born.born c.add_births.new.born) c.none-2.ensures
+    c.in_ok-add_births.ensures) in
+    let born : List ℕ = map g.K.Key.number c.in_ok-born-2.born.items in
+    let kept : IsKeptLevel g.K.Key.room (length c.args.steps.now) 0 (first_run ∷ []) born =
     first_kept c.args.steps.now c.limits.ensures.short c.limits.ensures.walkable c.limits.ensures.two
-    c.limits.ensures.few c.add_births.new.born c.in_ok-born-2.born.items grown c.in_ok-born-2.ensures.there
-    c.in_ok-born-2.ensures.back
+    c.add_births.new.born born grown c.in_ok-born-2.ensures.there
+    c.in_ok-born-2.ensures.back g.K.Key.room c.requires
     c.in_ok-born-2.ensures.ascends in (
-      subst (λ (rs : List KeyedRun). IsKeptLevel (c.prefix.result + 2) 0 rs c.in_ok-born-2.born.items) (sym runs)
-          (subst (λ (m : ℕ). IsKeptLevel m 0 (first_run ∷ []) c.in_ok-born-2.born.items) e kept),
+      subst (λ (rs : List KeyedRun). IsKeptLevel g.K.Key.room (c.prefix.result + 2) 0 rs born) (sym runs)
+          (subst (λ (m : ℕ). IsKeptLevel g.K.Key.room m 0 (first_run ∷ []) born) e kept),
       subst (λ (rs : List KeyedRun). 1 ≡ cut_count (runs_view (c.prefix.result + 2 - 2) rs)) (sym runs) (omega arith),
     )
 
@@ -42,15 +52,19 @@ returns-clause-level g c =
     let e : length c.args.steps.now ≡ c.prefix.result + 2 =
     omega (arith, c.prefix.ensures, c.limits.ensures.two) in
     let runs : c.push.new.self.items ≡ first_run ∷ [] =
-    c.in_ok-push.ensures.items ∙ ap (λ (rs : List KeyedRun). rs ++ first_run ∷ []) c.in_ok-runs.ensures.items in
+    c.in_ok-push.ensures.items
+    ∙ ap (λ (key : ℕ). c.in_ok-runs.runs.items ++ (record { key = key; lo = 0; hi = 0; rest = 0 }) ∷ []) c.none.ensures
+    ∙ ap (λ (rs : List KeyedRun). rs ++ first_run ∷ []) c.in_ok-runs.ensures.items in
     let grown : GrowsBy c.args.steps.now (cut_at (digits (length c.args.steps.now - 2) 0) 0 0) None
     (length c.args.steps.now - 2) [] c.add_births.new.born =
     subst (λ (old : List ℕ). GrowsBy c.args.steps.now (cut_at (digits (length c.args.steps.now - 2) 0) 0 0) None
     (length c.args.steps.now - 2) old c.add_births.new.born) c.in_ok-born.ensures
-    c.in_ok-add_births.ensures in
-    subst (λ (rs : List KeyedRun). IsWholeLevel c.args.steps.now (whole_view (c.prefix.result + 2) 0 rs
-    c.in_ok-born-2.born.items)) (sym runs)
-    (subst (λ (m : ℕ). IsWholeLevel c.args.steps.now (whole_view m 0 (first_run ∷ [])
-    c.in_ok-born-2.born.items)) e (first_level c.args.steps.now c.limits.ensures.short
-    c.limits.ensures.walkable c.limits.ensures.two c.limits.ensures.few c.add_births.new.born
-    c.in_ok-born-2.born.items grown c.in_ok-born-2.ensures.there c.in_ok-born-2.ensures.back))
+    (subst (λ (key : ℕ). GrowsBy c.args.steps.now (cut_at (digits (length c.args.steps.now - 2) key) 0 0) None
+    (length c.args.steps.now - 2) c.in_ok-born.born c.add_births.new.born) c.none-2.ensures
+    c.in_ok-add_births.ensures) in
+    let born : List ℕ = map g.K.Key.number c.in_ok-born-2.born.items in
+    subst (λ (rs : List KeyedRun). IsWholeLevel c.args.steps.now (whole_view (c.prefix.result + 2) 0 rs born)) (sym runs)
+    (subst (λ (m : ℕ). IsWholeLevel c.args.steps.now (whole_view m 0 (first_run ∷ []) born)) e
+    (first_level c.args.steps.now c.limits.ensures.short
+    c.limits.ensures.walkable c.limits.ensures.two c.add_births.new.born
+    born grown c.in_ok-born-2.ensures.there c.in_ok-born-2.ensures.back))
