@@ -30,7 +30,7 @@ fn in_order(
     ensures { IfOk result (IsUnionOf computation.now.events level.now parts.now) }
 {
     let number = level.number().saturating_add(1);
-    let mut next = Level::with_room(alloc, number, cut_count(parts))?;
+    let mut next = Level::with_room(alloc, computation, number, cut_count(parts))?;
     for i in 0..parts.len() {
         next = next.with_cuts_of(alloc, computation, &parts[i].next)?;
     }

@@ -120,6 +120,13 @@ kept_there wanted (mark ∷ marks) (x ∷ xs) y has = go (λ there. kept_there w
     go back true (suc k, lt, at) = later (back (k, omega arith, at))
     go back false there = later (back there)
 
+pub kept_some : (wanted : Bool) (marks : List Bool) (xs : List ℕ) → 0 < length (kept_by wanted marks xs)
+    → 0 < length xs
+kept_some wanted marks xs some =
+    let there : Contains xs (get_or (kept_by wanted marks xs) 0 0) =
+    kept_there wanted marks xs (get_or (kept_by wanted marks xs) 0 0) (contains_get (kept_by wanted marks xs) 0 some) in
+    omega (arith, there.1)
+
 ascending_rest : (x : ℕ) (xs : List ℕ) → Ascending (x ∷ xs) → Ascending xs
 ascending_rest x xs asc i j lt in_ = asc (suc i) (suc j) (omega arith) (omega arith)
 

@@ -1,23 +1,18 @@
 -- The cuts of a level's keys.
-use Rattle.std.proofs.Common.{◌≡◌, ℕ, zero, suc, ◌^◌, ◌<◌, ◌≤◌, List, [], ◌∷◌, length, get_or, Contains, refl, sym, ap, ◌∙◌, subst, inl, inr, ◌⊎◌, ◌↔◌, Ok, Err, Result, Some, arith}
-use Rattle.std.specs.Prelude.{All, IsTrue, MatchResult, slice_get}
-use Rattle.std.specs.Result.{is_ok}
-use Rattle.std.specs.Ordering.{nat_cmp}
-use Rattle.std.specs.List.Sorted.{IsBinarySearchResult}
-use Rattle.std.proofs.lemmas.Bool.{cases_lt, cases_order, false≢true}
-use Rattle.std.proofs.lemmas.List.Sorted.{searched}
+use Rattle.std.proofs.Common.{◌≡◌, Bool, true, false, ℕ, zero, suc, ◌^◌, ◌<◌, ◌≤◌, List, [], ◌∷◌, length, get_or, Contains, refl, sym, ap, ◌∙◌, subst, inl, inr, ◌⊎◌, ◌↔◌, Some, arith}
+use Rattle.std.specs.Prelude.{All, slice_get}
+use Rattle.std.proofs.lemmas.Bool.{cases_lt, cases_order}
 use Rattle.std.proofs.lemmas.List.{length-map, get_or-map}
-use Rattle.pd_format.specs.Limits.{event_limit}
+use Rattle.pd_format.specs.Limits.{event_limit, process_limit}
 use Rattle.pd_model.specs.Events.{Computation, Linked, event_count}
 use Rattle.pd_model.specs.Cuts.{IsConsistent, IsNextOf, one_more}
 use Rattle.pd_model.specs.Answers.{LexBelow, IsListOf}
 use Rattle.pd_keys.specs.Keys.{count_base, key_of, digits, AreDigits, Ascending, AreKeys}
 use Rattle.pd_level.specs.MoreCuts.{AreCuts, IsInRange, IsMoreBy, IsMoreBySome}
-use Rattle.pd_level.specs.Levels.{IsBetween, IsKept, cuts_of}
+use Rattle.pd_level.specs.Levels.{FitsKind, IsBetween, IsKept, cuts_of}
 use Rattle.pd_model.proofs.OneAnswer.{lex_asymmetric, lex_irreflexive}
 use Rattle.pd_keys.proofs.Keys.{get_or_same, digits-key, key-digits, digits_are, length-digits, lex-digits, weight_pos}
 use Rattle.pd_level.proofs.Merges.{contains_at}
-use Rattle.pd_level.proofs.Ranges.{rising}
 use Rattle.pd_level.proofs.Steps.{cut_digits, cut_below}
 
 pub contains_cuts : (n : ℕ) (keys cut : List ℕ) → Contains (cuts_of n keys) cut → (key : ℕ) × Contains keys key
@@ -251,7 +246,7 @@ whole_list c cuts next to end list = record {
     none cut = (λ some. absurd (omega arith), λ some. absurd (omega arith))
 
 -- level 0
-pub first_kept : (n : ℕ) → n ≤ 8 → IsKept n (0 ∷ [])
+pub first_kept : (n : ℕ) → n ≤ process_limit → IsKept n (0 ∷ [])
 first_kept n few = record {
   few = few;
   are_keys = record { below = go; ascending = λ i j lt in_. absurd (omega arith) };
@@ -292,20 +287,52 @@ contains_small n keys counts are has =
     let below : w.0 < count_base ^ n = subst (λ (x : ℕ). x < count_base ^ n) at.2 (are.below at.0 at.1) in
     subst AreDigits w.2 (digits_are n w.0 below)
 
--- what a search among ascending keys answers
-pub found : (keys : List ℕ) (key : ℕ) (r : Result ℕ ℕ) → IsBinarySearchResult (λ y. nat_cmp y key) keys r
-    → Ascending keys → IsTrue (is_ok r) ↔ Contains keys key
-found keys key r search_is asc = go r (searched keys key r search_is (rising keys asc))
+-- counts are those of a cut of the level exactly if they are digits of one of its keys
+pub contains_by : (n : ℕ) (keys counts : List ℕ) → AreKeys n keys → length counts ≡ n
+    → Contains (cuts_of n keys) counts ↔ (AreDigits counts × Contains keys (key_of counts))
+contains_by n keys counts are many = (
+  λ has.
+      let small = contains_small n keys counts are has in
+      (small, (contains_key n keys counts (key_of counts) are many small refl).0 has),
+  λ h. (contains_key n keys counts (key_of counts) are many h.0 refl).1 h.1,
+)
+
+-- where something is made of keys, there is one
+pub some_keys : (c : Computation) (keys next : List ℕ) (from to : ℕ) → IsMoreBySome c keys from to 0 (length c) next
+    → 0 < length next → 0 < length keys
+some_keys c keys next from to more some =
+    let w = (more.just (get_or next 0 0)).0 (0, some, got next (omega arith)) in
+    let made : IsMoreBy c keys w.0.0 (get_or next 0 0) = w.0.3 in
+    let at : (i : ℕ) × (i < length keys) × (get_or keys i 0 ≡ made.0) = contains_at keys made.0 made.1 in
+    omega (arith, at.1)
   where
-    go : (s : Result ℕ ℕ) → MatchResult s (λ i. (i < length keys) × (get_or keys i 0 ≡ key)) (λ i. (i ≤ length keys)
-        × ((k : ℕ) → k < i → get_or keys k 0 < key) × ((k : ℕ) → i ≤ k → k < length keys → key < get_or keys k 0))
-        → IsTrue (is_ok s) ↔ Contains keys key
-    go (Ok i) w = (λ _. (i, w.0, get_or_same keys i key 0 w.0 ∙ w.1), λ _. refl)
-    go (Err i) w = (λ t. absurd (false≢true t), λ has. absurd (miss (contains_at keys key has)))
-      where
-        miss : (k : ℕ) × (k < length keys) × (get_or keys k 0 ≡ key) → ⊥
-        miss (k, lt, at) = by (cases_lt k i)
-          where
-            by : (k < i) ⊎ (i ≤ k) → ⊥
-            by (inl less) = let h : get_or keys k 0 < key = w.1 k less in omega arith
-            by (inr past) = let h : key < get_or keys k 0 = w.2 k past lt in omega arith
+    got : (xs : List ℕ) → 0 < length xs → get_or xs 0 (get_or xs 0 0) ≡ get_or xs 0 0
+    got [] lt = absurd (omega arith)
+    got (x ∷ xs) lt = refl
+
+-- the cut at an index is that of the key there
+pub consistent_at : (c : Computation) (n : ℕ) (keys : List ℕ) (i : ℕ) → All (IsConsistent c) (cuts_of n keys)
+    → i < length keys → IsConsistent c (digits n (get_or keys i 0))
+consistent_at c n keys i all lt =
+    subst (λ (cut : List ℕ). IsConsistent c cut) (cut_at n keys i [] lt) (all i [] (omega (arith, length-cuts n keys)))
+
+pub cut_there : (n : ℕ) (keys : List ℕ) (i : ℕ) → i < length keys
+    → slice_get (cuts_of n keys) i ≡ Some (digits n (get_or keys i 0))
+cut_there n [] i lt = absurd (omega arith)
+cut_there n (key ∷ keys) zero lt = refl
+cut_there n (key ∷ keys) (suc i) lt = cut_there n keys i (omega arith)
+
+-- where a level has a cut its keys are of the kind for the processes
+pub same_kind : (c : Computation) (n m : ℕ) (first last : List ℕ) (a b : Bool) → All (IsConsistent c) (cuts_of n first)
+    → All (IsConsistent c) (cuts_of m last) → (0 < length first → FitsKind n a) → (0 < length last → FitsKind m b)
+    → 0 < length first → 0 < length last → a ≡ b
+same_kind c n m first last a b all_first all_last fits_first fits_last some_first some_last =
+    one (length c) a b (subst (λ (k : ℕ). FitsKind k a) (process_count c n first 0 all_first some_first)
+    (fits_first some_first)) (subst (λ (k : ℕ). FitsKind k b) (process_count c m last 0 all_last some_last)
+    (fits_last some_last))
+  where
+    one : (k : ℕ) (a b : Bool) → FitsKind k a → FitsKind k b → a ≡ b
+    one k true true fits other = refl
+    one k true false fits other = absurd (omega arith)
+    one k false true fits other = absurd (omega arith)
+    one k false false fits other = refl

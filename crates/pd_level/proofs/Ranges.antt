@@ -1,18 +1,14 @@
 -- Which of some ascending numbers come to lie in range once something is added.
 use Rattle.std.proofs.Common.{◌≡◌, ℕ, ◌+◌, ◌-◌, ◌^◌, ◌<◌, ◌≤◌, List, length, get_or, take, drop, Contains, Ok, Err, Result, sym, ap, ◌∙◌, subst, inl, inr, ◌⊎◌, ◌↔◌, arith}
-use Rattle.std.specs.Prelude.{IfOk, MatchResult, Vec}
-use Rattle.std.specs.Global.{Global}
+use Rattle.std.specs.Prelude.{IfOk}
 use Rattle.std.specs.declared.alloc.AllocError.{AllocError}
-use Rattle.std.specs.Ordering.{nat_cmp}
-use Rattle.std.specs.List.Sorted.{IsBinarySearchResult}
 use Rattle.std.proofs.lemmas.Bool.{cases_lt}
 use Rattle.std.proofs.lemmas.List.{get_or-drop, get_or-take, length-drop, length-take-le}
-use Rattle.std.proofs.lemmas.List.Sorted.{searched}
 use Rattle.pd_model.specs.Events.{Computation}
 use Rattle.pd_model.specs.Cuts.{one_more}
 use Rattle.pd_keys.specs.Keys.{Ascending, count_base, digits, key_of}
 use Rattle.pd_keys.proofs.Keys.{more_is}
-use Rattle.pd_level.specs.MoreCuts.{AreCuts, IsInRange, IsMoreBy, IsMoreBySome}
+use Rattle.pd_level.specs.MoreCuts.{AreCuts, IsInRange, IsMoreBy, IsMoreBySome, piece}
 use Rattle.pd_level.proofs.Merges.{contains_at, contains_get}
 
 pub rising : (keys : List ℕ) → Ascending keys → (i j : ℕ) → i ≤ j → j < length keys → get_or keys i 0 ≤ get_or keys j 0
@@ -23,29 +19,6 @@ rising keys asc i j le lt = by (cases_lt i j)
     by (inr same) = let e : i ≡ j = omega arith in let f : get_or keys i 0 ≡ get_or keys j 0 =
         ap (λ (k : ℕ). get_or keys k 0) e in omega arith
 
--- the first i of the numbers are below the bound, and the others not
-pub record IsSplit (keys : List ℕ) (bound i : ℕ) : Type 0 where
-  pub below : (k : ℕ) → k < i → get_or keys k 0 < bound
-  pub rest : (k : ℕ) → i ≤ k → k < length keys → bound ≤ get_or keys k 0
-
--- where a search among ascending numbers ends
-pub split_at : (keys : List ℕ) (bound : ℕ) (r : Result ℕ ℕ) → IsBinarySearchResult (λ y. nat_cmp y bound) keys r
-    → Ascending keys → MatchResult r (IsSplit keys bound) (IsSplit keys bound)
-split_at keys bound r search_is asc = go r (searched keys bound r search_is (rising keys asc))
-  where
-    go : (s : Result ℕ ℕ) → MatchResult s (λ i. (i < length keys) × (get_or keys i 0 ≡ bound)) (λ i. (i ≤ length keys)
-        × ((k : ℕ) → k < i → get_or keys k 0 < bound)
-        × ((k : ℕ) → i ≤ k → k < length keys → bound < get_or keys k 0))
-        → MatchResult s (IsSplit keys bound) (IsSplit keys bound)
-    go (Ok i) w = record {
-      below = λ k lt. let h : get_or keys k 0 < get_or keys i 0 = asc k i lt w.0 in omega (arith, w.1);
-      rest = λ k le lt. let h : get_or keys i 0 ≤ get_or keys k 0 = rising keys asc i k le lt in omega (arith, w.1);
-    }
-    go (Err i) w = record {
-      below = w.1;
-      rest = λ k le lt. let h : bound < get_or keys k 0 = w.2 k le lt in omega arith;
-    }
-
 -- the keys from one place to another are those that come to lie in range once this is added
 pub record IsPieceOf (keys : List ℕ) (added from to start end : ℕ) : Type 0 where
   pub ordered : start ≤ end
@@ -55,10 +28,6 @@ pub record IsPieceOf (keys : List ℕ) (added from to start end : ℕ) : Type 0 
   pub below : (k : ℕ) → start ≤ k → k < end → to < length keys → get_or keys k 0 + added < get_or keys to 0
   pub high : (k : ℕ) → end ≤ k → k < length keys
       → (to < length keys) × (get_or keys to 0 ≤ get_or keys k 0 + added)
-
--- the keys from one place to another
-abbrev pub piece : List ℕ → ℕ → ℕ → List ℕ
-piece keys start end = take (end - start) (drop start keys)
 
 pub length-piece : (keys : List ℕ) (start end : ℕ) → start ≤ end → end ≤ length keys
     → length (piece keys start end) ≡ end - start
@@ -200,29 +169,29 @@ some_both c keys left right both from to first middle last low high l r asc just
 
 -- what a function made, if memory didn't run out
 abbrev pub Made : Type 0
-Made = Result (Vec ℕ Global) AllocError
+Made = Result (List ℕ) AllocError
 
 pub piece_made : (c : Computation) (keys : List ℕ) (made : Made) (p added from to start end : ℕ) → AreCuts c keys
     → p < length c → added ≡ count_base ^ (length c - 1 - p) → IsPieceOf keys added from to start end
-    → IfOk made (λ more. (x : ℕ) → Contains more.items x ↔ IsMoreBy c (piece keys start end) p x)
-    → IfOk made (λ more. (x : ℕ) → Contains more.items x ↔ (IsMoreBy c keys p x × IsInRange keys from to x))
+    → IfOk made (λ more. (x : ℕ) → Contains more x ↔ IsMoreBy c (piece keys start end) p x)
+    → IfOk made (λ more. (x : ℕ) → Contains more x ↔ (IsMoreBy c keys p x × IsInRange keys from to x))
 piece_made c keys (Ok more) p added from to start end cuts within weight cut just =
-    piece_just c keys more.items p added from to start end cuts within weight cut just
+    piece_just c keys more p added from to start end cuts within weight cut just
 piece_made c keys (Err error) p added from to start end cuts within weight cut just = tt
 
 pub one_made : (c : Computation) (keys : List ℕ) (made : Made) (from to first last : ℕ) → last - first ≡ 1
-    → IfOk made (λ more. Ascending more.items)
-    → IfOk made (λ more. (x : ℕ) → Contains more.items x ↔ (IsMoreBy c keys first x × IsInRange keys from to x))
-    → IfOk made (λ more. IsMoreBySome c keys from to first last more.items)
+    → IfOk made (λ more. Ascending more)
+    → IfOk made (λ more. (x : ℕ) → Contains more x ↔ (IsMoreBy c keys first x × IsInRange keys from to x))
+    → IfOk made (λ more. IsMoreBySome c keys from to first last more)
 one_made c keys (Ok more) from to first last one asc just =
-    some_one c keys more.items from to first last one asc just
+    some_one c keys more from to first last one asc just
 one_made c keys (Err error) from to first last one asc just = tt
 
 pub both_made : (c : Computation) (keys left right : List ℕ) (made : Made) (from to first middle last : ℕ)
     → first ≤ middle → middle ≤ last → IsMoreBySome c keys from to first middle left
-    → IsMoreBySome c keys from to middle last right → IfOk made (λ both. Ascending both.items)
-    → IfOk made (λ both. (x : ℕ) → Contains both.items x ↔ (Contains left x ⊎ Contains right x))
-    → IfOk made (λ both. IsMoreBySome c keys from to first last both.items)
+    → IsMoreBySome c keys from to middle last right → IfOk made (λ both. Ascending both)
+    → IfOk made (λ both. (x : ℕ) → Contains both x ↔ (Contains left x ⊎ Contains right x))
+    → IfOk made (λ both. IsMoreBySome c keys from to first last both)
 both_made c keys left right (Ok both) from to first middle last low high l r asc just =
-    some_both c keys left right both.items from to first middle last low high l r asc just
+    some_both c keys left right both from to first middle last low high l r asc just
 both_made c keys left right (Err error) from to first middle last low high l r asc just = tt

@@ -5,7 +5,7 @@ use Rattle.pd_model.specs.Events.{Computation, event_count}
 use Rattle.pd_model.specs.Cuts.{IsConsistent, one_more}
 use Rattle.pd_keys.specs.Keys.{count_base, key_of, digits, AreDigits, Ascending}
 use Rattle.pd_level.specs.MoreCuts.{AreCuts, IsMoreBy}
-use Rattle.pd_keys.proofs.Keys.{more_is, get_or_same, key_below, weight_le}
+use Rattle.pd_keys.proofs.Keys.{more_is, get_or_same, key_below}
 use Rattle.pd_level.proofs.Merges.{prefix_more, push_iff, ascending_push}
 
 -- consistent counts are digits
@@ -33,17 +33,13 @@ pub record IsMoreSo (c : Computation) (keys : List ℕ) (p i : ℕ) (more : List
 abbrev pub MakesCut : Computation → List ℕ → ℕ → ℕ → Type 0
 MakesCut c keys p i = IsConsistent c (one_more (digits (length c) (get_or keys i 0)) p)
 
--- the number of the cut that is made fits
-pub room : (c : Computation) (keys : List ℕ) (p i : ℕ) → ((q : ℕ) → event_count c q ≤ event_limit) → AreCuts c keys
-    → p < length c → length c ≤ 8 → i < length keys → MakesCut c keys p i
-    → get_or keys i 0 + count_base ^ (length c - 1 - p)
-    < count_base ^ 8
-room c keys p i small cuts within few lt makes =
-    let made : key_of (one_more (digits (length c) (get_or keys i 0)) p) ≡ get_or keys i 0
-    + count_base ^ (length c - 1 - p) = more_is (length c) (get_or keys i 0) p within (cuts.are_keys.below i lt) in
-    let below : key_of (one_more (digits (length c) (get_or keys i 0)) p) < count_base ^ length c =
-    cut_below c (one_more (digits (length c) (get_or keys i 0)) p) small makes in
-    let most : count_base ^ length c ≤ count_base ^ 8 = weight_le (length c) 8 few in
+-- where a cut is made, the digit of the process has room for one event more
+pub digit_room : (c : Computation) (keys : List ℕ) (p i : ℕ) → ((q : ℕ) → event_count c q ≤ event_limit) → AreCuts c keys
+    → p < length c → i < length keys → get_or (digits (length c) (get_or keys i 0)) p 0 + 1 < count_base
+digit_room c keys p i small cuts within lt =
+    let ok : IsConsistent c (digits (length c) (get_or keys i 0)) = cuts.consistent i lt in
+    let le : get_or (digits (length c) (get_or keys i 0)) p 0 ≤ event_count c p = ok.fits.within p in
+    let few : event_count c p ≤ event_limit = small p in
     omega arith
 
 pub step_no : (c : Computation) (keys : List ℕ) (p i : ℕ) (more : List ℕ) → AreCuts c keys → i < length keys

@@ -1,6 +1,9 @@
 -- What a level stands for.
-use Rattle.std.specs.Prelude.{ℕ, ◌<◌, ◌≤◌, ◌⊎◌, Bool, List, [], ◌∷◌, Contains, cond, length, map, slice_index_or}
-use Rattle.std.specs.Bool.{beq}
+use Rattle.std.specs.Prelude.{ℕ, ◌<◌, ◌≤◌, ◌⊎◌, Bool, false, true, List, [], ◌∷◌, Contains, cond, length, map, slice_index_or}
+use Rattle.std.specs.Bool.{MatchBool, beq}
+use Rattle.pd_level.specs.declared.keys.Keys.{Keys}
+use Rattle.pd_level.specs.declared.keys.Keys.TheVariants as kind
+use Rattle.pd_keys.specs.Pairs.{single_limit}
 use Rattle.pd_format.specs.Limits.{process_limit}
 use Rattle.pd_keys.specs.Keys.{AreKeys, digits}
 use Rattle.pd_model.specs.Answers.{LexBelow}
@@ -9,6 +12,24 @@ use Rattle.pd_model.specs.Answers.{LexBelow}
 pub record Levelled : Type 0 where
   pub number : ℕ
   pub cuts : List (List ℕ)
+
+-- the numbers of the keys
+abbrev pub numbers : Keys → List ℕ
+numbers (kind.Single keys) = keys
+numbers (kind.Pairs keys) = keys
+
+-- whether each key is one number
+abbrev pub is_single : Keys → Bool
+is_single (kind.Single keys) = true
+is_single (kind.Pairs keys) = false
+
+-- keys of one number each are for as many processes as have room in it, and pairs for more
+abbrev pub FitsKind : ℕ → Bool → Type 0
+FitsKind processes single = MatchBool single (processes ≤ single_limit) (single_limit < processes)
+
+-- if there is a key, the keys are of the kind for this many processes
+abbrev pub HasRoom : ℕ → Keys → Type 0
+HasRoom processes keys = 0 < length (numbers keys) → FitsKind processes (is_single keys)
 
 -- the cuts of these keys
 abbrev pub cuts_of : ℕ → List ℕ → List (List ℕ)

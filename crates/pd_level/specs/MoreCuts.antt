@@ -1,6 +1,6 @@
 -- Ascending numbers whose digits are cuts, and the cuts that one more event makes of those.
-use Rattle.std.specs.Prelude.{◌≡◌, ℕ, ◌<◌, ◌≤◌, ◌↔◌, List, length, slice_index, Contains}
-use Rattle.pd_keys.specs.Keys.{AreKeys, Ascending, digits, key_of}
+use Rattle.std.specs.Prelude.{◌≡◌, ℕ, ◌+◌, ◌-◌, ◌<◌, ◌≤◌, ◌↔◌, List, length, slice_index, Contains, take, drop}
+use Rattle.pd_keys.specs.Keys.{AreKeys, Ascending, count_base, digits, key_of}
 use Rattle.pd_model.specs.Events.{Computation}
 use Rattle.pd_model.specs.Cuts.{IsConsistent, one_more}
 
@@ -8,6 +8,14 @@ use Rattle.pd_model.specs.Cuts.{IsConsistent, one_more}
 pub record AreCuts (c : Computation) (keys : List ℕ) : Type 0 where
   pub are_keys : AreKeys (length c) keys
   pub consistent : (i : ℕ) → i < length keys → IsConsistent c (digits (length c) (slice_index keys i))
+
+-- the keys from one index on and before another
+abbrev pub piece : List ℕ → ℕ → ℕ → List ℕ
+piece keys start end = take (end - start) (drop start keys)
+
+-- of each of the numbers of n digits the count of process p may grow
+abbrev pub HaveRoom : ℕ → ℕ → List ℕ → Type 0
+HaveRoom n p keys = (i : ℕ) → i < length keys → slice_index (digits n (slice_index keys i)) p + 1 < count_base
 
 -- one more event of process p makes this cut of one of those
 abbrev pub IsMoreBy : Computation → List ℕ → ℕ → ℕ → Type 0

@@ -1,22 +1,24 @@
 //! Whether one more event leaves a cut.
 ghost use Rattle.pd_keys.specs.Keys.{count_base, digits};
 ghost use Rattle.pd_model.specs.Cuts.{IsConsistent, one_more};
-ghost use Rattle.std.specs.Prelude.{◌^◌, ◌<◌, ◌↔◌, IsTrue, length};
+ghost use Rattle.std.specs.Prelude.{◌^◌, ◌<◌, ◌≤◌, ◌↔◌, IsTrue, length};
 
 use pd_clock::{Computation, Place};
-use pd_keys::digit;
+use pd_keys::Key;
 
 /// Whether one more event of process `p` leaves a cut: if there is one, and it is no receipt or its send is in the cut.
-pub(crate) fn can_add(computation: &Computation<'_>, key: u128, p: usize) -> bool
+pub(crate) fn can_add<K: Key>(computation: &Computation<'_>, key: K, p: usize) -> bool
+    requires few { length computation.now.events ≤ K.room }
     requires within { p < length computation.now.events }
-    requires below { key < count_base ^ length computation.now.events }
-    requires cut { IsConsistent computation.now.events (digits (length computation.now.events) key) }
+    requires below { K.number key < count_base ^ length computation.now.events }
+    requires cut { IsConsistent computation.now.events
+        (digits (length computation.now.events) (K.number key)) }
     ensures { IsTrue result ↔ IsConsistent computation.now.events
-        (one_more (digits (length computation.now.events) key) p) }
+        (one_more (digits (length computation.now.events) (K.number key)) p) }
 {
     computation.limits();
     let processes = computation.processes();
-    let count = digit(key, processes, p);
+    let count = key.digit(processes, p);
     if count >= computation.events(p) {
         return false;
     }
@@ -25,7 +27,7 @@ pub(crate) fn can_add(computation: &Computation<'_>, key: u128, p: usize) -> boo
         number: count + 1,
     };
     match computation.sender(next) {
-        Some(send) => send.number <= digit(key, processes, send.process),
+        Some(send) => send.number <= key.digit(processes, send.process),
         None => true,
     }
 }

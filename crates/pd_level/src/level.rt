@@ -2,37 +2,35 @@
 ghost use Rattle.pd_model.specs.Answers.{IsListOf, MoreThan};
 ghost use Rattle.pd_model.specs.Cuts.{IsConsistent, IsNextOf, empty_cut};
 ghost use Rattle.pd_model.specs.Predicates.{test_of};
-ghost use Rattle.pd_level.specs.Levels.{IsBetween, IsInEither, IsKept, cuts_of, kept_by};
+ghost use Rattle.pd_level.specs.Levels.{HasRoom, IsBetween, IsInEither, IsKept, cuts_of, kept_by, numbers};
 ghost use Rattle.pd_pred.specs.Views.{predicate_view};
 ghost use Rattle.std.specs.Prelude.{◌≡◌, ◌+◌, ◌<◌, ◌≤◌, ◌==◌, ◌↔◌, All, Contains, IfErr, IfOk, IfSome, IsTrue, List, [], ◌∷◌, Some, length, min, slice_get};
 
 use super::LevelFault;
-use super::keep::keep_marked;
-use super::merge::joined;
-use super::state::KeyState;
+use super::keys::Keys;
+use super::read::{cut_of, has, holds_at};
 use super::step::more_by_any;
 use pd_clock::{Computation, Cut};
-use pd_keys::{pack, unpack};
 use pd_pred::Pred;
 use std::alloc::{AllocError, Global};
 use std::marker::Model;
 
-/// A level: its number and its cuts, each as one number whose digits are the counts.
+/// A level: its number and its cuts, each as a key whose digits are the counts.
 #[derive(Drop)]
 pub struct Level {
     number: u64,
     processes: usize,
-    keys: Vec<u128>,
+    keys: Keys,
 }
 
 impl Model for Level {
-    ghost use Rattle.pd_level.specs.Levels.{IsKept, Levelled, cuts_of};
+    ghost use Rattle.pd_level.specs.Levels.{HasRoom, IsKept, Levelled, cuts_of, numbers};
 
     ghost Value = { Levelled };
 
-    ghost view = { λ l. record { number = l.number; cuts = cuts_of l.processes l.keys.items } };
+    ghost view = { λ l. record { number = l.number; cuts = cuts_of l.processes (numbers l.keys) } };
 
-    ghost invariant = { λ l. IsKept l.processes l.keys.items };
+    ghost invariant = { λ l. IsKept l.processes (numbers l.keys) × HasRoom l.processes l.keys };
 }
 
 impl Level {
@@ -44,11 +42,12 @@ impl Level {
         ensures { IfOk result (λ level. level ≡ record { number = 0; cuts = empty_cut computation.now.events ∷ [] }) }
     {
         computation.limits();
-        let mut keys = Vec::with_capacity(alloc, 1)?;
-        keys.push(0)?;
+        let processes = computation.processes();
+        let mut keys = Keys::with_room(alloc, processes, 1)?;
+        keys.push_none()?;
         Ok(Level {
             number: 0,
-            processes: computation.processes(),
+            processes,
             keys,
         })
     }
@@ -113,7 +112,10 @@ impl Level {
         ensures number { IfOk result (λ next. next.number ≡ min (level.now.number + 1) 18446744073709551615) }
     {
         computation.limits();
-        let keys = more_by_any(alloc, computation, &level.keys, from, to)?;
+        let keys = match &level.keys {
+            Keys::Single(keys) => Keys::Single(more_by_any(alloc, computation, keys, from, to)?),
+            Keys::Pairs(keys) => Keys::Pairs(more_by_any(alloc, computation, keys, from, to)?),
+        };
         Ok(Level {
             number: level.number.saturating_add(1),
             processes: computation.processes(),
@@ -155,7 +157,7 @@ impl Level {
             processes: _,
             keys: first,
         } = self;
-        let keys = joined(alloc, first, &last.keys)?;
+        let keys = first.with(alloc, &last.keys)?;
         Ok(Level {
             number,
             processes: computation.processes(),
@@ -163,24 +165,32 @@ impl Level {
         })
     }
 
-    /// A level of this number without a cut, and with room for this many.
+    /// A level of this number without a cut, and with room for this many of the computation's.
     ///
     /// # Errors
     /// An allocation was refused.
-    pub fn with_room(alloc: Global, number: u64, room: usize) -> Result<Level, AllocError>
+    pub fn with_room(
+        alloc: Global,
+        computation: &Computation<'_>,
+        number: u64,
+        room: usize,
+    ) -> Result<Level, AllocError>
         ensures { IfOk result (λ level. level ≡ record { number = number; cuts = [] }) }
     {
+        computation.limits();
+        let processes = computation.processes();
         Ok(Level {
             number,
-            processes: 0,
-            keys: Vec::with_capacity(alloc, room)?,
+            processes,
+            keys: Keys::with_room(alloc, processes, room)?,
         })
     }
 
     /// The level of this number with the cuts of these keys, each of which has as many digits as there are processes.
-    pub fn of_keys(number: u64, processes: usize, keys: Vec<u128>) -> Level
-        requires { IsKept processes keys.items }
-        ensures { result ≡ record { number = number; cuts = cuts_of processes keys.items } }
+    pub(crate) fn of_keys(number: u64, processes: usize, keys: Keys) -> Level
+        requires kept { IsKept processes (numbers keys) }
+        requires room { HasRoom processes keys }
+        ensures { result ≡ record { number = number; cuts = cuts_of processes (numbers keys) } }
     {
         Level {
             number,
@@ -199,7 +209,7 @@ impl Level {
         Ok(Level {
             number: self.number,
             processes: self.processes,
-            keys: self.keys.to_vec(alloc)?,
+            keys: self.keys.copy(alloc)?,
         })
     }
 
@@ -221,7 +231,7 @@ impl Level {
     pub fn is_empty(&self) -> bool
         ensures { result ≡ (length self.now.cuts == 0) }
     {
-        self.keys.is_empty()
+        self.keys.len() == 0
     }
 
     /// The cut with this index, from 0. It takes no memory.
@@ -229,8 +239,10 @@ impl Level {
         requires { i < length self.now.cuts }
         ensures { slice_get self.now.cuts i ≡ Some result }
     {
-        let counts = unpack(self.keys[i], self.processes);
-        Cut::new(alloc, &counts[..self.processes]).unwrap()
+        match &self.keys {
+            Keys::Single(keys) => cut_of(alloc, keys.get(i), self.processes),
+            Keys::Pairs(keys) => cut_of(alloc, keys.get(i), self.processes),
+        }
     }
 
     /// Whether the predicate is true at the state of the cut with this index, from 0. It takes no memory.
@@ -240,8 +252,10 @@ impl Level {
         ensures { IfSome (slice_get self.now.cuts i) (λ cut. result
             ≡ test_of computation.now (predicate_view pred.now) cut) }
     {
-        let state = KeyState::new(computation, self.keys[i], self.processes);
-        pred.holds(&state)
+        match &self.keys {
+            Keys::Single(keys) => holds_at(computation, pred, keys.get(i), self.processes),
+            Keys::Pairs(keys) => holds_at(computation, pred, keys.get(i), self.processes),
+        }
     }
 
     /// Whether the cut is one of the level's. It takes no memory.
@@ -252,9 +266,9 @@ impl Level {
         if counts.len() != self.processes {
             return false;
         }
-        match pack(counts) {
-            Some(key) => self.keys.as_slice().binary_search(&key).is_ok(),
-            None => false,
+        match &self.keys {
+            Keys::Single(keys) => has(keys, counts),
+            Keys::Pairs(keys) => has(keys, counts),
         }
     }
 
@@ -265,6 +279,6 @@ impl Level {
         ensures cuts { self.new.cuts ≡ kept_by wanted marks.now self.old.cuts }
         ensures number { self.new.number ≡ self.old.number }
     {
-        keep_marked(&mut self.keys, marks, wanted);
+        self.keys.keep(marks, wanted);
     }
 }

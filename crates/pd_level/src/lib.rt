@@ -4,7 +4,7 @@
 //! with the empty cut alone, and `next` the cuts that have one event more than a cut of the level before, each once and
 //! in lexicographic order. A width bounds how many cuts a level may have, and if there are more the fault says so.
 //!
-//! Inside, a cut is one number whose digits are its counts, and a level the ascending list of these numbers. Each
+//! Inside, a cut is a key, a number whose digits are its counts, and a level the ascending list of its keys. Each
 //! process gives the ascending list of the cuts that its events make, and these lists are merged.
 //!
 //! - `level`: a level, the next one, and its cuts
@@ -12,22 +12,31 @@
 //! - `gate`: what a worker passes before it expands a block of cuts
 //! - `can`: whether one more event leaves a cut
 //! - `step`: the cuts that have one event more
-//! - `range`: which numbers come to lie between two others once something is added
+//! - `level_key`: the keys of which levels are made
+//! - `keys`: the keys of a level, of the kind that has room for its processes
+//! - `list`: a list of keys of one kind
+//! - `range`: which keys come to lie between two others once an event is added
 //! - `merge`: two ascending lists as one
-//! - `keep`: some of the cuts, by their marks
-//! - `state`: the state at a cut that is one number
+//! - `keep`: some of the keys, by their marks
+//! - `read`: what is read of one key of a list
+//! - `state`: the state at a cut that is a key
 #![tactic(auto)]
 
 mod can;
 mod fault;
 mod gate;
 mod keep;
+mod keys;
 mod level;
+mod level_key;
+mod list;
 mod merge;
 mod range;
+mod read;
 mod state;
 mod step;
 
 pub use fault::LevelFault;
 pub use gate::{Gate, NoGate};
 pub use level::Level;
+pub use level_key::LevelKey;

@@ -1,26 +1,33 @@
-//! Two ascending lists of numbers as one.
+//! Two ascending lists of keys as one.
 ghost use Rattle.pd_keys.specs.Keys.{Ascending};
 ghost use Rattle.std.specs.Prelude.{◌≡◌, ◌<◌, ◌↔◌, ◌⊎◌, ℕ, Contains, IfOk, IsTrue};
 
+use super::list::KeyList;
+use pd_keys::Key;
 use std::alloc::{AllocError, Global};
 
-/// The numbers that stand in one of the two ascending lists or in both, each once and ascending.
-pub(crate) fn merge(alloc: Global, left: &[u128], right: &[u128]) -> Result<Vec<u128>, AllocError>
+/// The keys that stand in one of the two ascending lists or in both, each once and ascending.
+pub(crate) fn merge<K: Key>(
+    alloc: Global,
+    left: &KeyList<K>,
+    right: &KeyList<K>,
+) -> Result<KeyList<K>, AllocError>
     requires left { Ascending left.now }
     requires right { Ascending right.now }
-    ensures ascending { IfOk result (λ both. Ascending both.items) }
+    ensures ascending { IfOk result (λ both. Ascending both) }
     ensures just { IfOk result (λ both.
-        (x : ℕ) → Contains both.items x ↔ (Contains left.now x ⊎ Contains right.now x)) }
+        (x : ℕ) → Contains both x ↔ (Contains left.now x ⊎ Contains right.now x)) }
 {
-    let mut both = Vec::with_capacity(alloc, left.len().saturating_add(right.len()))?;
+    let mut both = KeyList::with_room(alloc, left.len().saturating_add(right.len()))?;
     let mut i = 0;
     let mut j = 0;
     while i < left.len() && j < right.len() {
-        let (a, b) = (left[i], right[j]);
-        if a < b {
+        let a = left.get(i);
+        let b = right.get(j);
+        if a.is_below(b) {
             both.push(a)?;
             i += 1;
-        } else if b < a {
+        } else if b.is_below(a) {
             both.push(b)?;
             j += 1;
         } else {
@@ -29,13 +36,13 @@ pub(crate) fn merge(alloc: Global, left: &[u128], right: &[u128]) -> Result<Vec<
             j += 1;
         }
     }
-    both.extend_from_slice(&left[i..])?;
-    both.extend_from_slice(&right[j..])?;
+    both.extend(left, i)?;
+    both.extend(right, j)?;
     Ok(both)
 }
 
-/// Whether each of the first ascending numbers is below each of the last ones.
-fn is_below(left: &[u128], right: &[u128]) -> bool
+/// Whether each of the first ascending keys is below each of the last ones.
+fn is_below<K: Key>(left: &KeyList<K>, right: &KeyList<K>) -> bool
     requires left { Ascending left.now }
     requires right { Ascending right.now }
     ensures { IsTrue result → (x y : ℕ) → Contains left.now x → Contains right.now y → x < y }
@@ -43,25 +50,25 @@ fn is_below(left: &[u128], right: &[u128]) -> bool
     if left.len() == 0 || right.len() == 0 {
         return true;
     }
-    left[left.len() - 1] < right[0]
+    left.get(left.len() - 1).is_below(right.get(0))
 }
 
-/// The numbers that stand in one of the two ascending lists or in both, each once and ascending. If all of the last
-/// ones come after the first ones, they are written at their end.
-pub(crate) fn joined(
+/// The keys that stand in one of the two ascending lists or in both, each once and ascending. If all of the last ones
+/// come after the first ones, they are written at their end.
+pub(crate) fn joined<K: Key>(
     alloc: Global,
-    left: Vec<u128>,
-    right: &[u128],
-) -> Result<Vec<u128>, AllocError>
-    requires left { Ascending left.items }
+    left: KeyList<K>,
+    right: &KeyList<K>,
+) -> Result<KeyList<K>, AllocError>
+    requires left { Ascending left }
     requires right { Ascending right.now }
-    ensures ascending { IfOk result (λ both. Ascending both.items) }
+    ensures ascending { IfOk result (λ both. Ascending both) }
     ensures just { IfOk result (λ both.
-        (x : ℕ) → Contains both.items x ↔ (Contains left.items x ⊎ Contains right.now x)) }
+        (x : ℕ) → Contains both x ↔ (Contains left x ⊎ Contains right.now x)) }
 {
     if is_below(&left, right) {
         let mut both = left;
-        both.extend_from_slice(right)?;
+        both.extend(right, 0)?;
         return Ok(both);
     }
     merge(alloc, &left, right)

@@ -1,36 +1,35 @@
-//! The state at a cut that is one number.
+//! The state at a cut that is a key.
 ghost use Rattle.pd_keys.specs.Keys.{count_base, digits};
-ghost use Rattle.pd_format.specs.Limits.{process_limit};
 ghost use Rattle.pd_model.specs.Cuts.{FitsProcesses};
 ghost use Rattle.pd_model.specs.Predicates.{state_at};
 ghost use Rattle.std.specs.Prelude.{◌≡◌, ◌^◌, ◌<◌, ◌≤◌};
 
 use pd_clock::Computation;
-use pd_keys::digit;
+use pd_keys::Key;
 use pd_pred::Values;
 
-/// The state at the cut whose counts are the digits of a number. Its values are looked up with no copy of the counts.
-#[derive(Clone, Copy)]
-pub(crate) struct KeyState<'a, 'b> {
+/// The state at the cut whose counts are the digits of a key. Its values are looked up with no copy of the counts.
+#[derive(Drop)]
+pub(crate) struct KeyState<'a, 'b, K: Key> {
     computation: &'a Computation<'b>,
-    key: u128,
+    key: K,
     processes: usize,
-    ghost few: { processes ≤ process_limit },
-    ghost below: { key < count_base ^ processes },
-    ghost fits: { FitsProcesses computation.now.events (digits processes key) },
+    ghost few: { processes ≤ K.room },
+    ghost below: { K.number key < count_base ^ processes },
+    ghost fits: { FitsProcesses computation.now.events (digits processes (K.number key)) },
 }
 
-impl<'a, 'b> KeyState<'a, 'b> {
+impl<'a, 'b, K: Key> KeyState<'a, 'b, K> {
     pub(crate) fn new(
         computation: &'a Computation<'b>,
-        key: u128,
+        key: K,
         processes: usize,
-    ) -> KeyState<'a, 'b>
-        requires few { processes ≤ process_limit }
-        requires below { key < count_base ^ processes }
-        requires fits { FitsProcesses computation.now.events (digits processes key) }
+    ) -> KeyState<'a, 'b, K>
+        requires few { processes ≤ K.room }
+        requires below { K.number key < count_base ^ processes }
+        requires fits { FitsProcesses computation.now.events (digits processes (K.number key)) }
         ensures computation { result.computation.now ≡ computation.now }
-        ensures key { result.key ≡ key }
+        ensures key { K.number result.key ≡ K.number key }
         ensures processes { result.processes ≡ processes }
     {
         KeyState {
@@ -41,12 +40,13 @@ impl<'a, 'b> KeyState<'a, 'b> {
     }
 }
 
-impl Values for KeyState<'_, '_> {
-    ghost state = { λ s. state_at s.computation.now.initial s.computation.now.events (digits s.processes s.key) };
+impl<K: Key> Values for KeyState<'_, '_, K> {
+    ghost state = { λ s. state_at s.computation.now.initial s.computation.now.events
+        (digits s.processes (K.number s.key)) };
 
     fn value(&self, process: usize, var: usize) -> i64 {
         let count = if process < self.processes {
-            digit(self.key, self.processes, process)
+            self.key.digit(self.processes, process)
         } else {
             0
         };

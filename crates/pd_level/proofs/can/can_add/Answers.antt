@@ -51,7 +51,7 @@ none_decides c counts p count ok within is room sender =
     (subst (λ (n : ℕ). IsMessage c other (place p (n + 1))) (sym is) message))))
 
 pub digit-requires-clause-within : goal.digit-requires-clause-within
-digit-requires-clause-within c =
+digit-requires-clause-within g c =
     let message : IsMessage c.args.computation.now.events (place_view c.in-Some.send)
     (place c.args.p (c.digit-count.result + 1)) = (c.in-Some.ensures (place_view c.in-Some.send)).0 refl in
     let there : c.in-Some.send.process < length c.args.computation.now.events =
@@ -60,26 +60,26 @@ digit-requires-clause-within c =
     omega (arith, c.processes-processes.ensures)
 
 pub returns-in-Some : goal.returns-in-Some
-returns-in-Some c =
-    let count : c.digit-count.result ≡ get_or (digits (length c.args.computation.now.events) c.args.key) c.args.p 0 =
-    c.digit-count.ensures ∙ ap (λ (n : ℕ). get_or (digits n c.args.key) c.args.p 0) c.processes-processes.ensures in
-    let read : c.digit.result ≡ get_or (digits (length c.args.computation.now.events) c.args.key) c.in-Some.send.process
-    0 = c.digit.ensures ∙ ap (λ (n : ℕ). get_or (digits n c.args.key) c.in-Some.send.process 0)
+returns-in-Some g c =
+    let count : c.digit-count.result ≡ get_or (digits (length c.args.computation.now.events) (g.K.Key.number c.args.key)) c.args.p 0 =
+    c.digit-count.ensures ∙ ap (λ (n : ℕ). get_or (digits n (g.K.Key.number c.args.key)) c.args.p 0) c.processes-processes.ensures in
+    let read : c.digit.result ≡ get_or (digits (length c.args.computation.now.events) (g.K.Key.number c.args.key)) c.in-Some.send.process
+    0 = c.digit.ensures ∙ ap (λ (n : ℕ). get_or (digits n (g.K.Key.number c.args.key)) c.in-Some.send.process 0)
     c.processes-processes.ensures in
     let room : c.digit-count.result < event_count c.args.computation.now.events c.args.p =
     omega (arith, c.events.ensures, c.if-count-events.false) in
-    some_decides c.args.computation.now.events (digits (length c.args.computation.now.events) c.args.key) c.args.p
+    some_decides c.args.computation.now.events (digits (length c.args.computation.now.events) (g.K.Key.number c.args.key)) c.args.p
     c.digit-count.result c.digit.result c.in-Some.send c.requires.cut c.requires.within count room c.in-Some.ensures
     read
 
 pub returns-in-None : goal.returns-in-None
-returns-in-None c =
-    let count : c.digit-count.result ≡ get_or (digits (length c.args.computation.now.events) c.args.key) c.args.p 0 =
-    c.digit-count.ensures ∙ ap (λ (n : ℕ). get_or (digits n c.args.key) c.args.p 0) c.processes-processes.ensures in
+returns-in-None g c =
+    let count : c.digit-count.result ≡ get_or (digits (length c.args.computation.now.events) (g.K.Key.number c.args.key)) c.args.p 0 =
+    c.digit-count.ensures ∙ ap (λ (n : ℕ). get_or (digits n (g.K.Key.number c.args.key)) c.args.p 0) c.processes-processes.ensures in
     let room : c.digit-count.result < event_count c.args.computation.now.events c.args.p =
     omega (arith, c.events.ensures, c.if-count-events.false) in
     let more : IsConsistent c.args.computation.now.events
-    (one_more (digits (length c.args.computation.now.events) c.args.key) c.args.p) =
-    none_decides c.args.computation.now.events (digits (length c.args.computation.now.events) c.args.key) c.args.p
+    (one_more (digits (length c.args.computation.now.events) (g.K.Key.number c.args.key)) c.args.p) =
+    none_decides c.args.computation.now.events (digits (length c.args.computation.now.events) (g.K.Key.number c.args.key)) c.args.p
     c.digit-count.result c.requires.cut c.requires.within count room c.in-None.ensures in
     (λ _. more, λ _. refl)

@@ -3,4 +3,4 @@ use Rattle.pd_level.proofs.Kept.{IsKeptSo}
 use Rattle.pd_level.proofs.keep.keep_marked.Given as goal
 
 abbrev pub invariant-loop-i : goal.invariant-loop-i
-invariant-loop-i l = IsKeptSo l.wanted l.marks l.fn.keys.items l.keys.items l.i l.kept
+invariant-loop-i g l = IsKeptSo l.wanted l.marks l.fn.keys l.keys l.i l.kept

@@ -3,4 +3,4 @@ use Rattle.std.proofs.Common.{◌-◌}
 use Rattle.pd_level.proofs.step.+more_by_some.Given as goal
 
 abbrev pub decreases-more_by_some : goal.decreases-more_by_some
-decreases-more_by_some l = l.last - l.first
+decreases-more_by_some g l = l.last - l.first
