@@ -26,12 +26,7 @@ use std::alloc::{AllocError, Global};
 use std::thread::Threads;
 
 /// The least count of the last process but one in run `i` whose cut satisfies.
-fn hit_of<K: Key, T: RunTest>(
-    level: &Whole<K>,
-    test: &T,
-    skips: Skips<'_>,
-    i: usize,
-) -> Option<u64>
+fn hit_of<K: Key, T: RunTest>(level: &Whole<K>, test: &T, skips: Skips<'_>, i: usize) -> Option<u64>
     requires level { IsWholeLevel (T.events test.now) level.now }
     requires skips { HaveNoHits (T.events test.now) (T.test test.now) level.now.runs skips }
     requires within { i < length level.now.runs }

@@ -136,9 +136,7 @@ fn push_run<K: Key, T: RunTest>(
     for b in 0..(hi - lo) / BITS + 1 {
         let x = lo + b * BITS;
         let n = block(x, hi);
-        all.push(avoiding(
-            before, level, test, skips, i, x, n, places, counts,
-        ))?;
+        all.push(avoiding(before, level, test, skips, i, x, n, places, counts))?;
     }
     Ok(())
 }
@@ -147,10 +145,10 @@ fn push_run<K: Key, T: RunTest>(
 ///
 /// # Errors
 /// An allocation was refused.
-fn mark<K: Key, T: RunTest>(
+fn mark<'a, K: Key, T: RunTest>(
     alloc: Global,
-    before: Option<Before<'_, '_, K>>,
-    level: &Whole<K>,
+    before: Option<Before<'a, '_, K>>,
+    level: &'a Whole<K>,
     test: &T,
     skips: Skips<'_>,
 ) -> Result<Marks, AllocError>

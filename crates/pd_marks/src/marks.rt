@@ -13,7 +13,7 @@ use super::list::push_marked;
 use super::run;
 use pd_bits::{BITS, count, down, either, up, words};
 use pd_keys::Key;
-use pd_level::Level;
+use pd_level::{Level, LevelKey};
 use pd_runs::Whole;
 use std::alloc::{AllocError, Global};
 use std::marker::Model;
@@ -135,14 +135,18 @@ impl Marks {
     ///
     /// # Errors
     /// An allocation was refused.
-    pub fn to_level(&self, alloc: Global, level: &Whole<u128>) -> Result<Level, AllocError>
-        requires { AreMarksOf level.now self.now }
+    pub fn to_level<K: LevelKey>(
+        &self,
+        alloc: Global,
+        level: &Whole<K>,
+    ) -> Result<Level, AllocError>
+        requires marks { AreMarksOf level.now self.now }
+        requires kind { K.fits level.now.processes }
         ensures number { IfOk result (λ listed. listed.number ≡ level.now.number) }
         ensures list { IfOk result (λ listed. (c : Computation) (test : List ℕ → Bool) → IsWholeLevel c level.now
             → IsMarking c test level.now self.now → IsListOf (IsAvoiding c test level.now.number) listed.cuts) }
     {
-        level.limits();
         let keys = self.keys(alloc, level)?;
-        Ok(Level::of_keys(level.number(), level.processes(), keys))
+        Ok(K::level_of(level.number(), level.processes(), keys))
     }
 }

@@ -111,7 +111,8 @@ fn with_others<K: Key>(
         if found == wanted {
             return found;
         }
-        if key.digit(processes, p) > 0 {
+        let count = key.digit(processes, p);
+        if count > 0 {
             let parent = key.one_less(processes, p);
             found = either(
                 found,
