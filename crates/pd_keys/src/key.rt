@@ -8,6 +8,9 @@ use std::alloc::AllocError;
 
 /// A cut as a number whose digits are its counts, one for each process, the count of process 0 highest.
 pub trait Key: Copy {
+    /// Whether the cuts of this many processes have this kind of key.
+    ghost fits: { ℕ → Type 0 };
+
     /// How many digits it has room for.
     ghost room: { ℕ };
 
@@ -76,4 +79,7 @@ pub trait Key: Copy {
 
     /// A row with a place for each process that there may be has one for each digit.
     ghost few: { room ≤ process_limit };
+
+    /// The cuts of as many processes have room in it.
+    ghost fits_room: { (n : ℕ) → fits n → n ≤ room };
 }

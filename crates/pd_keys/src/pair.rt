@@ -39,14 +39,19 @@ fn order(a: Pair, b: Pair) -> Ordering
 
 impl Key for Pair {
     ghost use Rattle.pd_format.specs.Limits.{process_limit};
-    ghost use Rattle.pd_keys.specs.Pairs.{pair_number};
+    ghost use Rattle.pd_keys.specs.Pairs.{pair_number, single_limit};
+    ghost use Rattle.std.specs.Prelude.{◌<◌, ◌≤◌};
     ghost use Rattle.std.proofs.Common.{arith};
+
+    ghost fits = { λ n. (single_limit < n) × (n ≤ process_limit) };
 
     ghost room = { process_limit };
 
     ghost number = { λ pair. pair_number pair.first pair.second };
 
     ghost few = { Prim.omega arith };
+
+    ghost fits_room = { λ n fits. fits.1 };
 
     fn none() -> Pair {
         Pair {

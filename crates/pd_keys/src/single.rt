@@ -84,11 +84,15 @@ impl Key for u128 {
     ghost use Rattle.pd_keys.specs.Pairs.{single_limit};
     ghost use Rattle.std.proofs.Common.{arith};
 
+    ghost fits = { λ n. n ≤ single_limit };
+
     ghost room = { single_limit };
 
     ghost number = { λ key. key };
 
     ghost few = { Prim.omega arith };
+
+    ghost fits_room = { λ n fits. fits };
 
     fn none() -> u128 {
         0

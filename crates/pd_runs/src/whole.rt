@@ -35,7 +35,8 @@ impl<K: Key> Model for Whole<K> {
     ghost view = { λ w. whole_view w.processes w.number w.runs.items (map K.number w.born.items) };
 
     ghost invariant = { λ w. IsKeptLevel K.room w.processes w.number w.runs.items (map K.number w.born.items)
-        × (w.cuts ≡ cut_count (runs_view (w.processes - 2) w.runs.items)) };
+        × (w.cuts ≡ cut_count (runs_view (w.processes - 2) w.runs.items))
+        × K.fits w.processes };
 }
 
 /// How many cuts the runs have, or the greatest `u64` if they are more.
@@ -93,6 +94,7 @@ fn next_level<K: Key>(
     births: &[K],
 ) -> Result<Whole<K>, AllocError>
     requires room { number < 18446744073709551615 }
+    requires fits { K.fits (length steps.now) }
     requires kept { IsKeptLevel K.room (length steps.now) number olds.now (map K.number births.now) }
     requires level { IsWholeLevel steps.now
         (whole_view (length steps.now) number olds.now (map K.number births.now)) }
@@ -135,7 +137,7 @@ impl<K: Key> Whole<K> {
     /// # Errors
     /// An allocation was refused.
     pub fn first(alloc: Global, steps: &Steps<'_, '_>) -> Result<Whole<K>, AllocError>
-        requires { length steps.now ≤ K.room }
+        requires { K.fits (length steps.now) }
         ensures level { IfOk result (IsWholeLevel steps.now) }
         ensures number { IfOk result (λ level. level.number ≡ 0) }
     {
@@ -267,6 +269,7 @@ impl<K: Key> Whole<K> {
     pub fn limits(&self)
         ensures two { 2 ≤ self.now.processes }
         ensures few { self.now.processes ≤ K.room }
+        ensures fits { K.fits self.now.processes }
         ensures digits { (run : Run) → Contains self.now.runs run → AreDigits run.prefix }
     {
         let _processes = self.processes;

@@ -11,6 +11,9 @@ use Rattle.pd_runs.specs.Kept.{KeyedRun}
 use Rattle.pd_runs.proofs.FirstLevel.{first_consistent, first_run, first_level, first_kept}
 use Rattle.pd_runs.proofs.whole.Whole.first.Goals as goal
 
+pub add_births-requires-clause-few : goal.add_births-requires-clause-few
+add_births-requires-clause-few g c = g.met.K.Key.fits_room (length c.args.steps.now) c.requires
+
 pub add_births-requires-clause-below : goal.add_births-requires-clause-below
 add_births-requires-clause-below g c =
     subst (λ (key : ℕ). key < count_base ^ (length c.args.steps.now - 2)) (sym c.none-2.ensures)
@@ -40,11 +43,12 @@ invariant_of-result g c =
     let kept : IsKeptLevel g.K.Key.room (length c.args.steps.now) 0 (first_run ∷ []) born =
     first_kept c.args.steps.now c.limits.ensures.short c.limits.ensures.walkable c.limits.ensures.two
     c.add_births.new.born born grown c.in_ok-born-2.ensures.there
-    c.in_ok-born-2.ensures.back g.K.Key.room c.requires
+    c.in_ok-born-2.ensures.back g.K.Key.room (g.met.K.Key.fits_room (length c.args.steps.now) c.requires)
     c.in_ok-born-2.ensures.ascends in (
       subst (λ (rs : List KeyedRun). IsKeptLevel g.K.Key.room (c.prefix.result + 2) 0 rs born) (sym runs)
           (subst (λ (m : ℕ). IsKeptLevel g.K.Key.room m 0 (first_run ∷ []) born) e kept),
       subst (λ (rs : List KeyedRun). 1 ≡ cut_count (runs_view (c.prefix.result + 2 - 2) rs)) (sym runs) (omega arith),
+      subst g.K.Key.fits e c.requires,
     )
 
 pub returns-clause-level : goal.returns-clause-level
@@ -63,7 +67,8 @@ returns-clause-level g c =
     (length c.args.steps.now - 2) c.in_ok-born.born c.add_births.new.born) c.none-2.ensures
     c.in_ok-add_births.ensures) in
     let born : List ℕ = map g.K.Key.number c.in_ok-born-2.born.items in
-    subst (λ (rs : List KeyedRun). IsWholeLevel c.args.steps.now (whole_view (c.prefix.result + 2) 0 rs born)) (sym runs)
+    subst (λ (rs : List KeyedRun). IsWholeLevel c.args.steps.now (whole_view (c.prefix.result + 2) 0 rs born))
+    (sym runs)
     (subst (λ (m : ℕ). IsWholeLevel c.args.steps.now (whole_view m 0 (first_run ∷ []) born)) e
     (first_level c.args.steps.now c.limits.ensures.short
     c.limits.ensures.walkable c.limits.ensures.two c.add_births.new.born

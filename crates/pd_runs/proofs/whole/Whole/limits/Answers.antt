@@ -26,3 +26,7 @@ returns-clause-digits g c =
     in_view (c.self.inside.processes - 2) c.self.inside.runs.items run has in
     subst (λ (r : Run). AreDigits r.prefix) w.2
     (digits_are (c.self.inside.processes - 2) w.0.key (c.self.invariant.0.kept w.0 w.1).below))
+
+pub returns-clause-fits : goal.returns-clause-fits
+returns-clause-fits g c =
+    subst (λ (l : WholeLevel). g.K.Key.fits l.processes) c.self.view_is c.self.invariant.2
