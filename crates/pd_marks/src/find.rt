@@ -13,10 +13,12 @@ fn search<K: Key>(level: &Whole<K>, key: K, low: usize, high: usize) -> usize
     requires order { low ≤ high }
     requires within { high ≤ length level.now.runs }
     requires below { (i : ℕ) → i < low → key_of_run (run_at level.now.runs i) < K.number key }
-    requires beyond { (i : ℕ) → high ≤ i → i < length level.now.runs → K.number key ≤ key_of_run (run_at level.now.runs i) }
+    requires beyond { (i : ℕ) → high ≤ i → i < length level.now.runs
+        → K.number key ≤ key_of_run (run_at level.now.runs i) }
     ensures within { result ≤ length level.now.runs }
     ensures below { (i : ℕ) → i < result → key_of_run (run_at level.now.runs i) < K.number key }
-    ensures beyond { (i : ℕ) → result ≤ i → i < length level.now.runs → K.number key ≤ key_of_run (run_at level.now.runs i) }
+    ensures beyond { (i : ℕ) → result ≤ i → i < length level.now.runs
+        → K.number key ≤ key_of_run (run_at level.now.runs i) }
 {
     let mut low = low;
     let mut high = high;
@@ -37,7 +39,8 @@ pub(crate) fn place<K: Key>(level: &Whole<K>, key: K, hint: usize) -> usize
     requires ascending { KeysAscend level.now.runs }
     ensures within { result ≤ length level.now.runs }
     ensures below { (i : ℕ) → i < result → key_of_run (run_at level.now.runs i) < K.number key }
-    ensures beyond { (i : ℕ) → result ≤ i → i < length level.now.runs → K.number key ≤ key_of_run (run_at level.now.runs i) }
+    ensures beyond { (i : ℕ) → result ≤ i → i < length level.now.runs
+        → K.number key ≤ key_of_run (run_at level.now.runs i) }
 {
     let count = level.len();
     if hint >= count {

@@ -43,8 +43,8 @@ pub(crate) fn push_marked<K: Key>(
     requires few { length (run_at level.now.runs i).prefix + 2 ≤ K.room }
     requires digits { (x : ℕ) → (run_at level.now.runs i).lo ≤ x → x ≤ (run_at level.now.runs i).hi
         → AreDigits (cut_with level.now.number (run_at level.now.runs i) x) }
-    ensures { IfOk result (λ _. map K.number keys.new.items ≡ map K.number keys.old.items ++ marked_keys level.now.number
-        (run_at level.now.runs i) (bits_list all.now start 0
+    ensures { IfOk result (λ _. map K.number keys.new.items ≡ map K.number keys.old.items
+        ++ marked_keys level.now.number (run_at level.now.runs i) (bits_list all.now start 0
         (suc ((run_at level.now.runs i).hi - (run_at level.now.runs i).lo)))) }
 {
     let lo = run::lo(level, i);

@@ -15,7 +15,8 @@ use pd_runs::Whole;
 fn find<K: Key>(level: &Whole<K>, key: K, places: &mut [usize], slot: usize) -> Option<usize>
     requires ascending { KeysAscend level.now.runs }
     requires kept { slot < length places.old }
-    ensures some { IfSome result (λ i. (i < length level.now.runs) × (key_of_run (run_at level.now.runs i) ≡ K.number key)) }
+    ensures some { IfSome result (λ i. (i < length level.now.runs)
+        × (key_of_run (run_at level.now.runs i) ≡ K.number key)) }
     ensures none { result ≡ None → (i : ℕ) → i < length level.now.runs
         → ¬ (key_of_run (run_at level.now.runs i) ≡ K.number key) }
 {
@@ -61,7 +62,8 @@ fn own_window<K: Key>(
     requires ascending { KeysAscend level.now.runs }
     requires shape { IsShaped level.now.runs marks.now }
     requires kept { slot < length places.old }
-    ensures { (j : ℕ) → j < 64 → IsTrue (has_bit result j) ↔ HasOwnMark level.now.runs marks.now (K.number key) (x + j) }
+    ensures { (j : ℕ) → j < 64 → IsTrue (has_bit result j)
+        ↔ HasOwnMark level.now.runs marks.now (K.number key) (x + j) }
 {
     words(0);
     match find(level, key, places, slot) {

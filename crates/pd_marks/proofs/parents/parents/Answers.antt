@@ -34,5 +34,6 @@ returns-clause-bits g c j lt =
     ↔ HasOwnMark c.args.before.now.runs c.args.marks.now k (c.args.x + j)) c.key-key.ensures own in
     with_own (has_bit c.with_others.result j) (has_bit c.both-own.result j)
     (HasOwnMark c.args.before.now.runs c.args.marks.now (key_of_run run) (c.args.x + j))
-    (HasOtherMark c.args.before.now.runs c.args.marks.now (key_of_run run) run.prefix (length run.prefix) (c.args.x + j))
+    (HasOtherMark c.args.before.now.runs c.args.marks.now (key_of_run run) run.prefix (length run.prefix)
+    (c.args.x + j))
     keyed (c.with_others.ensures.bits j lt)

@@ -23,7 +23,9 @@ less : (run : Run) (n k p d : ℕ) → k ≡ key_of_run run → length run.prefi
     → d ≡ key_of_run run - count_base ^ (length run.prefix + 1 - p)
 less run n k p d is many weight =
     let place : n - 1 - p ≡ length run.prefix + 1 - p = omega arith in
-    weight ∙ (ap (λ (key : ℕ). key - count_base ^ (n - 1 - p)) is ∙ ap (λ (q : ℕ). key_of_run run - count_base ^ q) place)
+    weight
+    ∙ (ap (λ (key : ℕ). key - count_base ^ (n - 1 - p)) is
+    ∙ ap (λ (q : ℕ). key_of_run run - count_base ^ q) place)
 
 pub digit-count-requires-clause-below : goal.digit-count-requires-clause-below
 digit-count-requires-clause-below g c =
