@@ -54,7 +54,7 @@ pub(crate) fn read_prefix<K: Key>(level: &Whole<K>, i: usize, counts: &mut [u64;
     requires processes { length (run_at level.now.runs i).prefix + 2 ≡ level.now.processes }
     ensures { take (level.now.processes - 2) counts.new ≡ (run_at level.now.runs i).prefix }
 {
-    level.limits();
+    few(level);
     for p in 0..level.processes() - 2 {
         counts[p] = count(level, i, p);
     }
