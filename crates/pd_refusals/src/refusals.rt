@@ -148,15 +148,7 @@ fn words_in_turn<K: Key>(
     let mut at = 0;
     for i in 0..level.len() {
         at = place_from(before, key(level, i), at);
-        words.push(word_after(
-            tests,
-            before,
-            refusals,
-            at,
-            level,
-            i,
-            &mut counts,
-        ))?;
+        words.push(word_after(tests, before, refusals, at, level, i, &mut counts))?;
     }
     Ok(words)
 }
