@@ -32,11 +32,7 @@ fn hit_of<K: Key, T: RunTest>(level: &Whole<K>, test: &T, skips: Skips<'_>, i: u
     requires within { i < length level.now.runs }
     ensures { IsHitIn (T.test test.now) level.now.number (run_at level.now.runs i) result }
 {
-    run::few(level);
-    if level.processes() <= SINGLE_LIMIT {
-        return hit_in(level, test, skips, i, &mut [0; SINGLE_LIMIT]);
-    }
-    hit_in(level, test, skips, i, &mut [0; PROCESS_LIMIT])
+    hit_in(level, test, skips, i)
 }
 
 /// The same for each run, by at most this many threads.
@@ -109,31 +105,19 @@ fn word_with<K: Key, T: RunTest>(
     skips: Skips<'_>,
     spot: Spot,
     places: &mut [usize],
-    counts: &mut [u64],
 ) -> u64
     requires level { IsWholeLevel (T.events test.now) level.now }
     requires skips { HaveNoHits (T.events test.now) (T.test test.now) level.now.runs skips }
     requires before { IsBefore (T.events test.now) (T.test test.now) level.now known.level.now known.marks.now }
     requires spot { IsSpot level.now.runs spot }
     requires kept { level.now.processes ≤ length places.old }
-    requires room { level.now.processes ≤ length counts.old }
     ensures { IsWordOf (T.events test.now) (T.test test.now) level.now spot result }
 {
     let n = block(spot.x, run::hi(level, spot.run));
-    avoiding(
-        Some(known),
-        level,
-        test,
-        skips,
-        spot.run,
-        spot.x,
-        n,
-        places,
-        counts,
-    )
+    avoiding(Some(known), level, test, skips, spot.run, spot.x, n, places)
 }
 
-/// The same, with rows that have room for the processes.
+/// The same, with a row that has room for the processes.
 fn word_of<K: Key, T: RunTest>(
     before: &Whole<K>,
     marks: &Marks,
@@ -155,12 +139,10 @@ fn word_of<K: Key, T: RunTest>(
     };
     if level.processes() <= SINGLE_LIMIT {
         let mut places = [0; SINGLE_LIMIT];
-        let mut counts = [0; SINGLE_LIMIT];
-        return word_with(known, level, test, skips, spot, &mut places, &mut counts);
+        return word_with(known, level, test, skips, spot, &mut places);
     }
     let mut places = [0; PROCESS_LIMIT];
-    let mut counts = [0; PROCESS_LIMIT];
-    word_with(known, level, test, skips, spot, &mut places, &mut counts)
+    word_with(known, level, test, skips, spot, &mut places)
 }
 
 /// The words that begin at these spots, by at most this many threads.

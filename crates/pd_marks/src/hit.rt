@@ -21,17 +21,16 @@ use pd_runs::Whole;
 use std::alloc::Global;
 
 /// The least count of the last process but one in run `i` whose cut satisfies.
+#[inline(always)]
 pub(crate) fn hit_in<K: Key, T: RunTest>(
     level: &Whole<K>,
     test: &T,
     skips: Skips<'_>,
     i: usize,
-    counts: &mut [u64],
 ) -> Option<u64>
     requires level { IsWholeLevel (T.events test.now) level.now }
     requires skips { HaveNoHits (T.events test.now) (T.test test.now) level.now.runs skips }
     requires within { i < length level.now.runs }
-    requires room { level.now.processes ≤ length counts.old }
     ensures some { IfSome result (λ x. ((run_at level.now.runs i).lo ≤ x) × (x ≤ (run_at level.now.runs i).hi)
         × (T.test test.now (cut_with level.now.number (run_at level.now.runs i) x) ≡ true)
         × ((u : ℕ) → (run_at level.now.runs i).lo ≤ u → u < x
@@ -43,7 +42,7 @@ pub(crate) fn hit_in<K: Key, T: RunTest>(
     let hi = run::hi(level, i);
     for b in 0..(hi - lo) / BITS + 1 {
         let x = lo + b * BITS;
-        let found = hits(level, test, skips, i, x, block(x, hi), counts);
+        let found = hits(level, test, skips, i, x, block(x, hi));
         words(found);
         if found != 0 {
             return Some(x + least(found));
@@ -85,10 +84,8 @@ pub fn first_hit<K: Key, T: RunTest>(
     ensures none { IfNone result ((cut : List ℕ) → IsOfLevel (T.events test.now) level.now.number cut
         → T.test test.now cut ≡ false) }
 {
-    run::few(level);
-    let mut counts = [0; PROCESS_LIMIT];
     for i in 0..level.len() {
-        match hit_in(level, test, skips, i, &mut counts) {
+        match hit_in(level, test, skips, i) {
             Some(x) => return Some(cut_in(alloc, level, i, x)),
             None => {},
         }

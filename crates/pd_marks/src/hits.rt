@@ -11,6 +11,7 @@ use super::parents::first_of;
 use super::run;
 use super::skips::Skips;
 use pd_bits::{BITS, words};
+use pd_format::PROCESS_LIMIT;
 use pd_keys::Key;
 use pd_neighbors::RunTest;
 use pd_runs::Whole;
@@ -27,7 +28,7 @@ pub(crate) fn block(x: u64, hi: u64) -> u64
 }
 
 /// Which of `n` neighboring cuts of run `i` satisfy: bit `j` is that of the cut whose count of the last process but
-/// one is `x + j`. The run's prefix is written into the row of counts.
+/// one is `x + j`.
 pub(crate) fn hits<K: Key, T: RunTest>(
     level: &Whole<K>,
     test: &T,
@@ -35,7 +36,6 @@ pub(crate) fn hits<K: Key, T: RunTest>(
     i: usize,
     x: u64,
     n: u64,
-    counts: &mut [u64],
 ) -> u64
     requires level { IsWholeLevel (T.events test.now) level.now }
     requires skips { HaveNoHits (T.events test.now) (T.test test.now) level.now.runs skips }
@@ -44,7 +44,6 @@ pub(crate) fn hits<K: Key, T: RunTest>(
     requires few { n ≤ 64 }
     requires low { (run_at level.now.runs i).lo ≤ x }
     requires high { x + n ≤ (run_at level.now.runs i).hi + 1 }
-    requires room { level.now.processes ≤ length counts.old }
     ensures within { (j : ℕ) → j < n → has_bit result j ≡ T.test test.now (cut_at (run_at level.now.runs i).prefix (x
         + j)
         (rest_at level.now.number (run_at level.now.runs i) - (x + j))) }
@@ -56,6 +55,7 @@ pub(crate) fn hits<K: Key, T: RunTest>(
     }
     level.limits();
     let y = run::rest(level, i) - x;
-    run::read_prefix(level, i, counts);
-    test.mask(first_of(counts, level.processes() - 2), x, y, n)
+    let mut counts = [0; PROCESS_LIMIT];
+    run::read_prefix(level, i, &mut counts);
+    test.mask(first_of(&counts, level.processes() - 2), x, y, n)
 }

@@ -38,7 +38,6 @@ fn unsatisfied<K: Key, T: RunTest>(
     x: u64,
     n: u64,
     possible: u64,
-    counts: &mut [u64],
 ) -> u64
     requires level { IsWholeLevel (T.events test.now) level.now }
     requires skips { HaveNoHits (T.events test.now) (T.test test.now) level.now.runs skips }
@@ -48,7 +47,6 @@ fn unsatisfied<K: Key, T: RunTest>(
     requires low { (run_at level.now.runs i).lo ≤ x }
     requires high { x + n ≤ (run_at level.now.runs i).hi + 1 }
     requires narrow { (j : ℕ) → n ≤ j → has_bit possible j ≡ false }
-    requires room { level.now.processes ≤ length counts.old }
     ensures bits { (j : ℕ) → j < n → has_bit result j ≡ (has_bit possible j
         && not (T.test test.now (cut_at (run_at level.now.runs i).prefix (x + j)
         (rest_at level.now.number (run_at level.now.runs i) - (x + j))))) }
@@ -58,7 +56,7 @@ fn unsatisfied<K: Key, T: RunTest>(
     if possible == 0 {
         return 0;
     }
-    without(possible, hits(level, test, skips, i, x, n, counts))
+    without(possible, hits(level, test, skips, i, x, n))
 }
 
 /// The cuts of a run that avoid: bit `j` is that of the cut whose count of the last process but one is `x + j`, for
@@ -73,7 +71,6 @@ pub(crate) fn avoiding<K: Key, T: RunTest>(
     x: u64,
     n: u64,
     places: &mut [usize],
-    counts: &mut [u64],
 ) -> u64
     requires level { IsWholeLevel (T.events test.now) level.now }
     requires skips { HaveNoHits (T.events test.now) (T.test test.now) level.now.runs skips }
@@ -86,7 +83,6 @@ pub(crate) fn avoiding<K: Key, T: RunTest>(
     requires low { (run_at level.now.runs i).lo ≤ x }
     requires high { x + n ≤ (run_at level.now.runs i).hi + 1 }
     requires kept { level.now.processes ≤ length places.old }
-    requires room { level.now.processes ≤ length counts.old }
     ensures bits { (j : ℕ) → j < n → IsTrue (has_bit result j)
         ↔ AvoidsAt (T.events test.now) (T.test test.now) level.now.number (run_at level.now.runs i).prefix (x + j) }
     ensures beyond { (j : ℕ) → n ≤ j → has_bit result j ≡ false }
@@ -96,9 +92,9 @@ pub(crate) fn avoiding<K: Key, T: RunTest>(
         Some(known) => {
             known.level.limits();
             let possible = parents(known.level, known.marks, level, i, x, n, places);
-            unsatisfied(level, test, skips, i, x, n, possible, counts)
+            unsatisfied(level, test, skips, i, x, n, possible)
         },
-        None => unsatisfied(level, test, skips, i, x, n, lowest(n), counts),
+        None => unsatisfied(level, test, skips, i, x, n, lowest(n)),
     }
 }
 
@@ -113,7 +109,6 @@ fn push_run<K: Key, T: RunTest>(
     skips: Skips<'_>,
     i: usize,
     places: &mut [usize],
-    counts: &mut [u64],
     all: &mut Vec<u64>,
 ) -> Result<(), AllocError>
     requires level { IsWholeLevel (T.events test.now) level.now }
@@ -123,7 +118,6 @@ fn push_run<K: Key, T: RunTest>(
         (λ b. IsBefore (T.events test.now) (T.test test.now) level.now b.level.now b.marks.now) }
     requires within { i < length level.now.runs }
     requires kept { level.now.processes ≤ length places.old }
-    requires room { level.now.processes ≤ length counts.old }
     ensures more { IfOk result (λ _. length all.new.items ≡ length all.old.items + suc (last_word (run_at
         level.now.runs i))) }
     ensures others { IfOk result (λ _. (k : ℕ) → k < length all.old.items
@@ -136,7 +130,7 @@ fn push_run<K: Key, T: RunTest>(
     for b in 0..(hi - lo) / BITS + 1 {
         let x = lo + b * BITS;
         let n = block(x, hi);
-        all.push(avoiding(before, level, test, skips, i, x, n, places, counts))?;
+        all.push(avoiding(before, level, test, skips, i, x, n, places))?;
     }
     Ok(())
 }
@@ -163,19 +157,9 @@ fn mark<'a, K: Key, T: RunTest>(
     let mut all = Vec::with_capacity(alloc, level.len())?;
     run::few(level);
     let mut places = [0; PROCESS_LIMIT];
-    let mut counts = [0; PROCESS_LIMIT];
     for i in 0..level.len() {
         first.push(all.len())?;
-        push_run(
-            before,
-            level,
-            test,
-            skips,
-            i,
-            &mut places,
-            &mut counts,
-            &mut all,
-        )?;
+        push_run(before, level, test, skips, i, &mut places, &mut all)?;
     }
     match bits(&all) {
         Some(count) => Ok(Marks::new(first, all, count)),

@@ -140,12 +140,12 @@ impl Marks {
         alloc: Global,
         level: &Whole<K>,
     ) -> Result<Level, AllocError>
-        requires marks { AreMarksOf level.now self.now }
-        requires kind { K.fits level.now.processes }
+        requires { AreMarksOf level.now self.now }
         ensures number { IfOk result (λ listed. listed.number ≡ level.now.number) }
         ensures list { IfOk result (λ listed. (c : Computation) (test : List ℕ → Bool) → IsWholeLevel c level.now
             → IsMarking c test level.now self.now → IsListOf (IsAvoiding c test level.now.number) listed.cuts) }
     {
+        level.limits();
         let keys = self.keys(alloc, level)?;
         Ok(K::level_of(level.number(), level.processes(), keys))
     }

@@ -4,6 +4,7 @@ ghost use Rattle.pd_marks.specs.RunPlaces.{key_of_run, run_at};
 ghost use Rattle.pd_runs.specs.WholeLevels.{rest_at};
 ghost use Rattle.std.specs.Prelude.{◌≡◌, ◌+◌, ◌-◌, ◌<◌, ◌≤◌, length, slice_index, take};
 
+use pd_format::PROCESS_LIMIT;
 use pd_keys::Key;
 use pd_runs::Whole;
 
@@ -48,13 +49,12 @@ pub(crate) fn rest<K: Key>(level: &Whole<K>, i: usize) -> u64
 }
 
 /// Writes the counts of the prefix into the first places of a row.
-pub(crate) fn read_prefix<K: Key>(level: &Whole<K>, i: usize, counts: &mut [u64])
+pub(crate) fn read_prefix<K: Key>(level: &Whole<K>, i: usize, counts: &mut [u64; PROCESS_LIMIT])
     requires within { i < length level.now.runs }
     requires processes { length (run_at level.now.runs i).prefix + 2 ≡ level.now.processes }
-    requires room { level.now.processes ≤ length counts.old }
     ensures { take (level.now.processes - 2) counts.new ≡ (run_at level.now.runs i).prefix }
 {
-    level.limits();
+    few(level);
     for p in 0..level.processes() - 2 {
         counts[p] = count(level, i, p);
     }

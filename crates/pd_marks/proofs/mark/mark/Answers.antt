@@ -30,7 +30,6 @@ loop-i-preserved g c =
           c.loop-i.invariant.starts;
       ends = c.in_ok-push_run.ensures.more ∙ (rw up (omega (arith, c.loop-i.invariant.ends)));
       slots = c.push_run.auto.places ∙ c.loop-i.invariant.slots;
-      rows = c.push_run.auto.counts ∙ c.loop-i.invariant.rows;
       words = λ k le. words k (cases_lt k c.loop-i.i) le;
     }
   where

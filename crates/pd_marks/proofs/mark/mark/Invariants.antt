@@ -11,7 +11,6 @@ invariant-loop-i g l = record {
   starts : (k : ℕ) → k < l.i → slice_index l.first.items k ≡ start_of l.level.runs k;
   ends : length l.all.items ≡ start_of l.level.runs l.i;
   slots : length l.places ≡ process_limit;
-  rows : length l.counts ≡ process_limit;
   words : (k : ℕ) → k < l.i → HasWords (g.T.RunTest.events l.test) (g.T.RunTest.test l.test) l.level.number
       (run_at l.level.runs k) l.all.items (start_of l.level.runs k);
 }

@@ -13,7 +13,14 @@ loop-p-preserved g c =
       so_far = subst (λ (n : ℕ). take n (set c.loop-p.counts c.loop-p.p c.count.result)
           ≡ take n (run_at c.args.level.now.runs c.args.i).prefix) up
           (one_more_read c.loop-p.counts (run_at c.args.level.now.runs c.args.i).prefix c.loop-p.p c.count.result
-          (omega arith) (omega (arith, c.requires.processes, c.loop-p-test.true)) c.count.ensures
+          (omega (
+            arith,
+            c.few.ensures,
+            c.loop-p-test.true,
+            c.loop-p.auto.p-end,
+            c.processes-p-end.ensures,
+            c.loop-p.invariant.many,
+          )) (omega (arith, c.requires.processes, c.loop-p-test.true)) c.count.ensures
           c.loop-p.invariant.so_far);
     }
 
