@@ -39,7 +39,10 @@ pub fn check_path(
 }
 
 /// The counts of no event.
-fn no_events(alloc: Global, computation: &Computation<'_>) -> Result<Vec<u64>, AllocError>
+pub(crate) fn no_events(
+    alloc: Global,
+    computation: &Computation<'_>,
+) -> Result<Vec<u64>, AllocError>
     ensures { IfOk result (λ counts. counts.items ≡ empty_cut computation.now.events) }
 {
     vec![in alloc; 0; computation.processes()]
