@@ -3,6 +3,7 @@ ghost use Rattle.pd_expand.specs.Limits.{worker_limit};
 ghost use Rattle.pd_lists.specs.Answers.{possibly_answer_view};
 ghost use Rattle.pd_model.specs.Answers.{IsPossiblyAnswer};
 ghost use Rattle.pd_model.specs.Predicates.{test_of};
+ghost use Rattle.pd_possibly.specs.Observed.{IsObservedAnswer};
 ghost use Rattle.pd_pred.specs.Views.{predicate_view};
 ghost use Rattle.std.specs.Prelude.{◌≤◌, IfOk};
 
@@ -36,9 +37,15 @@ pub fn possibly<T: Threads + Wait + Sync, G: Gate + Sync>(
     requires wide { 1 ≤ width }
     requires some_workers { 1 ≤ workers }
     requires few_workers { workers ≤ worker_limit }
-    ensures { IfOk result (λ answer. IsPossiblyAnswer computation.now.events
+    ensures right { IfOk result (λ answer. IsPossiblyAnswer computation.now.events
         (test_of computation.now (predicate_view pred.now)) width (possibly_answer_view answer)) }
+    // The same in the wording of observations.
+    ensures observed { IfOk result (λ answer. IsObservedAnswer computation.now.events
+        (test_of computation.now (predicate_view pred.now)) (possibly_answer_view answer)) }
 {
+    // the laws that the proof uses
+    pd_model::observed();
+    computation.limits();
     let crew = Crew::new(rt, workers, gate);
     let answer = answer_possibly(&crew, alloc, computation, pred, width)?;
     Ok(answer)
