@@ -123,7 +123,8 @@ high_one k late =
     sym (pow-add count_base (k - single_limit) single_limit) ∙ ap (λ m. count_base ^ m) places
 
 -- the first half of a number of n digits has those that the second has no room for
-pub first_below : (n f s : ℕ) → single_limit ≤ n → pair_number f s < count_base ^ n → f < count_base ^ (n - single_limit)
+pub first_below : (n f s : ℕ) → single_limit ≤ n → pair_number f s < count_base ^ n → f < count_base ^
+    (n - single_limit)
 first_below n f s many below = go (cases_lt f (count_base ^ (n - single_limit)))
   where
     go : (f < count_base ^ (n - single_limit)) ⊎ (count_base ^ (n - single_limit) ≤ f)

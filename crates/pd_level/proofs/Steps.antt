@@ -34,7 +34,8 @@ abbrev pub MakesCut : Computation → List ℕ → ℕ → ℕ → Type 0
 MakesCut c keys p i = IsConsistent c (one_more (digits (length c) (get_or keys i 0)) p)
 
 -- where a cut is made, the digit of the process has room for one event more
-pub digit_room : (c : Computation) (keys : List ℕ) (p i : ℕ) → ((q : ℕ) → event_count c q ≤ event_limit) → AreCuts c keys
+pub digit_room : (c : Computation) (keys : List ℕ) (p i : ℕ) → ((q : ℕ) → event_count c q ≤ event_limit)
+    → AreCuts c keys
     → p < length c → i < length keys → get_or (digits (length c) (get_or keys i 0)) p 0 + 1 < count_base
 digit_room c keys p i small cuts within lt =
     let ok : IsConsistent c (digits (length c) (get_or keys i 0)) = cuts.consistent i lt in

@@ -20,7 +20,11 @@ impl LevelKey for u128 {
     fn level_of(number: u64, processes: usize, keys: Vec<u128>) -> Level
         requires kept { IsKept processes (map ⟦<u128 as Key>⟧.number keys.items) }
         requires kind { ⟦<u128 as Key>⟧.fits processes }
-        ensures { result ≡ record { number = number; cuts = cuts_of processes (map ⟦<u128 as Key>⟧.number keys.items) } }
+        ensures { result ≡ record {
+          number = number;
+          cuts = cuts_of processes
+              (map ⟦<u128 as Key>⟧.number keys.items);
+        } }
     {
         Level::of_keys(number, processes, Keys::Single(KeyList::of(keys)))
     }
@@ -30,7 +34,11 @@ impl LevelKey for Pair {
     fn level_of(number: u64, processes: usize, keys: Vec<Pair>) -> Level
         requires kept { IsKept processes (map ⟦<Pair as Key>⟧.number keys.items) }
         requires kind { ⟦<Pair as Key>⟧.fits processes }
-        ensures { result ≡ record { number = number; cuts = cuts_of processes (map ⟦<Pair as Key>⟧.number keys.items) } }
+        ensures { result ≡ record {
+          number = number;
+          cuts = cuts_of processes
+              (map ⟦<Pair as Key>⟧.number keys.items);
+        } }
     {
         Level::of_keys(number, processes, Keys::Pairs(KeyList::of(keys)))
     }

@@ -1,10 +1,9 @@
 -- The numbers of the marked cuts, cut by cut and run by run.
-use Rattle.std.proofs.Common.{◌≡◌, ℕ, zero, suc, ◌+◌, ◌-◌, ◌*◌, ◌^◌, ◌<◌, ◌≤◌, ◌⊎◌, inl, inr, Bool, true, false, cond, List, [], ◌∷◌, ◌++◌, length, map, take, Contains, append_assoc, arith, refl, sym, subst, ap, ap₂, ◌∙◌, get_or}
+use Rattle.std.proofs.Common.{◌≡◌, ℕ, zero, suc, ◌+◌, ◌-◌, ◌*◌, ◌/◌, ◌^◌, ◌<◌, ◌≤◌, ◌⊎◌, inl, inr, Bool, true, false, cond, List, [], ◌∷◌, ◌++◌, length, map, take, Contains, append_assoc, arith, refl, sym, subst, ap, ap₂, ◌∙◌, get_or}
 use Rattle.pd_keys.specs.Keys.{count_base, key_of, digits, AreDigits, AreKeys}
-use Rattle.pd_keys.proofs.Keys.{key_below, digits-key, weight_le}
+use Rattle.pd_keys.proofs.Keys.{all_cons, all_rest, key_below, digits-key, weight_le}
 use Rattle.pd_neighbors.specs.Neighbors.{cut_at}
 use Rattle.pd_runs.proofs.PointFacts.{key_of_two}
-use Rattle.pd_runs.proofs.RunCuts.{length_cut}
 use Rattle.pd_model.specs.Events.{Linked}
 use Rattle.pd_model.specs.Answers.{LexBelow}
 use Rattle.pd_model.proofs.OneAnswer.{lex_transitive}
@@ -107,21 +106,28 @@ key_not_pushed prefix s x words start n old keys before none =
     before ∙ ap (λ (cuts : List (List ℕ)). old ++ map key_of cuts)
     (sym m ∙ ap (λ (k : ℕ). marked_from prefix s x (bits_list words start 0 k)) (sym e))
 
--- the number of a cut from that of its prefix
-pub key_sum : (prefix : List ℕ) (x y : ℕ) → key_of (cut_at prefix x y) ≡ key_of (cut_at prefix 0 0) + x * 65536 + y
-key_sum prefix x y =
-    let a : key_of (cut_at prefix x y) ≡ (key_of prefix * count_base + x) * count_base + y = key_of_two prefix x y in
-    let b : key_of (cut_at prefix 0 0) ≡ (key_of prefix * count_base + 0) * count_base + 0 = key_of_two prefix 0 0 in
+-- the number of a prefix is that of its run but for the last two digits
+pub prefix_key : (prefix : List ℕ) → key_of (cut_at prefix 0 0) / count_base / count_base ≡ key_of prefix
+prefix_key prefix =
+    let a : key_of (cut_at prefix 0 0) ≡ (key_of prefix * count_base + 0) * count_base + 0 = key_of_two prefix 0 0 in
     omega arith
 
-pub key_fits : (prefix : List ℕ) (x y : ℕ) → length prefix + 2 ≤ 8 → AreDigits (cut_at prefix x y)
-    → key_of (cut_at prefix x y) < count_base ^ 8
-key_fits prefix x y few small =
-    let below : key_of (cut_at prefix x y) < count_base ^ length (cut_at prefix x y) =
-    key_below (cut_at prefix x y) small in
-    let many : length (cut_at prefix x y) ≡ length prefix + 2 = length_cut prefix x y in
-    let most : count_base ^ length (cut_at prefix x y) ≤ count_base ^ 8 =
-    weight_le (length (cut_at prefix x y)) 8 (omega arith) in
+-- the counts of a cut are digits, so those of its prefix are, and the last two
+pub digits_apart : (prefix : List ℕ) (x y : ℕ) → AreDigits (cut_at prefix x y)
+    → AreDigits prefix × (x < count_base) × (y < count_base)
+digits_apart [] x y small = (λ k d lt. absurd (omega arith), small 0 0 (omega arith), small 1 0 (omega arith))
+digits_apart (p ∷ prefix) x y small =
+    let w : AreDigits prefix × (x < count_base) × (y < count_base) =
+    digits_apart prefix x y (all_rest p (cut_at prefix x y) small) in
+    (all_cons p prefix (small 0 0 (omega arith)) w.0, w.1, w.2)
+
+-- the number of the prefix leaves room for two digits more
+pub prefix_fits : (prefix : List ℕ) (room : ℕ) → length prefix + 2 ≤ room → AreDigits prefix
+    → key_of prefix < count_base ^ (room - 2)
+prefix_fits prefix room few small =
+    let below : key_of prefix < count_base ^ length prefix = key_below prefix small in
+    let most : count_base ^ length prefix ≤ count_base ^ (room - 2) =
+    weight_le (length prefix) (room - 2) (omega arith) in
     omega arith
 
 -- one run more

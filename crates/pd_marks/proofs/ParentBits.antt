@@ -1,11 +1,8 @@
 -- The marks of the cuts with one event less, bit by bit.
-use Rattle.std.proofs.Common.{◌≡◌, ℕ, zero, suc, ◌+◌, ◌-◌, ◌*◌, ◌^◌, ◌<◌, ◌≤◌, ◌⊎◌, inl, inr, ◌↔◌, IsTrue, List, [], ◌∷◌, length, arith, refl, sym, subst, ap, ◌∙◌, Bool, true, false, ◌||◌, ◌&&◌, get_or}
+use Rattle.std.proofs.Common.{◌≡◌, ℕ, zero, suc, ◌+◌, ◌-◌, ◌^◌, ◌<◌, ◌≤◌, ◌⊎◌, inl, inr, ◌↔◌, IsTrue, List, length, arith, refl, sym, subst, ap, ◌∙◌, Bool, true, false, ◌||◌, ◌&&◌, get_or}
 use Rattle.std.proofs.lemmas.Bool.{cases_lt, cases_order, false≢true}
 use Rattle.pd_bits.specs.Words.{has_bit}
-use Rattle.std.proofs.Math.Nat.{mul-le-mul_right}
-use Rattle.pd_keys.specs.Keys.{count_base, key_of}
-use Rattle.pd_neighbors.specs.Neighbors.{cut_at}
-use Rattle.pd_runs.proofs.RunCuts.{length_cut, prefix_at}
+use Rattle.pd_keys.specs.Keys.{count_base}
 use Rattle.pd_runs.specs.WholeLevels.{Run}
 use Rattle.pd_marks.specs.RunPlaces.{run_at, key_of_run}
 use Rattle.pd_marks.specs.Marks.{Marking, IsMarkedAt, HasMark, HasOwnMark, HasOtherMark, KeysAscend}
@@ -154,28 +151,16 @@ other_none runs marks key prefix p x own found none before = (λ t. later (befor
             let some : 0 < get_or prefix p 0 = subst (λ (n : ℕ). 0 < get_or prefix n 0) e more in
             absurd (omega arith)
 
--- a count above 0 is at least its digit's weight in the number
-pub weight_within : (xs : List ℕ) (p : ℕ) → p < length xs → 0 < get_or xs p 0
-    → count_base ^ (length xs - 1 - p) ≤ key_of xs
-weight_within [] p lt some = absurd (omega arith)
-weight_within (x ∷ xs) zero lt some =
-    let at : length (x ∷ xs) - 1 - 0 ≡ length xs = omega arith in
-    let most : 1 * count_base ^ length xs ≤ x * count_base ^ length xs =
-    mul-le-mul_right (count_base ^ length xs) (let h : 0 < x = some in omega arith) in
-    rw at (omega arith)
-weight_within (x ∷ xs) (suc p) lt some =
-    let at : length (x ∷ xs) - 1 - suc p ≡ length xs - 1 - p = omega arith in
-    let rest : count_base ^ (length xs - 1 - p) ≤ key_of xs = weight_within xs p (omega arith) some in
-    rw at (omega arith)
-
-pub weight_in_run : (prefix : List ℕ) (p : ℕ) → p < length prefix → 0 < get_or prefix p 0
-    → count_base ^ (length prefix + 1 - p) ≤ key_of (cut_at prefix 0 0)
-weight_in_run prefix p lt some =
-    let many : length (cut_at prefix 0 0) ≡ length prefix + 2 = length_cut prefix 0 0 in
-    let at : length (cut_at prefix 0 0) - 1 - p ≡ length prefix + 1 - p = omega arith in
-    let there : 0 < get_or (cut_at prefix 0 0) p 0 = rw (prefix_at prefix 0 0 p lt) some in
-    subst (λ (n : ℕ). count_base ^ n ≤ key_of (cut_at prefix 0 0)) at
-    (weight_within (cut_at prefix 0 0) p (omega arith) there)
+-- where the bit is set, the other processes add nothing
+pub other_all : (runs : List Run) (marks : Marking) (key : ℕ) (prefix : List ℕ) (p m x : ℕ) (own found : Bool)
+    → p ≤ m → found ≡ true → IsTrue found ↔ (IsTrue own ⊎ HasOtherMark runs marks key prefix p x)
+    → IsTrue found ↔ (IsTrue own ⊎ HasOtherMark runs marks key prefix m x)
+other_all runs marks key prefix p m x own found le all before = (λ t. later (before.0 t), λ w. all)
+  where
+    later : (IsTrue own ⊎ HasOtherMark runs marks key prefix p x)
+        → (IsTrue own ⊎ HasOtherMark runs marks key prefix m x)
+    later (inl t) = inl t
+    later (inr (q, lt, more, mark)) = inr (q, omega arith, more, mark)
 
 -- the bits of the same prefix among those that are wanted
 pub own_wanted : (found wanted own : Bool) (O : Type 0) → own ≡ (found && wanted) → wanted ≡ true

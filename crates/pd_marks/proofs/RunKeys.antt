@@ -1,5 +1,5 @@
 -- The numbers of a whole level's runs: they ascend, and each is that of one prefix.
-use Rattle.std.proofs.Common.{◌≡◌, ℕ, zero, suc, ◌+◌, ◌-◌, ◌*◌, ◌^◌, ◌<◌, ◌≤◌, inl, inr, List, [], ◌∷◌, length, Contains, arith, refl, sym, subst, ap, ◌∙◌, get_or, take}
+use Rattle.std.proofs.Common.{◌≡◌, ℕ, zero, suc, ◌+◌, ◌-◌, ◌*◌, ◌^◌, ◌<◌, ◌≤◌, inl, inr, List, [], ◌∷◌, length, Contains, arith, refl, sym, subst, ap, ◌∙◌, get_or}
 use Rattle.std.proofs.Math.Nat.{mul-le-mul_right}
 use Rattle.pd_keys.specs.Keys.{count_base, key_of, digits, AreDigits}
 use Rattle.pd_keys.proofs.Keys.{key_below, digits-key}
@@ -179,27 +179,12 @@ prefix_below prefix n many small =
     subst (λ (m : ℕ). key_of (cut_at prefix 0 0) < count_base ^ m) l
     (key_below (cut_at prefix 0 0) (digits_cut prefix small))
 
-take_cut : (prefix : List ℕ) → take (length prefix) (cut_at prefix 0 0) ≡ prefix
-take_cut [] = refl
-take_cut (x ∷ prefix) = ap (λ (xs : List ℕ). x ∷ xs) (take_cut prefix)
-
-take_less : (xs : List ℕ) (n m : ℕ) → n ≤ m → take n (take m xs) ≡ take n xs
-take_less [] zero zero le = refl
-take_less [] zero (suc m) le = refl
-take_less [] (suc n) zero le = refl
-take_less [] (suc n) (suc m) le = refl
-take_less (x ∷ xs) zero zero le = refl
-take_less (x ∷ xs) zero (suc m) le = refl
-take_less (x ∷ xs) (suc n) zero le = absurd (omega arith)
-take_less (x ∷ xs) (suc n) (suc m) le = ap (λ (ys : List ℕ). x ∷ ys) (take_less xs n m (omega arith))
-
-pub prefix_read : (prefix counts : List ℕ) (n : ℕ) → length prefix + 2 ≡ n → AreDigits prefix
-    → take n counts ≡ digits n (key_of (cut_at prefix 0 0)) → take (n - 2) counts ≡ prefix
-prefix_read prefix counts n many small read =
+-- a digit of the number is a count of the prefix
+pub prefix_digit : (prefix : List ℕ) (n p : ℕ) → length prefix + 2 ≡ n → AreDigits prefix → p < length prefix
+    → get_or (digits n (key_of (cut_at prefix 0 0))) p 0 ≡ get_or prefix p 0
+prefix_digit prefix n p many small lt =
     let l : length (cut_at prefix 0 0) ≡ n = length_cut prefix 0 0 ∙ many in
     let whole : digits n (key_of (cut_at prefix 0 0)) ≡ cut_at prefix 0 0 =
     subst (λ (m : ℕ). digits m (key_of (cut_at prefix 0 0)) ≡ cut_at prefix 0 0) l
     (digits-key (cut_at prefix 0 0) (digits_cut prefix small)) in
-    let e : n - 2 ≡ length prefix = omega arith in
-    sym (take_less counts (n - 2) n (omega arith))
-    ∙ (ap (take (n - 2)) (read ∙ whole) ∙ (ap (λ (m : ℕ). take m (cut_at prefix 0 0)) e ∙ take_cut prefix))
+    ap (λ (xs : List ℕ). get_or xs p 0) whole ∙ prefix_at prefix 0 0 p lt

@@ -18,6 +18,7 @@ use super::skips::Skips;
 use super::spots::{Spot, spots};
 use pd_clock::Cut;
 use pd_format::PROCESS_LIMIT;
+use pd_keys::{Key, SINGLE_LIMIT};
 use pd_neighbors::RunTest;
 use pd_runs::Whole;
 use pd_share::values_of;
@@ -25,7 +26,7 @@ use std::alloc::{AllocError, Global};
 use std::thread::Threads;
 
 /// The least count of the last process but one in run `i` whose cut satisfies.
-fn hit_of<T: RunTest>(level: &Whole, test: &T, skips: Skips<'_>, i: usize) -> Option<u64>
+fn hit_of<K: Key, T: RunTest>(level: &Whole<K>, test: &T, skips: Skips<'_>, i: usize) -> Option<u64>
     requires level { IsWholeLevel (T.events test.now) level.now }
     requires skips { HaveNoHits (T.events test.now) (T.test test.now) level.now.runs skips }
     requires within { i < length level.now.runs }
@@ -35,11 +36,11 @@ fn hit_of<T: RunTest>(level: &Whole, test: &T, skips: Skips<'_>, i: usize) -> Op
 }
 
 /// The same for each run, by at most this many threads.
-fn hits_in_runs<R: Threads + Sync, T: RunTest + Sync>(
+fn hits_in_runs<R: Threads + Sync, K: Key + Sync, T: RunTest + Sync>(
     rt: &R,
     threads: usize,
     alloc: Global,
-    level: &Whole,
+    level: &Whole<K>,
     test: &T,
     skips: Skips<'_>,
 ) -> Result<Vec<Option<u64>>, AllocError>
@@ -68,11 +69,11 @@ fn hits_in_runs<R: Threads + Sync, T: RunTest + Sync>(
 ///
 /// # Errors
 /// An allocation was refused.
-pub fn first_hit_by_threads<R: Threads + Sync, T: RunTest + Sync>(
+pub fn first_hit_by_threads<R: Threads + Sync, K: Key + Sync, T: RunTest + Sync>(
     rt: &R,
     threads: usize,
     alloc: Global,
-    level: &Whole,
+    level: &Whole<K>,
     test: &T,
     skips: Skips<'_>,
 ) -> Result<Option<Cut>, AllocError>
@@ -97,10 +98,30 @@ pub fn first_hit_by_threads<R: Threads + Sync, T: RunTest + Sync>(
 }
 
 /// The word that begins at a spot: which of the cuts there avoid.
-fn word_of<T: RunTest>(
-    before: &Whole,
+fn word_with<K: Key, T: RunTest>(
+    known: Before<'_, '_, K>,
+    level: &Whole<K>,
+    test: &T,
+    skips: Skips<'_>,
+    spot: Spot,
+    places: &mut [usize],
+) -> u64
+    requires level { IsWholeLevel (T.events test.now) level.now }
+    requires skips { HaveNoHits (T.events test.now) (T.test test.now) level.now.runs skips }
+    requires before { IsBefore (T.events test.now) (T.test test.now) level.now known.level.now known.marks.now }
+    requires spot { IsSpot level.now.runs spot }
+    requires kept { level.now.processes ≤ length places.old }
+    ensures { IsWordOf (T.events test.now) (T.test test.now) level.now spot result }
+{
+    let n = block(spot.x, run::hi(level, spot.run));
+    avoiding(Some(known), level, test, skips, spot.run, spot.x, n, places)
+}
+
+/// The same, with a row that has room for the processes.
+fn word_of<K: Key, T: RunTest>(
+    before: &Whole<K>,
     marks: &Marks,
-    level: &Whole,
+    level: &Whole<K>,
     test: &T,
     skips: Skips<'_>,
     spot: Spot,
@@ -111,32 +132,27 @@ fn word_of<T: RunTest>(
     requires spot { IsSpot level.now.runs spot }
     ensures { IsWordOf (T.events test.now) (T.test test.now) level.now spot result }
 {
+    run::few(level);
     let known = Before {
         level: before,
         marks,
     };
-    let n = block(spot.x, run::hi(level, spot.run));
+    if level.processes() <= SINGLE_LIMIT {
+        let mut places = [0; SINGLE_LIMIT];
+        return word_with(known, level, test, skips, spot, &mut places);
+    }
     let mut places = [0; PROCESS_LIMIT];
-    avoiding(
-        Some(known),
-        level,
-        test,
-        skips,
-        spot.run,
-        spot.x,
-        n,
-        &mut places,
-    )
+    word_with(known, level, test, skips, spot, &mut places)
 }
 
 /// The words that begin at these spots, by at most this many threads.
-fn words_of<R: Threads + Sync, T: RunTest + Sync>(
+fn words_of<R: Threads + Sync, K: Key + Sync, T: RunTest + Sync>(
     rt: &R,
     threads: usize,
     alloc: Global,
-    before: &Whole,
+    before: &Whole<K>,
     marks: &Marks,
-    level: &Whole,
+    level: &Whole<K>,
     test: &T,
     skips: Skips<'_>,
     spots: &[Spot],
@@ -170,13 +186,13 @@ fn words_of<R: Threads + Sync, T: RunTest + Sync>(
 ///
 /// # Errors
 /// An allocation was refused.
-pub fn next_by_threads<R: Threads + Sync, T: RunTest + Sync>(
+pub fn next_by_threads<R: Threads + Sync, K: Key + Sync, T: RunTest + Sync>(
     rt: &R,
     threads: usize,
     alloc: Global,
-    before: &Whole,
+    before: &Whole<K>,
     marks: &Marks,
-    level: &Whole,
+    level: &Whole<K>,
     test: &T,
     skips: Skips<'_>,
 ) -> Result<Marks, AllocError>

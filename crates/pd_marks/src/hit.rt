@@ -14,12 +14,20 @@ use super::run;
 use super::skips::Skips;
 use pd_bits::{BITS, least, words};
 use pd_clock::Cut;
+use pd_format::PROCESS_LIMIT;
+use pd_keys::Key;
 use pd_neighbors::RunTest;
 use pd_runs::Whole;
 use std::alloc::Global;
 
 /// The least count of the last process but one in run `i` whose cut satisfies.
-pub(crate) fn hit_in<T: RunTest>(level: &Whole, test: &T, skips: Skips<'_>, i: usize) -> Option<u64>
+#[inline(always)]
+pub(crate) fn hit_in<K: Key, T: RunTest>(
+    level: &Whole<K>,
+    test: &T,
+    skips: Skips<'_>,
+    i: usize,
+) -> Option<u64>
     requires level { IsWholeLevel (T.events test.now) level.now }
     requires skips { HaveNoHits (T.events test.now) (T.test test.now) level.now.runs skips }
     requires within { i < length level.now.runs }
@@ -44,24 +52,26 @@ pub(crate) fn hit_in<T: RunTest>(level: &Whole, test: &T, skips: Skips<'_>, i: u
 }
 
 /// The cut of run `i` with this count of the last process but one. It takes no memory.
-pub(crate) fn cut_in(alloc: Global, level: &Whole, i: usize, x: u64) -> Cut
+pub(crate) fn cut_in<K: Key>(alloc: Global, level: &Whole<K>, i: usize, x: u64) -> Cut
     requires within { i < length level.now.runs }
     requires high { x ≤ rest_at level.now.number (run_at level.now.runs i) }
     requires processes { length (run_at level.now.runs i).prefix + 2 ≡ level.now.processes }
     ensures { result ≡ cut_with level.now.number (run_at level.now.runs i) x }
 {
     level.limits();
+    run::few(level);
     let n = level.processes();
-    let mut counts = run::prefix(level, i);
+    let mut counts = [0; PROCESS_LIMIT];
+    run::read_prefix(level, i, &mut counts);
     counts[n - 2] = x;
     counts[n - 1] = run::rest(level, i) - x;
     Cut::new(alloc, &counts[..n]).unwrap()
 }
 
 /// The first cut of the level that satisfies, in lexicographic order. It takes no memory.
-pub fn first_hit<T: RunTest>(
+pub fn first_hit<K: Key, T: RunTest>(
     alloc: Global,
-    level: &Whole,
+    level: &Whole<K>,
     test: &T,
     skips: Skips<'_>,
 ) -> Option<Cut>

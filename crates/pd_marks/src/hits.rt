@@ -12,6 +12,7 @@ use super::run;
 use super::skips::Skips;
 use pd_bits::{BITS, words};
 use pd_format::PROCESS_LIMIT;
+use pd_keys::Key;
 use pd_neighbors::RunTest;
 use pd_runs::Whole;
 
@@ -27,10 +28,9 @@ pub(crate) fn block(x: u64, hi: u64) -> u64
 }
 
 /// Which of `n` neighboring cuts of run `i` satisfy: bit `j` is that of the cut whose count of the last process but
-/// one is
-/// `x + j`.
-pub(crate) fn hits<T: RunTest>(
-    level: &Whole,
+/// one is `x + j`.
+pub(crate) fn hits<K: Key, T: RunTest>(
+    level: &Whole<K>,
     test: &T,
     skips: Skips<'_>,
     i: usize,

@@ -1,51 +1,50 @@
 //! The numbers of the marked cuts.
-ghost use Rattle.pd_format.specs.Limits.{process_limit};
 ghost use Rattle.pd_keys.specs.Keys.{AreDigits, key_of};
 ghost use Rattle.pd_marks.specs.Marks.{bits_list, cut_with, marked_keys};
 ghost use Rattle.pd_marks.specs.RunPlaces.{run_at};
 ghost use Rattle.pd_runs.specs.WholeLevels.{rest_at};
-ghost use Rattle.std.specs.Prelude.{◌≡◌, ◌+◌, ◌-◌, ◌/◌, ◌<◌, ◌≤◌, ◌++◌, ℕ, suc, IfOk, length};
+ghost use Rattle.std.specs.Prelude.{◌≡◌, ◌+◌, ◌-◌, ◌/◌, ◌<◌, ◌≤◌, ◌++◌, ℕ, suc, IfOk, length, map};
 
 use super::run;
 use pd_bits::{BITS, has};
+use pd_keys::Key;
 use pd_runs::Whole;
 use std::alloc::AllocError;
 
-/// The base of a number's digits.
-const COUNT_BASE: u128 = 65_536;
-
 /// The number of the cut of run `i` with this count of the last process but one.
-fn cut_key(level: &Whole, i: usize, x: u64) -> u128
+fn cut_key<K: Key>(level: &Whole<K>, i: usize, x: u64) -> K
     requires within { i < length level.now.runs }
     requires high { x ≤ rest_at level.now.number (run_at level.now.runs i) }
-    requires few { length (run_at level.now.runs i).prefix + 2 ≤ process_limit }
+    requires few { length (run_at level.now.runs i).prefix + 2 ≤ K.room }
     requires digits { AreDigits (cut_with level.now.number (run_at level.now.runs i) x) }
-    ensures { result ≡ key_of (cut_with level.now.number (run_at level.now.runs i) x) }
+    ensures { K.number result ≡ key_of (cut_with level.now.number (run_at level.now.runs i) x) }
 {
-    run::key(level, i) + u128::from(x) * COUNT_BASE + u128::from(run::rest(level, i) - x)
+    run::key(level, i)
+        .without_two()
+        .with_two(x, run::rest(level, i) - x)
 }
 
 /// Adds the numbers of the marked cuts of a run, whose first word has this index.
 ///
 /// # Errors
 /// An allocation was refused.
-pub(crate) fn push_marked(
+pub(crate) fn push_marked<K: Key>(
     all: &[u64],
-    level: &Whole,
+    level: &Whole<K>,
     i: usize,
     start: usize,
-    keys: &mut Vec<u128>,
+    keys: &mut Vec<K>,
 ) -> Result<(), AllocError>
     requires within { i < length level.now.runs }
     requires some { (run_at level.now.runs i).lo ≤ (run_at level.now.runs i).hi }
     requires small { (run_at level.now.runs i).hi < 65536 }
     requires room { start + ((run_at level.now.runs i).hi - (run_at level.now.runs i).lo) / 64 < length all.now }
     requires high { (run_at level.now.runs i).hi ≤ rest_at level.now.number (run_at level.now.runs i) }
-    requires few { length (run_at level.now.runs i).prefix + 2 ≤ process_limit }
+    requires few { length (run_at level.now.runs i).prefix + 2 ≤ K.room }
     requires digits { (x : ℕ) → (run_at level.now.runs i).lo ≤ x → x ≤ (run_at level.now.runs i).hi
         → AreDigits (cut_with level.now.number (run_at level.now.runs i) x) }
-    ensures { IfOk result (λ _. keys.new.items ≡ keys.old.items ++ marked_keys level.now.number
-        (run_at level.now.runs i) (bits_list all.now start 0
+    ensures { IfOk result (λ _. map K.number keys.new.items ≡ map K.number keys.old.items
+        ++ marked_keys level.now.number (run_at level.now.runs i) (bits_list all.now start 0
         (suc ((run_at level.now.runs i).hi - (run_at level.now.runs i).lo)))) }
 {
     let lo = run::lo(level, i);

@@ -1,6 +1,5 @@
 //! The marks of the first level with a satisfying cut, and those of the next level.
 ghost use Rattle.pd_bits.specs.Words.{has_bit};
-ghost use Rattle.pd_format.specs.Limits.{process_limit};
 ghost use Rattle.pd_marks.specs.Marks.{HasWords, IsBefore, IsMarking, IsShaped, bits_in, last_word, start_of};
 ghost use Rattle.pd_model.specs.Order.{HasNoCycle};
 ghost use Rattle.pd_model.specs.Walks.{NoneBelow};
@@ -18,20 +17,21 @@ use super::run;
 use super::skips::Skips;
 use pd_bits::{BITS, lowest, without, words};
 use pd_format::PROCESS_LIMIT;
+use pd_keys::Key;
 use pd_neighbors::RunTest;
 use pd_runs::Whole;
 use std::alloc::{AllocError, Global};
 
 /// A level and its marks.
 #[derive(Clone, Copy)]
-pub(crate) struct Before<'a, 'b> {
-    pub level: &'a Whole,
+pub(crate) struct Before<'a, 'b, K: Key> {
+    pub level: &'a Whole<K>,
     pub marks: &'b Marks,
 }
 
 /// The bits, without those of the cuts that satisfy.
-fn unsatisfied<T: RunTest>(
-    level: &Whole,
+fn unsatisfied<K: Key, T: RunTest>(
+    level: &Whole<K>,
     test: &T,
     skips: Skips<'_>,
     i: usize,
@@ -62,9 +62,9 @@ fn unsatisfied<T: RunTest>(
 /// The cuts of a run that avoid: bit `j` is that of the cut whose count of the last process but one is `x + j`, for
 /// `j` below
 /// `n`. With no level before, none of its cuts satisfies, nor one of a level below it.
-pub(crate) fn avoiding<T: RunTest>(
-    before: Option<Before<'_, '_>>,
-    level: &Whole,
+pub(crate) fn avoiding<K: Key, T: RunTest>(
+    before: Option<Before<'_, '_, K>>,
+    level: &Whole<K>,
     test: &T,
     skips: Skips<'_>,
     i: usize,
@@ -82,7 +82,7 @@ pub(crate) fn avoiding<T: RunTest>(
     requires few { n ≤ 64 }
     requires low { (run_at level.now.runs i).lo ≤ x }
     requires high { x + n ≤ (run_at level.now.runs i).hi + 1 }
-    requires kept { length places.old ≡ process_limit }
+    requires kept { level.now.processes ≤ length places.old }
     ensures bits { (j : ℕ) → j < n → IsTrue (has_bit result j)
         ↔ AvoidsAt (T.events test.now) (T.test test.now) level.now.number (run_at level.now.runs i).prefix (x + j) }
     ensures beyond { (j : ℕ) → n ≤ j → has_bit result j ≡ false }
@@ -102,9 +102,9 @@ pub(crate) fn avoiding<T: RunTest>(
 ///
 /// # Errors
 /// An allocation was refused.
-fn push_run<T: RunTest>(
-    before: Option<Before<'_, '_>>,
-    level: &Whole,
+fn push_run<K: Key, T: RunTest>(
+    before: Option<Before<'_, '_, K>>,
+    level: &Whole<K>,
     test: &T,
     skips: Skips<'_>,
     i: usize,
@@ -117,7 +117,7 @@ fn push_run<T: RunTest>(
         (HasNoCycle (T.events test.now) × NoneBelow (T.events test.now) (T.test test.now) level.now.number)
         (λ b. IsBefore (T.events test.now) (T.test test.now) level.now b.level.now b.marks.now) }
     requires within { i < length level.now.runs }
-    requires kept { length places.old ≡ process_limit }
+    requires kept { level.now.processes ≤ length places.old }
     ensures more { IfOk result (λ _. length all.new.items ≡ length all.old.items + suc (last_word (run_at
         level.now.runs i))) }
     ensures others { IfOk result (λ _. (k : ℕ) → k < length all.old.items
@@ -129,7 +129,8 @@ fn push_run<T: RunTest>(
     let hi = run::hi(level, i);
     for b in 0..(hi - lo) / BITS + 1 {
         let x = lo + b * BITS;
-        all.push(avoiding(before, level, test, skips, i, x, block(x, hi), places))?;
+        let n = block(x, hi);
+        all.push(avoiding(before, level, test, skips, i, x, n, places))?;
     }
     Ok(())
 }
@@ -138,10 +139,10 @@ fn push_run<T: RunTest>(
 ///
 /// # Errors
 /// An allocation was refused.
-fn mark<T: RunTest>(
+fn mark<'a, K: Key, T: RunTest>(
     alloc: Global,
-    before: Option<Before<'_, '_>>,
-    level: &Whole,
+    before: Option<Before<'a, '_, K>>,
+    level: &'a Whole<K>,
     test: &T,
     skips: Skips<'_>,
 ) -> Result<Marks, AllocError>
@@ -154,6 +155,7 @@ fn mark<T: RunTest>(
 {
     let mut first = Vec::with_capacity(alloc, level.len())?;
     let mut all = Vec::with_capacity(alloc, level.len())?;
+    run::few(level);
     let mut places = [0; PROCESS_LIMIT];
     for i in 0..level.len() {
         first.push(all.len())?;
@@ -169,9 +171,9 @@ fn mark<T: RunTest>(
 ///
 /// # Errors
 /// An allocation was refused.
-pub fn unsatisfying<T: RunTest>(
+pub fn unsatisfying<K: Key, T: RunTest>(
     alloc: Global,
-    level: &Whole,
+    level: &Whole<K>,
     test: &T,
     skips: Skips<'_>,
 ) -> Result<Marks, AllocError>
@@ -188,11 +190,11 @@ pub fn unsatisfying<T: RunTest>(
 ///
 /// # Errors
 /// An allocation was refused.
-pub fn next<T: RunTest>(
+pub fn next<K: Key, T: RunTest>(
     alloc: Global,
-    before: &Whole,
+    before: &Whole<K>,
     marks: &Marks,
-    level: &Whole,
+    level: &Whole<K>,
     test: &T,
     skips: Skips<'_>,
 ) -> Result<Marks, AllocError>

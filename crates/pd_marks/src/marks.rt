@@ -1,17 +1,19 @@
 //! For each cut of a whole level whether it avoids.
 ghost use Rattle.pd_bits.specs.Words.{has_bit};
+ghost use Rattle.pd_level.specs.Levels.{IsKept, cuts_of};
 ghost use Rattle.pd_marks.specs.Marks.{AreMarksOf, IsMarkedAt, IsMarking, IsShaped, bit_from, bits_in};
 ghost use Rattle.pd_model.specs.Answers.{IsListOf};
 ghost use Rattle.pd_model.specs.Events.{Computation};
 ghost use Rattle.pd_model.specs.Observations.{IsAvoiding};
 ghost use Rattle.pd_runs.specs.Levels.{IsWholeLevel, WholeLevel};
 ghost use Rattle.pd_marks.specs.RunPlaces.{run_at};
-ghost use Rattle.std.specs.Prelude.{◌≡◌, ◌+◌, ◌/◌, ◌<◌, ◌≤◌, ◌↔◌, ℕ, Bool, IfOk, IfSome, IsTrue, List, false, length};
+ghost use Rattle.std.specs.Prelude.{◌≡◌, ◌+◌, ◌/◌, ◌<◌, ◌≤◌, ◌↔◌, ℕ, Bool, IfOk, IfSome, IsTrue, List, false, length, map};
 
 use super::list::push_marked;
 use super::run;
 use pd_bits::{BITS, count, down, either, up, words};
-use pd_level::Level;
+use pd_keys::Key;
+use pd_level::{Level, LevelKey};
 use pd_runs::Whole;
 use std::alloc::{AllocError, Global};
 use std::marker::Model;
@@ -87,7 +89,7 @@ impl Marks {
     /// The marks of 64 neighboring cuts of run `i`: bit `j` is that of the cut whose count of the last process but
     /// one is
     /// `x + j`, and 0 if there is none.
-    pub(crate) fn window(&self, level: &Whole, i: usize, x: u64) -> u64
+    pub(crate) fn window<K: Key>(&self, level: &Whole<K>, i: usize, x: u64) -> u64
         requires shape { IsShaped level.now.runs self.now }
         requires within { i < length level.now.runs }
         ensures { (j : ℕ) → j < 64 → IsTrue (has_bit result j) ↔ IsMarkedAt level.now.runs self.now i (x + j) }
@@ -109,21 +111,42 @@ impl Marks {
         up(self.words[start], lo - x)
     }
 
+    /// The keys of the avoiding cuts, which ascend.
+    ///
+    /// # Errors
+    /// An allocation was refused.
+    fn keys<K: Key>(&self, alloc: Global, level: &Whole<K>) -> Result<Vec<K>, AllocError>
+        requires { AreMarksOf level.now self.now }
+        ensures kept { IfOk result (λ keys. IsKept level.now.processes (map K.number keys.items)) }
+        ensures list { IfOk result (λ keys. (c : Computation) (test : List ℕ → Bool) → IsWholeLevel c level.now
+            → IsMarking c test level.now self.now → IsListOf (IsAvoiding c test level.now.number)
+            (cuts_of level.now.processes (map K.number keys.items))) }
+    {
+        level.limits();
+        run::few(level);
+        let mut keys = Vec::with_capacity(alloc, self.count as usize)?;
+        for i in 0..level.len() {
+            push_marked(&self.words, level, i, self.first[i], &mut keys)?;
+        }
+        Ok(keys)
+    }
+
     /// The avoiding cuts as a general level. The marks have to be those of this level.
     ///
     /// # Errors
     /// An allocation was refused.
-    pub fn to_level(&self, alloc: Global, level: &Whole) -> Result<Level, AllocError>
+    pub fn to_level<K: LevelKey>(
+        &self,
+        alloc: Global,
+        level: &Whole<K>,
+    ) -> Result<Level, AllocError>
         requires { AreMarksOf level.now self.now }
         ensures number { IfOk result (λ listed. listed.number ≡ level.now.number) }
         ensures list { IfOk result (λ listed. (c : Computation) (test : List ℕ → Bool) → IsWholeLevel c level.now
             → IsMarking c test level.now self.now → IsListOf (IsAvoiding c test level.now.number) listed.cuts) }
     {
         level.limits();
-        let mut keys = Vec::with_capacity(alloc, self.count as usize)?;
-        for i in 0..level.len() {
-            push_marked(&self.words, level, i, self.first[i], &mut keys)?;
-        }
-        Ok(Level::of_keys(level.number(), level.processes(), keys))
+        let keys = self.keys(alloc, level)?;
+        Ok(K::level_of(level.number(), level.processes(), keys))
     }
 }

@@ -1,40 +1,38 @@
 //! The marks of the cuts with one event less.
 ghost use Rattle.pd_bits.specs.Words.{has_bit};
-ghost use Rattle.pd_format.specs.Limits.{process_limit};
-ghost use Rattle.pd_keys.specs.Keys.{count_base};
 ghost use Rattle.pd_marks.specs.Marks.{HasMark, HasOtherMark, HasOwnMark, IsMarkedAt, IsShaped, KeysAscend};
 ghost use Rattle.pd_marks.specs.RunPlaces.{key_of_run, run_at};
-ghost use Rattle.std.specs.Prelude.{◌≡◌, ◌+◌, ◌-◌, ◌^◌, ◌<◌, ◌≤◌, ◌⊎◌, ◌↔◌, ℕ, IfSome, IsTrue, None, false, length, slice_index, take};
+ghost use Rattle.std.specs.Prelude.{◌≡◌, ◌+◌, ◌<◌, ◌≤◌, ◌⊎◌, ◌↔◌, ℕ, IfSome, IsTrue, None, false, length, take};
 
 use super::find::place;
 use super::marks::Marks;
 use super::run;
 use pd_bits::{both, either, lowest, up, words};
-use pd_format::PROCESS_LIMIT;
-use pd_keys::weight;
+use pd_keys::Key;
 use pd_runs::Whole;
 
 /// The run with this number. The place where it is found, or would stand, is kept as the hint for the next look-up.
-fn find(level: &Whole, key: u128, places: &mut [usize], slot: usize) -> Option<usize>
+fn find<K: Key>(level: &Whole<K>, key: K, places: &mut [usize], slot: usize) -> Option<usize>
     requires ascending { KeysAscend level.now.runs }
     requires kept { slot < length places.old }
-    ensures some { IfSome result (λ i. (i < length level.now.runs) × (key_of_run (run_at level.now.runs i) ≡ key)) }
+    ensures some { IfSome result (λ i. (i < length level.now.runs)
+        × (key_of_run (run_at level.now.runs i) ≡ K.number key)) }
     ensures none { result ≡ None → (i : ℕ) → i < length level.now.runs
-        → ¬ (key_of_run (run_at level.now.runs i) ≡ key) }
+        → ¬ (key_of_run (run_at level.now.runs i) ≡ K.number key) }
 {
     let i = place(level, key, places[slot]);
     places[slot] = i;
-    if i < level.len() && run::key(level, i) == key {
+    if i < level.len() && run::key(level, i).is_same(key) {
         return Some(i);
     }
     None
 }
 
 /// The marks of 64 neighboring cuts of the run with this number.
-fn window_of(
-    level: &Whole,
+fn window_of<K: Key>(
+    level: &Whole<K>,
     marks: &Marks,
-    key: u128,
+    key: K,
     x: u64,
     places: &mut [usize],
     slot: usize,
@@ -42,7 +40,7 @@ fn window_of(
     requires ascending { KeysAscend level.now.runs }
     requires shape { IsShaped level.now.runs marks.now }
     requires kept { slot < length places.old }
-    ensures { (j : ℕ) → j < 64 → IsTrue (has_bit result j) ↔ HasMark level.now.runs marks.now key (x + j) }
+    ensures { (j : ℕ) → j < 64 → IsTrue (has_bit result j) ↔ HasMark level.now.runs marks.now (K.number key) (x + j) }
 {
     words(0);
     match find(level, key, places, slot) {
@@ -53,10 +51,10 @@ fn window_of(
 
 /// Of 64 neighboring counts of the last process but one, those at which the run with this number has a mark, or at
 /// one less.
-fn own_window(
-    level: &Whole,
+fn own_window<K: Key>(
+    level: &Whole<K>,
     marks: &Marks,
-    key: u128,
+    key: K,
     x: u64,
     places: &mut [usize],
     slot: usize,
@@ -64,7 +62,8 @@ fn own_window(
     requires ascending { KeysAscend level.now.runs }
     requires shape { IsShaped level.now.runs marks.now }
     requires kept { slot < length places.old }
-    ensures { (j : ℕ) → j < 64 → IsTrue (has_bit result j) ↔ HasOwnMark level.now.runs marks.now key (x + j) }
+    ensures { (j : ℕ) → j < 64 → IsTrue (has_bit result j)
+        ↔ HasOwnMark level.now.runs marks.now (K.number key) (x + j) }
 {
     words(0);
     match find(level, key, places, slot) {
@@ -81,50 +80,54 @@ fn own_window(
     }
 }
 
-/// The bits, and the marks of the runs whose prefix has one event less.
-fn with_others(
-    level: &Whole,
+/// The bits, and the marks of the runs of the level before whose prefix has one event less than that of run `i`.
+fn with_others<K: Key>(
+    before: &Whole<K>,
     marks: &Marks,
-    key: u128,
-    prefix: &[u64],
+    level: &Whole<K>,
+    i: usize,
     x: u64,
     n: u64,
     own: u64,
     places: &mut [usize],
 ) -> u64
-    requires ascending { KeysAscend level.now.runs }
-    requires shape { IsShaped level.now.runs marks.now }
+    requires ascending { KeysAscend before.now.runs }
+    requires shape { IsShaped before.now.runs marks.now }
+    requires within { i < length level.now.runs }
     requires few { n ≤ 64 }
-    requires processes { length prefix.now + 2 ≤ process_limit }
-    requires kept { length prefix.now ≤ length places.old }
-    requires room { (p : ℕ) → p < length prefix.now → 0 < slice_index prefix.now p
-        → count_base ^ (length prefix.now + 1 - p) ≤ key }
+    requires processes { length (run_at level.now.runs i).prefix + 2 ≡ level.now.processes }
+    requires kept { level.now.processes ≤ length places.old }
     requires narrow { (j : ℕ) → n ≤ j → has_bit own j ≡ false }
     ensures bits { (j : ℕ) → j < n → IsTrue (has_bit result j)
         ↔ (IsTrue (has_bit own j)
-        ⊎ HasOtherMark level.now.runs marks.now key prefix.now (length prefix.now) (x + j)) }
+        ⊎ HasOtherMark before.now.runs marks.now (key_of_run (run_at level.now.runs i))
+        (run_at level.now.runs i).prefix (length (run_at level.now.runs i).prefix) (x + j)) }
     ensures beyond { (j : ℕ) → n ≤ j → has_bit result j ≡ false }
 {
+    level.limits();
+    let processes = level.processes();
+    let key = run::key(level, i);
     let wanted = lowest(n);
     let mut found = own;
-    for p in 0..prefix.len() {
+    for p in 0..processes - 2 {
         if found == wanted {
             return found;
         }
-        if prefix[p] > 0 {
-            let parent = key - weight(prefix.len() + 2, p);
+        let count = key.digit(processes, p);
+        if count > 0 {
+            let parent = key.one_less(processes, p);
             found = either(
                 found,
-                both(window_of(level, marks, parent, x, places, p), wanted),
+                both(window_of(before, marks, parent, x, places, p), wanted),
             );
         }
     }
     found
 }
 
-/// The first counts of all that there is room for.
-pub(crate) fn first_of(counts: &[u64; PROCESS_LIMIT], n: usize) -> &[u64]
-    requires { n ≤ process_limit }
+/// The first counts of a row.
+pub(crate) fn first_of(counts: &[u64], n: usize) -> &[u64]
+    requires { n ≤ length counts.now }
     ensures { result.now ≡ take n counts.now }
 {
     &counts[..n]
@@ -133,10 +136,10 @@ pub(crate) fn first_of(counts: &[u64; PROCESS_LIMIT], n: usize) -> &[u64]
 /// The cuts of run `i` of a level with a marked cut of one event less in the level before: bit `j` is that of the
 /// cut whose
 /// count of the last process but one is `x + j`, for `j` below `n`.
-pub(crate) fn parents(
-    before: &Whole,
+pub(crate) fn parents<K: Key>(
+    before: &Whole<K>,
     marks: &Marks,
-    level: &Whole,
+    level: &Whole<K>,
     i: usize,
     x: u64,
     n: u64,
@@ -147,7 +150,7 @@ pub(crate) fn parents(
     requires within { i < length level.now.runs }
     requires few { n ≤ 64 }
     requires processes { length (run_at level.now.runs i).prefix + 2 ≡ level.now.processes }
-    requires kept { length places.old ≡ process_limit }
+    requires kept { level.now.processes ≤ length places.old }
     ensures bits { (j : ℕ) → j < n → IsTrue (has_bit result j)
         ↔ (HasOwnMark before.now.runs marks.now (key_of_run (run_at level.now.runs i)) (x + j)
         ⊎ HasOtherMark before.now.runs marks.now (key_of_run (run_at level.now.runs i))
@@ -164,7 +167,5 @@ pub(crate) fn parents(
     if own == wanted {
         return own;
     }
-    let counts = run::prefix(level, i);
-    let prefix = first_of(&counts, level.processes() - 2);
-    with_others(before, marks, key, prefix, x, n, own, places)
+    with_others(before, marks, level, i, x, n, own, places)
 }

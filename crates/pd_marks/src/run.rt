@@ -1,22 +1,31 @@
 //! What is read of the run at a place in a whole level.
+ghost use Rattle.pd_format.specs.Limits.{process_limit};
 ghost use Rattle.pd_marks.specs.RunPlaces.{key_of_run, run_at};
 ghost use Rattle.pd_runs.specs.WholeLevels.{rest_at};
-ghost use Rattle.std.specs.Prelude.{◌≡◌, ◌+◌, ◌-◌, ◌<◌, length, slice_index, take};
+ghost use Rattle.std.specs.Prelude.{◌≡◌, ◌+◌, ◌-◌, ◌<◌, ◌≤◌, length, slice_index, take};
 
 use pd_format::PROCESS_LIMIT;
-use pd_keys::unpack;
+use pd_keys::Key;
 use pd_runs::Whole;
 
+/// A row of `PROCESS_LIMIT` places has one for each process. This has no code: a caller's proof has the fact by calling
+/// it.
+pub(crate) fn few<K: Key>(level: &Whole<K>)
+    ensures { level.now.processes ≤ process_limit }
+{
+    level.limits();
+}
+
 /// The number whose digits are the counts of the prefix, and zeros for the last two processes.
-pub(crate) fn key(level: &Whole, i: usize) -> u128
+pub(crate) fn key<K: Key>(level: &Whole<K>, i: usize) -> K
     requires { i < length level.now.runs }
-    ensures { result ≡ key_of_run (run_at level.now.runs i) }
+    ensures { K.number result ≡ key_of_run (run_at level.now.runs i) }
 {
     level.key(i)
 }
 
 /// The least count of the last process but one.
-pub(crate) fn lo(level: &Whole, i: usize) -> u64
+pub(crate) fn lo<K: Key>(level: &Whole<K>, i: usize) -> u64
     requires { i < length level.now.runs }
     ensures { result ≡ (run_at level.now.runs i).lo }
 {
@@ -24,7 +33,7 @@ pub(crate) fn lo(level: &Whole, i: usize) -> u64
 }
 
 /// The greatest count of the last process but one.
-pub(crate) fn hi(level: &Whole, i: usize) -> u64
+pub(crate) fn hi<K: Key>(level: &Whole<K>, i: usize) -> u64
     requires { i < length level.now.runs }
     ensures { result ≡ (run_at level.now.runs i).hi }
 {
@@ -32,37 +41,27 @@ pub(crate) fn hi(level: &Whole, i: usize) -> u64
 }
 
 /// The sum of the last two counts of each of its cuts.
-pub(crate) fn rest(level: &Whole, i: usize) -> u64
+pub(crate) fn rest<K: Key>(level: &Whole<K>, i: usize) -> u64
     requires { i < length level.now.runs }
     ensures { result ≡ rest_at level.now.number (run_at level.now.runs i) }
 {
     level.rest(i)
 }
 
-/// The counts of the prefix, and zeros after them.
-pub(crate) fn prefix(level: &Whole, i: usize) -> [u64; PROCESS_LIMIT]
-    requires within { i < length level.now.runs }
-    requires processes { length (run_at level.now.runs i).prefix + 2 ≡ level.now.processes }
-    ensures { take (level.now.processes - 2) result ≡ (run_at level.now.runs i).prefix }
-{
-    level.limits();
-    unpack(key(level, i), level.processes())
-}
-
-/// Writes the counts of the prefix.
-pub(crate) fn read_prefix(level: &Whole, i: usize, counts: &mut [u64; PROCESS_LIMIT])
+/// Writes the counts of the prefix into the first places of a row.
+pub(crate) fn read_prefix<K: Key>(level: &Whole<K>, i: usize, counts: &mut [u64; PROCESS_LIMIT])
     requires within { i < length level.now.runs }
     requires processes { length (run_at level.now.runs i).prefix + 2 ≡ level.now.processes }
     ensures { take (level.now.processes - 2) counts.new ≡ (run_at level.now.runs i).prefix }
 {
-    level.limits();
+    few(level);
     for p in 0..level.processes() - 2 {
         counts[p] = count(level, i, p);
     }
 }
 
 /// The count of process `p` of the prefix, from 0.
-fn count(level: &Whole, i: usize, p: usize) -> u64
+fn count<K: Key>(level: &Whole<K>, i: usize, p: usize) -> u64
     requires within { i < length level.now.runs }
     requires prefix { p + 2 < level.now.processes }
     ensures { result ≡ slice_index (run_at level.now.runs i).prefix p }

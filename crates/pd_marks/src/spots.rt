@@ -6,6 +6,7 @@ ghost use Rattle.std.specs.Prelude.{◌≡◌, ◌+◌, ◌<◌, ◌≤◌, ℕ,
 
 use super::run;
 use pd_bits::BITS;
+use pd_keys::Key;
 use pd_runs::Whole;
 use std::alloc::{AllocError, Global};
 
@@ -22,7 +23,7 @@ pub(crate) struct Spot {
 ///
 /// # Errors
 /// An allocation was refused.
-fn push_spots(level: &Whole, i: usize, spots: &mut Vec<Spot>) -> Result<(), AllocError>
+fn push_spots<K: Key>(level: &Whole<K>, i: usize, spots: &mut Vec<Spot>) -> Result<(), AllocError>
     requires within { i < length level.now.runs }
     requires some { (run_at level.now.runs i).lo ≤ (run_at level.now.runs i).hi }
     ensures more { IfOk result (λ _. length spots.new.items ≡ length spots.old.items + suc (last_word (run_at
@@ -44,7 +45,10 @@ fn push_spots(level: &Whole, i: usize, spots: &mut Vec<Spot>) -> Result<(), Allo
 ///
 /// # Errors
 /// An allocation was refused.
-pub(crate) fn spots(alloc: Global, level: &Whole) -> Result<(Vec<usize>, Vec<Spot>), AllocError>
+pub(crate) fn spots<K: Key>(
+    alloc: Global,
+    level: &Whole<K>,
+) -> Result<(Vec<usize>, Vec<Spot>), AllocError>
     requires { (i : ℕ) → i < length level.now.runs → (run_at level.now.runs i).lo ≤ (run_at level.now.runs i).hi }
     ensures { IfOk result (λ found. AreSpots level.now.runs found.0.items found.1.items) }
 {

@@ -1,10 +1,12 @@
 //! The word of one run.
+ghost use Rattle.pd_format.specs.Limits.{process_limit};
 ghost use Rattle.pd_marks.specs.RunPlaces.{run_at};
 ghost use Rattle.pd_refusals.specs.Refusals.{IsRefused, IsSomeLevel, IsWordOf};
 ghost use Rattle.pd_tables.specs.Views.{CompiledView};
 ghost use Rattle.std.specs.Prelude.{◌≡◌, ◌+◌, ◌-◌, ◌<◌, ◌≤◌, ℕ, length, slice_index, slice_index_or, take};
 
 use pd_format::PROCESS_LIMIT;
+use pd_keys::{Key, SINGLE_LIMIT};
 use pd_runs::Whole;
 use pd_tables::Compiled;
 
@@ -46,7 +48,7 @@ fn word_of(tests: &[Compiled<'_, '_>], prefix: &[u64]) -> u16
 }
 
 /// The count of process `p` of the prefix of run `i`, both from 0.
-fn count(level: &Whole, i: usize, p: usize) -> u64
+fn count<K: Key>(level: &Whole<K>, i: usize, p: usize) -> u64
     requires run { i < length level.now.runs }
     requires prefix { p + 2 < level.now.processes }
     ensures { result ≡ slice_index (run_at level.now.runs i).prefix p }
@@ -54,24 +56,50 @@ fn count(level: &Whole, i: usize, p: usize) -> u64
     level.count(i, p)
 }
 
-/// The first counts of all that there is room for.
-fn first_of(counts: &[u64; PROCESS_LIMIT], n: usize) -> &[u64]
-    requires { n ≤ 8 }
+/// The first counts of a row.
+fn first_of(counts: &[u64], n: usize) -> &[u64]
+    requires { n ≤ length counts.now }
     ensures { result.now ≡ take n counts.now }
 {
     &counts[..n]
 }
 
-/// The word of run `i`, for which each predicate is asked.
-pub(crate) fn asked(tests: &[Compiled<'_, '_>], level: &Whole, i: usize) -> u16
+/// A row of `PROCESS_LIMIT` places has one for each process. This has no code: a caller's proof has the fact by calling
+/// it.
+pub(crate) fn few<K: Key>(level: &Whole<K>)
+    ensures { level.now.processes ≤ process_limit }
+{
+    level.limits();
+}
+
+/// The word of run `i`, for which each predicate is asked. The run's prefix is written into the row of counts.
+pub(crate) fn asked<K: Key>(
+    tests: &[Compiled<'_, '_>],
+    level: &Whole<K>,
+    i: usize,
+    counts: &mut [u64],
+) -> u16
+    requires level { IsSomeLevel level.now }
+    requires within { i < length level.now.runs }
+    requires room { level.now.processes ≤ length counts.old }
+    ensures { IsWordOf tests.now (run_at level.now.runs i).prefix result }
+{
+    level.limits();
+    for p in 0..level.processes() - 2 {
+        counts[p] = count(level, i, p);
+    }
+    word_of(tests, first_of(counts, level.processes() - 2))
+}
+
+/// The same, with a row that has room for the processes.
+pub(crate) fn asked_once<K: Key>(tests: &[Compiled<'_, '_>], level: &Whole<K>, i: usize) -> u16
     requires level { IsSomeLevel level.now }
     requires within { i < length level.now.runs }
     ensures { IsWordOf tests.now (run_at level.now.runs i).prefix result }
 {
-    level.limits();
-    let mut counts = [0; PROCESS_LIMIT];
-    for p in 0..level.processes() - 2 {
-        counts[p] = count(level, i, p);
+    few(level);
+    if level.processes() <= SINGLE_LIMIT {
+        return asked(tests, level, i, &mut [0; SINGLE_LIMIT]);
     }
-    word_of(tests, first_of(&counts, level.processes() - 2))
+    asked(tests, level, i, &mut [0; PROCESS_LIMIT])
 }

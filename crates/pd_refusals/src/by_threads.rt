@@ -2,8 +2,9 @@
 ghost use Rattle.pd_refusals.specs.Refusals.{AreRefusals, IsSomeLevel, IsWordOfRun};
 ghost use Rattle.std.specs.Prelude.{◌≡◌, ◌<◌, ℕ, IfOk, length};
 
-use super::asked::asked;
+use super::asked::asked_once;
 use super::refusals::{Refusals, is_born, kept};
+use pd_keys::Key;
 use pd_runs::Whole;
 use pd_share::values_of;
 use pd_tables::Compiled;
@@ -27,16 +28,16 @@ fn weight(tests: &[Compiled<'_, '_>]) -> u64 {
 }
 
 /// Whether the runs of the level would be worth several threads, if all of them had a new prefix.
-pub(crate) fn may_be_many(tests: &[Compiled<'_, '_>], level: &Whole) -> bool {
+pub(crate) fn may_be_many<K: Key>(tests: &[Compiled<'_, '_>], level: &Whole<K>) -> bool {
     let runs = level.len();
     runs >= SHARED_RUNS && weight(tests).saturating_mul(runs as u64) >= SHARED_COMPARISONS
 }
 
 /// Whether those with a new prefix are: each of them asks for all comparisons.
-pub(crate) fn are_many(
+pub(crate) fn are_many<K: Key>(
     tests: &[Compiled<'_, '_>],
-    before: &Whole,
-    level: &Whole,
+    before: &Whole<K>,
+    level: &Whole<K>,
     places: &[usize],
 ) -> bool
     requires { length places.now ≡ length level.now.runs }
@@ -51,12 +52,12 @@ pub(crate) fn are_many(
 }
 
 /// The word of run `i`: that of the run at this place in the level before, if that has its prefix.
-fn word_there(
+fn word_there<K: Key>(
     tests: &[Compiled<'_, '_>],
-    before: &Whole,
+    before: &Whole<K>,
     refusals: &Refusals,
     at: usize,
-    level: &Whole,
+    level: &Whole<K>,
     i: usize,
 ) -> u16
     requires before { IsSomeLevel before.now }
@@ -68,19 +69,19 @@ fn word_there(
 {
     match kept(tests, before, refusals, at, level, i) {
         Some(word) => word,
-        None => asked(tests, level, i),
+        None => asked_once(tests, level, i),
     }
 }
 
 /// The words of the runs, by at most this many threads.
-pub(crate) fn words_by_threads<R: Threads + Sync>(
+pub(crate) fn words_by_threads<R: Threads + Sync, K: Key + Sync>(
     rt: &R,
     threads: usize,
     alloc: Global,
     tests: &[Compiled<'_, '_>],
-    before: &Whole,
+    before: &Whole<K>,
     refusals: &Refusals,
-    level: &Whole,
+    level: &Whole<K>,
     places: &[usize],
 ) -> Result<Vec<u16>, AllocError>
     requires before { IsSomeLevel before.now }

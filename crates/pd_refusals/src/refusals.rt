@@ -7,8 +7,10 @@ ghost use Rattle.pd_runs.specs.Levels.{WholeLevel};
 ghost use Rattle.pd_tables.specs.Views.{CompiledView};
 ghost use Rattle.std.specs.Prelude.{◌≡◌, ◌<◌, ◌≤◌, ℕ, IfOk, IfSome, List, length, slice_index, slice_index_or};
 
-use super::asked::{BITS, asked};
+use super::asked::{BITS, asked, few};
 use super::by_threads::{are_many, may_be_many, words_by_threads};
+use pd_format::PROCESS_LIMIT;
+use pd_keys::Key;
 use pd_marks::Skips;
 use pd_runs::Whole;
 use pd_tables::Compiled;
@@ -32,22 +34,22 @@ impl Model for Refusals {
 }
 
 /// The number whose digits are the counts of the prefix of run `i`.
-fn key(level: &Whole, i: usize) -> u128
+fn key<K: Key>(level: &Whole<K>, i: usize) -> K
     requires { i < length level.now.runs }
-    ensures { result ≡ key_of_run (run_at level.now.runs i) }
+    ensures { K.number result ≡ key_of_run (run_at level.now.runs i) }
 {
     level.key(i)
 }
 
 /// The place of the first run from `at` on whose number isn't below `key`, or how many runs there are.
-fn place_from(level: &Whole, sought: u128, at: usize) -> usize
-    ensures beyond { result < length level.now.runs → sought ≤ key_of_run (run_at level.now.runs result) }
+fn place_from<K: Key>(level: &Whole<K>, sought: K, at: usize) -> usize
+    ensures beyond { result < length level.now.runs → K.number sought ≤ key_of_run (run_at level.now.runs result) }
     ensures below { (j : ℕ) → at ≤ j → j < result → j < length level.now.runs
-        → key_of_run (run_at level.now.runs j) < sought }
+        → key_of_run (run_at level.now.runs j) < K.number sought }
     ensures within { result ≤ length level.now.runs }
 {
     for j in at..level.len() {
-        if key(level, j) >= sought {
+        if !key(level, j).is_below(sought) {
             return j;
         }
     }
@@ -55,19 +57,19 @@ fn place_from(level: &Whole, sought: u128, at: usize) -> usize
 }
 
 /// Whether the run at this place in the level before, if there is one, has another prefix than run `i`.
-pub(crate) fn is_born(before: &Whole, at: usize, level: &Whole, i: usize) -> bool
+pub(crate) fn is_born<K: Key>(before: &Whole<K>, at: usize, level: &Whole<K>, i: usize) -> bool
     requires { i < length level.now.runs }
 {
-    at >= before.len() || key(before, at) != key(level, i)
+    at >= before.len() || !key(before, at).is_same(key(level, i))
 }
 
 /// The word of the run at this place in the level before, if that has the prefix of run `i`.
-pub(crate) fn kept(
+pub(crate) fn kept<K: Key>(
     _tests: &[Compiled<'_, '_>],
-    before: &Whole,
+    before: &Whole<K>,
     refusals: &Refusals,
     at: usize,
-    level: &Whole,
+    level: &Whole<K>,
     i: usize,
 ) -> Option<u16>
     requires before { IsSomeLevel before.now }
@@ -79,36 +81,42 @@ pub(crate) fn kept(
 {
     before.limits();
     level.limits();
-    if at < before.len() && key(before, at) == key(level, i) {
+    if at < before.len() && key(before, at).is_same(key(level, i)) {
         return Some(refusals.word(at));
     }
     None
 }
 
 /// The word of run `i`: that of the run at this place in the level before, if that has its prefix.
-fn word_after(
+fn word_after<K: Key>(
     tests: &[Compiled<'_, '_>],
-    before: &Whole,
+    before: &Whole<K>,
     refusals: &Refusals,
     at: usize,
-    level: &Whole,
+    level: &Whole<K>,
     i: usize,
+    counts: &mut [u64],
 ) -> u16
     requires before { IsSomeLevel before.now }
     requires level { IsSomeLevel level.now }
     requires processes { before.now.processes ≡ level.now.processes }
     requires refusals { AreRefusals tests.now before.now refusals.now }
     requires within { i < length level.now.runs }
+    requires room { level.now.processes ≤ length counts.old }
     ensures { IsWordOf tests.now (run_at level.now.runs i).prefix result }
 {
     match kept(tests, before, refusals, at, level, i) {
         Some(word) => word,
-        None => asked(tests, level, i),
+        None => asked(tests, level, i, counts),
     }
 }
 
 /// For each run of the level the place of its prefix in the level before, if that has it.
-fn places_of(alloc: Global, before: &Whole, level: &Whole) -> Result<Vec<usize>, AllocError>
+fn places_of<K: Key>(
+    alloc: Global,
+    before: &Whole<K>,
+    level: &Whole<K>,
+) -> Result<Vec<usize>, AllocError>
     ensures { IfOk result (λ places. length places.items ≡ length level.now.runs) }
 {
     let mut places = Vec::with_capacity(alloc, level.len())?;
@@ -121,12 +129,12 @@ fn places_of(alloc: Global, before: &Whole, level: &Whole) -> Result<Vec<usize>,
 }
 
 /// The words of the runs, one after the other.
-fn words_in_turn(
+fn words_in_turn<K: Key>(
     alloc: Global,
     tests: &[Compiled<'_, '_>],
-    before: &Whole,
+    before: &Whole<K>,
     refusals: &Refusals,
-    level: &Whole,
+    level: &Whole<K>,
 ) -> Result<Vec<u16>, AllocError>
     requires before { IsSomeLevel before.now }
     requires level { IsSomeLevel level.now }
@@ -134,11 +142,13 @@ fn words_in_turn(
     requires refusals { AreRefusals tests.now before.now refusals.now }
     ensures { IfOk result (λ words. AreRefusals tests.now level.now words.items) }
 {
+    few(level);
     let mut words = Vec::with_capacity(alloc, level.len())?;
+    let mut counts = [0; PROCESS_LIMIT];
     let mut at = 0;
     for i in 0..level.len() {
         at = place_from(before, key(level, i), at);
-        words.push(word_after(tests, before, refusals, at, level, i))?;
+        words.push(word_after(tests, before, refusals, at, level, i, &mut counts))?;
     }
     Ok(words)
 }
@@ -156,17 +166,19 @@ impl Refusals {
     ///
     /// # Errors
     /// An allocation was refused.
-    pub fn first(
+    pub fn first<K: Key>(
         alloc: Global,
         tests: &[Compiled<'_, '_>],
-        level: &Whole,
+        level: &Whole<K>,
     ) -> Result<Refusals, AllocError>
         requires { IsSomeLevel level.now }
         ensures { IfOk result (AreRefusals tests.now level.now) }
     {
+        few(level);
         let mut words = Vec::with_capacity(alloc, level.len())?;
+        let mut counts = [0; PROCESS_LIMIT];
         for i in 0..level.len() {
-            words.push(asked(tests, level, i))?;
+            words.push(asked(tests, level, i, &mut counts))?;
         }
         Ok(Refusals { words })
     }
@@ -176,14 +188,14 @@ impl Refusals {
     ///
     /// # Errors
     /// An allocation was refused.
-    pub fn next<R: Threads + Sync>(
+    pub fn next<R: Threads + Sync, K: Key + Sync>(
         rt: &R,
         threads: usize,
         alloc: Global,
         tests: &[Compiled<'_, '_>],
-        before: &Whole,
+        before: &Whole<K>,
         refusals: &Refusals,
-        level: &Whole,
+        level: &Whole<K>,
     ) -> Result<Refusals, AllocError>
         requires before { IsSomeLevel before.now }
         requires level { IsSomeLevel level.now }

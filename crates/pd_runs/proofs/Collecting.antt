@@ -76,7 +76,8 @@ one_later first old new cut more = record {
     just z (inr has) = later z (more.just z has)
 
 -- a key is added to one of the lists
-pub births_push : {A : Type 0} (number : A → ℕ) (lists : List (Vec A Global)) (p : ℕ) (list none : Vec A Global) (cut : A)
+pub births_push : {A : Type 0} (number : A → ℕ) (lists : List (Vec A Global)) (p : ℕ) (list none : Vec A Global)
+    (cut : A)
     → p < length lists → list.items ≡ (get_or lists p none).items ++ cut ∷ []
     → HasOneMore (births_in number lists) (number cut) (births_in number (slice_set lists p list))
 births_push number [] p list none cut lt e = absurd (omega arith)

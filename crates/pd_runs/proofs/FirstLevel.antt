@@ -100,7 +100,8 @@ module _ (c : Computation) (small : (q : ℕ) → event_count c q ≤ event_limi
             subst (λ (other : List ℕ). Contains (map (digits (length c)) sorted) other) (cut_back c cut small ok)
             (in_map (digits (length c)) sorted (key_of cut) (there (key_of cut) has))
 
-    pub first_kept : (room : ℕ) → length c ≤ room → ((i j : ℕ) → i ≤ j → j < length sorted → get_or sorted i 0 ≤ get_or sorted j 0)
+    pub first_kept : (room : ℕ) → length c ≤ room
+        → ((i j : ℕ) → i ≤ j → j < length sorted → get_or sorted i 0 ≤ get_or sorted j 0)
         → IsKeptLevel room (length c) 0 (first_run ∷ []) sorted
     first_kept room few ascends = record {
       few = few;

@@ -73,7 +73,8 @@ last_two n cut two lt =
     let w = split_digits (n - 2) cut (subst (λ (m : ℕ). cut < count_base ^ m) (sym e) lt) in
     (w.0, w.1 ∙ ap (λ (m : ℕ). digits m cut) e)
 
-pub digit_x : (n cut : ℕ) → 2 ≤ n → cut < count_base ^ n → get_or (digits n cut) (n - 2) 0 ≡ cut / count_base % count_base
+pub digit_x : (n cut : ℕ) → 2 ≤ n → cut < count_base ^ n → get_or (digits n cut) (n - 2) 0 ≡ cut / count_base %
+    count_base
 digit_x n cut two lt =
     ap (λ (xs : List ℕ). get_or xs (n - 2) 0) (sym (last_two n cut two lt).1)
     ∙ count_x (n - 2) (record {

@@ -48,7 +48,7 @@ prefix_key cut = cut / 65536 / 65536
 abbrev pub cut_count : List Run → ℕ
 cut_count runs = min (count_of_runs runs) 18446744073709551615
 
--- how a level is kept: ascending keys, and ascending births, of two processes or more, and no more than keys have room for
+-- how a level is kept: ascending keys, and ascending births, of two processes or more, all of which a key has room for
 pub record IsKeptLevel (room processes number : ℕ) (runs : List KeyedRun) (born : List ℕ) : Type 0 where
   pub few : processes ≤ room
   pub two : 2 ≤ processes

@@ -27,7 +27,8 @@ pub(crate) struct Moved<K: Key> {
 fn move_run<K: Key>(steps: &Steps<'_, '_>, run: &KeptRun<K>) -> Option<Moved<K>>
     requires few { length steps.now ≤ K.room }
     requires kept { IsKept (length steps.now - 2) (level_of (length steps.now - 2) run.now) run.now }
-    requires run { IsRunOf steps.now (level_of (length steps.now - 2) run.now) (run_view (length steps.now - 2) run.now) }
+    requires run { IsRunOf steps.now (level_of (length steps.now - 2) run.now)
+        (run_view (length steps.now - 2) run.now) }
     ensures some { IfSome result (λ next. IsMoved steps.now run.now next.run next.top next.low) }
     ensures none { IfNone result ((new : Run)
         → IsMovedTo steps.now (level_of (length steps.now - 2) run.now) (run_view (length steps.now - 2) run.now) new
@@ -108,7 +109,8 @@ pub(crate) fn push_moved<K: Key>(
 ) -> Result<(), AllocError>
     requires few { length steps.now ≤ K.room }
     requires kept { IsKept (length steps.now - 2) (level_of (length steps.now - 2) run.now) run.now }
-    requires run { IsRunOf steps.now (level_of (length steps.now - 2) run.now) (run_view (length steps.now - 2) run.now) }
+    requires run { IsRunOf steps.now (level_of (length steps.now - 2) run.now)
+        (run_view (length steps.now - 2) run.now) }
     ensures { IfOk result (λ _. IsPushed steps.now run.now runs.old.items born.old runs.new.items born.new) }
 {
     steps.limits();

@@ -61,25 +61,32 @@ digit-requires-clause-within g c =
 
 pub returns-in-Some : goal.returns-in-Some
 returns-in-Some g c =
-    let count : c.digit-count.result ≡ get_or (digits (length c.args.computation.now.events) (g.K.Key.number c.args.key)) c.args.p 0 =
-    c.digit-count.ensures ∙ ap (λ (n : ℕ). get_or (digits n (g.K.Key.number c.args.key)) c.args.p 0) c.processes-processes.ensures in
-    let read : c.digit.result ≡ get_or (digits (length c.args.computation.now.events) (g.K.Key.number c.args.key)) c.in-Some.send.process
+    let count : c.digit-count.result
+    ≡ get_or (digits (length c.args.computation.now.events) (g.K.Key.number c.args.key)) c.args.p 0 =
+    c.digit-count.ensures
+    ∙ ap (λ (n : ℕ). get_or (digits n (g.K.Key.number c.args.key)) c.args.p 0) c.processes-processes.ensures in
+    let read : c.digit.result
+    ≡ get_or (digits (length c.args.computation.now.events) (g.K.Key.number c.args.key)) c.in-Some.send.process
     0 = c.digit.ensures ∙ ap (λ (n : ℕ). get_or (digits n (g.K.Key.number c.args.key)) c.in-Some.send.process 0)
     c.processes-processes.ensures in
     let room : c.digit-count.result < event_count c.args.computation.now.events c.args.p =
     omega (arith, c.events.ensures, c.if-count-events.false) in
-    some_decides c.args.computation.now.events (digits (length c.args.computation.now.events) (g.K.Key.number c.args.key)) c.args.p
+    some_decides c.args.computation.now.events (digits (length c.args.computation.now.events)
+    (g.K.Key.number c.args.key)) c.args.p
     c.digit-count.result c.digit.result c.in-Some.send c.requires.cut c.requires.within count room c.in-Some.ensures
     read
 
 pub returns-in-None : goal.returns-in-None
 returns-in-None g c =
-    let count : c.digit-count.result ≡ get_or (digits (length c.args.computation.now.events) (g.K.Key.number c.args.key)) c.args.p 0 =
-    c.digit-count.ensures ∙ ap (λ (n : ℕ). get_or (digits n (g.K.Key.number c.args.key)) c.args.p 0) c.processes-processes.ensures in
+    let count : c.digit-count.result
+    ≡ get_or (digits (length c.args.computation.now.events) (g.K.Key.number c.args.key)) c.args.p 0 =
+    c.digit-count.ensures
+    ∙ ap (λ (n : ℕ). get_or (digits n (g.K.Key.number c.args.key)) c.args.p 0) c.processes-processes.ensures in
     let room : c.digit-count.result < event_count c.args.computation.now.events c.args.p =
     omega (arith, c.events.ensures, c.if-count-events.false) in
     let more : IsConsistent c.args.computation.now.events
     (one_more (digits (length c.args.computation.now.events) (g.K.Key.number c.args.key)) c.args.p) =
-    none_decides c.args.computation.now.events (digits (length c.args.computation.now.events) (g.K.Key.number c.args.key)) c.args.p
+    none_decides c.args.computation.now.events (digits (length c.args.computation.now.events)
+    (g.K.Key.number c.args.key)) c.args.p
     c.digit-count.result c.requires.cut c.requires.within count room c.in-None.ensures in
     (λ _. more, λ _. refl)

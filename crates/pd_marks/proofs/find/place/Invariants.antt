@@ -4,11 +4,11 @@ use Rattle.pd_marks.specs.RunPlaces.{key_of_run, run_at}
 use Rattle.pd_marks.proofs.find.place.Given as goal
 
 abbrev pub invariant-loop-low : goal.invariant-loop-low
-invariant-loop-low l = record {
+invariant-loop-low g l = record {
   after : l.hint < l.low;
   within : l.low ≤ length l.level.runs;
-  below : (i : ℕ) → i < l.low → key_of_run (run_at l.level.runs i) < l.key;
+  below : (i : ℕ) → i < l.low → key_of_run (run_at l.level.runs i) < g.K.Key.number l.key;
 }
 
 abbrev pub decreases-loop-low : goal.decreases-loop-low
-decreases-loop-low l = l.count - l.low
+decreases-loop-low g l = l.count - l.low

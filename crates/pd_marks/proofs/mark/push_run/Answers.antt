@@ -14,8 +14,8 @@ overflow_sub-b-end g c =
     run_some (g.T.RunTest.events c.args.test.now) c.args.level.now c.requires.level c.args.i c.requires.within in
     omega (arith, c.lo-lo.ensures, c.hi-hi.ensures)
 
-pub block-requires : goal.block-requires
-block-requires g c =
+pub block-n-requires : goal.block-n-requires
+block-n-requires g c =
     let some : (run_at c.args.level.now.runs c.args.i).lo ≤ (run_at c.args.level.now.runs c.args.i).hi =
     run_some (g.T.RunTest.events c.args.test.now) c.args.level.now c.requires.level c.args.i c.requires.within in
     omega (arith, c.lo-lo.ensures, c.hi-hi.ensures)
@@ -34,20 +34,20 @@ loop-b-preserved g c =
       just = pushed_just (λ d. AvoidsAt (g.T.RunTest.events c.args.test.now) (g.T.RunTest.test c.args.test.now)
           c.args.level.now.number (run_at c.args.level.now.runs c.args.i).prefix (c.lo-lo.result + d))
           c.loop-b.all.items c.push.new.self.items c.avoiding.result (length c.args.all.now.items) c.loop-b.b
-          c.block.result (c.hi-hi.result - c.lo-lo.result) is c.loop-b.invariant.more
+          c.block-n.result (c.hi-hi.result - c.lo-lo.result) is c.loop-b.invariant.more
           (λ j lt. let e : c.lo-lo.result + c.loop-b.b * 64 + j ≡ c.lo-lo.result + (64 * c.loop-b.b + j) =
           omega arith in
           subst (λ (x : ℕ). IsTrue (has_bit c.avoiding.result j) ↔ AvoidsAt (g.T.RunTest.events c.args.test.now)
           (g.T.RunTest.test c.args.test.now) c.args.level.now.number
           (run_at c.args.level.now.runs c.args.i).prefix x) e (c.avoiding.ensures.bits j lt))
-          c.block.ensures.few
-          (λ lt. let w : c.lo-lo.result + c.loop-b.b * 64 + c.block.result ≡ c.hi-hi.result + 1 =
-          c.block.ensures.whole lt in
+          c.block-n.ensures.few
+          (λ lt. let w : c.lo-lo.result + c.loop-b.b * 64 + c.block-n.result ≡ c.hi-hi.result + 1 =
+          c.block-n.ensures.whole lt in
           omega arith)
           c.loop-b.invariant.just;
       beyond = pushed_beyond c.loop-b.all.items c.push.new.self.items c.avoiding.result (length c.args.all.now.items)
-          c.loop-b.b c.block.result (c.hi-hi.result - c.lo-lo.result) is c.loop-b.invariant.more
-          c.avoiding.ensures.beyond (omega (arith, c.block.ensures.high)) c.loop-b.invariant.beyond;
+          c.loop-b.b c.block-n.result (c.hi-hi.result - c.lo-lo.result) is c.loop-b.invariant.more
+          c.avoiding.ensures.beyond (omega (arith, c.block-n.ensures.high)) c.loop-b.invariant.beyond;
     }
 
 pub returns-clause-words : goal.returns-clause-words

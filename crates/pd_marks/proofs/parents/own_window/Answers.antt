@@ -7,7 +7,7 @@ use Rattle.pd_marks.proofs.parents.own_window.Goals as goal
 use Rattle.pd_marks.proofs.parents.own_window.Goals.{then-x-eq0, else-x-eq0}
 
 pub returns-after-x-eq0 : goal.returns-after-x-eq0
-returns-after-x-eq0 c =
+returns-after-x-eq0 g c =
     let same : (j : ℕ) → j < 64 → IsTrue (has_bit c.window-same.result j)
     ↔ IsMarkedAt c.args.level.now.runs c.args.marks.now c.in-Some.i (c.args.x + j) = c.window-same.ensures in
     let less : (j : ℕ) → j < 64 → IsTrue (has_bit c.if-x-eq0.less j)
@@ -25,6 +25,6 @@ returns-after-x-eq0 c =
           (less_bits c.args.level.now.runs c.args.marks.now c.in-Some.i c.args.x w.window-less.result
           (omega (arith, w.if-x-eq0.false)) w.window-less.ensures)
     ] in
-    own_bits c.args.level.now.runs c.args.marks.now c.args.key c.in-Some.i c.args.x c.if-x-eq0.less
+    own_bits c.args.level.now.runs c.args.marks.now (g.K.Key.number c.args.key) c.in-Some.i c.args.x c.if-x-eq0.less
     c.window-same.result c.either.result c.requires.ascending c.in-Some.ensures.some.0 c.in-Some.ensures.some.1
     less same c.either.ensures

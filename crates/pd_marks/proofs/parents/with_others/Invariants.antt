@@ -2,11 +2,13 @@
 use Rattle.std.proofs.Common.{◌≡◌, ◌+◌, ◌<◌, ◌≤◌, ◌⊎◌, ◌↔◌, ℕ, IsTrue, false}
 use Rattle.pd_bits.specs.Words.{has_bit}
 use Rattle.pd_marks.specs.Marks.{HasOtherMark}
+use Rattle.pd_marks.specs.RunPlaces.{key_of_run, run_at}
 use Rattle.pd_marks.proofs.parents.with_others.Given as goal
 
 abbrev pub invariant-loop-p : goal.invariant-loop-p
-invariant-loop-p l = record {
+invariant-loop-p g l = record {
   bits : (j : ℕ) → j < l.n → IsTrue (has_bit l.found j)
-      ↔ (IsTrue (has_bit l.own j) ⊎ HasOtherMark l.level.runs l.marks l.key l.prefix l.p (l.x + j));
+      ↔ (IsTrue (has_bit l.own j) ⊎ HasOtherMark l.before.runs l.marks (key_of_run (run_at l.level.runs l.i))
+      (run_at l.level.runs l.i).prefix l.p (l.x + j));
   beyond : (j : ℕ) → l.n ≤ j → has_bit l.found j ≡ false;
 }

@@ -6,19 +6,26 @@ use Rattle.pd_marks.proofs.ReadPrefixes.{one_more_read, all_read}
 use Rattle.pd_marks.proofs.run.read_prefix.Goals as goal
 
 pub loop-p-preserved : goal.loop-p-preserved
-loop-p-preserved c =
+loop-p-preserved g c =
     let up : suc c.loop-p.p ≡ c.loop-p.p + 1 = omega arith in
     record {
       many = simp length-set (c.loop-p.invariant.many);
       so_far = subst (λ (n : ℕ). take n (set c.loop-p.counts c.loop-p.p c.count.result)
           ≡ take n (run_at c.args.level.now.runs c.args.i).prefix) up
           (one_more_read c.loop-p.counts (run_at c.args.level.now.runs c.args.i).prefix c.loop-p.p c.count.result
-          (omega arith) (omega (arith, c.requires.processes, c.loop-p-test.true)) c.count.ensures
+          (omega (
+            arith,
+            c.few.ensures,
+            c.loop-p-test.true,
+            c.loop-p.auto.p-end,
+            c.processes-p-end.ensures,
+            c.loop-p.invariant.many,
+          )) (omega (arith, c.requires.processes, c.loop-p-test.true)) c.count.ensures
           c.loop-p.invariant.so_far);
     }
 
 pub returns : goal.returns
-returns c =
+returns g c =
     let end : c.loop-p.p ≡ c.args.level.now.processes - 2 =
     omega (arith, c.loop-p-test.false, c.loop-p.auto.p-end, c.processes-p-end.ensures) in
     subst (λ (n : ℕ). take n c.loop-p.counts ≡ (run_at c.args.level.now.runs c.args.i).prefix) end

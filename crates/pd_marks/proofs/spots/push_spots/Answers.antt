@@ -8,7 +8,7 @@ use Rattle.pd_marks.proofs.ByThreads.{last_spot, spot_kept}
 use Rattle.pd_marks.proofs.spots.push_spots.Goals as goal
 
 pub loop-b-preserved : goal.loop-b-preserved
-loop-b-preserved c =
+loop-b-preserved g c =
     record {
       more = ap length is ∙ (length-append c.loop-b.spots.items (spot ∷ []) ∙ omega (arith, c.loop-b.invariant.more));
       others = λ k lt.

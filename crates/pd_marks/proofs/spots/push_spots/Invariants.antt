@@ -4,7 +4,7 @@ use Rattle.pd_marks.specs.Spots.{spot_at}
 use Rattle.pd_marks.proofs.spots.push_spots.Given as goal
 
 abbrev pub invariant-loop-b : goal.invariant-loop-b
-invariant-loop-b l = record {
+invariant-loop-b g l = record {
   more : length l.spots.items ≡ length l.fn.spots.items + l.b;
   others : (k : ℕ) → k < length l.fn.spots.items → spot_at l.spots.items k ≡ spot_at l.fn.spots.items k;
   run : (q : ℕ) → q < l.b

@@ -12,7 +12,7 @@ use Rattle.pd_marks.proofs.PushedWords.{start_below, starts_pushed}
 use Rattle.pd_marks.proofs.spots.spots.Goals as goal
 
 pub loop-i-preserved : goal.loop-i-preserved
-loop-i-preserved c = record {
+loop-i-preserved g c = record {
   one_each = ap length is ∙ (length-append c.loop-i.first.items (c.len-in-loop-i.result ∷ [])
       ∙ omega (arith, c.loop-i.invariant.one_each));
   starts = starts_pushed c.args.level.now.runs c.loop-i.first.items c.push.new.self.items c.len-in-loop-i.result

@@ -5,7 +5,7 @@ use Rattle.pd_marks.specs.Spots.{HasSpots, IsSpot, spot_at}
 use Rattle.pd_marks.proofs.spots.spots.Given as goal
 
 abbrev pub invariant-loop-i : goal.invariant-loop-i
-invariant-loop-i l = record {
+invariant-loop-i g l = record {
   one_each : length l.first.items ≡ l.i;
   starts : (k : ℕ) → k < l.i → slice_index l.first.items k ≡ start_of l.level.runs k;
   ends : length l.spots.items ≡ start_of l.level.runs l.i;

@@ -8,7 +8,7 @@ use Rattle.pd_refusals.specs.Refusals.{IsWordOf}
 use Rattle.pd_refusals.proofs.asked.asked.Goals as goal
 
 pub loop-p-preserved : goal.loop-p-preserved
-loop-p-preserved c =
+loop-p-preserved g c =
     let many : length (run_at c.args.level.now.runs c.args.i).prefix + 2 ≡ c.args.level.now.processes =
     prefix_length c.requires.level.c c.args.level.now c.requires.level.whole c.args.i c.requires.within
     ∙ sym c.requires.level.whole.processes in
@@ -23,7 +23,7 @@ loop-p-preserved c =
     }
 
 pub returns : goal.returns
-returns c =
+returns g c =
     let many : length (run_at c.args.level.now.runs c.args.i).prefix + 2 ≡ c.args.level.now.processes =
     prefix_length c.requires.level.c c.args.level.now c.requires.level.whole c.args.i c.requires.within
     ∙ sym c.requires.level.whole.processes in

@@ -4,7 +4,7 @@ use Rattle.pd_marks.specs.RunPlaces.{run_at}
 use Rattle.pd_refusals.proofs.asked.asked.Given as goal
 
 abbrev pub invariant-loop-p : goal.invariant-loop-p
-invariant-loop-p l = record {
-  many : length l.counts ≡ 8;
+invariant-loop-p g l = record {
+  many : length l.counts ≡ length l.fn.counts;
   so_far : take l.p l.counts ≡ take l.p (run_at l.level.runs l.i).prefix;
 }

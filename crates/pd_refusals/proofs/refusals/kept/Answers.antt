@@ -6,8 +6,8 @@ use Rattle.pd_marks.proofs.RunKeys.{prefix_length, same_prefix}
 use Rattle.pd_refusals.specs.Refusals.{IsWordOf}
 use Rattle.pd_refusals.proofs.refusals.kept.Goals as goal
 
-pub returns-then-key : goal.returns-then-key
-returns-then-key c =
+pub returns-then-is_same : goal.returns-then-is_same
+returns-then-is_same g c =
     let at : c.args.at < length c.args.before.now.runs = omega (arith, c.len.ensures, c.if-at-len.true) in
     let many : length (run_at c.args.before.now.runs c.args.at).prefix + 2 ≡ c.args.before.now.processes =
     prefix_length c.requires.before.c c.args.before.now c.requires.before.whole c.args.at at
@@ -17,7 +17,7 @@ returns-then-key c =
     ∙ sym c.requires.level.whole.processes in
     let key : key_of_run (run_at c.args.before.now.runs c.args.at)
     ≡ key_of_run (run_at c.args.level.now.runs c.args.i) =
-    omega (arith, c.key.ensures, c.key-then-at-len.ensures, c.if-key.true) in
+    omega (arith, c.key.ensures, c.key-then-at-len.ensures, c.is_same.ensures.0 c.if-is_same.true) in
     let same : (run_at c.args.before.now.runs c.args.at).prefix ≡ (run_at c.args.level.now.runs c.args.i).prefix =
     same_prefix (run_at c.args.before.now.runs c.args.at).prefix (run_at c.args.level.now.runs c.args.i).prefix
     (omega (arith, many, more, c.requires.processes))

@@ -3,4 +3,4 @@ use Rattle.std.proofs.Common.{◌≡◌, length}
 use Rattle.pd_refusals.proofs.refusals.places_of.Given as goal
 
 abbrev pub invariant-loop-i : goal.invariant-loop-i
-invariant-loop-i l = length l.places.items ≡ l.i
+invariant-loop-i g l = length l.places.items ≡ l.i

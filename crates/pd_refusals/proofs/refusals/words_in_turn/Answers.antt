@@ -6,7 +6,8 @@ use Rattle.pd_refusals.proofs.Words.{each_pushed}
 use Rattle.pd_refusals.proofs.refusals.words_in_turn.Goals as goal
 
 pub loop-i-preserved : goal.loop-i-preserved
-loop-i-preserved c = record {
+loop-i-preserved g c = record {
+  row = c.word_after.auto.counts ∙ c.loop-i.invariant.row;
   one_each =
       ap length c.in_ok-push.ensures.items
       ∙ (length-append c.loop-i.words.items (c.word_after.result ∷ [])
@@ -17,7 +18,7 @@ loop-i-preserved c = record {
 }
 
 pub returns : goal.returns
-returns c =
+returns g c =
     let end : c.loop-i.i ≡ length c.args.level.now.runs =
     omega (arith, c.loop-i-test.false, c.loop-i.auto.i-end, c.len-i-end.ensures) in
     record {

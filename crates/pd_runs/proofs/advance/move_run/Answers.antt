@@ -87,14 +87,17 @@ pub may_send_y-low-requires : goal.may_send_y-low-requires
 may_send_y-low-requires g c =
     let last : c.prefix-x.result + 1 ≡ length c.args.steps.now - 1 =
     omega (arith, c.prefix-x.ensures, c.limits.ensures.two) in
-    let ok : IsConsistent c.args.steps.now (cut_at (digits (length c.args.steps.now - 2) (g.K.Key.number c.run.inside.key)) c.run.inside.lo
+    let ok : IsConsistent c.args.steps.now (cut_at (digits (length c.args.steps.now - 2)
+    (g.K.Key.number c.run.inside.key)) c.run.inside.lo
     (c.run.inside.rest - c.run.inside.lo + 1)) =
-    subst (IsConsistent c.args.steps.now) (more_last c.args.steps.now c.limits.ensures.two (g.K.Key.number c.run.inside.key)
+    subst (IsConsistent c.args.steps.now) (more_last c.args.steps.now c.limits.ensures.two
+    (g.K.Key.number c.run.inside.key)
     c.run.inside.lo (c.run.inside.rest - c.run.inside.lo) (c.prefix-x.result + 1) last)
     (c.can_add-stays.ensures.0 c.if-stays-2.true) in
     let w = last_counts c.args.steps.now c.limits.ensures.two (g.K.Key.number c.run.inside.key) c.run.inside.lo
     (c.run.inside.rest - c.run.inside.lo + 1) ok in
-    let y : c.run.inside.rest - c.run.inside.lo + 1 ≤ event_count c.args.steps.now (length c.args.steps.now - 1) = w.1 in
+    let y : c.run.inside.rest - c.run.inside.lo + 1 ≤ event_count c.args.steps.now (length c.args.steps.now - 1) = w.1
+    in
     let same : c.if-stays.lo ≡ c.run.inside.lo = elim c.if-stays.branch [
       | then-stays w ↦ w.lo-is
       | else-stays w ↦ absurd (false≢true (sym w.if-stays.false ∙ c.if-stays-2.true))

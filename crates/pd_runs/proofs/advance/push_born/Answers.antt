@@ -77,7 +77,8 @@ returns g c =
           }) ∷ []) c.point.view_is;
       births =
           births_of_born c.args.steps.now c.limits.ensures.two
-          (sum (digits (length c.args.steps.now) (g.K.Key.number c.args.cut))) c.point_of-point.result.key c.point_of-point.result.x
+          (sum (digits (length c.args.steps.now) (g.K.Key.number c.args.cut))) c.point_of-point.result.key
+          c.point_of-point.result.x
           c.point_of-point.result.y ok (ap sum same) young c.args.born.now c.add_births.new.born
           c.in_ok-add_births.ensures;
     }

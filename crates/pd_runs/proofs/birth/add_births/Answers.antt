@@ -33,9 +33,11 @@ key_of_cut-cut-requires-clause-y g c =
     omega arith
 
 -- the number of the cut, which has a digit for each process
-module _ (computation : Computation) (two : 2 ≤ length computation) (small : (q : ℕ) → event_count computation q ≤ event_limit)
+module _ (computation : Computation) (two : 2 ≤ length computation) (small : (q : ℕ)
+    → event_count computation q ≤ event_limit)
     (point : KeyedCut) (ok : IsConsistent computation (point_cut (length computation - 2) point)) (prefix number p : ℕ)
-    (prefix_is : prefix ≡ length computation - 2) (number_is : number ≡ key_of (point_cut prefix point)) (within : p < prefix)
+    (prefix_is : prefix ≡ length computation - 2) (number_is : number ≡ key_of (point_cut prefix point))
+    (within : p < prefix)
   where
     many : prefix + 2 ≡ length computation
     many = omega arith

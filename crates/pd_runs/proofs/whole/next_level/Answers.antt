@@ -55,7 +55,8 @@ loop-j-init g c =
     subst (λ (born : List ℕ). IsMerging c.args.steps.now c.args.number c.args.olds.now births 0 0
     c.in_ok-runs.runs.items born 0) (sym c.in_ok-born.ensures)
     (subst (λ (runs : List KeyedRun). IsMerging c.args.steps.now c.args.number c.args.olds.now births 0 0 runs [] 0)
-    (sym c.in_ok-runs.ensures.items) (merging_start g.K.Key.room c.args.steps.now c.args.number c.args.olds.now births given))
+    (sym c.in_ok-runs.ensures.items) (merging_start g.K.Key.room c.args.steps.now c.args.number c.args.olds.now births
+    given))
 
 pub push_moved-requires-clause-kept : goal.push_moved-requires-clause-kept
 push_moved-requires-clause-kept g c =
@@ -144,7 +145,8 @@ push_born-requires-clause-young g c =
     (digits (length c.args.steps.now - 2) (prefix_key z))) again
     (young_birth g.K.Key.room c.args.steps.now c.args.number c.args.olds.now births given (get_or births c.loop-j.j 0)
     (Contains-get_or births c.loop-j.j 0 (omega arith))
-    (no_key g.K.Key.room c.args.steps.now c.args.number c.args.olds.now births given c.loop-runs.i c.loop-j.j c.loop-runs.runs.items
+    (no_key g.K.Key.room c.args.steps.now c.args.number c.args.olds.now births given c.loop-runs.i c.loop-j.j
+    c.loop-runs.runs.items
     c.loop-runs.born c.loop-runs.invariant.floor c.loop-runs.invariant.going (omega arith) before))
 
 pub loop-j-preserved : goal.loop-j-preserved
@@ -165,11 +167,13 @@ loop-j-preserved g c =
           birth_at number c.args.births.now c.loop-j.j w.index-births-j-then-is_below_run.result c.loop-j-test.true
           w.index-births-j-then-is_below_run.is in
           let above : bar_of number c.loop-j.last ≤ number c.without_two-prefix.result =
-          above_bar number c.loop-j.last (number c.without_two-prefix.result) (c.is_above.ensures.0 w.if-is_above.true) in
+          above_bar number c.loop-j.last (number c.without_two-prefix.result) (c.is_above.ensures.0 w.if-is_above.true)
+          in
           let before : c.loop-runs.i < length c.args.olds.now
           → prefix_key (get_or births c.loop-j.j 0) < get_or (keys_of c.args.olds.now) c.loop-runs.i 0 =
           (λ in_. let b = w.is_below_run.ensures.0 w.if-is_below_run.true in_ in omega (arith, b)) in
-          rw (w.runs-is, w.born-is, w.last-is, prefix) (merging_push g.K.Key.room c.args.steps.now c.args.number c.args.olds.now births given c.loop-runs.i
+          rw (w.runs-is, w.born-is, w.last-is, prefix) (merging_push g.K.Key.room c.args.steps.now c.args.number
+          c.args.olds.now births given c.loop-runs.i
           c.loop-j.j c.loop-runs.runs.items c.loop-runs.born (bar_of number c.loop-j.last) c.loop-runs.invariant lt
           (omega arith) before w.push_born.new.runs.items w.push_born.new.born
           (subst (λ (z : ℕ). IsBornRun c.args.steps.now z c.loop-runs.runs.items c.loop-runs.born
@@ -190,7 +194,8 @@ loop-j-preserved g c =
                 (λ some. false≢true (sym v.if-is_above.false ∙ c.is_above.ensures.1 some)) in
                 inl (omega arith)
           ] in
-          rw (w.runs-is, w.born-is, w.last-is) (merging_skip g.K.Key.room c.args.steps.now c.args.number c.args.olds.now births given c.loop-runs.i
+          rw (w.runs-is, w.born-is, w.last-is) (merging_skip g.K.Key.room c.args.steps.now c.args.number
+          c.args.olds.now births given c.loop-runs.i
           c.loop-j.j c.loop-runs.runs.items c.loop-runs.born (bar_of number c.loop-j.last) c.loop-runs.invariant lt why)
     ]
 
@@ -230,10 +235,12 @@ loop-i-preserved g c =
     let given = given_by g.K.Key.room c.args.steps.now c.args.number c.args.olds.now births c.limits.ensures.short
     c.limits.ensures.walkable c.requires.kept c.requires.level in
     let size : length births ≡ length c.args.births.now = length-map c.args.births.now number in
+    let old : KeyedRun = c.index-olds-i-in-loop-i.result in
     let key : get_or (keys_of c.args.olds.now) c.loop-i.i 0 ≡ c.index-olds-i-in-loop-i.result.key =
-    key_at c.args.olds.now c.loop-i.i c.index-olds-i-in-loop-i.result c.loop-i-test.true c.index-olds-i-in-loop-i.is in (
+    key_at c.args.olds.now c.loop-i.i old c.loop-i-test.true c.index-olds-i-in-loop-i.is in (
       c.index-olds-i-in-loop-i.result.key + 1,
-      going_move g.K.Key.room c.args.steps.now c.args.number c.args.olds.now births given c.loop-i.i (length c.args.births.now)
+      going_move g.K.Key.room c.args.steps.now c.args.number c.args.olds.now births given c.loop-i.i
+          (length c.args.births.now)
           c.loop-i.runs.items c.loop-i.born c.loop-i.invariant.0 c.loop-i.invariant.1 c.index-olds-i-in-loop-i.result
           c.loop-i-test.true (sym c.index-olds-i-in-loop-i.is) key (λ in_. absurd (omega arith))
           c.push_moved-in-loop-i.new.runs.items c.push_moved-in-loop-i.new.born c.in_ok-push_moved-2.ensures,
@@ -248,7 +255,8 @@ cuts_in-requires g c =
     let end = at_end c.args.steps.now c.args.number c.args.olds.now births c.loop-i.i (length c.args.births.now)
     c.loop-i.runs.items c.loop-i.born c.loop-i.invariant.0 c.loop-i.invariant.1 c.loop-i-test.false
     (length-map c.args.births.now number) in
-    rw (c.deref.ensures.value) (some_cut g.K.Key.room c.args.steps.now c.args.number c.args.olds.now births given c.loop-i.runs.items c.loop-i.born c.loop-i.invariant.0 end)
+    rw (c.deref.ensures.value) (some_cut g.K.Key.room c.args.steps.now c.args.number c.args.olds.now births given
+    c.loop-i.runs.items c.loop-i.born c.loop-i.invariant.0 end)
 
 pub invariant_of-result : goal.invariant_of-result
 invariant_of-result g c =
@@ -287,5 +295,6 @@ returns-clause-level g c =
     omega (arith, c.prefix.ensures, c.limits.ensures.two) in
     let born : List ℕ = map g.K.Key.number c.in_ok-born-2.born.items in
     subst (λ (m : ℕ). IsWholeLevel c.args.steps.now (whole_view m (c.args.number + 1) c.loop-i.runs.items born)) e
-    (ended_level g.K.Key.room c.args.steps.now c.args.number c.args.olds.now births given c.loop-i.runs.items c.loop-i.born c.loop-i.invariant.0 end
+    (ended_level g.K.Key.room c.args.steps.now c.args.number c.args.olds.now births given c.loop-i.runs.items
+    c.loop-i.born c.loop-i.invariant.0 end
     born c.in_ok-born-2.ensures.there c.in_ok-born-2.ensures.back)

@@ -18,7 +18,8 @@ decreases-loop-runs g l = length l.olds - l.i
 
 abbrev pub invariant-loop-i : goal.invariant-loop-i
 invariant-loop-i g l =
-    (floor : ℕ) × IsGoing l.steps l.number l.olds (map g.K.Key.number l.births) l.i (length l.births) l.runs.items l.born
+    (floor : ℕ) × IsGoing l.steps l.number l.olds (map g.K.Key.number l.births) l.i (length l.births) l.runs.items
+    l.born
     floor
 
 abbrev pub decreases-loop-i : goal.decreases-loop-i

@@ -14,8 +14,14 @@ returns g c =
     ≡ c.if-process-self.count =
     elim c.if-process-self.branch [
       | then-process-self w ↦ sym (w.count-is ∙ w.digit-count.ensures)
-      | else-process-self w ↦ get_or_past (digits c.args.self.now.processes (g.K.Key.number c.args.self.now.key)) c.args.process 0
-          (omega (arith, w.if-process-self.false, length-digits c.args.self.now.processes (g.K.Key.number c.args.self.now.key)))
+      | else-process-self w ↦ get_or_past (digits c.args.self.now.processes
+          (g.K.Key.number c.args.self.now.key)) c.args.process 0
+          (omega (
+            arith,
+            w.if-process-self.false,
+            length-digits c.args.self.now.processes
+                (g.K.Key.number c.args.self.now.key),
+          ))
           ∙ sym w.count-is
     ] in
     to_z-of_z w64 c.value.result (record { sfits = c.value.type_inv })

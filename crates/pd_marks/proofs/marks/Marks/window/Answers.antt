@@ -8,7 +8,7 @@ use Rattle.pd_marks.proofs.Windows.{first_at, first_within, window_bits, window_
 use Rattle.pd_marks.proofs.marks.Marks.window.Goals as goal
 
 pub overflow_add-last : goal.overflow_add-last
-overflow_add-last c =
+overflow_add-last g c =
     let w : c.index-start.result.now + last_word (run_at c.args.level.now.runs c.args.i)
     < length c.self.inside.words.items =
     first_within c.args.level.now.runs c.args.self.now c.self.inside.first.items c.self.inside.words.items c.args.i
@@ -17,7 +17,7 @@ overflow_add-last c =
     omega (arith, c.lo-lo.ensures, c.hi-hi.ensures)
 
 pub bits_at-requires-clause-within : goal.bits_at-requires-clause-within
-bits_at-requires-clause-within c =
+bits_at-requires-clause-within g c =
     let w : c.index-start.result.now + last_word (run_at c.args.level.now.runs c.args.i)
     < length c.deref.result.now =
     first_within c.args.level.now.runs c.args.self.now c.self.inside.first.items c.deref.result.now c.args.i
@@ -26,7 +26,7 @@ bits_at-requires-clause-within c =
     omega (arith, c.lo-lo.ensures, c.hi-hi.ensures)
 
 pub returns-then-x-lo : goal.returns-then-x-lo
-returns-then-x-lo c =
+returns-then-x-lo g c =
     let s : c.index-start.result.now ≡ start_of c.args.level.now.runs c.args.i =
     first_at c.args.level.now.runs c.args.self.now c.self.inside.first.items c.args.i
     c.index-start.result.now c.requires.shape (ap (λ (m : Marking). m.first) c.self.view_is) c.requires.within
@@ -40,7 +40,7 @@ returns-then-x-lo c =
     (λ j lt le. c.bits_at.ensures.beyond j lt (omega (arith, c.lo-lo.ensures, c.hi-hi.ensures)))
 
 pub index-requires : goal.index-requires
-index-requires c =
+index-requires g c =
     let w : c.index-start.result.now + last_word (run_at c.args.level.now.runs c.args.i)
     < length c.self.inside.words.items =
     first_within c.args.level.now.runs c.args.self.now c.self.inside.first.items c.self.inside.words.items c.args.i
@@ -49,7 +49,7 @@ index-requires c =
     omega arith
 
 pub returns : goal.returns
-returns c =
+returns g c =
     let s : c.index-start.result.now ≡ start_of c.args.level.now.runs c.args.i =
     first_at c.args.level.now.runs c.args.self.now c.self.inside.first.items c.args.i
     c.index-start.result.now c.requires.shape (ap (λ (m : Marking). m.first) c.self.view_is) c.requires.within

@@ -67,7 +67,8 @@ returns-clause-level g c =
     (length c.args.steps.now - 2) c.in_ok-born.born c.add_births.new.born) c.none-2.ensures
     c.in_ok-add_births.ensures) in
     let born : List ℕ = map g.K.Key.number c.in_ok-born-2.born.items in
-    subst (λ (rs : List KeyedRun). IsWholeLevel c.args.steps.now (whole_view (c.prefix.result + 2) 0 rs born)) (sym runs)
+    subst (λ (rs : List KeyedRun). IsWholeLevel c.args.steps.now (whole_view (c.prefix.result + 2) 0 rs born))
+    (sym runs)
     (subst (λ (m : ℕ). IsWholeLevel c.args.steps.now (whole_view m 0 (first_run ∷ []) born)) e
     (first_level c.args.steps.now c.limits.ensures.short
     c.limits.ensures.walkable c.limits.ensures.two c.add_births.new.born

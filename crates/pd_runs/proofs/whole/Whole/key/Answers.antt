@@ -49,7 +49,8 @@ returns g c =
     ≡ Some (run_view (c.self.inside.processes - 2) c.index-run.result.now) =
     subst (λ (rs : List Run). slice_get rs c.args.i
     ≡ Some (run_view (c.self.inside.processes - 2) c.index-run.result.now)) same
-    (run_read (c.self.inside.processes - 2) c.self.inside.runs.items c.args.i c.index-run.result.now lt c.index-run.ensures) in
+    (run_read (c.self.inside.processes - 2) c.self.inside.runs.items c.args.i c.index-run.result.now lt
+    c.index-run.ensures) in
     let key : key_of (digits (c.self.inside.processes - 2) c.index-run.result.now.key) ≡ c.index-run.result.now.key =
     key-digits (c.self.inside.processes - 2) c.index-run.result.now.key below in
     let two : key_of (cut_at (digits (c.self.inside.processes - 2) c.index-run.result.now.key) 0 0)

@@ -3,9 +3,9 @@ use Rattle.std.proofs.Common.{◌≡◌, map, take}
 use Rattle.pd_keys.specs.Keys.{key_of}
 use Rattle.pd_runs.specs.WholeLevels.{marked_of_runs}
 use Rattle.pd_marks.specs.Marks.{lists_of}
-use Rattle.pd_marks.proofs.marks.Marks.to_level.Given as goal
+use Rattle.pd_marks.proofs.marks.Marks.keys.Given as goal
 
 abbrev pub invariant-loop-i : goal.invariant-loop-i
-invariant-loop-i l =
-    l.keys.items ≡ map key_of (marked_of_runs l.level.number (take l.i l.level.runs)
+invariant-loop-i g l =
+    map g.K.Key.number l.keys.items ≡ map key_of (marked_of_runs l.level.number (take l.i l.level.runs)
     (lists_of (take l.i l.level.runs) l.self.words 0))

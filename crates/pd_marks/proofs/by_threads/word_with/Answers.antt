@@ -2,7 +2,7 @@
 use Rattle.std.proofs.Common.{◌≡◌, ◌+◌, ◌<◌, ◌≤◌, ◌⊎◌, inl, inr, ℕ, arith}
 use Rattle.std.proofs.lemmas.Bool.{cases_lt}
 use Rattle.pd_marks.specs.RunPlaces.{run_at}
-use Rattle.pd_marks.proofs.by_threads.word_of.Goals as goal
+use Rattle.pd_marks.proofs.by_threads.word_with.Goals as goal
 
 pub returns : goal.returns
 returns g c = record {
