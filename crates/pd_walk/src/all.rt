@@ -86,7 +86,15 @@ pub fn answer_within<T: Threads + Wait + Sync, G: Gate + Sync>(
         return Ok(answers);
     }
     if processes <= SINGLE_LIMIT {
-        let answers = answer_by_runs::<T, G, u128>(crew, alloc, computation, preds, width, limit, gap)?;
+        let answers = answer_by_runs::<T, G, u128>(
+            crew,
+            alloc,
+            computation,
+            preds,
+            width,
+            limit,
+            gap,
+        )?;
         return Ok(answers);
     }
     let answers = answer_by_runs::<T, G, Pair>(crew, alloc, computation, preds, width, limit, gap)?;
