@@ -11,9 +11,11 @@ use pd_avoiding::answers_by_lists;
 use pd_back::Held;
 use pd_clock::Computation;
 use pd_expand::Crew;
-use pd_level::Gate;
+use pd_keys::{Pair, SINGLE_LIMIT};
+use pd_level::{Gate, LevelKey};
 use pd_lists::{Answers, least_root};
 use pd_pred::Pred;
+use pd_runs::Whole;
 use std::alloc::{AllocError, Global};
 use std::sync::Wait;
 use std::thread::Threads;
@@ -78,11 +80,44 @@ pub fn answer_within<T: Threads + Wait + Sync, G: Gate + Sync>(
 {
     computation.limits();
     let gap = least_root(computation.total() + 1);
-    if computation.processes() < 2 {
+    let processes = computation.processes();
+    if processes < 2 {
         let answers = answer_each(crew, alloc, computation, preds, width, gap)?;
         return Ok(answers);
     }
-    let mut wholes = Held::new(alloc);
+    if processes <= SINGLE_LIMIT {
+        let answers = answer_by_runs::<T, G, u128>(
+            crew,
+            alloc,
+            computation,
+            preds,
+            width,
+            limit,
+            gap,
+        )?;
+        return Ok(answers);
+    }
+    let answers = answer_by_runs::<T, G, Pair>(crew, alloc, computation, preds, width, limit, gap)?;
+    Ok(answers)
+}
+
+/// The same for several processes, by whole levels of runs with this kind of key.
+fn answer_by_runs<T: Threads + Wait + Sync, G: Gate + Sync, K: LevelKey + Send + Sync>(
+    crew: &Crew<'_, '_, T, G>,
+    alloc: Global,
+    computation: &Computation<'_>,
+    preds: &[&Pred],
+    width: u64,
+    limit: u64,
+    gap: u64,
+) -> Result<Vec<Answers>, AllocError>
+    requires two { 2 ≤ length computation.now.events }
+    requires fits { K.fits (length computation.now.events) }
+    requires narrow { width ≤ width_limit }
+    requires root { total computation.now.events < gap * gap }
+    ensures { IfOk result (λ answers. AllAnswered computation.now preds.now width (2 * gap + 2) answers.items) }
+{
+    let mut wholes: Held<Whole<K>> = Held::new(alloc);
     let mut stages = walk_up(
         crew,
         alloc,
@@ -93,7 +128,7 @@ pub fn answer_within<T: Threads + Wait + Sync, G: Gate + Sync>(
         limit,
         &mut wholes,
     )?;
-    let answers = finish_all(
+    finish_all(
         crew,
         alloc,
         computation,
@@ -102,8 +137,7 @@ pub fn answer_within<T: Threads + Wait + Sync, G: Gate + Sync>(
         gap,
         &wholes,
         &mut stages,
-    )?;
-    Ok(answers)
+    )
 }
 
 /// The same for each predicate by itself, by lists of cuts.

@@ -15,7 +15,7 @@ use pd_avoiding::walk_listed;
 use pd_back::{Held, way_back};
 use pd_clock::Computation;
 use pd_expand::Crew;
-use pd_level::Gate;
+use pd_level::{Gate, LevelKey};
 use pd_lists::{Answers, DefinitelyAnswer, PossiblyAnswer};
 use pd_pred::Pred;
 use pd_runs::Whole;
@@ -26,14 +26,14 @@ use std::sync::Wait;
 use std::thread::Threads;
 
 /// The answers for all predicates after the last whole level.
-pub(crate) fn finish_all<T: Threads + Wait + Sync, G: Gate + Sync>(
+pub(crate) fn finish_all<T: Threads + Wait + Sync, G: Gate + Sync, K: LevelKey + Send + Sync>(
     crew: &Crew<'_, '_, T, G>,
     alloc: Global,
     computation: &Computation<'_>,
     preds: &[&Pred],
     width: u64,
     gap: u64,
-    wholes: &Held<Whole>,
+    wholes: &Held<Whole<K>>,
     stages: &mut Vec<Stage>,
 ) -> Result<Vec<Answers>, AllocError>
     requires two { 2 ≤ length computation.now.events }
@@ -62,14 +62,14 @@ pub(crate) fn finish_all<T: Threads + Wait + Sync, G: Gate + Sync>(
 
 /// Both answers for a predicate of which this is known after a level, which stays. `most` whole levels were held at
 /// once. If no cut so far satisfies, it is the last level.
-fn finish<T: Threads + Wait + Sync, G: Gate + Sync>(
+fn finish<T: Threads + Wait + Sync, G: Gate + Sync, K: LevelKey + Send + Sync>(
     crew: &Crew<'_, '_, T, G>,
     alloc: Global,
     computation: &Computation<'_>,
     pred: &Pred,
     width: u64,
     gap: u64,
-    level: &Whole,
+    level: &Whole<K>,
     most: u64,
     stage: Stage,
 ) -> Result<Answers, AllocError>

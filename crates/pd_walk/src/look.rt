@@ -18,6 +18,7 @@ use super::settle::settle;
 use super::stage::Stage;
 use pd_back::Held;
 use pd_clock::Cut;
+use pd_level::LevelKey;
 use pd_lists::{PossiblyAnswer, Split};
 use pd_marks::{
     Marks, Skips, first_hit, first_hit_by_threads, next, next_by_threads, unsatisfying,
@@ -28,12 +29,12 @@ use std::alloc::{AllocError, Global};
 use std::thread::Threads;
 
 /// The first cut of the level that satisfies, by this many threads if they are several.
-fn first_hit_of<T: Threads + Sync>(
+fn first_hit_of<T: Threads + Sync, K: LevelKey + Send + Sync>(
     rt: &T,
     threads: usize,
     alloc: Global,
     test: &Compiled<'_, '_>,
-    level: &Whole,
+    level: &Whole<K>,
     skips: Skips<'_>,
 ) -> Result<Option<Cut>, AllocError>
     requires level { IsWholeLevel (events_of test.now) level.now }
@@ -53,13 +54,13 @@ fn first_hit_of<T: Threads + Sync>(
 }
 
 /// The marks of the next level, by this many threads if they are several.
-fn next_of<T: Threads + Sync>(
+fn next_of<T: Threads + Sync, K: LevelKey + Send + Sync>(
     rt: &T,
     threads: usize,
     alloc: Global,
-    before: &Whole,
+    before: &Whole<K>,
     marks: &Marks,
-    level: &Whole,
+    level: &Whole<K>,
     test: &Compiled<'_, '_>,
     skips: Skips<'_>,
 ) -> Result<Marks, AllocError>
@@ -77,14 +78,14 @@ fn next_of<T: Threads + Sync>(
 }
 
 /// What is known of a predicate after a level, if before it none satisfied. `beside` whole levels were held at once.
-pub(crate) fn look_open<T: Threads + Sync>(
+pub(crate) fn look_open<T: Threads + Sync, K: LevelKey + Send + Sync>(
     rt: &T,
     threads: usize,
     alloc: Global,
     test: &Compiled<'_, '_>,
     width: u64,
     gap: u64,
-    level: &Whole,
+    level: &Whole<K>,
     skips: Skips<'_>,
     beside: u64,
 ) -> Result<Stage, AllocError>
@@ -117,13 +118,13 @@ pub(crate) fn look_open<T: Threads + Sync>(
 
 /// The answer for Possibly, if it is found at this level: unknown if the level is too wide, and else its first
 /// satisfying cut.
-fn possibly_at<T: Threads + Sync>(
+fn possibly_at<T: Threads + Sync, K: LevelKey + Send + Sync>(
     rt: &T,
     threads: usize,
     alloc: Global,
     test: &Compiled<'_, '_>,
     width: u64,
-    level: &Whole,
+    level: &Whole<K>,
     skips: Skips<'_>,
 ) -> Result<Option<PossiblyAnswer>, AllocError>
     requires level { IsWholeLevel (events_of test.now) level.now }
@@ -150,15 +151,15 @@ fn possibly_at<T: Threads + Sync>(
 
 /// What is known after the next level, if these are the marks of the level before it. `beside` whole levels were held
 /// at once.
-pub(crate) fn look_marked<T: Threads + Sync>(
+pub(crate) fn look_marked<T: Threads + Sync, K: LevelKey + Send + Sync>(
     rt: &T,
     threads: usize,
     alloc: Global,
     test: &Compiled<'_, '_>,
     width: u64,
     gap: u64,
-    before: &Whole,
-    level: &Whole,
+    before: &Whole<K>,
+    level: &Whole<K>,
     skips: Skips<'_>,
     split: Split,
     marks: &Marks,
@@ -181,15 +182,15 @@ pub(crate) fn look_marked<T: Threads + Sync>(
 }
 
 /// What is known of a predicate after the next level.
-pub(crate) fn look<T: Threads + Sync>(
+pub(crate) fn look<T: Threads + Sync, K: LevelKey + Send + Sync>(
     rt: &T,
     threads: usize,
     alloc: Global,
     test: &Compiled<'_, '_>,
     width: u64,
     gap: u64,
-    before: &Whole,
-    level: &Whole,
+    before: &Whole<K>,
+    level: &Whole<K>,
     skips: Skips<'_>,
     beside: u64,
     stage: Stage,

@@ -7,7 +7,7 @@ ghost use Rattle.pd_model.specs.Predicates.{test_of};
 ghost use Rattle.pd_pred.specs.Views.{predicate_view};
 ghost use Rattle.pd_walk.specs.Stages.{Stands};
 ghost use Rattle.pd_walk.specs.declared.stage.Stage.TheVariants.{Open};
-ghost use Rattle.std.specs.Prelude.{◌≡◌, ◌+◌, ◌*◌, ◌≤◌, ℕ, IfOk};
+ghost use Rattle.std.specs.Prelude.{◌≡◌, ◌+◌, ◌*◌, ◌<◌, ◌≤◌, ℕ, IfOk, length};
 
 use super::all::answer_all;
 use super::stage::Stage;
@@ -15,7 +15,8 @@ use super::walk::walk_up;
 use pd_back::Held;
 use pd_clock::Computation;
 use pd_expand::Crew;
-use pd_level::Gate;
+use pd_keys::{Pair, SINGLE_LIMIT};
+use pd_level::{Gate, LevelKey};
 use pd_lists::{Answers, PossiblyAnswer, least_root, possibly_by_lists};
 use pd_pred::Pred;
 use pd_runs::Whole;
@@ -62,14 +63,36 @@ pub fn answer_possibly<T: Threads + Wait + Sync, G: Gate + Sync>(
         (test_of computation.now (predicate_view pred.now)) width (possibly_answer_view answer)) }
 {
     computation.limits();
-    if computation.processes() < 2 {
+    let processes = computation.processes();
+    if processes < 2 {
         return possibly_by_lists(crew, alloc, computation, pred, width);
     }
     if width == u64::MAX {
         return possibly_by_lists(crew, alloc, computation, pred, width);
     }
+    if processes <= SINGLE_LIMIT {
+        return possibly_by_runs::<T, G, u128>(crew, alloc, computation, pred, width);
+    }
+    possibly_by_runs::<T, G, Pair>(crew, alloc, computation, pred, width)
+}
+
+/// The same for several processes, by whole levels of runs with this kind of key.
+fn possibly_by_runs<T: Threads + Wait + Sync, G: Gate + Sync, K: LevelKey + Send + Sync>(
+    crew: &Crew<'_, '_, T, G>,
+    alloc: Global,
+    computation: &Computation<'_>,
+    pred: &Pred,
+    width: u64,
+) -> Result<PossiblyAnswer, AllocError>
+    requires two { 2 ≤ length computation.now.events }
+    requires fits { K.fits (length computation.now.events) }
+    requires narrow { width < 18446744073709551615 }
+    ensures { IfOk result (λ answer. IsPossiblyAnswer computation.now.events
+        (test_of computation.now (predicate_view pred.now)) width (possibly_answer_view answer)) }
+{
+    computation.limits();
     let gap = least_root(computation.total() + 1);
-    let mut wholes = Held::new(alloc);
+    let mut wholes: Held<Whole<K>> = Held::new(alloc);
     let mut stages = walk_up(
         crew,
         alloc,
@@ -91,12 +114,12 @@ pub fn answer_possibly<T: Threads + Wait + Sync, G: Gate + Sync>(
 }
 
 /// The answer for Possibly, if this is known after a level. If no cut so far satisfies, it is the last level.
-fn possibly_after(
+fn possibly_after<K: LevelKey>(
     _computation: &Computation<'_>,
     _pred: &Pred,
     _width: u64,
     _gap: u64,
-    _level: &Whole,
+    _level: &Whole<K>,
     stage: Stage,
 ) -> PossiblyAnswer
     requires stands { Stands _computation.now.events (test_of _computation.now (predicate_view _pred.now)) _width _gap

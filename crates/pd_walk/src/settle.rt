@@ -10,6 +10,7 @@ ghost use Rattle.pd_walk.specs.Stages.{Stands};
 ghost use Rattle.std.specs.Prelude.{◌≡◌, ◌+◌, ◌*◌, ◌<◌, ◌≤◌, ℕ, IfOk};
 
 use super::stage::Stage;
+use pd_level::LevelKey;
 use pd_lists::{Split, end_at, is_due};
 use pd_marks::Marks;
 use pd_runs::Whole;
@@ -17,12 +18,12 @@ use pd_tables::Compiled;
 use std::alloc::{AllocError, Global};
 
 /// What is known after a level whose marks are these, if beside the levels that are kept `beside` were held at once.
-pub(crate) fn settle(
+pub(crate) fn settle<K: LevelKey>(
     alloc: Global,
     test: &Compiled<'_, '_>,
     width: u64,
     gap: u64,
-    level: &Whole,
+    level: &Whole<K>,
     split: Split,
     marks: Marks,
     beside: u64,
@@ -51,11 +52,11 @@ pub(crate) fn settle(
 }
 
 /// Keeps the level's avoiding cuts if it is the first one or comes a gap after the one kept last.
-fn keep(
+fn keep<K: LevelKey>(
     alloc: Global,
     _test: &Compiled<'_, '_>,
     gap: u64,
-    level: &Whole,
+    level: &Whole<K>,
     split: Split,
     marks: &Marks,
 ) -> Result<Split, AllocError>

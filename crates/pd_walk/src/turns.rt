@@ -6,6 +6,7 @@ ghost use Rattle.std.specs.Prelude.{◌≡◌, ◌<◌, IfOk, false, length, sli
 use super::look::look;
 use super::stage::Stage;
 use pd_clock::Computation;
+use pd_level::LevelKey;
 use pd_refusals::Refusals;
 use pd_runs::Whole;
 use pd_tables::Compiled;
@@ -47,15 +48,15 @@ fn turns_of(alloc: Global, stages: &mut Vec<Stage>) -> Result<Vec<Turn>, AllocEr
 }
 
 /// Takes the turn of predicate `i`.
-fn take_turn<T: Threads + Sync>(
+fn take_turn<T: Threads + Sync, K: LevelKey + Send + Sync>(
     rt: &T,
     alloc: Global,
     computation: &Computation<'_>,
     tests: &[Compiled<'_, '_>],
     width: u64,
     gap: u64,
-    before: &Whole,
-    level: &Whole,
+    before: &Whole<K>,
+    level: &Whole<K>,
     refusals: &Refusals,
     beside: u64,
     i: usize,
@@ -102,15 +103,15 @@ fn hand_back(turns: &mut [Turn], stages: &mut Vec<Stage>) -> Result<(), AllocErr
 }
 
 /// Takes each turn, by at most this many threads.
-fn take_all<T: Threads + Sync>(
+fn take_all<T: Threads + Sync, K: LevelKey + Send + Sync>(
     rt: &T,
     alloc: Global,
     computation: &Computation<'_>,
     tests: &[Compiled<'_, '_>],
     width: u64,
     gap: u64,
-    before: &Whole,
-    level: &Whole,
+    before: &Whole<K>,
+    level: &Whole<K>,
     refusals: &Refusals,
     beside: u64,
     threads: usize,
@@ -152,15 +153,15 @@ fn take_all<T: Threads + Sync>(
 
 /// What is known of each predicate after the next level, from its turn. The turns are taken by at most this many
 /// threads.
-fn stages_after<T: Threads + Sync>(
+fn stages_after<T: Threads + Sync, K: LevelKey + Send + Sync>(
     rt: &T,
     alloc: Global,
     computation: &Computation<'_>,
     tests: &[Compiled<'_, '_>],
     width: u64,
     gap: u64,
-    before: &Whole,
-    level: &Whole,
+    before: &Whole<K>,
+    level: &Whole<K>,
     refusals: &Refusals,
     beside: u64,
     threads: usize,
@@ -192,15 +193,15 @@ fn stages_after<T: Threads + Sync>(
 }
 
 /// What is known of each predicate after the next level. The predicates' turns are taken by at most this many threads.
-pub(crate) fn look_shared<T: Threads + Sync>(
+pub(crate) fn look_shared<T: Threads + Sync, K: LevelKey + Send + Sync>(
     rt: &T,
     alloc: Global,
     computation: &Computation<'_>,
     tests: &[Compiled<'_, '_>],
     width: u64,
     gap: u64,
-    before: &Whole,
-    level: &Whole,
+    before: &Whole<K>,
+    level: &Whole<K>,
     refusals: &Refusals,
     beside: u64,
     threads: usize,

@@ -19,7 +19,7 @@ use super::worth::{is_much, threads_for, unanswered, weight};
 use pd_back::Held;
 use pd_clock::Computation;
 use pd_expand::Crew;
-use pd_level::Gate;
+use pd_level::{Gate, LevelKey};
 use pd_marks::Skips;
 use pd_pred::Pred;
 use pd_refusals::Refusals;
@@ -35,7 +35,7 @@ pub(crate) const TABLE_BYTES: usize = 67_108_864;
 
 /// What is known of each predicate after the next level. If the predicates have much to evaluate there, several workers
 /// take their turns; if there are fewer of them than workers, the workers share each one that has much to evaluate.
-fn look_all<T: Threads + Wait + Sync, G: Gate + Sync>(
+fn look_all<T: Threads + Wait + Sync, G: Gate + Sync, K: LevelKey + Send + Sync>(
     crew: &Crew<'_, '_, T, G>,
     alloc: Global,
     computation: &Computation<'_>,
@@ -43,8 +43,8 @@ fn look_all<T: Threads + Wait + Sync, G: Gate + Sync>(
     weight: u64,
     width: u64,
     gap: u64,
-    before: &Whole,
-    level: &Whole,
+    before: &Whole<K>,
+    level: &Whole<K>,
     refusals: &Refusals,
     beside: u64,
     stages: &mut Vec<Stage>,
@@ -96,7 +96,7 @@ fn look_all<T: Threads + Wait + Sync, G: Gate + Sync>(
 
 /// The same, one predicate after the other. If there are several threads, they share a predicate that has much to
 /// evaluate there.
-fn look_in_turn<T: Threads + Sync>(
+fn look_in_turn<T: Threads + Sync, K: LevelKey + Send + Sync>(
     rt: &T,
     threads: usize,
     alloc: Global,
@@ -104,8 +104,8 @@ fn look_in_turn<T: Threads + Sync>(
     tests: &[Compiled<'_, '_>],
     width: u64,
     gap: u64,
-    before: &Whole,
-    level: &Whole,
+    before: &Whole<K>,
+    level: &Whole<K>,
     refusals: &Refusals,
     beside: u64,
     stages: &mut Vec<Stage>,
@@ -153,14 +153,14 @@ fn compile_all<'a, 'b>(
 }
 
 /// What is known of each predicate after level 0.
-fn look_first<T: Threads + Sync>(
+fn look_first<T: Threads + Sync, K: LevelKey + Send + Sync>(
     rt: &T,
     alloc: Global,
     computation: &Computation<'_>,
     tests: &[Compiled<'_, '_>],
     width: u64,
     gap: u64,
-    level: &Whole,
+    level: &Whole<K>,
     refusals: &Refusals,
     beside: u64,
 ) -> Result<Vec<Stage>, AllocError>
@@ -184,7 +184,7 @@ fn look_first<T: Threads + Sync>(
 
 /// Whether the walk up the whole levels is over: no predicate is open, and none is worth going on with at such a
 /// wide level.
-fn is_over(stages: &[Stage], level: &Whole, limit: u64) -> bool
+fn is_over<K: LevelKey>(stages: &[Stage], level: &Whole<K>, limit: u64) -> bool
     ensures { IsTrue result → (i : ℕ) (stage : Stage) → i < length stages.now
         → ¬ (slice_index_or stages.now i stage ≡ Open) }
 {
@@ -204,7 +204,7 @@ fn is_over(stages: &[Stage], level: &Whole, limit: u64) -> bool
 }
 
 /// Whether the walk goes on from level `k`: another level comes, and some predicate needs it.
-fn goes_on(stages: &[Stage], level: &Whole, k: u64, total: u64, limit: u64) -> bool
+fn goes_on<K: LevelKey>(stages: &[Stage], level: &Whole<K>, k: u64, total: u64, limit: u64) -> bool
     ensures low { IsTrue result → k < total }
     ensures last { result ≡ false → (i : ℕ) (stage : Stage) → i < length stages.now
         → slice_index_or stages.now i stage ≡ Open → total ≤ k }
@@ -216,7 +216,7 @@ fn goes_on(stages: &[Stage], level: &Whole, k: u64, total: u64, limit: u64) -> b
 }
 
 /// Holds the next whole level in place of level `_k`, once each predicate was looked at there.
-fn step_up<T: Threads + Wait + Sync, G: Gate + Sync>(
+fn step_up<T: Threads + Wait + Sync, G: Gate + Sync, K: LevelKey + Send + Sync>(
     crew: &Crew<'_, '_, T, G>,
     alloc: Global,
     computation: &Computation<'_>,
@@ -226,7 +226,7 @@ fn step_up<T: Threads + Wait + Sync, G: Gate + Sync>(
     width: u64,
     gap: u64,
     _k: u64,
-    wholes: &mut Held<Whole>,
+    wholes: &mut Held<Whole<K>>,
     refusals: &mut Refusals,
     stages: &mut Vec<Stage>,
 ) -> Result<(), AllocError>
@@ -269,7 +269,7 @@ fn step_up<T: Threads + Wait + Sync, G: Gate + Sync>(
 
 /// The walk up the whole levels: what is known of each predicate after its last level, which stays. A level with more
 /// cuts than `limit` ends it once no predicate is open.
-pub(crate) fn walk_up<T: Threads + Wait + Sync, G: Gate + Sync>(
+pub(crate) fn walk_up<T: Threads + Wait + Sync, G: Gate + Sync, K: LevelKey + Send + Sync>(
     crew: &Crew<'_, '_, T, G>,
     alloc: Global,
     computation: &Computation<'_>,
@@ -277,9 +277,10 @@ pub(crate) fn walk_up<T: Threads + Wait + Sync, G: Gate + Sync>(
     width: u64,
     gap: u64,
     limit: u64,
-    wholes: &mut Held<Whole>,
+    wholes: &mut Held<Whole<K>>,
 ) -> Result<Vec<Stage>, AllocError>
     requires two { 2 ≤ length computation.now.events }
+    requires fits { K.fits (length computation.now.events) }
     requires narrow { width < 18446744073709551615 }
     requires root { total computation.now.events < gap * gap }
     requires empty { wholes.old.levels.items ≡ [] }

@@ -2,6 +2,7 @@
 ghost use Rattle.std.specs.Prelude.{◌<◌};
 
 use super::stage::Stage;
+use pd_level::LevelKey;
 use pd_marks::Skips;
 use pd_runs::Whole;
 use pd_tables::Compiled;
@@ -37,7 +38,7 @@ pub(crate) fn unanswered(stages: &[Stage]) -> u64 {
 }
 
 /// How many cuts of a level have to be looked at: those of the runs that aren't skipped.
-fn cuts_left(level: &Whole, skips: Skips<'_>) -> u64
+fn cuts_left<K: LevelKey>(level: &Whole<K>, skips: Skips<'_>) -> u64
     requires { skips.bit < 64 }
 {
     let mut sum: u64 = 0;
@@ -51,10 +52,10 @@ fn cuts_left(level: &Whole, skips: Skips<'_>) -> u64
 
 /// By how many of these threads what a predicate has to evaluate at a level is shared: by all, or by one if it isn't
 /// much.
-pub(crate) fn threads_for(
+pub(crate) fn threads_for<K: LevelKey>(
     threads: usize,
     test: &Compiled<'_, '_>,
-    level: &Whole,
+    level: &Whole<K>,
     skips: Skips<'_>,
 ) -> usize
     requires { skips.bit < 64 }

@@ -10,7 +10,7 @@ use Rattle.pd_lists.proofs.Keeping.{kept_more, some_gap}
 use Rattle.pd_walk.proofs.settle.keep.Goals as goal
 
 pub to_level-requires : goal.to_level-requires
-to_level-requires c = record {
+to_level-requires g c = record {
   c = events_of c.args._test.now;
   test = meaning_of c.args._test.now;
   short = c.requires.short;
@@ -19,7 +19,7 @@ to_level-requires c = record {
 }
 
 pub returns-clause-kept : goal.returns-clause-kept
-returns-clause-kept c =
+returns-clause-kept g c =
     subst (λ (levels : List Levelled).
     AreKeptBelow (events_of c.args._test.now) (meaning_of c.args._test.now) c.args.split.first c.args.gap
     (c.args.level.now.number + 1) levels) (sym c.in_ok-push.ensures.levels)

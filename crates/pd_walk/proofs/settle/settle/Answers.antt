@@ -8,7 +8,7 @@ use Rattle.pd_lists.proofs.Ending.{both_ended, end_here, gone_on}
 use Rattle.pd_walk.proofs.settle.settle.Goals as goal
 
 pub returns-in-Some : goal.returns-in-Some
-returns-in-Some c =
+returns-in-Some g c =
     let listed : (cuts : List (List ℕ))
     × IsListOf (IsAvoiding (events_of c.args.test.now) (meaning_of c.args.test.now) c.args.level.now.number) cuts
     × (length cuts ≡ c.count.result) =
@@ -24,7 +24,7 @@ returns-in-Some c =
     (omega (arith, c.answered.ensures.held, c.saturating_add-held.ensures, c.most.ensures, c.requires.split.few))
 
 pub returns-in_ok-split-in-None : goal.returns-in_ok-split-in-None
-returns-in_ok-split-in-None c =
+returns-in_ok-split-in-None g c =
     let listed : (cuts : List (List ℕ))
     × IsListOf (IsAvoiding (events_of c.args.test.now) (meaning_of c.args.test.now) c.args.level.now.number) cuts
     × (length cuts ≡ c.count.result) =

@@ -5,5 +5,5 @@ use Rattle.pd_walk.specs.declared.stage.Stage.TheVariants.{Open}
 use Rattle.pd_walk.proofs.walk.is_over.Given as goal
 
 abbrev pub invariant-loop-stage : goal.invariant-loop-stage
-invariant-loop-stage l =
+invariant-loop-stage g l =
     (i : ℕ) (stage : Stage) → i < l.stage-index → i < length l.stages → ¬ (get_or l.stages i stage ≡ Open)

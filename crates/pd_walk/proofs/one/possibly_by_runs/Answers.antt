@@ -6,7 +6,7 @@ use Rattle.pd_runs.specs.Levels.{WholeLevel}
 use Rattle.pd_walk.specs.Stages.{Stands}
 use Rattle.pd_walk.specs.declared.stage.Stage.{Stage}
 use Rattle.pd_walk.proofs.Standing.{only_whole}
-use Rattle.pd_walk.proofs.one.answer_possibly.Goals as goal
+use Rattle.pd_walk.proofs.one.possibly_by_runs.Goals as goal
 
 pub possibly_after-requires-clause-stands : goal.possibly_after-requires-clause-stands
 possibly_after-requires-clause-stands g c =
