@@ -1,7 +1,5 @@
 -- The answer in the wording of cuts is that in the wording of observations.
 use Rattle.std.proofs.Common.{Bool, List, ℕ}
-use Rattle.std.specs.Prelude.{Err, IfOk, Ok, Result}
-use Rattle.std.specs.declared.alloc.AllocError.{AllocError}
 use Rattle.pd_model.specs.Answers.{IsPossiblyAnswer, PossiblyAnswer, PossiblyNo, PossiblyUnknown, PossiblyYes}
 use Rattle.pd_model.specs.Events.{Computation}
 use Rattle.pd_model.specs.Laws.{EveryCutIsObserved, PossiblyBothWays}

@@ -1,6 +1,6 @@
 -- The answer for Possibly in the wording of observations. Source: Cooper and Marzullo, Consistent Detection of Global
 -- Predicates, 1991.
-use Rattle.std.specs.Prelude.{◌≡◌, Bool, Contains, List, true, ℕ}
+use Rattle.std.specs.Prelude.{⊤, ◌≡◌, Bool, Contains, List, true, ℕ}
 use Rattle.pd_model.specs.Answers.{PossiblyAnswer, PossiblyNo, PossiblyUnknown, PossiblyYes}
 use Rattle.pd_model.specs.Events.{Computation}
 use Rattle.pd_model.specs.Observations.{IsObservation, PossiblyObserved}
