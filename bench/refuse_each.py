@@ -3,11 +3,11 @@
 
 An input is a bundle, or a folder with `session.json`, `report` and files `NAME.stream`. A folder is judged from its
 files, by one worker and by two, and as a bundle; its report is checked and drawn; and its streams are served, with a
-watcher. Four small sessions are run beside them: one that is judged, one with messages, one with a causal cycle, and
-one with wide levels. For each of these runs and each N, counted upward until a run meets no refusal, the program runs
-with its Nth allocation refused; then with its Nth read failing, and with its Nth write. Before these it runs once with
-each allocation slow: a thread that asks for memory under a lock lets the others wait for the lock meanwhile, so an
-unlock that wakes nobody leaves a run without an end.
+watcher. Five small sessions are run beside them: one that is judged, one with messages, one with a causal cycle, one
+with wide levels, and one of sixteen processes. For each of these runs and each N, counted upward until a run meets no
+refusal, the program runs with its Nth allocation refused; then with its Nth read failing, and with its Nth write.
+Before these it runs once with each allocation slow: a thread that asks for memory under a lock lets the others wait for
+the lock meanwhile, so an unlock that wakes nobody leaves a run without an end.
 
 It must end as a run that is refused nothing; or, for an allocation, with status 4, nothing on standard output and
 `monitor: memory` on standard error; for a read, with status 3 and `monitor: read`, or with what is made of a stream
@@ -31,6 +31,9 @@ from refusals import asked_for, make_shim, surroundings
 
 # The processes of a session with their variables, its predicates, and the events of each process.
 TWO, BOTH = {"a": "x", "b": "y"}, {"both": "a.x == 1 and b.y == 1"}
+# Of sixteen processes four have events: the first and the last, and those at which a cut's two numbers meet.
+EVENTS = {0: ['"set":{"n":1}', '"set":{"n":0}'], 7: ['"send":"m"', '"recv":"k"'], 8: ['"send":"k"', '"recv":"m"'],
+          15: ['"set":{"n":1}', '"set":{"n":0}']}
 SESSIONS = {
     "one cut alone": (TWO, BOTH, [['"set":{"x":1}', '"set":{"x":0}'], ['"set":{"y":1}', '"set":{"y":0}']]),
     "messages": (TWO, BOTH, [['"send":"m","set":{"x":1}', '"recv":"k","set":{"x":0}'],
@@ -38,6 +41,8 @@ SESSIONS = {
     "a causal cycle": (TWO, BOTH, [['"recv":"k"', '"send":"m"'], ['"recv":"m"', '"send":"k"']]),
     "wide levels": ({"a": "n", "b": "n", "c": "n"}, {"top": "a.n + b.n + c.n == 30", "never": "a.n == 99"},
                     [[f'"set":{{"n":{value}}}' for value in range(1, 11)]] * 3),
+    "sixteen processes": ({f"p{k}": "n" for k in range(16)}, {"ends": "p0.n == 1 and p15.n == 1"},
+                          [EVENTS.get(k, []) for k in range(16)]),
 }
 KINDS = ("allocation", "read", "write")
 # What is made of a stream that can't be read: the report, what a check finds, what a watcher is shown, and what stands
