@@ -1,12 +1,18 @@
 """What refuses an allocation, a read or a write of a program, or makes its allocations slow: a library that is loaded
-before the C library's own, and counts."""
+before the C library's own, and counts. With it a server listens on an address of its own."""
+import ipaddress
 import os
 import subprocess
 import sys
 
-SHIM = r"""
+# The number of a process is below 1 << 22, and each address that begins by 127 is this machine's own.
+FIRST_ADDRESS = 0x7f800000
+
+SHIM = f"#define FIRST_ADDRESS {FIRST_ADDRESS:#x}u" + r"""
+#include <arpa/inet.h>
 #include <errno.h>
 #include <fcntl.h>
+#include <netinet/in.h>
 #include <stdlib.h>
 #include <string.h>
 #include <sys/mman.h>
@@ -59,6 +65,16 @@ ssize_t write(int file, const void *from, size_t size) {
     return syscall(SYS_write, file, from, size);
 }
 
+/* The program listens on an address that its number gives, and not on 127.0.0.1: whoever tries the same port there, to
+   see whether it is free or to connect, doesn't meet this program, nor is met by those who connect to it. */
+int bind(int file, const struct sockaddr *address, socklen_t size) {
+    struct sockaddr_in own;
+    if (!asked || address->sa_family != AF_INET || size < sizeof own) return syscall(SYS_bind, file, address, size);
+    memcpy(&own, address, sizeof own);
+    own.sin_addr.s_addr = htonl(FIRST_ADDRESS | (unsigned)getpid());
+    return syscall(SYS_bind, file, &own, sizeof own);
+}
+
 void *malloc(size_t size) {
     if (is_refused("allocation")) { errno = ENOMEM; return 0; }
     return __libc_malloc(size);
@@ -102,6 +118,11 @@ def surroundings(folder, number, kind="allocation"):
         counted.write(bytes(8))
     return {**os.environ, "LD_PRELOAD": os.path.join(folder, "shim.so"), "REFUSED": str(number), "ASKED": asked,
             "KIND": kind}
+
+
+def address_of(process):
+    """The address on which a process with the library listens. It is no other process's."""
+    return str(ipaddress.IPv4Address(FIRST_ADDRESS | process.pid))
 
 
 def asked_for(folder):

@@ -15,9 +15,12 @@ that can't be read; for a write, with status 3, a prefix of the output and `moni
 shown what one is shown then, or a prefix of it, but for a read, whose stream it may see fail. One that has not ended
 after a minute is wrong, and is killed. The first allocations are the C library's own, and so are those with which it
 starts threads: a thread that can't be started is no failure. The last line says how many runs there were and how many
-ended otherwise; the status is 1 if any did. It needs gcc."""
+ended otherwise; the status is 1 if any did. It needs gcc.
+
+Each server listens on an address of its own, so it makes no difference which ports other programs use meanwhile."""
 import concurrent.futures
 import os
+import random
 import re
 import socket
 import subprocess
@@ -26,8 +29,7 @@ import tempfile
 import threading
 import time
 
-from peers import free_port
-from refusals import asked_for, make_shim, surroundings
+from refusals import address_of, asked_for, make_shim, surroundings
 
 # The processes of a session with their variables, its predicates, and the events of each process.
 TWO, BOTH = {"a": "x", "b": "y"}, {"both": "a.x == 1 and b.y == 1"}
@@ -50,10 +52,13 @@ KINDS = ("allocation", "read", "write")
 UNREAD = re.compile(rb"refused stream \d+ line \d+ read\n|refused bad\n|")
 SHOWN = re.compile(rb"(stream \d+ process \S+ events \d+ (fresh|joined|ended|faulted)\n)*")
 AGAINST = re.compile(rb"(monitor: no picture, for a check finds:\nrefused bad\n)?")
-# How long a peer waits for the server, and how long a run may take.
-PEER_SECONDS, RUN_SECONDS = 5, 60
-# How often a server is started if another program takes its port before it does, and what it reports then.
-TRIES, NO_NETWORK = 5, b"monitor: network\n"
+# How long a watcher waits for a server that may show it nothing before the streams are sent, and how long a run may
+# take.
+WATCHER_SECONDS, RUN_SECONDS = 5, 60
+NO_END = f"no end after {RUN_SECONDS} seconds".encode()
+# How often a server is started if another program has its port on all addresses, and what it reports then; the ports
+# lie below those that the system gives to connections.
+TRIES, NO_NETWORK, PORTS = 5, b"monitor: network\n", (10_000, 30_000)
 
 
 def write_session(folder, variables, predicates, events):
@@ -73,37 +78,47 @@ def run(arguments, bundle, folder, number, kind):
         ended = subprocess.run(arguments, input=bundle, capture_output=True, env=surroundings(folder, number, kind),
                                timeout=RUN_SECONDS, check=False)
     except subprocess.TimeoutExpired:
-        return (None, b"", f"no end after {RUN_SECONDS} seconds".encode()), asked_for(folder)
+        return (None, b"", NO_END), asked_for(folder)
     return (ended.returncode, ended.stdout, ended.stderr), asked_for(folder)
 
 
-def connect(port, server):
-    """A connection to the server, or nothing if it ends before it accepts one."""
+def connect(server, port):
+    """A connection to the server, or nothing if it ends before it listens. Nobody else listens on its address."""
     while server.poll() is None:
         try:
-            return socket.create_connection(("127.0.0.1", port), PEER_SECONDS)
+            return socket.create_connection((address_of(server), port))
         except OSError:
             time.sleep(0.002)
     return None
 
 
-def play(port, server, streams, shown):
-    """The peers of a server: its streams connect, then its watcher, which is shown something; then bytes are sent."""
-    ends = [connect(port, server) for _ in streams]
-    watcher = connect(port + 1, server)
+def send(end, stream):
+    """Sends a stream, until the server has ended."""
     try:
+        end.sendall(stream)
+        end.shutdown(socket.SHUT_WR)
+    except OSError:
+        pass
+
+
+def play(server, port, streams, patience, shown):
+    """The peers of a server: its streams connect, then its watcher, which is shown something; then bytes are sent, all
+    streams at once, since the server doesn't read one that has failed."""
+    ends = [connect(server, port) for _ in streams]
+    watcher = connect(server, port + 1)
+    try:
+        if watcher:
+            watcher.settimeout(patience)
         while watcher and (part := watcher.recv(4096)):
             shown.append(part)
     except OSError:
         pass
-    for end, stream in zip(ends, streams):
-        try:
-            if end:
-                end.sendall(stream)
-                end.shutdown(socket.SHUT_WR)
-        except OSError:
-            pass
+    senders = [threading.Thread(target=send, args=it) for it in zip(ends, streams) if it[0]]
+    for sender in senders:
+        sender.start()
     server.wait()
+    for sender in senders:
+        sender.join()
     for end in filter(None, [*ends, watcher]):
         end.close()
 
@@ -118,19 +133,23 @@ def serve(arguments, streams, folder, number, kind):
 
 
 def serve_once(arguments, streams, folder, number, kind):
-    """What a server on ports that nobody had bound gives, and its watcher is shown."""
-    port, shown = free_port(), []
+    """What a server gives, and its watcher is shown."""
+    port, shown = random.randrange(*PORTS), []
+    # If nothing is refused, the watcher is shown something, however long it takes.
+    patience = WATCHER_SECONDS if number else None
     server = subprocess.Popen([*arguments, "--port", str(port), "--watchers", "1"], stdout=subprocess.PIPE,
                               stderr=subprocess.PIPE, env=surroundings(folder, number, kind))
-    peers = threading.Thread(target=play, args=(port, server, streams, shown))
+    peers = threading.Thread(target=play, args=(server, port, streams, patience, shown))
     peers.start()
     try:
         output, errors = server.communicate(timeout=RUN_SECONDS)
+        status = server.returncode
     except subprocess.TimeoutExpired:
         server.kill()
         output, errors = server.communicate()
+        status, errors = None, errors + NO_END
     peers.join()
-    return server.returncode, output, errors, b"".join(shown)
+    return status, output, errors, b"".join(shown)
 
 
 def contents(path):
@@ -178,6 +197,8 @@ def refuse_each(name, take, arguments, given, folder):
     """How many runs there were, and those that ended otherwise than they may."""
     runs, wrong = 1, []
     want, _ = take(arguments, given, folder, 0, KINDS[0])
+    if want[2] in (NO_NETWORK, NO_END):
+        return runs, [f"{name}: with nothing refused: {want}"]
     slow, _ = take(arguments, given, folder, 0, "slow")
     if slow[:3] != want[:3]:
         return runs, [f"{name}: slow allocations: {slow}"]
