@@ -104,17 +104,23 @@ fn count_in(order: &Order, event: Option<Place>, q: usize) -> u16
     }
 }
 
-/// The clock of the next event of process `p`, which can stand in the order. It takes no memory.
-fn next_row(traces: &[Trace], matched: &Matched, order: &Order, p: usize) -> [u16; PROCESS_LIMIT]
+/// Writes the clock of the next event of process `p`, which can stand in the order, into the first places of a row.
+fn next_row(
+    traces: &[Trace],
+    matched: &Matched,
+    order: &Order,
+    p: usize,
+    row: &mut [u16; PROCESS_LIMIT],
+)
     requires few { length traces.now ≤ process_limit }
     requires short { (p : ℕ) → event_count (computation_view traces.now) p ≤ event_limit }
     requires messages { IsMessageList (computation_view traces.now) matched.now }
     requires ordered { IsOrdered (computation_view traces.now) order.now.done.items }
     requires clocks { HasClocks (computation_view traces.now) order.now.done.items order.now.clocks.items }
     requires goes { CanGo (computation_view traces.now) order.now.done.items p }
-    ensures room { length result ≡ process_limit }
+    ensures room { length row.new ≡ process_limit }
     ensures clock { (q : ℕ) → q < length traces.now
-        → IsClock (computation_view traces.now) (next_of order.now.done.items p) q (slice_index result q) }
+        → IsClock (computation_view traces.now) (next_of order.now.done.items p) q (slice_index row.new q) }
 {
     let number = order.done[p];
     let previous = if number == 0 {
@@ -126,18 +132,22 @@ fn next_row(traces: &[Trace], matched: &Matched, order: &Order, p: usize) -> [u1
         process: p,
         number: number + 1,
     });
-    let mut row = [0; PROCESS_LIMIT];
     for q in 0..traces.len() {
         let past = count_in(order, previous, q);
         let sent = count_in(order, send, q);
         row[q] = past.max(sent);
     }
     row[p] = (number + 1) as u16;
-    row
 }
 
-/// Puts the next event of process `p`, which can go, after the others.
-fn add(traces: &[Trace], matched: &Matched, order: &mut Order, p: usize) -> Result<(), AllocError>
+/// Puts the next event of process `p`, which can go, after the others. Its clock is first written into the row.
+fn add(
+    traces: &[Trace],
+    matched: &Matched,
+    order: &mut Order,
+    p: usize,
+    row: &mut [u16; PROCESS_LIMIT],
+) -> Result<(), AllocError>
     requires few { length traces.now ≤ process_limit }
     requires short { (p : ℕ) → event_count (computation_view traces.now) p ≤ event_limit }
     requires messages { IsMessageList (computation_view traces.now) matched.now }
@@ -148,7 +158,7 @@ fn add(traces: &[Trace], matched: &Matched, order: &mut Order, p: usize) -> Resu
     ensures clocks { IfOk result (λ _. HasClocks (computation_view traces.now) order.new.done.items
         order.new.clocks.items) }
 {
-    let row = next_row(traces, matched, order, p);
+    next_row(traces, matched, order, p, row);
     order.clocks[p].extend_from_slice(&row[..traces.len()])?;
     order.done[p] += 1;
     Ok(())
@@ -173,9 +183,10 @@ pub(crate) fn put_in_order(
         HasClocks (computation_view traces.now) order.done.items order.clocks.items) }
 {
     let mut order = no_events(alloc, traces.len())?;
+    let mut row = [0; PROCESS_LIMIT];
     let mut last = 0;
     while let Some(p) = next_that_can_go(traces, matched, &order.done, last) {
-        add(traces, matched, &mut order, p)?;
+        add(traces, matched, &mut order, p, &mut row)?;
         last = p;
     }
     Ok(order)

@@ -186,25 +186,6 @@ pub key_more : (counts : List ℕ) (i : ℕ) → i < length counts
     → key_of (take (i + 1) counts) ≡ key_of (take i counts) * count_base + get_or counts i 0
 key_more counts i lt = rw (take_more counts i 0 lt) (key_push (take i counts) (get_or counts i 0))
 
--- one digit more is taken off
-pub unpack_more : (n p rest : ℕ) (counts whole : List ℕ) → 0 < p → p ≤ n → n ≤ length counts → rest < count_base ^ p
-    → digits p rest ++ drop p (take n counts) ≡ whole → (rest / count_base < count_base ^ (p - 1))
-    × (digits (p - 1) (rest / count_base) ++ drop (p - 1) (take n (set counts (p - 1) (rest % count_base))) ≡ whole)
-unpack_more n zero rest counts whole pos le many below so_far = absurd (omega arith)
-unpack_more n (suc p) rest counts whole pos le many below so_far =
-    let before : suc p - 1 ≡ p = omega arith in
-    let lt : rest < count_base ^ p * count_base = rw (pow-suc) at below in
-    let written : drop p (take n (set counts p (rest % count_base))) ≡ (rest % count_base)
-    ∷ drop (suc p) (take n counts) =
-    drop-take-set counts p n (rest % count_base) (omega arith) (omega arith) in
-    let low : digits (suc p) rest ≡ digits p (rest / count_base) ++ (rest % count_base) ∷ [] = low_digit p rest below in
-    rw before (
-      div_below rest count_base (count_base ^ p) (omega arith) lt,
-      rw written (sym (append_assoc (digits p (rest / count_base)) ((rest % count_base) ∷ [])
-          (drop (suc p) (take n counts)))
-          ∙ (ap (λ (xs : List ℕ). xs ++ drop (suc p) (take n counts)) (sym low) ∙ so_far)),
-    )
-
 -- one more event of a process adds its weight to the number of a cut
 pub more_is : (n key p : ℕ) → p < n → key < count_base ^ n → key_of (one_more (digits n key) p)
     ≡ key + count_base ^ (n - 1 - p)

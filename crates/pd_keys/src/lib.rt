@@ -15,4 +15,4 @@ mod single;
 
 pub use key::Key;
 pub use pair::Pair;
-pub use single::{SINGLE_LIMIT, digit, pack, unpack, weight};
+pub use single::SINGLE_LIMIT;

@@ -1,7 +1,7 @@
 //! Counts in one number.
 ghost use Rattle.pd_keys.specs.Keys.{AreDigits, IsPacked, count_base, digits};
 ghost use Rattle.pd_keys.specs.Pairs.{single_limit};
-ghost use Rattle.std.specs.Prelude.{◌≡◌, ◌-◌, ◌/◌, ◌%◌, ◌^◌, ◌<◌, ◌≤◌, length, slice_index, take};
+ghost use Rattle.std.specs.Prelude.{◌≡◌, ◌-◌, ◌/◌, ◌%◌, ◌^◌, ◌<◌, ◌≤◌, length, slice_index};
 
 use super::Key;
 use std::alloc::AllocError;
@@ -16,7 +16,7 @@ pub(crate) const COUNT_BASE: u128 = 65_536;
 const COUNT_BITS: u32 = 16;
 
 /// The number whose digits are these counts, or none if a count is no digit.
-pub fn pack(counts: &[u64]) -> Option<u128>
+pub(crate) fn pack(counts: &[u64]) -> Option<u128>
     requires { length counts.now ≤ single_limit }
     ensures { IsPacked counts.now result }
 {
@@ -28,21 +28,6 @@ pub fn pack(counts: &[u64]) -> Option<u128>
         key = key * COUNT_BASE + u128::from(count);
     }
     Some(key)
-}
-
-/// The counts of which a number is made, with zeros after them.
-pub fn unpack(key: u128, processes: usize) -> [u64; SINGLE_LIMIT]
-    requires few { processes ≤ single_limit }
-    requires below { key < count_base ^ processes }
-    ensures { take processes result ≡ digits processes key }
-{
-    let mut counts = [0; SINGLE_LIMIT];
-    let mut rest = key;
-    for p in (0..processes).rev() {
-        counts[p] = (rest % COUNT_BASE) as u64;
-        rest /= COUNT_BASE;
-    }
-    counts
 }
 
 /// The digit with this many others after it.
@@ -62,7 +47,7 @@ pub(crate) fn one_before(places: usize) -> u128
 }
 
 /// The count of process `p` among those of which a number is made.
-pub fn digit(key: u128, processes: usize, p: usize) -> u64
+fn digit(key: u128, processes: usize, p: usize) -> u64
     requires few { processes ≤ single_limit }
     requires within { p < processes }
     requires below { key < count_base ^ processes }
@@ -72,7 +57,7 @@ pub fn digit(key: u128, processes: usize, p: usize) -> u64
 }
 
 /// What one more event of process `p` adds to a number.
-pub fn weight(processes: usize, p: usize) -> u128
+fn weight(processes: usize, p: usize) -> u128
     requires few { processes ≤ single_limit }
     requires within { p < processes }
     ensures { result ≡ count_base ^ (processes - 1 - p) }

@@ -1,7 +1,7 @@
 -- The marked cuts of a whole level as a list, and their numbers.
 use Rattle.std.proofs.Common.{◌≡◌, ℕ, zero, suc, ◌-◌, ◌<◌, ◌≤◌, Bool, List, [], ◌∷◌, length, map, take, Contains, arith, refl, sym, subst, ap, ◌∙◌, get_or}
 use Rattle.pd_format.specs.Limits.{process_limit, event_limit}
-use Rattle.pd_keys.specs.Keys.{key_of, AreDigits, AreKeys}
+use Rattle.pd_keys.specs.Keys.{count_base, key_of, AreDigits, AreKeys}
 use Rattle.pd_keys.proofs.Keys.{get_or_same}
 use Rattle.pd_level.specs.Levels.{IsKept, cuts_of}
 use Rattle.pd_model.specs.Events.{Computation, event_count}
@@ -36,7 +36,7 @@ run_digits level marks known i x lt low high =
     (cut_in_run known.c level known.whole i x lt low high).0.fits
 
 pub run_small : (level : WholeLevel) (marks : Marking) → AreMarksOf level marks → (i : ℕ) → i < length level.runs
-    → (run_at level.runs i).hi < 65536
+    → (run_at level.runs i).hi < count_base
 run_small level marks known i lt =
     let some : (run_at level.runs i).lo ≤ (run_at level.runs i).hi = known.marking.shape.some i lt in
     let fits : FitsProcesses known.c (cut_with level.number (run_at level.runs i) (run_at level.runs i).hi) =

@@ -132,7 +132,7 @@ fn word_of<K: Key, T: RunTest>(
     requires spot { IsSpot level.now.runs spot }
     ensures { IsWordOf (T.events test.now) (T.test test.now) level.now spot result }
 {
-    run::few(level);
+    level.limits();
     let known = Before {
         level: before,
         marks,

@@ -59,7 +59,6 @@ pub(crate) fn cut_in<K: Key>(alloc: Global, level: &Whole<K>, i: usize, x: u64) 
     ensures { result ≡ cut_with level.now.number (run_at level.now.runs i) x }
 {
     level.limits();
-    run::few(level);
     let n = level.processes();
     let mut counts = [0; PROCESS_LIMIT];
     run::read_prefix(level, i, &mut counts);

@@ -12,7 +12,7 @@ use super::run;
 use super::skips::Skips;
 use pd_bits::{BITS, words};
 use pd_format::PROCESS_LIMIT;
-use pd_keys::Key;
+use pd_keys::{Key, SINGLE_LIMIT};
 use pd_neighbors::RunTest;
 use pd_runs::Whole;
 
@@ -25,6 +25,26 @@ pub(crate) fn block(x: u64, hi: u64) -> u64
     ensures whole { result < 64 → x + result ≡ hi + 1 }
 {
     if hi - x >= BITS - 1 { BITS } else { hi - x + 1 }
+}
+
+/// The bits of `n` neighboring cuts of run `i`, whose prefix is written into the row of counts.
+fn mask<K: Key, T: RunTest>(level: &Whole<K>, test: &T, i: usize, x: u64, n: u64, counts: &mut [u64]) -> u64
+    requires level { IsWholeLevel (T.events test.now) level.now }
+    requires within { i < length level.now.runs }
+    requires some { 1 ≤ n }
+    requires few { n ≤ 64 }
+    requires low { (run_at level.now.runs i).lo ≤ x }
+    requires high { x + n ≤ (run_at level.now.runs i).hi + 1 }
+    requires room { level.now.processes ≤ length counts.old }
+    ensures within { (j : ℕ) → j < n → has_bit result j ≡ T.test test.now (cut_at (run_at level.now.runs i).prefix (x
+        + j)
+        (rest_at level.now.number (run_at level.now.runs i) - (x + j))) }
+    ensures beyond { (j : ℕ) → n ≤ j → has_bit result j ≡ false }
+{
+    level.limits();
+    let y = run::rest(level, i) - x;
+    run::read_prefix(level, i, counts);
+    test.mask(first_of(counts, level.processes() - 2), x, y, n)
 }
 
 /// Which of `n` neighboring cuts of run `i` satisfy: bit `j` is that of the cut whose count of the last process but
@@ -54,8 +74,8 @@ pub(crate) fn hits<K: Key, T: RunTest>(
         return 0;
     }
     level.limits();
-    let y = run::rest(level, i) - x;
-    let mut counts = [0; PROCESS_LIMIT];
-    run::read_prefix(level, i, &mut counts);
-    test.mask(first_of(&counts, level.processes() - 2), x, y, n)
+    if level.processes() <= SINGLE_LIMIT {
+        return mask(level, test, i, x, n, &mut [0; SINGLE_LIMIT]);
+    }
+    mask(level, test, i, x, n, &mut [0; PROCESS_LIMIT])
 }

@@ -1,5 +1,5 @@
 //! The numbers of the marked cuts.
-ghost use Rattle.pd_keys.specs.Keys.{AreDigits, key_of};
+ghost use Rattle.pd_keys.specs.Keys.{AreDigits, count_base, key_of};
 ghost use Rattle.pd_marks.specs.Marks.{bits_list, cut_with, marked_keys};
 ghost use Rattle.pd_marks.specs.RunPlaces.{run_at};
 ghost use Rattle.pd_runs.specs.WholeLevels.{rest_at};
@@ -37,7 +37,7 @@ pub(crate) fn push_marked<K: Key>(
 ) -> Result<(), AllocError>
     requires within { i < length level.now.runs }
     requires some { (run_at level.now.runs i).lo ≤ (run_at level.now.runs i).hi }
-    requires small { (run_at level.now.runs i).hi < 65536 }
+    requires small { (run_at level.now.runs i).hi < count_base }
     requires room { start + ((run_at level.now.runs i).hi - (run_at level.now.runs i).lo) / 64 < length all.now }
     requires high { (run_at level.now.runs i).hi ≤ rest_at level.now.number (run_at level.now.runs i) }
     requires few { length (run_at level.now.runs i).prefix + 2 ≤ K.room }

@@ -155,7 +155,7 @@ fn mark<'a, K: Key, T: RunTest>(
 {
     let mut first = Vec::with_capacity(alloc, level.len())?;
     let mut all = Vec::with_capacity(alloc, level.len())?;
-    run::few(level);
+    level.limits();
     let mut places = [0; PROCESS_LIMIT];
     for i in 0..level.len() {
         first.push(all.len())?;

@@ -123,7 +123,6 @@ impl Marks {
             (cuts_of level.now.processes (map K.number keys.items))) }
     {
         level.limits();
-        run::few(level);
         let mut keys = Vec::with_capacity(alloc, self.count as usize)?;
         for i in 0..level.len() {
             push_marked(&self.words, level, i, self.first[i], &mut keys)?;

@@ -1,20 +1,10 @@
 //! What is read of the run at a place in a whole level.
-ghost use Rattle.pd_format.specs.Limits.{process_limit};
 ghost use Rattle.pd_marks.specs.RunPlaces.{key_of_run, run_at};
 ghost use Rattle.pd_runs.specs.WholeLevels.{rest_at};
 ghost use Rattle.std.specs.Prelude.{◌≡◌, ◌+◌, ◌-◌, ◌<◌, ◌≤◌, length, slice_index, take};
 
-use pd_format::PROCESS_LIMIT;
 use pd_keys::Key;
 use pd_runs::Whole;
-
-/// A row of `PROCESS_LIMIT` places has one for each process. This has no code: a caller's proof has the fact by calling
-/// it.
-pub(crate) fn few<K: Key>(level: &Whole<K>)
-    ensures { level.now.processes ≤ process_limit }
-{
-    level.limits();
-}
 
 /// The number whose digits are the counts of the prefix, and zeros for the last two processes.
 pub(crate) fn key<K: Key>(level: &Whole<K>, i: usize) -> K
@@ -49,12 +39,12 @@ pub(crate) fn rest<K: Key>(level: &Whole<K>, i: usize) -> u64
 }
 
 /// Writes the counts of the prefix into the first places of a row.
-pub(crate) fn read_prefix<K: Key>(level: &Whole<K>, i: usize, counts: &mut [u64; PROCESS_LIMIT])
+pub(crate) fn read_prefix<K: Key>(level: &Whole<K>, i: usize, counts: &mut [u64])
     requires within { i < length level.now.runs }
     requires processes { length (run_at level.now.runs i).prefix + 2 ≡ level.now.processes }
+    requires room { level.now.processes ≤ length counts.old }
     ensures { take (level.now.processes - 2) counts.new ≡ (run_at level.now.runs i).prefix }
 {
-    few(level);
     for p in 0..level.processes() - 2 {
         counts[p] = count(level, i, p);
     }

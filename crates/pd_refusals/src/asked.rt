@@ -1,5 +1,4 @@
 //! The word of one run.
-ghost use Rattle.pd_format.specs.Limits.{process_limit};
 ghost use Rattle.pd_marks.specs.RunPlaces.{run_at};
 ghost use Rattle.pd_refusals.specs.Refusals.{IsRefused, IsSomeLevel, IsWordOf};
 ghost use Rattle.pd_tables.specs.Views.{CompiledView};
@@ -64,14 +63,6 @@ fn first_of(counts: &[u64], n: usize) -> &[u64]
     &counts[..n]
 }
 
-/// A row of `PROCESS_LIMIT` places has one for each process. This has no code: a caller's proof has the fact by calling
-/// it.
-pub(crate) fn few<K: Key>(level: &Whole<K>)
-    ensures { level.now.processes ≤ process_limit }
-{
-    level.limits();
-}
-
 /// The word of run `i`, for which each predicate is asked. The run's prefix is written into the row of counts.
 pub(crate) fn asked<K: Key>(
     tests: &[Compiled<'_, '_>],
@@ -97,7 +88,7 @@ pub(crate) fn asked_once<K: Key>(tests: &[Compiled<'_, '_>], level: &Whole<K>, i
     requires within { i < length level.now.runs }
     ensures { IsWordOf tests.now (run_at level.now.runs i).prefix result }
 {
-    few(level);
+    level.limits();
     if level.processes() <= SINGLE_LIMIT {
         return asked(tests, level, i, &mut [0; SINGLE_LIMIT]);
     }

@@ -7,7 +7,7 @@ ghost use Rattle.pd_runs.specs.Levels.{WholeLevel};
 ghost use Rattle.pd_tables.specs.Views.{CompiledView};
 ghost use Rattle.std.specs.Prelude.{◌≡◌, ◌<◌, ◌≤◌, ℕ, IfOk, IfSome, List, length, slice_index, slice_index_or};
 
-use super::asked::{BITS, asked, few};
+use super::asked::{BITS, asked};
 use super::by_threads::{are_many, may_be_many, words_by_threads};
 use pd_format::PROCESS_LIMIT;
 use pd_keys::Key;
@@ -142,7 +142,7 @@ fn words_in_turn<K: Key>(
     requires refusals { AreRefusals tests.now before.now refusals.now }
     ensures { IfOk result (λ words. AreRefusals tests.now level.now words.items) }
 {
-    few(level);
+    level.limits();
     let mut words = Vec::with_capacity(alloc, level.len())?;
     let mut counts = [0; PROCESS_LIMIT];
     let mut at = 0;
@@ -174,7 +174,7 @@ impl Refusals {
         requires { IsSomeLevel level.now }
         ensures { IfOk result (AreRefusals tests.now level.now) }
     {
-        few(level);
+        level.limits();
         let mut words = Vec::with_capacity(alloc, level.len())?;
         let mut counts = [0; PROCESS_LIMIT];
         for i in 0..level.len() {

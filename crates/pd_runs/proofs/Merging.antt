@@ -130,7 +130,8 @@ module _ (room : ℕ) (c : Computation) (k : ℕ) (olds : List KeyedRun) (births
   birth_cut z has = given.level.born (digits (length c) z) (in_map (digits (length c)) births z has)
 
   pub birth_parts : (z : ℕ) → Contains births z → (prefix_key z < count_base ^ (length c - 2))
-      × (cut_at (digits (length c - 2) (prefix_key z)) (z / 65536 % 65536) (z % 65536) ≡ digits (length c) z)
+      × (cut_at (digits (length c - 2) (prefix_key z)) (z / count_base % count_base) (z % count_base)
+      ≡ digits (length c) z)
   birth_parts z has =
       let two : 2 ≤ length c = given.kept.two in
       let e : length c ≡ length c - 2 + 2 = omega arith in
@@ -147,13 +148,13 @@ module _ (room : ℕ) (c : Computation) (k : ℕ) (olds : List KeyedRun) (births
       → IsYoung c (sum (digits (length c) z)) (digits (length c - 2) (prefix_key z))
   young_birth z has none =
       let at : IsOfLevel c (k + 1)
-      (cut_at (digits (length c - 2) (prefix_key z)) (z / 65536 % 65536) (z % 65536)) =
+      (cut_at (digits (length c - 2) (prefix_key z)) (z / count_base % count_base) (z % count_base)) =
       subst (IsOfLevel c (k + 1)) (sym (birth_parts z has).1) (birth_cut z has) in
       let dead : ¬ IsAlive c k (digits (length c - 2) (prefix_key z)) =
       dead_without_run c k (runs_view (length c - 2) olds) given.level.whole
       (digits (length c - 2) (prefix_key z)) (no_old z has none) in
       subst (λ (j : ℕ). IsYoung c j (digits (length c - 2) (prefix_key z))) (sym (birth_cut z has).1) record {
-        alive = (z / 65536 % 65536, (z % 65536, at));
+        alive = (z / count_base % count_base, (z % count_base, at));
         before = λ j e alive. dead (let same : j ≡ k = omega arith in
             subst (λ (m : ℕ). IsAlive c m (digits (length c - 2) (prefix_key z))) same alive);
       }
@@ -574,7 +575,8 @@ module _ (room : ℕ) (c : Computation) (k : ℕ) (olds : List KeyedRun) (births
         from_map (digits (length c)) births (cut_at prefix x y)
         (given.level.all (cut_at prefix x y) candidate) in
         let whole : take (length births) births ≡ births = take_all (length births) births (omega arith) in
-        let same = same_parts (digits (length c - 2) (prefix_key w.0)) prefix (w.0 / 65536 % 65536) (w.0 % 65536) x y
+        let same = same_parts (digits (length c - 2) (prefix_key w.0)) prefix (w.0 / count_base % count_base)
+        (w.0 % count_base) x y
         ((birth_parts w.0 w.1).1 ∙ w.2) in
         go (prefix_key w.0) same.0 (g.seen w.0 (subst (λ (zs : List ℕ). Contains zs w.0) (sym whole) w.1))
       where

@@ -69,7 +69,7 @@ pub data IsPushed (c : Computation) (old : KeyedRun) (runs : List KeyedRun) (bor
 pub record IsBornRun (c : Computation) (cut : ℕ) (runs : List KeyedRun) (born : List ℕ) (new_runs : List KeyedRun)
     (new_born : List ℕ) : Type 0 where
   pub run : KeyedRun
-  pub key : run.key ≡ cut / 65536 / 65536
+  pub key : run.key ≡ cut / count_base / count_base
   pub single : run.lo ≡ run.hi
   pub is : cut_at (digits (length c - 2) run.key) run.lo (run.rest - run.lo) ≡ digits (length c) cut
   pub kept : IsKept (length c - 2) (sum (digits (length c) cut)) run

@@ -42,7 +42,7 @@ abbrev pub keys_of : List KeyedRun → List ℕ
 keys_of runs = map (λ (run : KeyedRun). run.key) runs
 
 abbrev pub prefix_key : ℕ → ℕ
-prefix_key cut = cut / 65536 / 65536
+prefix_key cut = cut / count_base / count_base
 
 -- as many cuts as the runs have, or the greatest number of 64 bits if they are more
 abbrev pub cut_count : List Run → ℕ

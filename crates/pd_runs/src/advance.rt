@@ -135,7 +135,7 @@ pub(crate) fn push_born<K: Key>(
     requires below { K.number cut < count_base ^ length steps.now }
     requires cut { IsConsistent steps.now (digits (length steps.now) (K.number cut)) }
     requires young { IsYoung steps.now (sum (digits (length steps.now) (K.number cut)))
-        (digits (length steps.now - 2) (K.number cut / 65536 / 65536)) }
+        (digits (length steps.now - 2) (K.number cut / count_base / count_base)) }
     ensures { IfOk result (λ _.
         IsBornRun steps.now (K.number cut) runs.old.items born.old runs.new.items born.new) }
 {

@@ -93,7 +93,7 @@ pub(crate) fn point_of<K: Key>(cut: K, n: usize) -> Point<K>
     requires below { K.number cut < count_base ^ n }
     ensures below { result.key < count_base ^ (n - 2) }
     ensures cut { point_cut (n - 2) result ≡ digits n (K.number cut) }
-    ensures key { result.key ≡ K.number cut / 65536 / 65536 }
+    ensures key { result.key ≡ K.number cut / count_base / count_base }
 {
     Point {
         key: cut.without_two(),

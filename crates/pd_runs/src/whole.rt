@@ -1,4 +1,5 @@
 //! A whole level.
+ghost use Rattle.pd_format.specs.Limits.{process_limit};
 ghost use Rattle.pd_keys.specs.Keys.{AreDigits, key_of};
 ghost use Rattle.pd_neighbors.specs.Neighbors.{cut_at};
 ghost use Rattle.pd_runs.specs.Kept.{KeyedRun};
@@ -269,6 +270,7 @@ impl<K: Key> Whole<K> {
     pub fn limits(&self)
         ensures two { 2 ≤ self.now.processes }
         ensures few { self.now.processes ≤ K.room }
+        ensures rows { self.now.processes ≤ process_limit }
         ensures fits { K.fits self.now.processes }
         ensures digits { (run : Run) → Contains self.now.runs run → AreDigits run.prefix }
     {

@@ -26,19 +26,19 @@ returns-clause-clocks c =
     let within : c.args.p < length c.args.order.now.clocks.items = omega (arith, c.requires.clocks.one_each) in
     let was : clocks_of c.args.order.now.clocks.items c.args.p ≡ c.index_mut.result.now.items =
     rows_read c.args.order.now.clocks.items c.args.p c.index_mut.result.now within c.index_mut.ensures.value in
-    let row : List ℕ = take (length c.args.traces.now) c.next_row-row.result in
+    let row : List ℕ = take (length c.args.traces.now) c.next_row.new.row in
     let wide : length row ≡ length (computation_view c.args.traces.now) =
-    let room : length c.next_row-row.result ≡ process_limit =
-    c.next_row-row.ensures.room in omega (
+    let room : length c.next_row.new.row ≡ process_limit =
+    c.next_row.ensures.room in omega (
       arith,
-      length-take (length c.args.traces.now) c.next_row-row.result,
+      length-take (length c.args.traces.now) c.next_row.new.row,
       c.requires.few,
     ) in
     let clock : (q : ℕ) → q < length (computation_view c.args.traces.now)
     → IsClock (computation_view c.args.traces.now) (next_of c.args.order.now.done.items c.args.p) q
     (get_or row q 0) = λ q lt. let below : q < length c.args.traces.now =
-    omega arith in rw (get_or-take (length c.args.traces.now) c.next_row-row.result q 0 below)
-    (c.next_row-row.ensures.clock q below) in
+    omega arith in rw (get_or-take (length c.args.traces.now) c.next_row.new.row q 0 below)
+    (c.next_row.ensures.clock q below) in
     let here : clocks_of (set c.args.order.now.clocks.items c.args.p c.extend_from_slice.new.self) c.args.p
     ≡ clocks_of c.args.order.now.clocks.items c.args.p ++ row =
     rows_written c.args.order.now.clocks.items c.args.p c.extend_from_slice.new.self within

@@ -15,7 +15,7 @@ loop-p-preserved g c =
           (one_more_read c.loop-p.counts (run_at c.args.level.now.runs c.args.i).prefix c.loop-p.p c.count.result
           (omega (
             arith,
-            c.few.ensures,
+            c.requires.room,
             c.loop-p-test.true,
             c.loop-p.auto.p-end,
             c.processes-p-end.ensures,

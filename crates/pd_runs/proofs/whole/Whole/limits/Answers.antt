@@ -1,5 +1,6 @@
 -- The counts of each prefix are the digits of the key that is kept.
-use Rattle.std.proofs.Common.{◌≡◌, ◌-◌, ℕ, zero, suc, List, [], ◌∷◌, refl, Contains, subst, arith}
+use Rattle.std.proofs.Common.{◌≡◌, ◌-◌, ◌≤◌, ℕ, zero, suc, List, [], ◌∷◌, refl, Contains, subst, arith}
+use Rattle.pd_format.specs.Limits.{process_limit}
 use Rattle.pd_keys.specs.Keys.{AreDigits}
 use Rattle.pd_runs.specs.KeptRuns.{run_view}
 use Rattle.pd_runs.specs.Levels.{WholeLevel, runs_view}
@@ -30,3 +31,8 @@ returns-clause-digits g c =
 pub returns-clause-fits : goal.returns-clause-fits
 returns-clause-fits g c =
     subst (λ (l : WholeLevel). g.K.Key.fits l.processes) c.self.view_is c.self.invariant.2
+
+pub returns-clause-rows : goal.returns-clause-rows
+returns-clause-rows g c =
+    subst (λ (l : WholeLevel). l.processes ≤ process_limit) c.self.view_is
+    (omega (arith, c.self.invariant.0.few, g.met.K.Key.few))

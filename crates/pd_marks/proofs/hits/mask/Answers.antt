@@ -1,7 +1,7 @@
--- Each prefix has all counts but the last two. No cut of a run that is skipped satisfies.
+-- Each prefix has all counts but the last two.
 use Rattle.std.proofs.Common.{sym, ◌∙◌}
 use Rattle.pd_marks.proofs.RunKeys.{prefix_length}
-use Rattle.pd_marks.proofs.hits.hits.Goals as goal
+use Rattle.pd_marks.proofs.hits.mask.Goals as goal
 
 pub read_prefix-requires-clause-processes : goal.read_prefix-requires-clause-processes
 read_prefix-requires-clause-processes g c =
