@@ -6,7 +6,7 @@ ghost use Rattle.pd_model.specs.Answers.{LeavesAvoiding};
 ghost use Rattle.pd_model.specs.Cuts.{IsConsistent};
 ghost use Rattle.pd_model.specs.Predicates.{test_of};
 ghost use Rattle.pd_pred.specs.Views.{predicate_view};
-ghost use Rattle.std.specs.Prelude.{◌≡◌, ◌+◌, ◌<◌, ◌≤◌, ℕ, Contains, IfNone, IfOk, IfSome, IsTrue, false, true, length, sum};
+ghost use Rattle.std.specs.Prelude.{◌≡◌, ◌+◌, ◌<◌, ◌≤◌, ℕ, Contains, IfNone, IfOk, IfSome, IsTrue, false, length, sum};
 ghost use Rattle.std.specs.List.{insert};
 
 use super::undo::{same_cut, without_last};

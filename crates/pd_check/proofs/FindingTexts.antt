@@ -1,13 +1,13 @@
 -- Texts of findings, line by line.
 use Rattle.std.proofs.Common.{◌≡◌, ℕ, ◌+◌, ◌<◌, Bool, None, Some, List, [], ◌∷◌, ◌++◌, length, get_or, map, take, refl, sym, ap, ◌∙◌, append-nil, append_assoc}
-use Rattle.std.specs.Prelude.{codes, decimal, flat_map, Option, Vec}
+use Rattle.std.specs.Prelude.{codes, flat_map, Option, Vec}
 use Rattle.std.specs.Global.{Global}
 use Rattle.std.proofs.lemmas.List.{take_more}
 use Rattle.std.proofs.lemmas.Grind.{flat_map-append}
 use Rattle.pd_format.specs.Lines.{line_feed}
-use Rattle.pd_format.specs.OtherTexts.{Checked, NotRead, OfRefusal, OfSession, by_test, check_text, checked_lines, verdict_word}
+use Rattle.pd_format.specs.OtherTexts.{Checked, OfRefusal, OfSession, by_test, check_text, checked_lines, verdict_word}
 use Rattle.pd_format.specs.Reports.{spaced, text_of_lines}
-use Rattle.pd_check.specs.Pieces.{answer_line, test_line, unread_line, verdicts_text}
+use Rattle.pd_check.specs.Pieces.{answer_line, test_line, verdicts_text}
 use Rattle.pd_check.specs.Views.{checked_view, finding_view}
 use Rattle.pd_check.specs.declared.checked.Checked.{Checked as Reported}
 use Rattle.pd_check.specs.declared.finding.Finding.{Finding}

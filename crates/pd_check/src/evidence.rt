@@ -3,14 +3,13 @@ ghost use Rattle.pd_check.specs.Views.{verdicts_view, checked_view, verdict_view
 ghost use Rattle.pd_check.specs.Verdicts.{IsCheckedBy, IsCutVerdict, IsPathOf, IsPathVerdict};
 ghost use Rattle.pd_judgement.specs.Judgements.{recorded_of};
 ghost use Rattle.pd_format.specs.Readings as readings;
-ghost use Rattle.pd_judgement.specs.Findings.{IsAnswersFinding, names_answered, IsGoodPath};
+ghost use Rattle.pd_judgement.specs.Findings.{IsAnswersFinding, IsGoodPath};
 ghost use Rattle.pd_model.specs.Predicates.{test_of};
 ghost use Rattle.pd_pred.specs.Views.{predicate_view};
 ghost use Rattle.pd_report.specs.Views as views;
 ghost use Rattle.pd_spec.specs.Named.{named_view};
 ghost use Rattle.pd_spec.specs.Views.{document_view};
-ghost use Rattle.std.specs.List.{AllZip};
-ghost use Rattle.std.specs.Prelude.{◌≡◌, ◌<◌, ◌↔◌, List, IfOk, IsTrue, length, map, string_bytes, zip};
+ghost use Rattle.std.specs.Prelude.{◌≡◌, ◌<◌, ◌↔◌, List, IfOk, IsTrue, length, map, string_bytes};
 
 use super::checked::Checked;
 use super::verdict::Verdict;

@@ -1,8 +1,7 @@
 //! What a check of a report finds.
-ghost use Rattle.pd_check.specs.Views.{checked_view, finding_view};
+ghost use Rattle.pd_check.specs.Views.{finding_view};
 ghost use Rattle.pd_judgement.specs.Findings.{has_bad, is_clean};
-ghost use Rattle.std.specs.List.{list_any};
-ghost use Rattle.std.specs.Prelude.{◌≡◌, map};
+ghost use Rattle.std.specs.Prelude.{◌≡◌};
 
 use super::checked::Checked;
 

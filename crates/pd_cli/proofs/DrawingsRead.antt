@@ -1,13 +1,10 @@
 -- What a run that draws leaves by the bytes that were read is what it leaves by all that the files hold.
-use Rattle.std.proofs.Common.{◌≡◌, ◌≤◌, ℕ, List, length, refl, Some, Option, Ok, Err, inl, inr}
+use Rattle.std.proofs.Common.{ℕ, List, Some, Option, Ok, Err}
 use Rattle.std.specs.Prelude.{Bool, Result}
 use Rattle.std.specs.List.{AllZip}
-use Rattle.std.specs.Io.KnownBytes.{Keeps}
-use Rattle.pd_format.specs.Limits.{report_byte_limit}
-use Rattle.pd_judgement.specs.Statuses.{OfFiles, WritesUpTo}
-use Rattle.pd_judgement.specs.Writes.{IsWholeInput, Whole, Writes}
+use Rattle.pd_judgement.specs.Writes.{IsWholeInput, Whole}
 use Rattle.pd_judgement.proofs.Writing.{writes_weaker}
-use Rattle.pd_claims.specs.Drawings.{IsDrawingTextOf, IsRefusalTextOf, LacksPredicate}
+use Rattle.pd_claims.specs.Drawings.{IsDrawingTextOf, LacksPredicate}
 use Rattle.pd_claims.specs.declared.drawings.Drawing.{Drawing}
 use Rattle.pd_claims.specs.declared.drawings.Drawing.TheVariants.{Written, Refused, NoPredicate}
 use Rattle.pd_sessions.specs.declared.fault.EngineFault.{EngineFault}

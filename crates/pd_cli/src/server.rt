@@ -5,7 +5,7 @@ ghost use Rattle.pd_cli.specs.declared.service_fault.ServiceFault.TheVariants as
 ghost use Rattle.pd_format.specs.Documents.{IsDocument};
 ghost use Rattle.pd_judgement.specs.Statuses.{FilesJudgementLeaves, ServiceLeaves};
 ghost use Rattle.pd_spec.specs.Views.{IsFaultOf, document_view};
-ghost use Rattle.std.specs.Prelude.{◌≡◌, ◌≢◌, ◌⊎◌, ◌↔◌, ◌+◌, ◌<◌, ◌≤◌, ℕ, All, Err, IfErr, IfOk, IfSome, IsOk, IsSome, MatchResult, Ok, Some, [], false, length, map, true};
+ghost use Rattle.std.specs.Prelude.{◌≡◌, ◌⊎◌, ◌↔◌, ◌+◌, ◌<◌, ◌≤◌, ℕ, All, Err, IfErr, IfOk, IfSome, IsOk, IsSome, MatchResult, Ok, Some, [], false, length, map, true};
 
 use super::file_source::FileSource;
 use super::judge_files::judge_read;

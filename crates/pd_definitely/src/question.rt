@@ -6,7 +6,7 @@ ghost use Rattle.pd_model.specs.Answers.{IsDefinitelyAnswer};
 ghost use Rattle.pd_model.specs.Cuts.{total};
 ghost use Rattle.pd_model.specs.Predicates.{test_of};
 ghost use Rattle.pd_pred.specs.Views.{predicate_view};
-ghost use Rattle.std.specs.Prelude.{◌≡◌, ◌+◌, ◌*◌, ◌≤◌, ℕ, IfOk};
+ghost use Rattle.std.specs.Prelude.{◌+◌, ◌*◌, ◌≤◌, ℕ, IfOk};
 
 use pd_clock::Computation;
 use pd_expand::Crew;

@@ -1,7 +1,7 @@
 -- The answers of the walk, for predicates with their names.
-use Rattle.std.proofs.Common.{◌≡◌, ◌∙◌, ℕ, Bor, ◌<◌, ◌≤◌, List, [], ◌∷◌, length, get_or, ap, sym, subst, arith}
+use Rattle.std.proofs.Common.{◌≡◌, ◌∙◌, ℕ, Bor, ◌<◌, List, [], ◌∷◌, length, get_or, ap, sym, subst, arith}
 use Rattle.pd_model.specs.Answers.{IsDefinitelyAnswer, IsPossiblyAnswer}
-use Rattle.pd_model.specs.Predicates.{Predicate, Recorded, test_of}
+use Rattle.pd_model.specs.Predicates.{Recorded, test_of}
 use Rattle.pd_pred.specs.Views.{predicate_view}
 use Rattle.pd_pred.specs.declared.predicate.Pred.{Pred}
 use Rattle.pd_spec.specs.declared.named.NamedPred.{NamedPred}

@@ -1,5 +1,5 @@
 //! A path as evidence that some observation has no satisfying cut.
-ghost use Rattle.pd_model.specs.Paths.{AvoidsFrom, IsAvoidingCut};
+ghost use Rattle.pd_model.specs.Paths.{IsAvoidingCut};
 ghost use Rattle.pd_model.specs.Answers.{IsAvoidingObservation};
 ghost use Rattle.pd_model.specs.Cuts.{FitsProcesses, empty_cut, full_cut, one_more};
 ghost use Rattle.pd_model.specs.Predicates.{test_of};

@@ -1,5 +1,5 @@
 //! The blocks of a level, handed out to workers by one shared word.
-ghost use Rattle.std.specs.Prelude.{◌≡◌, ℕ, ◌^◌, ◌<◌, ◌≤◌, [], ◌∷◌, ◌++◌, IfOk, All, length};
+ghost use Rattle.std.specs.Prelude.{◌≡◌, ◌^◌, ◌<◌, ◌≤◌, [], ◌∷◌, ◌++◌, IfOk, All, length};
 ghost use Rattle.pd_expand.specs.Limits.{worker_limit};
 
 use crate::claim_seat::ClaimSeat;

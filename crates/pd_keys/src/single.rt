@@ -1,5 +1,5 @@
 //! Counts in one number.
-ghost use Rattle.pd_keys.specs.Keys.{AreDigits, IsPacked, count_base, digits};
+ghost use Rattle.pd_keys.specs.Keys.{IsPacked, count_base, digits};
 ghost use Rattle.pd_keys.specs.Pairs.{single_limit};
 ghost use Rattle.std.specs.Prelude.{◌≡◌, ◌-◌, ◌/◌, ◌%◌, ◌^◌, ◌<◌, ◌≤◌, length, slice_index};
 

@@ -7,7 +7,7 @@ use Rattle.pd_format.specs.Limits.{event_limit, process_limit}
 use Rattle.pd_model.specs.Events.{Computation, Linked, event_count}
 use Rattle.pd_model.specs.Cuts.{IsConsistent, IsNextOf, one_more}
 use Rattle.pd_model.specs.Answers.{LexBelow, IsListOf}
-use Rattle.pd_keys.specs.Keys.{count_base, key_of, digits, AreDigits, Ascending, AreKeys}
+use Rattle.pd_keys.specs.Keys.{count_base, key_of, digits, AreDigits, AreKeys}
 use Rattle.pd_level.specs.MoreCuts.{AreCuts, IsInRange, IsMoreBy, IsMoreBySome}
 use Rattle.pd_level.specs.Levels.{FitsKind, IsBetween, IsKept, cuts_of}
 use Rattle.pd_model.proofs.OneAnswer.{lex_asymmetric, lex_irreflexive}

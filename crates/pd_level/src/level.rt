@@ -4,7 +4,7 @@ ghost use Rattle.pd_model.specs.Cuts.{IsConsistent, IsNextOf, empty_cut};
 ghost use Rattle.pd_model.specs.Predicates.{test_of};
 ghost use Rattle.pd_level.specs.Levels.{HasRoom, IsBetween, IsInEither, IsKept, cuts_of, kept_by, numbers};
 ghost use Rattle.pd_pred.specs.Views.{predicate_view};
-ghost use Rattle.std.specs.Prelude.{◌≡◌, ◌+◌, ◌<◌, ◌≤◌, ◌==◌, ◌↔◌, All, Contains, IfErr, IfOk, IfSome, IsTrue, List, [], ◌∷◌, Some, length, min, slice_get};
+ghost use Rattle.std.specs.Prelude.{◌≡◌, ◌+◌, ◌<◌, ◌≤◌, ◌==◌, ◌↔◌, All, Contains, IfErr, IfOk, IfSome, IsTrue, [], ◌∷◌, Some, length, min, slice_get};
 
 use super::LevelFault;
 use super::keys::Keys;

@@ -1,6 +1,6 @@
 //! Two ascending lists of keys as one.
 ghost use Rattle.pd_keys.specs.Keys.{Ascending};
-ghost use Rattle.std.specs.Prelude.{◌≡◌, ◌<◌, ◌↔◌, ◌⊎◌, ℕ, Contains, IfOk, IsTrue};
+ghost use Rattle.std.specs.Prelude.{◌<◌, ◌↔◌, ◌⊎◌, ℕ, Contains, IfOk, IsTrue};
 
 use super::list::KeyList;
 use pd_keys::Key;

@@ -1,7 +1,7 @@
 //! The run with a number, in a whole level.
 ghost use Rattle.pd_marks.specs.Marks.{KeysAscend};
 ghost use Rattle.pd_marks.specs.RunPlaces.{key_of_run, run_at};
-ghost use Rattle.std.specs.Prelude.{◌≡◌, ◌<◌, ◌≤◌, ℕ, length};
+ghost use Rattle.std.specs.Prelude.{◌<◌, ◌≤◌, ℕ, length};
 
 use super::run;
 use pd_keys::Key;

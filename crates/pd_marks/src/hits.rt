@@ -28,7 +28,14 @@ pub(crate) fn block(x: u64, hi: u64) -> u64
 }
 
 /// The bits of `n` neighboring cuts of run `i`, whose prefix is written into the row of counts.
-fn mask<K: Key, T: RunTest>(level: &Whole<K>, test: &T, i: usize, x: u64, n: u64, counts: &mut [u64]) -> u64
+fn mask<K: Key, T: RunTest>(
+    level: &Whole<K>,
+    test: &T,
+    i: usize,
+    x: u64,
+    n: u64,
+    counts: &mut [u64],
+) -> u64
     requires level { IsWholeLevel (T.events test.now) level.now }
     requires within { i < length level.now.runs }
     requires some { 1 ≤ n }

@@ -1,6 +1,6 @@
 //! The marks of the first level with a satisfying cut, and those of the next level.
 ghost use Rattle.pd_bits.specs.Words.{has_bit};
-ghost use Rattle.pd_marks.specs.Marks.{HasWords, IsBefore, IsMarking, IsShaped, bits_in, last_word, start_of};
+ghost use Rattle.pd_marks.specs.Marks.{HasWords, IsBefore, IsMarking, last_word};
 ghost use Rattle.pd_model.specs.Order.{HasNoCycle};
 ghost use Rattle.pd_model.specs.Walks.{NoneBelow};
 ghost use Rattle.pd_runs.specs.Levels.{IsWholeLevel};

@@ -6,7 +6,6 @@ ghost use Rattle.pd_model.specs.Answers.{IsListOf};
 ghost use Rattle.pd_model.specs.Events.{Computation};
 ghost use Rattle.pd_model.specs.Observations.{IsAvoiding};
 ghost use Rattle.pd_runs.specs.Levels.{IsWholeLevel, WholeLevel};
-ghost use Rattle.pd_marks.specs.RunPlaces.{run_at};
 ghost use Rattle.std.specs.Prelude.{◌≡◌, ◌+◌, ◌/◌, ◌<◌, ◌≤◌, ◌↔◌, ℕ, Bool, IfOk, IfSome, IsTrue, List, false, length, map};
 
 use super::list::push_marked;

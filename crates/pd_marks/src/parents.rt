@@ -1,6 +1,6 @@
 //! The marks of the cuts with one event less.
 ghost use Rattle.pd_bits.specs.Words.{has_bit};
-ghost use Rattle.pd_marks.specs.Marks.{HasMark, HasOtherMark, HasOwnMark, IsMarkedAt, IsShaped, KeysAscend};
+ghost use Rattle.pd_marks.specs.Marks.{HasMark, HasOtherMark, HasOwnMark, IsShaped, KeysAscend};
 ghost use Rattle.pd_marks.specs.RunPlaces.{key_of_run, run_at};
 ghost use Rattle.std.specs.Prelude.{◌≡◌, ◌+◌, ◌<◌, ◌≤◌, ◌⊎◌, ◌↔◌, ℕ, IfSome, IsTrue, None, false, length, take};
 

@@ -1,7 +1,7 @@
 //! Where the words of a level's marks begin.
 ghost use Rattle.pd_marks.specs.Marks.{last_word};
 ghost use Rattle.pd_marks.specs.RunPlaces.{run_at};
-ghost use Rattle.pd_marks.specs.Spots.{AreSpots, HasSpots, IsSpot, spot_at};
+ghost use Rattle.pd_marks.specs.Spots.{AreSpots, HasSpots, spot_at};
 ghost use Rattle.std.specs.Prelude.{◌≡◌, ◌+◌, ◌<◌, ◌≤◌, ℕ, suc, IfOk, length};
 
 use super::run;

@@ -1,6 +1,5 @@
 //! A document, as text and as it is read.
 use pd_spec::Spec;
-use pd_traces::Trace;
 use std::alloc::Global;
 use std::test::Fail;
 

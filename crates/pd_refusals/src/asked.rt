@@ -2,7 +2,7 @@
 ghost use Rattle.pd_marks.specs.RunPlaces.{run_at};
 ghost use Rattle.pd_refusals.specs.Refusals.{IsRefused, IsSomeLevel, IsWordOf};
 ghost use Rattle.pd_tables.specs.Views.{CompiledView};
-ghost use Rattle.std.specs.Prelude.{◌≡◌, ◌+◌, ◌-◌, ◌<◌, ◌≤◌, ℕ, length, slice_index, slice_index_or, take};
+ghost use Rattle.std.specs.Prelude.{◌≡◌, ◌+◌, ◌-◌, ◌<◌, ◌≤◌, length, slice_index, slice_index_or, take};
 
 use pd_format::PROCESS_LIMIT;
 use pd_keys::{Key, SINGLE_LIMIT};

@@ -1,6 +1,6 @@
 //! The words of a level's runs by several threads.
 ghost use Rattle.pd_refusals.specs.Refusals.{AreRefusals, IsSomeLevel, IsWordOfRun};
-ghost use Rattle.std.specs.Prelude.{◌≡◌, ◌<◌, ℕ, IfOk, length};
+ghost use Rattle.std.specs.Prelude.{◌≡◌, ◌<◌, IfOk, length};
 
 use super::asked::asked_once;
 use super::refusals::{Refusals, is_born, kept};

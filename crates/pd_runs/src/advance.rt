@@ -5,7 +5,7 @@ ghost use Rattle.pd_neighbors.specs.Neighbors.{cut_at};
 ghost use Rattle.pd_runs.specs.Births.{IsYoung};
 ghost use Rattle.pd_runs.specs.KeptRuns.{GrowsAtEnds, IsBornRun, IsKept, IsMoved, IsPushed, level_of, run_view};
 ghost use Rattle.pd_runs.specs.WholeLevels.{IsMovedTo, IsRunOf, Run};
-ghost use Rattle.std.specs.Prelude.{◌≡◌, ◌-◌, ◌/◌, ◌^◌, ◌<◌, ◌≤◌, IfNone, IfOk, IfSome, length, sum};
+ghost use Rattle.std.specs.Prelude.{◌-◌, ◌/◌, ◌^◌, ◌<◌, ◌≤◌, IfNone, IfOk, IfSome, length, sum};
 
 use super::Steps;
 use super::birth::{add_births, add_births_if};

@@ -2,7 +2,7 @@
 ghost use Rattle.pd_keys.specs.Keys.{count_base};
 ghost use Rattle.pd_model.specs.Cuts.{IsConsistent, one_more};
 ghost use Rattle.pd_runs.specs.Points.{GrowsBy, GrowsIf, IsWanted, point_cut};
-ghost use Rattle.std.specs.Prelude.{◌≡◌, ◌-◌, ◌^◌, ◌<◌, ◌≤◌, IfOk, IfSome, IsTrue, length};
+ghost use Rattle.std.specs.Prelude.{◌-◌, ◌^◌, ◌<◌, ◌≤◌, IfOk, IfSome, IsTrue, length};
 
 use super::Steps;
 use super::births::Births;

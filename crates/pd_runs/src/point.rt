@@ -3,7 +3,6 @@ ghost use Rattle.pd_keys.specs.Keys.{count_base, digits, key_of};
 ghost use Rattle.pd_model.specs.Cuts.{IsConsistent, one_more};
 ghost use Rattle.pd_model.specs.Events.{place};
 ghost use Rattle.pd_model.specs.Messages.{IsMessage};
-ghost use Rattle.pd_neighbors.specs.Neighbors.{cut_at};
 ghost use Rattle.pd_runs.specs.Births.{next_of};
 ghost use Rattle.pd_runs.specs.Points.{point_cut};
 ghost use Rattle.std.specs.Prelude.{◌≡◌, ◌+◌, ◌-◌, ◌/◌, ◌^◌, ◌<◌, ◌≤◌, ◌↔◌, IsTrue, length, slice_index};

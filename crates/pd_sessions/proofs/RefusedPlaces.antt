@@ -7,18 +7,15 @@ use Rattle.std.proofs.lemmas.List.{append_assoc, get_or_past, length-map}
 use Rattle.std.proofs.lemmas.List.Elements.{All-cons}
 use Rattle.std.proofs.Math.ListN.{get_or-map}
 use Rattle.pd_model.specs.Events.{Computation, Place, IsEvent, Linked, first_of, events_of}
-use Rattle.pd_model.specs.Messages.{IsReported}
 use Rattle.pd_model.specs.Order.{IsStuck, GoesBackTo, IsReportedCycle}
-use Rattle.pd_model.proofs.Chains.{event_from_kind, events_of_happens}
+use Rattle.pd_model.proofs.Chains.{events_of_happens}
 use Rattle.pd_format.specs.Names.{ProcessNames}
 use Rattle.pd_clock.specs.Orders.{cycle_view, places_view}
 use Rattle.pd_clock.specs.declared.fault.BuildFault.{BuildFault}
 use Rattle.pd_clock.specs.declared.fault.BuildFault.TheVariants.{Cycle}
-use Rattle.pd_match.specs.Views.{match_fault_view, place_view}
+use Rattle.pd_match.specs.Views.{place_view}
 use Rattle.pd_match.specs.declared.place.Place.{Place as Stands}
-use Rattle.pd_match.specs.declared.fault.MatchFault.{MatchFault}
-use Rattle.pd_match.specs.declared.fault.MatchFault.TheVariants as faults
-use Rattle.pd_sessions.specs.Refusals.{HasNames, NamesPlace}
+use Rattle.pd_sessions.specs.Refusals.{HasNames}
 
 -- the process of an event is there
 event_process : (c : Computation) (e : Place) → IsEvent c e → e.process < length c

@@ -1,5 +1,5 @@
 //! Refusals in the words of a report.
-ghost use Rattle.pd_report.specs.Views.{named_place_view, named_places_view, refusal_view};
+ghost use Rattle.pd_report.specs.Views.{named_place_view, refusal_view};
 ghost use Rattle.pd_sessions.specs.Refusals.{HasNames, IsDocumentRefusal, NamesPlace, NamesStream, kind_word};
 ghost use Rattle.pd_format.specs.RefusalWords.{match_refusal, named_place, session_refusal, stream_word};
 ghost use Rattle.pd_format.specs.Reports as reports;

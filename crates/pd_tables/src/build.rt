@@ -1,13 +1,10 @@
 //! A comparison of two sums as tables.
-ghost use Rattle.pd_format.specs.Limits.{predicate_byte_limit, process_limit};
+ghost use Rattle.pd_format.specs.Limits.{predicate_byte_limit};
 ghost use Rattle.pd_model.specs.Cuts.{FitsProcesses};
-ghost use Rattle.pd_model.specs.Predicates as model;
-ghost use Rattle.pd_model.specs.Predicates.{state_at, test_of};
 ghost use Rattle.pd_neighbors.specs.Neighbors.{cut_at};
-ghost use Rattle.pd_pred.specs.Trees.{comparison_view, sum_view, terms_view};
-ghost use Rattle.pd_tables.specs.Parts.{SpeakBelow, parts_below};
-ghost use Rattle.pd_tables.specs.Tables.{HaveParts, IsTableOf, columns_value, compares_at, linear_holds};
-ghost use Rattle.std.specs.Prelude.{◌≡◌, ℕ, ◌+◌, ◌-◌, ◌<◌, ◌≤◌, ◌-ℤ◌, IfOk, IfSome, List, length, vec_len};
+ghost use Rattle.pd_pred.specs.Trees.{comparison_view, terms_view};
+ghost use Rattle.pd_tables.specs.Tables.{HaveParts, IsTableOf, compares_at, linear_holds};
+ghost use Rattle.std.specs.Prelude.{◌≡◌, ℕ, ◌-◌, ◌<◌, ◌≤◌, IfOk, IfSome, List, length, vec_len};
 
 use super::linear::{Column, Linear};
 use super::parts::{constant_of, row_of, speak_below};

@@ -1,6 +1,5 @@
 //! A predicate's tree as a compiled predicate.
 ghost use Rattle.pd_pred.specs.Trees.{tree_view};
-ghost use Rattle.pd_model.specs.Predicates as model;
 ghost use Rattle.pd_tables.specs.Nodes.{IsCompiled, IsJoined, IsSplit, node_holds};
 ghost use Rattle.pd_tables.specs.Tables.{linear_holds};
 ghost use Rattle.pd_model.specs.Predicates.{Recorded};

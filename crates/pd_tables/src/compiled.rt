@@ -3,7 +3,7 @@ ghost use Rattle.pd_model.specs.Cuts.{FitsProcesses};
 ghost use Rattle.pd_model.specs.Predicates.{test_of};
 ghost use Rattle.pd_neighbors.specs.Neighbors.{cut_at};
 ghost use Rattle.pd_pred.specs.Views.{predicate_view};
-ghost use Rattle.std.specs.Prelude.{◌≡◌, ℕ, ◌+◌, ◌-◌, ◌<◌, ◌≤◌, IfNone, IfOk, IfSome, false, length};
+ghost use Rattle.std.specs.Prelude.{◌≡◌, ℕ, ◌-◌, ◌<◌, ◌≤◌, IfNone, IfOk, IfSome, false, length};
 
 use super::compile::{Rest, compile};
 use super::node::{Node, holds, mask, may};

@@ -3,7 +3,7 @@ ghost use Rattle.pd_model.specs.Predicates.{Recorded};
 ghost use Rattle.pd_tables.specs.Clauses.{clauses_hold};
 ghost use Rattle.pd_tables.specs.Nodes.{head_holds, node_holds};
 ghost use Rattle.pd_tables.specs.Zero.{joined};
-ghost use Rattle.std.specs.Prelude.{◌≡◌, ℕ, ◌≤◌, IfOk, IfSome, List};
+ghost use Rattle.std.specs.Prelude.{◌≡◌, ℕ, IfOk, IfSome, List};
 
 use super::clauses::Clauses;
 use super::node::Node;

@@ -31,7 +31,7 @@ pub(crate) struct Linear {
 impl Linear {
     ghost use Rattle.pd_format.specs.Limits.{event_limit, process_limit};
     ghost use Rattle.pd_bits.specs.Words.{has_bit};
-    ghost use Rattle.pd_tables.specs.Tables.{columns_value, linear_holds, linear_value};
+    ghost use Rattle.pd_tables.specs.Tables.{columns_value, linear_holds};
     ghost use Rattle.pd_tables.specs.Zero.{IsBetween, part_limit};
     ghost use Rattle.std.specs.Int.RustNames.{unsigned_abs};
     ghost use Rattle.std.specs.Prelude.{◌≡◌, ℕ, ◌+◌, ◌-◌, ◌*◌, ◌<◌, ◌≤◌, ◌+ℤ◌, List, IfSome, false, true};

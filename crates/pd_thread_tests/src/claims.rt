@@ -1,6 +1,6 @@
 //! Claims drawn by one seat, and by seats in three threads.
-ghost use Rattle.pd_expand.specs.Claims.{IsDone, IsSeatOf};
-ghost use Rattle.std.specs.Prelude.{All, IsOk, length};
+ghost use Rattle.pd_expand.specs.Claims.{IsSeatOf};
+ghost use Rattle.std.specs.Prelude.{All};
 ghost use Rattle.std.specs.Thread.{IsSync};
 
 use pd_expand::{ClaimSeat, Claims};

@@ -1,6 +1,6 @@
 //! The next level by several workers, beside the one that a single thread finds: `next_level`, `Level` and `marks`.
 ghost use Rattle.pd_model.specs.Cuts.{IsConsistent};
-ghost use Rattle.std.specs.Prelude.{◌≤◌, All, IfOk};
+ghost use Rattle.std.specs.Prelude.{All, IfOk};
 
 use crate::asked::{Question, is_right};
 use pd_clock::Computation;

@@ -3,7 +3,7 @@ ghost use Rattle.pd_format.specs.Limits.{width_limit};
 ghost use Rattle.pd_lists.specs.Answers.{IsLeastRoot};
 ghost use Rattle.pd_model.specs.Cuts.{total};
 ghost use Rattle.pd_walk.specs.Stages.{AllAnswered};
-ghost use Rattle.std.specs.Prelude.{◌≡◌, ◌+◌, ◌*◌, ◌<◌, ◌≤◌, ℕ, IfOk, length};
+ghost use Rattle.std.specs.Prelude.{◌+◌, ◌*◌, ◌<◌, ◌≤◌, ℕ, IfOk, length};
 
 use super::finish::finish_all;
 use super::walk::walk_up;

@@ -1,13 +1,9 @@
 //! The walk up the whole levels.
-ghost use Rattle.pd_format.specs.Limits.{event_limit};
 ghost use Rattle.pd_lists.specs.Splits.{AreBeside};
-ghost use Rattle.pd_marks.specs.Skips.{HaveNoHits};
 ghost use Rattle.pd_model.specs.Cuts.{total};
-ghost use Rattle.pd_model.specs.Events.{event_count};
-ghost use Rattle.pd_model.specs.Order.{HasNoCycle};
 ghost use Rattle.pd_refusals.specs.Refusals.{AreRefusals};
 ghost use Rattle.pd_runs.specs.Levels.{IsWholeLevel};
-ghost use Rattle.pd_walk.specs.Stages.{AllStand, AreCompiled, AreFor, HasComeTo, HasEnded, Stands};
+ghost use Rattle.pd_walk.specs.Stages.{AllStand, AreCompiled, AreFor, HasComeTo, HasEnded};
 ghost use Rattle.pd_walk.specs.declared.stage.Stage.{Stage};
 ghost use Rattle.pd_walk.specs.declared.stage.Stage.TheVariants.{Open};
 ghost use Rattle.std.specs.Prelude.{◌≡◌, ◌+◌, ◌*◌, ◌<◌, ◌≤◌, ℕ, IfOk, IsTrue, [], false, length, slice_index_or};
@@ -20,7 +16,6 @@ use pd_back::Held;
 use pd_clock::Computation;
 use pd_expand::Crew;
 use pd_level::{Gate, LevelKey};
-use pd_marks::Skips;
 use pd_pred::Pred;
 use pd_refusals::Refusals;
 use pd_runs::{Steps, Whole};

@@ -1,10 +1,7 @@
 //! Runs that are skipped: some are, for each predicate.
 ghost use Rattle.pd_keys.specs.Pairs.{single_limit};
-ghost use Rattle.pd_marks.specs.Skips.{HaveNoHits};
-ghost use Rattle.pd_model.specs.Predicates.{test_of};
 ghost use Rattle.pd_refusals.specs.Refusals.{AreRefusals};
-ghost use Rattle.pd_runs.specs.Levels.{IsWholeLevel};
-ghost use Rattle.std.specs.Prelude.{◌<◌, ◌≤◌, IfOk, length};
+ghost use Rattle.std.specs.Prelude.{◌<◌, ◌≤◌, length};
 
 use crate::runs::level_after;
 use pd_clock::Computation;

@@ -1,5 +1,5 @@
 -- What is done is what the arguments ask for.
-use Rattle.std.proofs.Common.{◌≡◌, ◌⊎◌, inl, inr, map, option_map, refl, subst, sym, true, List, ℕ, Option, Some, None, Bor}
+use Rattle.std.proofs.Common.{◌≡◌, ◌⊎◌, inl, inr, map, option_map, refl, subst, true, List, ℕ, Option, Some, None, Bor}
 use Rattle.pd_judgement.specs.Statuses.{CheckFiles, CheckLeaves, FilesJudgementLeaves, IsLongReport, JudgeFiles, ServeStreams, reliance}
 use Rattle.pd_cli.proofs.FilesRead.{files_of_names}
 use Rattle.clap.specs.Values.{kind_of}

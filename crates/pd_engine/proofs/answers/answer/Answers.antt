@@ -1,5 +1,5 @@
 -- The answer for one predicate.
-use Rattle.std.proofs.Common.{rules, ◌≡◌, ◌∙◌, ℕ, List, length, ap, sym, subst}
+use Rattle.std.proofs.Common.{rules, ◌≡◌, ◌∙◌, List, length, ap, sym, subst}
 use Rattle.pd_model.specs.Predicates.{test_of}
 use Rattle.pd_judgement.specs.Judgements.{printed_definitely}
 use Rattle.pd_format.specs.Names.{ProcessNames}

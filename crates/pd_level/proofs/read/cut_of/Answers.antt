@@ -1,5 +1,5 @@
 -- One count more is read at a time.
-use Rattle.std.proofs.Common.{rules, ◌≡◌, ℕ, ◌+◌, ◌++◌, ◌∷◌, [], List, length, get_or, take, set, sym, ap, ◌∙◌, subst, arith}
+use Rattle.std.proofs.Common.{rules, ◌≡◌, ℕ, ◌+◌, ◌++◌, ◌∷◌, [], List, get_or, take, set, sym, ap, ◌∙◌, subst, arith}
 use Rattle.std.proofs.lemmas.List.{length-set, take_all, take_more, take_more_set}
 use Rattle.pd_keys.specs.Keys.{digits}
 use Rattle.pd_keys.proofs.Keys.{length-digits}

@@ -1,5 +1,5 @@
 -- The computation of traces whose messages are lawful, or the refusal.
-use Rattle.std.proofs.Common.{List, length, sym, subst}
+use Rattle.std.proofs.Common.{List, sym, subst}
 use Rattle.std.specs.Prelude.{All}
 use Rattle.std.proofs.lemmas.Simd.{map-map}
 use Rattle.pd_model.specs.Order.{IsReportedCycle}

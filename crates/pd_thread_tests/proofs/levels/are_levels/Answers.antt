@@ -1,5 +1,5 @@
 -- The empty cut is consistent.
-use Rattle.std.proofs.Common.{◌≡◌, List, [], ◌∷◌, All, ap, sym, subst, ℕ}
+use Rattle.std.proofs.Common.{[], ◌∷◌, All, sym, subst}
 use Rattle.pd_model.specs.Cuts.{IsConsistent, empty_cut}
 use Rattle.pd_model.proofs.ListedCuts.{level_consistent}
 use Rattle.pd_level.specs.Levels.{Levelled}

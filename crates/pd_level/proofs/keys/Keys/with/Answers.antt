@@ -1,5 +1,5 @@
 -- Two lists of one kind are joined.
-use Rattle.std.proofs.Common.{◌≡◌, ℕ, Contains, ◌⊎◌, ◌↔◌, sym, subst}
+use Rattle.std.proofs.Common.{sym, subst}
 use Rattle.pd_level.specs.Levels.{numbers}
 use Rattle.pd_level.specs.declared.keys.Keys.{Keys}
 use Rattle.pd_level.proofs.Unions.{AreBoth}

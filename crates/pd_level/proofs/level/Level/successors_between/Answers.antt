@@ -1,15 +1,13 @@
 -- The keys that are made are those of the cuts between.
-use Rattle.std.proofs.Common.{◌≡◌, ◌∙◌, Bool, ℕ, ◌<◌, ◌≤◌, List, length, refl, ap, sym, subst, arith}
+use Rattle.std.proofs.Common.{◌≡◌, Bool, ℕ, ◌<◌, ◌≤◌, List, length, refl, ap, sym, subst, arith}
 use Rattle.std.specs.Prelude.{All}
 use Rattle.pd_format.specs.Limits.{event_limit}
 use Rattle.pd_model.specs.Events.{Computation, event_count}
 use Rattle.pd_model.specs.Answers.{IsListOf}
 use Rattle.pd_model.specs.Cuts.{IsConsistent}
 use Rattle.pd_keys.specs.Keys.{AreKeys}
-use Rattle.pd_keys.specs.Pairs.{single_limit}
-use Rattle.pd_format.specs.Limits.{process_limit}
 use Rattle.pd_level.specs.MoreCuts.{AreCuts, IsMoreBySome}
-use Rattle.pd_level.specs.Levels.{FitsKind, HasRoom, IsKept, Levelled, cuts_of, is_single, numbers}
+use Rattle.pd_level.specs.Levels.{FitsKind, HasRoom, Levelled, cuts_of, is_single, numbers}
 use Rattle.pd_level.specs.declared.keys.Keys.{Keys}
 use Rattle.pd_level.specs.declared.keys.Keys.TheVariants as kind
 use Rattle.pd_level.proofs.Levels.{IsNextBetween, are_cuts, length-cuts, next_keys, next_list, process_count, some_keys}
