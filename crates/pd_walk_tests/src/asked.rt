@@ -8,7 +8,8 @@ use crate::refusals::are_skipped;
 use crate::runs::{
     FOUR, FOUR_COUNTS, FOUR_RUNS, FOUR_STREAMS, TWO, TWO_COUNTS, TWO_STREAMS, are_whole,
 };
-use crate::{order, refusals, seams};
+use crate::through::{Way, are_ways};
+use crate::{order, refusals, seams, through};
 use pd_clock::Computation;
 use pd_format::STREAM_COUNT_LIMIT;
 use pd_match::match_messages;
@@ -34,6 +35,8 @@ pub(crate) enum Question<'a> {
     Limits,
     /// Whether the answers for Definitely are the known ones.
     Definite,
+    /// Whether each of these cuts has its observation.
+    Through(&'a [Way<'a>]),
 }
 
 /// Whether the session answers the question as it should. Nothing if memory was refused before. If it was refused in a
@@ -78,6 +81,7 @@ pub(crate) fn is_right<K: RandomSource, T: Threads + Wait + Sync>(
         Question::Skips => are_skipped(rt, alloc, &computation, &spec),
         Question::Limits => are_same(rt, alloc, &computation, &spec),
         Question::Definite => are_answers(rt, alloc, &computation, &spec, again),
+        Question::Through(ways) => are_ways(alloc, &computation, ways),
     }
 }
 
@@ -126,6 +130,21 @@ fn sessions_answer_as_they_should(rt: HostRuntime) {
             document: refusals::DOCUMENT,
             streams: &refusals::STREAMS,
             question: Question::Skips,
+        },
+        Row {
+            document: order::DOCUMENT,
+            streams: &order::STREAMS,
+            question: Question::Through(&through::WAYS),
+        },
+        Row {
+            document: through::CROSSED,
+            streams: &through::CROSSED_STREAMS,
+            question: Question::Through(&through::CROSSED_WAYS),
+        },
+        Row {
+            document: through::BROADCAST,
+            streams: &through::BROADCAST_STREAMS,
+            question: Question::Through(&through::BROADCAST_WAYS),
         },
         Row {
             document: THREE,

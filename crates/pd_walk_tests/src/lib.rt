@@ -14,6 +14,7 @@
 //! - `seams`: sessions of nine and of sixteen processes, whose cuts have a pair of numbers as their key
 //! - `limits`: the answers, whatever the width of a whole level at which the walk goes on by lists
 //! - `definite`: answers for Definitely, how many levels are held for them, and what is found of evidence
+//! - `through`: observations through a cut
 #![tactic(auto)]
 
 #[cfg(test)]
@@ -34,3 +35,5 @@ mod refusals;
 mod runs;
 #[cfg(test)]
 mod seams;
+#[cfg(test)]
+mod through;
