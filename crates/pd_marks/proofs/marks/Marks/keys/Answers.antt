@@ -67,7 +67,8 @@ returns-clause-kept g c =
     c.loop-i.invariant
     ∙ ap (λ (rs : List Run). map key_of (marked_of_runs c.args.level.now.number rs
     (lists_of rs c.args.self.now.words 0))) (all_taken c.args.level.now.runs c.loop-i.i end) in
-    marked_kept c.args.level.now c.args.self.now (map g.K.Key.number c.loop-i.keys.items) c.requires c.limits.ensures.rows keys
+    marked_kept c.args.level.now c.args.self.now (map g.K.Key.number c.loop-i.keys.items) c.requires
+    c.limits.ensures.rows keys
 
 pub returns-clause-list : goal.returns-clause-list
 returns-clause-list g c events test whole marking =
