@@ -49,7 +49,8 @@ const DRAW_ABOUT: &str =
 
 /// What the help of `draw` ends with.
 const DRAW_AFTER: &str =
-    "A picture is written to the standard output, as SVG. The report is read and held against the document and the \
+    "A picture is written to the standard output, as SVG. With a cut the events are numbered in the order of an \
+observation through it. The report is read and held against the document and the \
 streams as `check` does. The status is 0 if the picture is written, 1 if something that a check finds stands against \
 it, which is then written to the standard error, 2 if the arguments are refused or there is no predicate of the name \
 that is asked for, 3 if a file can't be opened or read or the output can't be written, and 4 if memory runs out.\n\n\

@@ -1,10 +1,14 @@
 -- The evidence that a picture shows of a predicate, and what the picture is called.
-use Rattle.std.specs.Prelude.{◌≡◌, ℕ, List, ◌++◌, codes, map}
-use Rattle.pd_model.specs.Answers.{IsAvoidingObservation}
+use Rattle.std.specs.Prelude.{◌≡◌, ℕ, Contains, List, ◌++◌, codes, map}
+use Rattle.pd_model.specs.Answers.{IsAvoidingObservation, cuts_along}
+use Rattle.pd_model.specs.Cuts.{empty_cut}
+use Rattle.pd_model.specs.Events.{Computation}
+use Rattle.pd_model.specs.Observations.{IsObservation}
 use Rattle.pd_model.specs.Predicates.{Predicate, Recorded, state_at, test_of}
 use Rattle.pd_format.specs.Names.{ProcessNames, name_of_process}
 use Rattle.pd_format.specs.Reports.{Answer, Definitely, Possibly}
 use Rattle.pd_judgement.specs.Findings.{IsGoodCut, IsGoodPath}
+use Rattle.pd_evidence.specs.Ways.{IsThrough}
 use Rattle.pd_picture.specs.Pictures.{texts_view}
 use Rattle.pd_picture.specs.declared.evidence.Evidence.{Evidence}
 use Rattle.pd_picture.specs.declared.evidence.Evidence.TheVariants.{Absent, Cut, Observation}
@@ -22,18 +26,26 @@ pub record HasGoodEvidence (names : List ProcessNames) (recorded : Recorded) (pr
 
 -- ---- what is shown
 
--- this cut, which is consistent and satisfies, with what the variables that the predicate names are worth there
+-- the path is that of an observation that contains the cut: the one that takes the least process at each step
+abbrev pub LeadsThrough : Computation → List ℕ → List ℕ → Type 0
+LeadsThrough c cut path =
+    IsThrough c cut path × IsObservation c (cuts_along (empty_cut c) path)
+    × Contains (cuts_along (empty_cut c) path) cut
+
+-- this cut, which is consistent and satisfies, with what the variables that the predicate names are worth there, and an
+-- observation through it
 abbrev pub ShowsCut : List ProcessNames → Recorded → Predicate → List ℕ → Evidence → Type 0
 ShowsCut names recorded predicate cut Absent = ⊥
-ShowsCut names recorded predicate cut (Cut counts values) =
+ShowsCut names recorded predicate cut (Cut counts values path) =
     (counts.items ≡ cut) × IsGoodCut recorded.events (test_of recorded predicate) cut
     × (texts_view values.items ≡ value_texts names (state_at recorded.initial recorded.events cut) predicate)
+    × LeadsThrough recorded.events cut path.items
 ShowsCut names recorded predicate cut (Observation path) = ⊥
 
 -- an observation with no satisfying cut, whose processes have these names
 abbrev pub ShowsPath : List ProcessNames → Recorded → Predicate → List (List ℕ) → Evidence → Type 0
 ShowsPath names recorded predicate reported Absent = ⊥
-ShowsPath names recorded predicate reported (Cut counts values) = ⊥
+ShowsPath names recorded predicate reported (Cut counts values path) = ⊥
 ShowsPath names recorded predicate reported (Observation path) =
     (map (name_of_process names) path.items ≡ reported)
     × IsAvoidingObservation recorded.events (test_of recorded predicate) path.items
@@ -41,7 +53,7 @@ ShowsPath names recorded predicate reported (Observation path) =
 -- nothing
 abbrev pub ShowsNothing : Evidence → Type 0
 ShowsNothing Absent = Unit {0}
-ShowsNothing (Cut counts values) = ⊥
+ShowsNothing (Cut counts values path) = ⊥
 ShowsNothing (Observation path) = ⊥
 
 -- what is shown of an answer whose `possibly` has no cut: the observation, if its `definitely` has one
@@ -59,7 +71,8 @@ ShowsPossibly names recorded predicate Possibly.No definitely evidence =
 ShowsPossibly names recorded predicate (Possibly.Unknown level) definitely evidence =
     ShowsDefinitely names recorded predicate definitely evidence
 
--- What is shown of an answer: the cut of a *possibly yes*, else the observation of a *definitely no*, else nothing.
+-- What is shown of an answer: the cut of a *possibly yes* and an observation through it, else the observation of a
+-- *definitely no*, else nothing.
 abbrev pub Shows : List ProcessNames → Recorded → Predicate → Answer → Evidence → Type 0
 Shows names recorded predicate answer evidence =
     ShowsPossibly names recorded predicate answer.possibly answer.definitely evidence
@@ -68,7 +81,7 @@ Shows names recorded predicate answer evidence =
 
 abbrev pub claim : Evidence → List ℕ
 claim Absent = codes " has no evidence"
-claim (Cut counts values) = codes " possibly yes"
+claim (Cut counts values path) = codes " possibly yes"
 claim (Observation path) = codes " definitely no"
 
 -- the picture of a predicate of this name

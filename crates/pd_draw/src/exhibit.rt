@@ -2,7 +2,9 @@
 ghost use Rattle.pd_draw.specs.Exhibits.{HasGoodEvidence, Shows, ShowsCut, ShowsDefinitely, ShowsPath, claim, title_text};
 ghost use Rattle.pd_draw.specs.Values.{value_texts};
 ghost use Rattle.pd_judgement.specs.Findings.{IsGoodCut, IsGoodPath};
+ghost use Rattle.pd_model.specs.Cuts.{IsConsistent};
 ghost use Rattle.pd_model.specs.Predicates.{state_at, test_of};
+ghost use Rattle.pd_picture.specs.Pictures.{texts_view};
 ghost use Rattle.pd_pred.specs.Views.{predicate_view};
 ghost use Rattle.pd_report.specs.Views as views;
 ghost use Rattle.pd_spec.specs.Named.{named_view};
@@ -11,13 +13,29 @@ ghost use Rattle.std.specs.Prelude.{◌≡◌, IfOk, length, map, string_bytes};
 use super::values::value_texts;
 use pd_check::path_of;
 use pd_clock::{Computation, Cut};
+use pd_evidence::through;
 use pd_picture::Evidence;
 use pd_pred::{Names, Pred};
 use pd_report::{Answer, Definitely, Possibly};
 use pd_spec::NamedPred;
 use std::alloc::{AllocError, Global};
 
-/// A good cut, with what the predicate's variables are worth there.
+/// What the predicate's variables are worth at a cut.
+fn values_at(
+    alloc: Global,
+    names: &Names,
+    computation: &Computation<'_>,
+    pred: &Pred,
+    cut: &Cut,
+) -> Result<Vec<String>, AllocError>
+    requires { IsConsistent computation.now.events cut.now }
+    ensures { IfOk result (λ values. texts_view values.items ≡ value_texts names.now
+        (state_at computation.now.initial computation.now.events cut.now) (predicate_view pred.now)) }
+{
+    value_texts(alloc, names, pred.tree(), &computation.at(cut))
+}
+
+/// A good cut, with what the predicate's variables are worth there, and an observation through it.
 fn cut_of(
     alloc: Global,
     names: &Names,
@@ -29,9 +47,17 @@ fn cut_of(
     ensures { IfOk result (ShowsCut names.now computation.now (predicate_view pred.now) counts.now) }
 {
     let cut = Cut::new(alloc, counts)?;
-    let values = value_texts(alloc, names, pred.tree(), &computation.at(&cut))?;
+    let values = values_at(alloc, names, computation, pred, &cut)?;
     let counts = counts.to_vec(alloc)?;
-    Ok(Evidence::Cut { counts, values })
+    let found = through(alloc, computation, &cut)?;
+    match found {
+        Some(path) => Ok(Evidence::Cut {
+            counts,
+            values,
+            path,
+        }),
+        None => Ok(Evidence::Absent),
+    }
 }
 
 /// A good observation, whose processes have these names.

@@ -93,7 +93,7 @@ flight_shapes window columns flights e =
 -- the evidence has no cut, or the event is in it
 abbrev pub is_past : Evidence → Place → Bool
 is_past Absent e = true
-is_past (Cut counts values) e = nat_le e.number (slice_index counts.items e.process)
+is_past (Cut counts values path) e = nat_le e.number (slice_index counts.items e.process)
 is_past (Observation path) e = true
 
 -- the dot of an event, and its number below it
@@ -111,12 +111,12 @@ cut_x window columns counts p = column_x window (columns (place p (slice_index c
 
 abbrev pub cut_points : Window → (Place → ℕ) → List ℕ → ℕ → List Point
 cut_points window columns counts p =
-    point (cut_x window columns counts p) (lane_y p - 36) ∷ point (cut_x window columns counts p) (lane_y p + 36) ∷ []
+    point (cut_x window columns counts p) (lane_y p - 50) ∷ point (cut_x window columns counts p) (lane_y p + 36) ∷ []
 
--- the values of a process's variables at the cut, beside it
+-- the values of a process's variables at the cut, beside it, above the numbers of steps
 abbrev pub value_shapes : Window → (Place → ℕ) → List ℕ → List (List ℕ) → ℕ → List Seen
 value_shapes window columns counts values p =
-    SeenText class.Value (point (cut_x window columns counts p + 8) (lane_y p - 20)) anchor.Start 13
+    SeenText class.Value (point (cut_x window columns counts p + 8) (lane_y p - 36)) anchor.Start 13
     (shortened 40 (text_at values p)) ∷ []
 
 abbrev pub cut_shapes : Window → (Place → ℕ) → (lanes : ℕ) → List ℕ → List (List ℕ) → List Seen
@@ -124,12 +124,16 @@ cut_shapes window columns lanes counts values =
     SeenPolyline class.Cut (upto (cut_points window columns counts) lanes)
     ∷ upto (value_shapes window columns counts values) lanes
 
+-- the height of the type of a step's number: one of six digits is set smaller, so that it has room
+abbrev pub step_size : ℕ → ℕ
+step_size step = if nat_le step 99999 then 13 else 11
+
 -- the number of a step, above the event that it adds, if that is shown
 abbrev pub step_shapes : Window → (Place → ℕ) → (step : ℕ) → Place → List Seen
 step_shapes window columns step e =
     if is_shown window (columns e) then (
-    SeenText class.Step (point (column_x window (columns e)) (lane_y e.process - 20)) anchor.Middle 13 (decimal step)
-    ∷ []
+    SeenText class.Step (point (column_x window (columns e)) (lane_y e.process - 20)) anchor.Middle (step_size step)
+    (decimal step) ∷ []
     ) else []
 
 -- The steps of an observation from a cut on: each adds the next event of its process.
@@ -142,8 +146,9 @@ steps_shapes window columns cut step (p ∷ path) =
 -- what is shown of the evidence
 abbrev pub evidence_shapes : Window → (Place → ℕ) → Computation → Evidence → List Seen
 evidence_shapes window columns c Absent = []
-evidence_shapes window columns c (Cut counts values) =
+evidence_shapes window columns c (Cut counts values path) =
     cut_shapes window columns (length c) counts.items (texts_view values.items)
+    ++ steps_shapes window columns (replicate (length c) 0) 1 path.items
 evidence_shapes window columns c (Observation path) = steps_shapes window columns (replicate (length c) 0) 1 path.items
 
 -- ---- what is said
@@ -151,8 +156,8 @@ evidence_shapes window columns c (Observation path) = steps_shapes window column
 -- what the shapes mean
 abbrev pub legend : Evidence → List ℕ
 legend Absent = codes "Dots are events, arrows are messages; a broken arrow is a message in flight."
-legend (Cut counts values) =
-    codes "The thick line is a cut: what is left of it has happened, and the open dots have not."
+legend (Cut counts values path) =
+    codes "The thick line is a cut; open dots have not happened. Numbers above dots: an order of events through it."
 legend (Observation path) =
     codes "The numbers above the dots are the order of an observation in which no cut satisfies."
 
@@ -197,7 +202,8 @@ crossing_words counts names values p =
 -- the same of each process, if the evidence is a cut
 abbrev pub cut_words : (names : List (List ℕ)) → (lanes : ℕ) → Evidence → List ℕ
 cut_words names lanes Absent = []
-cut_words names lanes (Cut counts values) = upto (crossing_words counts.items names (texts_view values.items)) lanes
+cut_words names lanes (Cut counts values path) =
+    upto (crossing_words counts.items names (texts_view values.items)) lanes
 cut_words names lanes (Observation path) = []
 
 -- what stands in the picture, for those who don't see it
@@ -211,7 +217,7 @@ description window widest c names evidence =
 -- the column in which the evidence ends; 0 if it has no end
 abbrev pub focus : (Place → ℕ) → Computation → Evidence → ℕ
 focus columns c Absent = 0
-focus columns c (Cut counts values) = greatest_column columns (λ p. slice_index counts.items p) (length c)
+focus columns c (Cut counts values path) = greatest_column columns (λ p. slice_index counts.items p) (length c)
 focus columns c (Observation path) = 0
 
 -- the greatest column of all

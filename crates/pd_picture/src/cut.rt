@@ -37,7 +37,7 @@ fn push_crossing(
 {
     let x = cut_x(window, rows, counts, p);
     let y = lane_y(p);
-    points.push(Point { x, y: y - 36 })?;
+    points.push(Point { x, y: y - 50 })?;
     points.push(Point { x, y: y + 36 })?;
     Ok(())
 }
@@ -60,7 +60,7 @@ fn crossings(
     Ok(points)
 }
 
-/// Adds what the variables of a process are worth at the cut, beside it.
+/// Adds what the variables of a process are worth at the cut, beside it and above the numbers of steps.
 fn push_value(
     alloc: Global,
     shapes: &mut Vec<Shape>,
@@ -76,7 +76,7 @@ fn push_value(
     let text = shortened(alloc, text_at(values, p), 40)?;
     let at = Point {
         x: cut_x(window, rows, counts, p) + 8,
-        y: lane_y(p) - 20,
+        y: lane_y(p) - 36,
     };
     push_text(shapes, Class::Value, at, Anchor::Start, 13, text)
 }

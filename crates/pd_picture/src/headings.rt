@@ -21,7 +21,7 @@ fn legend(evidence: &Evidence) -> &'static str
             "Dots are events, arrows are messages; a broken arrow is a message in flight."
         }
         Evidence::Cut { .. } => {
-            "The thick line is a cut: what is left of it has happened, and the open dots have not."
+            "The thick line is a cut; open dots have not happened. Numbers above dots: an order of events through it."
         }
         Evidence::Observation(_) => {
             "The numbers above the dots are the order of an observation in which no cut satisfies."
@@ -198,7 +198,7 @@ fn push_cut_words(
         ++ cut_words (texts_view names.now) lanes evidence.now) }
 {
     match evidence {
-        Evidence::Cut { counts, values } => {
+        Evidence::Cut { counts, values, .. } => {
             push_crossings_words(alloc, text, counts, names, values, lanes)
         }
         Evidence::Absent | Evidence::Observation(_) => Ok(()),

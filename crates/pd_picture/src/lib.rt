@@ -1,11 +1,12 @@
 //! The picture of a run: what is drawn where, as a drawing of shapes.
 //!
 //! A picture has a line for each process with its events in order as dots, an arrow from each send to each of its
-//! receipts, and the evidence: a cut as a line across the processes with what the variables are worth there, or an
-//! observation as numbers at the events. A send that no event receives has a broken arrow. An event's column is the
-//! length of the longest chain of events that ends in it, so it stands right of all that happened before it, and each
-//! arrow points forward. Each event and each arrow of the columns that are shown stands in it exactly once. If a run
-//! has more columns than fit a page, those around the evidence are shown, and the picture says which.
+//! receipts, and the evidence: a cut as a line across the processes with what the variables are worth there, and an
+//! observation through it, or an observation alone. The steps of an observation are numbers at the events. A send that
+//! no event receives has a broken arrow. An event's column is the length of the longest chain of events that ends in
+//! it, so it stands right of all that happened before it, and each arrow points forward. Each event and each arrow of
+//! the columns that are shown stands in it exactly once. If a run has more columns than fit a page, those around the
+//! evidence are shown, and the picture says which.
 //!
 //! - `columns`: the columns of events
 //! - `window`: the columns that are shown

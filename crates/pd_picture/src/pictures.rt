@@ -58,8 +58,13 @@ fn push_evidence(
     let lanes = computation.processes();
     match evidence {
         Evidence::Absent => Ok(()),
-        Evidence::Cut { counts, values } => {
-            push_cut(alloc, shapes, window, rows, counts, values, lanes)
+        Evidence::Cut {
+            counts,
+            values,
+            path,
+        } => {
+            push_cut(alloc, shapes, window, rows, counts, values, lanes)?;
+            push_steps(alloc, shapes, window, rows, lanes, path)
         }
         Evidence::Observation(path) => push_steps(alloc, shapes, window, rows, lanes, path),
     }

@@ -1,7 +1,7 @@
 //! The numbers of the steps of an observation.
 ghost use Rattle.pd_match.specs.Views.{place_view};
 ghost use Rattle.pd_model.specs.Cuts.{one_more};
-ghost use Rattle.pd_picture.specs.Pictures.{step_shapes, steps_shapes};
+ghost use Rattle.pd_picture.specs.Pictures.{step_shapes, step_size, steps_shapes};
 ghost use Rattle.pd_picture.specs.Shapes.{all_seen};
 ghost use Rattle.pd_picture.specs.Tables.{column_at};
 ghost use Rattle.std.specs.Prelude.{◌≡◌, ◌<◌, ◌^◌, ◌++◌, OnOk, replicate, slice_index};
@@ -11,6 +11,13 @@ use super::window::{Window, column_at, count_at};
 use pd_clock::Place;
 use pd_svg::{Class, Point, Shape};
 use std::alloc::{AllocError, Global};
+
+/// The height of the type of a step's number: one of six digits is set smaller, so that it has room.
+fn step_size(step: u64) -> u32
+    ensures { result ≡ step_size step }
+{
+    if step <= 99_999 { 13 } else { 11 }
+}
 
 /// Adds the number of a step above the event that it adds, if that is shown.
 fn push_step(
@@ -32,7 +39,7 @@ fn push_step(
         x: at.x,
         y: at.y - 20,
     };
-    push_number(alloc, shapes, Class::Step, above, 13, step)
+    push_number(alloc, shapes, Class::Step, above, step_size(step), step)
 }
 
 /// Counts one event of a process more.

@@ -43,6 +43,7 @@ fn drawing_of(
     let evidence = Evidence::Cut {
         counts: vec![in alloc; 0, 0, 0]?,
         values: vec![in alloc; first, second]?,
+        path: Vec::new(alloc),
     };
     picture(
         alloc,
