@@ -1,0 +1,4 @@
+-- The modules of lemmas of this crate.
+pub mod Naming
+pub mod Locality
+pub mod Building
