@@ -7,9 +7,9 @@ use Rattle.pd_model.specs.Lattice.{IsWithin, meet}
 use Rattle.pd_model.specs.Answers.{LexBelow}
 use Rattle.pd_model.proofs.Counts.{sum_le, same_from_sum}
 use Rattle.pd_model.proofs.MeetAndJoin.{meet_at, meet_consistent, meet_within_left, length_meet}
-use Rattle.pd_model.proofs.OneAnswer.{lex_transitive}
+use Rattle.pd_model.proofs.OneAnswer.{lex_transitive, lex_irreflexive}
 use Rattle.pd_least.specs.LeastCuts.{IsGood, IsLeastGood, OneLeastGood}
-use Rattle.pd_least.specs.CutOrder.{ComesBefore, BeforeOnward, FirstLeastIsFirst, NoneGoodNoneSatisfies}
+use Rattle.pd_least.specs.CutOrder.{ComesBefore, BeforeOnward, FirstLeastIsFirst, NoneGoodNoneSatisfies, NotBeforeItself}
 
 -- the first place at which two lists differ decides
 pub lex_at : (xs ys : List ℕ) (p : ℕ) → length xs ≡ length ys → p < length xs
@@ -80,7 +80,10 @@ before_onward a b d (inl x) (inr (e, l)) = inl (omega arith)
 before_onward a b d (inr (e, l)) (inl y) = inl (omega arith)
 before_onward a b d (inr (e, l)) (inr (f, m)) = inr (e ∙ f, lex_transitive a b d l m)
 
--- consistent cuts within each other
+pub not_before_itself : NotBeforeItself
+not_before_itself a (inl less) = omega arith
+not_before_itself a (inr (e, below)) = lex_irreflexive a below
+
 same_length : (c : Computation) (a b : List ℕ) → IsConsistent c a → IsConsistent c b → length a ≡ length b
 same_length c a b oka okb = oka.fits.one_each ∙ sym okb.fits.one_each
 

@@ -27,6 +27,10 @@ pub record IsFirstLeast (c : Computation) (goods : ℕ → ℕ → ℕ → Bool)
 abbrev pub BeforeOnward : Type 0
 BeforeOnward = (a b d : List ℕ) → ComesBefore a b → ComesBefore b d → ComesBefore a d
 
+-- No cut comes before itself.
+abbrev pub NotBeforeItself : Type 0
+NotBeforeItself = (a : List ℕ) → ¬ ComesBefore a a
+
 -- The first of the least good cuts is the first satisfying one.
 abbrev pub FirstLeastIsFirst : Type 0
 FirstLeastIsFirst =
