@@ -1,12 +1,11 @@
 -- Terms that are joined.
 use Rattle.std.proofs.Common.{◌≡◌, ◌+◌, ◌<◌, ℕ, zero, suc, List, [], ◌∷◌, ◌++◌, All, length, length-append, get_or, map, take, append-nil, append_assoc, refl, sym, ap, ◌∙◌, subst, arith}
 use Rattle.std.specs.Global.{Global}
-use Rattle.std.specs.Prelude.{Bool, true, false, ◌&&◌, ◌||◌, not, cond, Option, Some, None, Vec, flat_map, slice_get}
+use Rattle.std.specs.Prelude.{Bool, true, false, ◌&&◌, ◌||◌, not, cond, Option, Some, Vec, slice_get}
 use Rattle.std.proofs.lemmas.Grind.{flat_map-append}
 use Rattle.std.proofs.lemmas.List.{map-append, take_more}
-use Rattle.pd_model.specs.Cuts.{FitsProcesses}
-use Rattle.pd_model.specs.Predicates.{Predicate, Recorded, And, Or, Not, test_of}
-use Rattle.pd_terms.specs.Rows.{AreOf, AreTermsOf, AreWithin, IsRowOf, MakesTerms, numbers_view, products, row_holds, term_holds, terms_hold, turned}
+use Rattle.pd_model.specs.Predicates.{Predicate, Recorded, And, Or, test_of}
+use Rattle.pd_terms.specs.Rows.{AreOf, IsRowOf, MakesTerms, numbers_view, products, row_holds, term_holds, terms_hold, turned}
 use Rattle.pd_terms.specs.declared.row.Row.{Row}
 
 products_push : (xs : List (List ℕ)) (x : List ℕ) (ys : List (List ℕ)) → products (xs ++ x ∷ []) ys

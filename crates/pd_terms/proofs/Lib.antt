@@ -2,3 +2,5 @@
 pub mod Naming
 pub mod Locality
 pub mod Building
+pub mod Firsts
+pub mod Allowed

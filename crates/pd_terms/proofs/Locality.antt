@@ -1,8 +1,7 @@
 -- What is true of a comparison that names one process depends on the count of that process alone.
 use Rattle.std.proofs.Common.{◌≡◌, ◌≤◌, ◌⊎◌, inl, inr, ℕ, zero, suc, ℤ, List, [], ◌∷◌, length, refl, sym, ap, ◌∙◌, subst, arith}
 use Rattle.std.proofs.lemmas.List.{get_or_past}
-use Rattle.std.specs.Prelude.{Bool, Option, Some, None, pos, ◌+ℤ◌, ◌*ℤ◌, slice_get, slice_index, slice_index_or, take}
-use Rattle.pd_model.specs.Cuts.{FitsProcesses}
+use Rattle.std.specs.Prelude.{pos, ◌+ℤ◌, ◌*ℤ◌, slice_get, slice_index, slice_index_or, take}
 use Rattle.pd_model.specs.Events.{Event, events_of}
 use Rattle.pd_model.specs.Predicates.{Sign, Term, Number, Variable, Times, Comparison, Compare, Predicate, Recorded, compares, holds_at, last_set_if_there, signed, state_at, sum_value, term_value, test_of}
 use Rattle.pd_terms.specs.Locals.{IsComparisonOf, NameAlone, NamesAlone}

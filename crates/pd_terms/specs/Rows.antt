@@ -1,5 +1,5 @@
 -- Terms by the counts of processes.
-use Rattle.std.specs.Prelude.{◌≡◌, ℕ, ◌+◌, ◌*◌, ◌<◌, ◌≤◌, All, Bool, true, false, ◌&&◌, ◌||◌, cond, nat_eq, not, List, [], ◌∷◌, ◌++◌, flat_map, length, map, Option, Some, None, Vec, slice_get, slice_index, slice_index_or}
+use Rattle.std.specs.Prelude.{◌≡◌, ℕ, ◌<◌, All, Bool, true, false, ◌&&◌, ◌||◌, cond, nat_eq, not, List, [], ◌∷◌, ◌++◌, flat_map, length, map, Option, Some, None, Vec, slice_get, slice_index, slice_index_or}
 use Rattle.pd_model.specs.Cuts.{FitsProcesses}
 use Rattle.pd_model.specs.Predicates.{Predicate, Recorded, test_of}
 use Rattle.std.specs.Global.{Global}

@@ -16,12 +16,15 @@
 //! - `row`: where a comparison holds
 //! - `build`: how terms are made
 //! - `terms`: the terms of a predicate
+//! - `first`: the first satisfying cut, by terms
 #![tactic(auto)]
 
 mod build;
 mod count;
+mod first;
 mod local;
 mod row;
 mod terms;
 
-pub use terms::{Term, Terms};
+pub use first::{ByTerms, possibly_by_terms};
+pub use terms::{TERM_LIMIT, Term, Terms};

@@ -10,6 +10,7 @@ use super::count::count;
 use super::local::is_local;
 use super::row::Row;
 use pd_clock::Computation;
+use pd_least::GoodCounts;
 use pd_pred::Pred;
 use std::alloc::{AllocError, Global};
 
@@ -96,11 +97,10 @@ impl Terms {
     }
 }
 
-impl Term<'_> {
-    /// Whether a count of a process is good for each comparison.
-    pub fn is_good(&self, process: usize, count: u64) -> bool
-        ensures { result ≡ term_allows self.now.rows.now self.now.numbers.now process count }
-    {
+impl GoodCounts for Term<'_> {
+    ghost good = { λ t. term_allows t.rows.now t.numbers.now };
+
+    fn is_good(&self, process: usize, count: u64) -> bool {
         for &i in self.numbers {
             if !allows(&self.rows[i], process, count) {
                 return false;

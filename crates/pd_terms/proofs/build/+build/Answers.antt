@@ -2,7 +2,7 @@
 use Rattle.std.proofs.Common.{◌≡◌, ◌-◌, List, ℕ, ◌∷◌, [], ◌++◌, length, length-append, refl, sym, ap, ◌∙◌, subst, arith}
 use Rattle.std.proofs.lemmas.Result.{IfOk-weaker}
 use Rattle.std.specs.Prelude.{Bool, true, false, not, cond}
-use Rattle.pd_model.specs.Predicates.{Predicate, Always, Never, And, Or, test_of}
+use Rattle.pd_model.specs.Predicates.{Predicate, And, Or, test_of}
 use Rattle.pd_pred.specs.Trees.{tree_view}
 use Rattle.pd_terms.specs.Rows.{MakesTerms, numbers_view, products, turned}
 use Rattle.pd_terms.specs.declared.row.Row.{Row}

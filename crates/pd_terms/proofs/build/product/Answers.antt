@@ -1,5 +1,5 @@
 -- One factor more.
-use Rattle.std.proofs.Common.{◌≡◌, List, ℕ, ◌++◌, map, take, sym, ap, ◌∙◌, arith}
+use Rattle.std.proofs.Common.{List, ℕ, ◌++◌, map, take, sym, ap, ◌∙◌, arith}
 use Rattle.std.specs.Global.{Global}
 use Rattle.std.specs.Prelude.{Vec}
 use Rattle.pd_terms.specs.Rows.{numbers_view, products}

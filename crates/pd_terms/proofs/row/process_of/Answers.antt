@@ -1,5 +1,5 @@
 -- The process that both sums name alone is this one, or isn't there.
-use Rattle.std.proofs.Common.{◌≡◌, ◌≤◌, inl, inr, length, refl, subst, sym, arith}
+use Rattle.std.proofs.Common.{◌≡◌, inl, inr, refl, sym, arith}
 use Rattle.pd_pred.specs.Trees.{sum_view}
 use Rattle.pd_terms.proofs.Naming.{both_is, both_none}
 use Rattle.pd_terms.proofs.row.process_of.Goals as goal

@@ -1,11 +1,10 @@
 -- A term is of rows that are there.
-use Rattle.std.proofs.Common.{◌≡◌, ◌<◌, ℕ, List, [], length, get_or, map, refl, sym, ap, ◌∙◌, subst, arith}
+use Rattle.std.proofs.Common.{◌≡◌, ◌<◌, ℕ, List, [], length, get_or, refl, sym, ap, ◌∙◌, subst, arith}
 use Rattle.std.proofs.lemmas.List.{length-map}
 use Rattle.std.proofs.lemmas.Option.{slice_get-map, slice_get_read, get_or_from_slice_get}
 use Rattle.std.specs.Global.{Global}
 use Rattle.std.specs.Prelude.{Option, Some, Vec, option_map, slice_get}
 use Rattle.pd_terms.specs.Rows.{numbers_view}
-use Rattle.pd_terms.specs.declared.terms.Terms.{Terms}
 use Rattle.pd_terms.proofs.terms.Terms.term.Goals as goal
 
 -- the numbers of the term with this number

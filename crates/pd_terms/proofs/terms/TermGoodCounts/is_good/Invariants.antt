@@ -1,7 +1,7 @@
 -- The comparisons that are seen allow the count.
 use Rattle.std.proofs.Common.{◌≡◌, drop}
 use Rattle.pd_terms.specs.Rows.{term_allows}
-use Rattle.pd_terms.proofs.terms.Term.is_good.Given as goal
+use Rattle.pd_terms.proofs.terms.TermGoodCounts.is_good.Given as goal
 
 abbrev pub invariant-loop-i : goal.invariant-loop-i
 invariant-loop-i l =

@@ -1,11 +1,11 @@
 -- The first comparison that is left is looked at.
-use Rattle.std.proofs.Common.{◌≡◌, ◌+◌, ◌<◌, ℕ, List, ◌∷◌, length, get_or, drop, refl, sym, ap, ◌∙◌, arith}
+use Rattle.std.proofs.Common.{◌≡◌, ◌+◌, ◌<◌, ℕ, List, length, get_or, drop, sym, ap, ◌∙◌, arith}
 use Rattle.std.proofs.lemmas.List.{drop_more}
 use Rattle.std.proofs.lemmas.Option.{slice_get-get_or}
-use Rattle.std.specs.Prelude.{Bool, true, false, ◌&&◌, Option, Some, slice_get}
+use Rattle.std.specs.Prelude.{Bool, ◌&&◌, Option, Some, slice_get}
 use Rattle.pd_terms.specs.Rows.{row_allows, term_allows}
 use Rattle.pd_terms.specs.declared.row.Row.{Row}
-use Rattle.pd_terms.proofs.terms.Term.is_good.Goals as goal
+use Rattle.pd_terms.proofs.terms.TermGoodCounts.is_good.Goals as goal
 
 -- what is left of a term, by its first comparison
 left : (rows : List Row) (numbers : List ℕ) (k : ℕ) (row : Row) (p count : ℕ) → k < length numbers
