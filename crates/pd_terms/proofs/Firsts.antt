@@ -11,7 +11,8 @@ none_of_last : (c : Computation) (goods : ℕ → ℕ → ℕ → Bool) (n : ℕ
     → IsLeastGood c (goods n) cut → (i : ℕ) (other : List ℕ) → i ≡ n → IsLeastGood c (goods i) other
     → ¬ ComesBefore other cut
 none_of_last c goods n cut one apart least i other same least' before =
-    let is : other ≡ cut = one c (goods n) other cut (subst (λ (j : ℕ). IsLeastGood c (goods j) other) same least') least
+    let is : other ≡ cut =
+    one c (goods n) other cut (subst (λ (j : ℕ). IsLeastGood c (goods j) other) same least') least
     in
     apart cut (subst (λ (first : List ℕ). ComesBefore first cut) is before)
 

@@ -42,7 +42,8 @@ same_state r p first second same v =
 take_none : (n : ℕ) (events : List Event) → events ≡ [] → take n events ≡ []
 take_none zero events none = refl
 take_none (suc n) [] none = refl
-take_none (suc n) (event ∷ events) none = absurd (let long : length (event ∷ events) ≡ 0 = ap length none in omega arith)
+take_none (suc n) (event ∷ events) none =
+    absurd (let long : length (event ∷ events) ≡ 0 = ap length none in omega arith)
 
 -- and at a process that isn't there on nothing
 pub no_state : (r : Recorded) (p : ℕ) (first second : List ℕ) → length r.events ≤ p → (v : ℕ)
@@ -65,5 +66,6 @@ depends r predicate left right p process (comparison, is) l alone where_is first
   where
     go : (p ≡ process) ⊎ (length r.events ≤ p) → (v : ℕ)
         → state_at r.initial r.events first p v ≡ state_at r.initial r.events second p v
-    go (inl at) v = same_state r p first second (subst (λ (q : ℕ). slice_index first q ≡ slice_index second q) (sym at) same) v
+    go (inl at) v =
+        same_state r p first second (subst (λ (q : ℕ). slice_index first q ≡ slice_index second q) (sym at) same) v
     go (inr le) v = no_state r p first second le v

@@ -45,17 +45,19 @@ IsLocal (Not inner) = IsLocal inner
 IsLocal (And left right) = IsLocal left × IsLocal right
 IsLocal (Or left right) = IsLocal left × IsLocal right
 
--- How many terms a predicate, or its opposite where it is negated, has as an `or` of terms, each of which is an `and` of
--- comparisons: one for a comparison or a constant, the sum of both at an `or`, the product of both at an `and`.
+-- How many terms a predicate, or its opposite where it is negated, has as an `or` of terms, each of which is an `and`
+-- of comparisons: one for a comparison or a constant, the sum of both at an `or`, the product of both at an `and`.
 abbrev pub term_count : (negated : Bool) → Predicate → ℕ
 term_count negated Always = 1
 term_count negated Never = 1
 term_count negated (Compare left comparison right) = 1
 term_count negated (Not inner) = term_count (not negated) inner
 term_count negated (And left right) =
-    cond negated (term_count negated left + term_count negated right) (term_count negated left * term_count negated right)
+    cond negated (term_count negated left + term_count negated right)
+    (term_count negated left * term_count negated right)
 term_count negated (Or left right) =
-    cond negated (term_count negated left * term_count negated right) (term_count negated left + term_count negated right)
+    cond negated (term_count negated left * term_count negated right)
+    (term_count negated left + term_count negated right)
 
 -- how many terms a predicate may have that is answered by its terms
 abbrev pub term_limit : ℕ

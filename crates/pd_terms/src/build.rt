@@ -117,8 +117,8 @@ pub(crate) fn build(
     rows: &mut Vec<Row>,
 ) -> Result<Vec<Vec<usize>>, AllocError>
     requires { IsLocal (tree_view tree.now) }
-    ensures { IfOk result (λ terms. MakesTerms computation.now negated (tree_view tree.now) rows.old.items rows.new.items
-        (numbers_view terms.items)) }
+    ensures { IfOk result (λ terms. MakesTerms computation.now negated (tree_view tree.now) rows.old.items
+        rows.new.items (numbers_view terms.items)) }
 {
     match tree {
         Tree::Always => constant(alloc, !negated),

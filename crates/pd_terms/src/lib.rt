@@ -1,8 +1,8 @@
 //! A predicate of which each comparison speaks of one process as an `or` of terms, each of which is an `and` of
 //! comparisons.
 //!
-//! A cut satisfies such a predicate exactly if it satisfies one of its terms, and a term exactly if each process is at a
-//! count that is good for its comparisons. So the least cut of a term is found without the lattice of all cuts.
+//! A cut satisfies such a predicate exactly if it satisfies one of its terms, and a term exactly if each process is at
+//! a count that is good for its comparisons. So the least cut of a term is found without the lattice of all cuts.
 //!
 //! ```text
 //! (a.n > 1 or b.n == 4) and c.n > 0    has the terms    a.n > 1 and c.n > 0,    b.n == 4 and c.n > 0

@@ -7,4 +7,5 @@ use Rattle.pd_terms.proofs.build.either.Goals as goal
 pub returns : goal.returns
 returns c =
     c.in_ok-push_each.ensures
-    ∙ ap (λ (terms : List (List ℕ)). numbers_view c.args.first.items ++ terms) (map_same (numbers_view c.args.second.now))
+    ∙ ap (λ (terms : List (List ℕ)). numbers_view c.args.first.items ++ terms)
+    (map_same (numbers_view c.args.second.now))

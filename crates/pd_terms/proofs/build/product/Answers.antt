@@ -11,7 +11,8 @@ loop-i-preserved c =
     c.in_ok-push_each.ensures
     ∙ (ap (λ (terms : List (List ℕ)). terms
     ++ map (λ (other : List ℕ). c.deref.result.now ++ other) (numbers_view c.args.second.now)) c.loop-i.invariant
-    ∙ (ap (λ (term : List ℕ). products (numbers_view (take c.loop-i.i c.args.first.now)) (numbers_view c.args.second.now)
+    ∙ (ap (λ (term : List ℕ). products (numbers_view (take c.loop-i.i c.args.first.now))
+    (numbers_view c.args.second.now)
     ++ map (λ (other : List ℕ). term ++ other) (numbers_view c.args.second.now)) (c.deref.ensures.value
     ∙ ap (λ (v : Vec ℕ Global). v.items) c.index-first-i.is)
     ∙ sym (products_more c.args.first.now c.loop-i.i c.index-first-i.result (numbers_view c.args.second.now)
