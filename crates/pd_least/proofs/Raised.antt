@@ -61,7 +61,10 @@ module _ (c : Computation) (e : Place) (old new : List ℕ) (ok : IsConsistent c
     raised_consistent = record { fits = fits; closed = closed }
       where
         fits : FitsProcesses c new
-        fits = record { one_each = raised.same ∙ ok.fits.one_each; within = λ q. within q (cases_lt 0 (get_or new q 0)) }
+        fits = record {
+          one_each = raised.same ∙ ok.fits.one_each;
+          within = λ q. within q (cases_lt 0 (get_or new q 0));
+        }
           where
             within : (q : ℕ) → (0 < get_or new q 0) ⊎ (get_or new q 0 ≤ 0) → get_or new q 0 ≤ event_count c q
             within q (inr none) = omega arith
@@ -147,7 +150,8 @@ module _ (c : Computation) (e : Place) (old new : List ℕ) (ok : IsConsistent c
             let l : length old ≡ length new = sym raised.same in
             let up : sum old ≤ sum new = sum_le old new grown l in
             let same : old ≡ new = same_from_sum old new l grown (omega arith) in
-            let at : get_or old e.process 0 ≡ get_or new e.process 0 = ap (λ (xs : List ℕ). get_or xs e.process 0) same in
+            let at : get_or old e.process 0 ≡ get_or new e.process 0 =
+            ap (λ (xs : List ℕ). get_or xs e.process 0) same in
             let h : e.number ≤ get_or new e.process 0 = here in
             absurd (omega arith)
 
