@@ -1,0 +1,6 @@
+-- The modules of lemmas of this crate.
+pub mod Naming
+pub mod Locality
+pub mod Building
+pub mod Firsts
+pub mod Allowed

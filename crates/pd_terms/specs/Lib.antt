@@ -1,0 +1,4 @@
+-- Which predicates have terms, what terms mean, and what they decide.
+pub mod Locals
+pub mod Rows
+pub mod FirstCuts

@@ -1,0 +1,30 @@
+//! A predicate of which each comparison speaks of one process as an `or` of terms, each of which is an `and` of
+//! comparisons.
+//!
+//! A cut satisfies such a predicate exactly if it satisfies one of its terms, and a term exactly if each process is at
+//! a count that is good for its comparisons. So the least cut of a term is found without the lattice of all cuts.
+//!
+//! ```text
+//! (a.n > 1 or b.n == 4) and c.n > 0    has the terms    a.n > 1 and c.n > 0,    b.n == 4 and c.n > 0
+//! ```
+//!
+//! Negations are pushed down to the comparisons. Where a comparison holds is kept in a row, by the counts of its
+//! process; a term is the numbers of its rows.
+//!
+//! - `local`: whether each comparison speaks of one process at most
+//! - `count`: how many terms a predicate has
+//! - `row`: where a comparison holds
+//! - `build`: how terms are made
+//! - `terms`: the terms of a predicate
+//! - `first`: the first satisfying cut, by terms
+#![tactic(auto)]
+
+mod build;
+mod count;
+mod first;
+mod local;
+mod row;
+mod terms;
+
+pub use first::{ByTerms, possibly_by_terms};
+pub use terms::{TERM_LIMIT, Term, Terms};

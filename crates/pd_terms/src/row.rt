@@ -1,0 +1,105 @@
+//! Where a comparison holds.
+ghost use Rattle.pd_model.specs.Cuts.{FitsProcesses, empty_cut};
+ghost use Rattle.pd_model.specs.Predicates.{test_of};
+ghost use Rattle.pd_pred.specs.Trees.{sum_view, tree_view};
+ghost use Rattle.pd_terms.specs.Locals.{IsComparisonOf, NameAlone, NameOne};
+ghost use Rattle.pd_terms.specs.Rows.{DependsOn, IsRowOf, turned};
+ghost use Rattle.std.specs.Prelude.{◌≡◌, ◌⊎◌, ◌<◌, ◌≤◌, ℕ, IfOk, length};
+
+use super::local::first_of_both;
+use pd_clock::{Computation, Cut};
+use pd_pred::{Sum, Tree};
+use std::alloc::{AllocError, Global};
+
+/// Where a comparison holds, by how many events of one process have happened.
+#[derive(Drop)]
+pub(crate) struct Row {
+    pub(crate) process: usize,
+    pub(crate) truths: Vec<bool>,
+}
+
+/// The process on whose count a comparison depends: the one that it names, or the first if it names none that is there.
+fn process_of(computation: &Computation<'_>, left: &Sum, right: &Sum) -> usize
+    requires { NameOne (sum_view left.now) (sum_view right.now) }
+    ensures within { result < length computation.now.events }
+    ensures alone { (p : ℕ) × NameAlone p (sum_view left.now) × NameAlone p (sum_view right.now)
+        × ((p ≡ result) ⊎ (length computation.now.events ≤ p)) }
+{
+    computation.limits();
+    match first_of_both(left, right) {
+        Some(process) => {
+            if process < computation.processes() {
+                process
+            } else {
+                0
+            }
+        }
+        None => 0,
+    }
+}
+
+/// A count of no event for each process.
+fn zeros(alloc: Global, computation: &Computation<'_>) -> Result<Vec<u64>, AllocError>
+    ensures { IfOk result (λ counts. counts.items ≡ empty_cut computation.now.events) }
+{
+    vec![in alloc; 0; computation.processes()]
+}
+
+/// The cut with no event.
+fn no_events(alloc: Global, computation: &Computation<'_>) -> Result<Cut, AllocError>
+    ensures { IfOk result (λ cut. cut ≡ empty_cut computation.now.events) }
+{
+    let counts = zeros(alloc, computation)?;
+    Cut::new(alloc, &counts)
+}
+
+/// Whether the predicate, or its opposite where `negated`, holds at a cut.
+fn holds(computation: &Computation<'_>, tree: &Tree, cut: &Cut, negated: bool) -> bool
+    requires { FitsProcesses computation.now.events cut.now }
+    ensures { result ≡ turned negated (test_of computation.now (tree_view tree.now) cut.now) }
+{
+    tree.holds(&computation.at(cut)) != negated
+}
+
+/// Where a predicate holds that depends on the count of this process alone, or where it doesn't if `negated`.
+fn row_by(
+    alloc: Global,
+    computation: &Computation<'_>,
+    tree: &Tree,
+    process: usize,
+    negated: bool,
+) -> Result<Row, AllocError>
+    requires within { process < length computation.now.events }
+    requires depends { DependsOn computation.now (tree_view tree.now) process }
+    ensures { IfOk result (IsRowOf computation.now negated (tree_view tree.now)) }
+{
+    let mut cut = no_events(alloc, computation)?;
+    let mut truths = Vec::new(alloc);
+    truths.push(holds(computation, tree, &cut, negated))?;
+    for _n in 0..computation.events(process) {
+        cut.redo(process);
+        truths.push(holds(computation, tree, &cut, negated))?;
+    }
+    Ok(Row { process, truths })
+}
+
+/// Where a comparison holds that names one process at most, or where it doesn't if `negated`. The sums are those of the
+/// comparison.
+///
+/// # Errors
+/// An allocation was refused.
+pub(crate) fn row_of(
+    alloc: Global,
+    computation: &Computation<'_>,
+    tree: &Tree,
+    left: &Sum,
+    right: &Sum,
+    negated: bool,
+) -> Result<Row, AllocError>
+    requires sums { IsComparisonOf (tree_view tree.now) (sum_view left.now) (sum_view right.now) }
+    requires local { NameOne (sum_view left.now) (sum_view right.now) }
+    ensures { IfOk result (IsRowOf computation.now negated (tree_view tree.now)) }
+{
+    let process = process_of(computation, left, right);
+    row_by(alloc, computation, tree, process, negated)
+}
