@@ -1,4 +1,5 @@
 //! The computation of a session, and what is asked about it.
+use crate::by_terms::are_decided;
 use crate::definite::are_answers;
 use crate::limits::are_same;
 use crate::messages::are_messages;
@@ -35,6 +36,8 @@ pub(crate) enum Question<'a> {
     Limits,
     /// Whether the answers for Definitely are the known ones.
     Definite,
+    /// Whether the terms of each predicate decide what they should.
+    Terms,
     /// Whether each of these cuts has its observation.
     Through(&'a [Way<'a>]),
 }
@@ -81,6 +84,7 @@ pub(crate) fn is_right<K: RandomSource, T: Threads + Wait + Sync>(
         Question::Skips => are_skipped(rt, alloc, &computation, &spec),
         Question::Limits => are_same(rt, alloc, &computation, &spec),
         Question::Definite => are_answers(rt, alloc, &computation, &spec, again),
+        Question::Terms => are_decided(alloc, &computation, &spec),
         Question::Through(ways) => are_ways(alloc, &computation, ways),
     }
 }
@@ -150,6 +154,11 @@ fn sessions_answer_as_they_should(rt: HostRuntime) {
             document: THREE,
             streams: &THREE_STREAMS,
             question: Question::Limits,
+        },
+        Row {
+            document: THREE,
+            streams: &THREE_STREAMS,
+            question: Question::Terms,
         },
         Row {
             document: seams::NINE,

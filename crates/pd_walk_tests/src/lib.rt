@@ -15,10 +15,13 @@
 //! - `limits`: the answers, whatever the width of a whole level at which the walk goes on by lists
 //! - `definite`: answers for Definitely, how many levels are held for them, and what is found of evidence
 //! - `through`: observations through a cut
+//! - `by_terms`: the first satisfying cut of a predicate by its terms
 #![tactic(auto)]
 
 #[cfg(test)]
 mod asked;
+#[cfg(test)]
+mod by_terms;
 #[cfg(test)]
 mod definite;
 #[cfg(test)]

@@ -1,0 +1,55 @@
+//! Possibly by terms: `possibly_by_terms`.
+use pd_clock::Computation;
+use pd_spec::Spec;
+use pd_terms::{ByTerms, possibly_by_terms};
+use std::alloc::Global;
+
+/// What the terms of a predicate decide: the first satisfying cut, that there is none, or nothing.
+#[derive(Clone, Copy)]
+enum Expected<'a> {
+    First(&'a [u64]),
+    None,
+    Undecided,
+}
+
+/// The answers for the predicates of the session of three processes. Those that sum variables of several processes are
+/// undecided.
+const ANSWERS: [Expected<'static>; 7] = [
+    Expected::None,
+    Expected::Undecided,
+    Expected::Undecided,
+    Expected::First(&[0, 0, 4]),
+    Expected::First(&[10, 0, 0]),
+    Expected::First(&[9, 9, 0]),
+    Expected::Undecided,
+];
+
+/// Whether the answer is the expected one.
+fn is_expected(answer: &ByTerms, expected: Expected<'_>) -> bool {
+    match (answer, expected) {
+        (ByTerms::Satisfied(cut), Expected::First(counts)) => cut.counts() == counts,
+        (ByTerms::Unsatisfied, Expected::None) => true,
+        (ByTerms::Undecided, Expected::Undecided) => true,
+        _ => false,
+    }
+}
+
+/// Whether each predicate has its answer. Nothing if memory was refused.
+pub(crate) fn are_decided(
+    alloc: Global,
+    computation: &Computation<'_>,
+    spec: &Spec,
+) -> Option<bool> {
+    let named = spec.predicates();
+    let mut right = named.len() == ANSWERS.len();
+    for at in 0..named.len() {
+        let Some(expected) = ANSWERS.get(at) else {
+            return Some(false);
+        };
+        let Ok(answer) = possibly_by_terms(alloc, computation, &named[at].pred) else {
+            return None;
+        };
+        right = right && is_expected(&answer, *expected);
+    }
+    Some(right)
+}
