@@ -7,11 +7,10 @@ use Rattle.pd_model.specs.Predicates.{Recorded}
 use Rattle.pd_traces.specs.Views.{computation_view}
 use Rattle.pd_traces.specs.declared.event.Trace.{Trace as Read}
 use Rattle.pd_gather.specs.Views.{traces_view}
-use Rattle.pd_format.specs.Documents.{Document, IsDocument}
+use Rattle.pd_format.specs.Documents.{Document}
 use Rattle.pd_format.specs.OtherTexts.{Finding, NotRead}
 use Rattle.pd_format.specs.Readings.{Trace}
 use Rattle.pd_format.specs.Reports.{IsNoReport, IsReport, Refusal, Refused, Report}
-use Rattle.pd_format.specs.Sessions.{StreamResult, session}
 use Rattle.pd_judgement.specs.Findings.{IsSessionOf}
 use Rattle.pd_check.specs.Found.{IsFoundOfRefused, of_refused_session}
 use Rattle.pd_check.specs.Views.{finding_view}
@@ -21,11 +20,11 @@ use Rattle.pd_draw.specs.Drawn.{Comes}
 use Rattle.pd_draw.specs.declared.drawn.Drawn.{Drawn}
 use Rattle.pd_draw.specs.declared.drawn.Drawn.TheVariants as drawn
 use Rattle.pd_sessions.specs.Computations.{AreWellFormed}
+use Rattle.pd_claims.specs.Sessions.{IsRead}
 use Rattle.pd_claims.specs.Drawings.{Draws, DrawsOf, DrawsTraces, IsAgainst}
 use Rattle.pd_sessions.specs.SessionReports.{IsReportOfInputs}
 use Rattle.pd_sessions.proofs.FitTraces.{same_events}
 use Rattle.pd_claims.proofs.SessionFindings.{refusal_found, unread_found}
-use Rattle.pd_sessions.proofs.SessionReports.{AreGiven}
 
 -- the events of the traces are those that are recorded
 pub events_recorded : (document : Document) (traces : List Read) (recorded : Recorded) (count : ℕ)
@@ -57,17 +56,16 @@ traces_drawn document traces recorded messages pairs claimed name given well lis
 }
 
 -- a well-formed session
-module _ (bytes : List ℕ) (inputs : List (Option (List ℕ))) (never_fails : Bool) (document : Document) (count : ℕ)
-    (results : List StreamResult) (traces : List Trace) (claimed : Report) (name : Option (List ℕ))
-    (is : IsDocument bytes document) (read : AreGiven document inputs never_fails count results)
-    (joined : session document.names count results ≡ Ok traces) where
+module _ (bytes : List ℕ) (inputs : List (Option (List ℕ))) (never_fails : Bool) (document : Document)
+    (traces : List Trace) (claimed : Report) (name : Option (List ℕ))
+    (read : IsRead bytes inputs never_fails document traces) where
   held : (given : Drawn) → (draws : DrawsTraces document traces claimed name given)
-      → IsSessionOf bytes read.0 document traces draws.messages
+      → IsSessionOf bytes read.streams document traces draws.messages
   held given draws = record {
-    read = is;
-    results = read.2.given_results;
-    are_results = read.2.are_results;
-    joined = sym read.2.same_session ∙ joined;
+    read = read.is_document;
+    results = read.comes.given_results;
+    are_results = read.comes.are_results;
+    joined = sym read.comes.same_session ∙ read.joined;
     formed = draws.formed;
     counted = draws.counted;
   }
@@ -75,8 +73,8 @@ module _ (bytes : List ℕ) (inputs : List (Option (List ℕ))) (never_fails : B
   pub session_drawn : (given : Drawn) → DrawsTraces document traces claimed name given
       → DrawsOf bytes claimed inputs never_fails name given
   session_drawn (drawn.Picture picture) draws report is_report = record {
-    streams = read.0;
-    are_given = read.1;
+    streams = read.streams;
+    are_given = read.are_given;
     document = document;
     traces = traces;
     messages = draws.messages;
@@ -88,17 +86,17 @@ module _ (bytes : List ℕ) (inputs : List (Option (List ℕ))) (never_fails : B
     drawn = draws.comes;
   }
   session_drawn (drawn.Bad finding) draws report is_report = record {
-    streams = read.0;
-    are_given = read.1;
-    right = finding_of_session bytes report read.0 document traces draws.messages claimed (finding_view finding)
+    streams = read.streams;
+    are_given = read.are_given;
+    right = finding_of_session bytes report read.streams document traces draws.messages claimed (finding_view finding)
         is_report (held (drawn.Bad finding) draws) draws.comes.found;
     stands = draws.comes.stands;
   }
   session_drawn drawn.NoPredicate draws report is_report = record {
-    streams = read.0;
-    are_given = read.1;
+    streams = read.streams;
+    are_given = read.are_given;
     checked = draws.comes.checked;
-    right = finding_of_session bytes report read.0 document traces draws.messages claimed _
+    right = finding_of_session bytes report read.streams document traces draws.messages claimed _
         is_report (held drawn.NoPredicate draws) draws.comes.found;
     is_unknown = draws.comes.is_unknown;
   }

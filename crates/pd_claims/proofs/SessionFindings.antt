@@ -4,19 +4,20 @@ use Rattle.std.specs.Prelude.{Bool, Option}
 use Rattle.pd_model.specs.Events.{Computation}
 use Rattle.pd_model.specs.Messages.{HasMessages}
 use Rattle.pd_model.specs.Predicates.{Recorded}
-use Rattle.pd_format.specs.Documents.{Document, IsDocument}
+use Rattle.pd_format.specs.Documents.{Document}
 use Rattle.pd_format.specs.OtherTexts.{Finding, NotRead}
 use Rattle.pd_format.specs.Readings.{Trace}
 use Rattle.pd_format.specs.Reports.{IsNoReport, IsReport, Refusal, Refused, Report}
-use Rattle.pd_format.specs.Sessions.{StreamResult, session}
 use Rattle.pd_judgement.specs.Findings.{of_unread}
+use Rattle.pd_judgement.specs.Judgements.{IsTracesReport}
 use Rattle.pd_judgement.proofs.WholeStreams.{all_left_unread, all_unread_given}
 use Rattle.pd_check.specs.Found.{IsFoundOf, IsFoundOfRefused}
 use Rattle.pd_check.proofs.SessionFindings.{finding_of_refused, finding_of_session}
 use Rattle.pd_claims.specs.Checks.{Finds, FindsOf}
+use Rattle.pd_claims.specs.Sessions.{IsRead}
 use Rattle.pd_sessions.specs.Computations.{AreWellFormed}
 use Rattle.pd_sessions.specs.SessionReports.{IsReportOfInputs}
-use Rattle.pd_sessions.proofs.SessionReports.{AreGiven}
+use Rattle.pd_sessions.proofs.SessionReports.{inputs_report, traces_report}
 
 -- what is recorded of a well-formed session has as many messages
 pub messages_counted : (document : Document) (traces : List Trace) (recorded : Recorded) (messages : ℕ)
@@ -26,27 +27,34 @@ messages_counted document traces recorded messages well =
 
 -- a well-formed session
 pub session_found : (bytes : List ℕ) (inputs : List (Option (List ℕ))) (never_fails : Bool) (document : Document)
-    (count : ℕ) (results : List StreamResult) (traces : List Trace) (recorded : Recorded) (messages : ℕ)
-    (claimed : Report) (finding : Finding) → IsDocument bytes document
-    → AreGiven document inputs never_fails count results → session document.names count results ≡ Ok traces
-    → AreWellFormed document traces recorded messages
+    (traces : List Trace) (recorded : Recorded) (messages : ℕ) (claimed : Report) (finding : Finding)
+    → IsRead bytes inputs never_fails document traces → AreWellFormed document traces recorded messages
     → IsFoundOf document traces messages claimed finding → FindsOf bytes claimed inputs never_fails finding
-session_found bytes inputs never_fails document count results traces recorded messages claimed finding is given joined
-    well found =
+session_found bytes inputs never_fails document traces recorded messages claimed finding session well found =
     record {
-      streams = given.0;
-      are_given = given.1;
-      right = λ report read. finding_of_session bytes report given.0 document traces messages claimed finding read
+      streams = session.streams;
+      are_given = session.are_given;
+      right = λ report read. finding_of_session bytes report session.streams document traces messages claimed finding
+          read
           (record {
-            read = is;
-            results = given.2.given_results;
-            are_results = given.2.are_results;
-            joined = sym given.2.same_session ∙ joined;
+            read = session.is_document;
+            results = session.comes.given_results;
+            are_results = session.comes.are_results;
+            joined = sym session.comes.same_session ∙ session.joined;
             formed = well.formed;
             counted = well.counted;
           })
           found;
     }
+
+-- a refusal of a session that was read so far
+pub read_report : (bytes : List ℕ) (inputs : List (Option (List ℕ))) (never_fails : Bool) (document : Document)
+    (traces : List Trace) (report : Report) → IsRead bytes inputs never_fails document traces
+    → IsTracesReport document traces report → IsReportOfInputs bytes inputs never_fails report
+read_report bytes inputs never_fails document traces report session right =
+    inputs_report bytes inputs never_fails document session.count session.results report session.is_document
+    (session.streams, session.are_given, session.comes)
+    (traces_report document session.count session.results traces report session.joined right)
 
 -- a refused session
 pub refusal_found : (bytes : List ℕ) (inputs : List (Option (List ℕ))) (never_fails : Bool) (refusal : Refusal)

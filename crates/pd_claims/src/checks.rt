@@ -8,10 +8,11 @@ ghost use Rattle.pd_sessions.specs.SessionReports.{IsReportOfInputs};
 ghost use Rattle.pd_sessions.specs.Unanswered.{IsUnanswered};
 ghost use Rattle.std.specs.Prelude.{◌≡◌, ◌⊎◌, All, IfErr, IfOk, IsOkUnless, false, map};
 
+use super::session::read_session;
 use pd_check::{Finding, find_formed, find_refused, text};
-use pd_gather::{ByteSource, read_streams};
+use pd_gather::ByteSource;
 use pd_report::{Report, ReportFault, write_all};
-use pd_sessions::{EngineFault, Unanswered, computation_of, read_document, traces_of};
+use pd_sessions::{EngineFault, Unanswered, computation_of};
 use std::alloc::Global;
 use std::io::Write;
 use std::random::RandomSource;
@@ -32,11 +33,9 @@ fn find_in_session<S: RandomSource + Threads + Wait + Sync, R: ByteSource + Send
     ensures refused { IfErr result (IsUnanswered
         (IsReportOfInputs document.now (map R.remaining streams.items) R.never_fails)) }
 {
-    let spec = read_document(alloc, document)?;
-    let gathered = read_streams(rt, alloc, &spec, streams)?;
-    let traces = traces_of(alloc, &spec, gathered)?;
-    let (computation, messages) = computation_of(rt, alloc, &spec, &traces)?;
-    Ok(find_formed(alloc, &spec, claimed, &computation, messages)?)
+    let session = read_session(rt, alloc, document, streams)?;
+    let (computation, messages) = computation_of(rt, alloc, &session.spec, &session.traces)?;
+    Ok(find_formed(alloc, &session.spec, claimed, &computation, messages)?)
 }
 
 /// What is found of a report that is read.

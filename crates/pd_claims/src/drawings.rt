@@ -12,11 +12,12 @@ ghost use Rattle.pd_spec.specs.Views.{document_view};
 ghost use Rattle.pd_svg.specs.Svg.{drawing_text};
 ghost use Rattle.std.specs.Prelude.{◌≡◌, ◌⊎◌, All, IfErr, IfOk, IsOkUnless, false, map};
 
+use super::session::read_session;
 use pd_check::{Finding, find_refused, text};
 use pd_draw::Drawn;
-use pd_gather::{ByteSource, read_streams};
+use pd_gather::ByteSource;
 use pd_report::{Report, ReportFault, WriteFault};
-use pd_sessions::{EngineFault, Unanswered, build, messages_of, read_document, traces_of};
+use pd_sessions::{EngineFault, Unanswered, build, messages_of};
 use pd_spec::Spec;
 use pd_traces::Trace;
 use std::alloc::Global;
@@ -82,10 +83,8 @@ fn draw_session<S: RandomSource + Threads + Wait + Sync, R: ByteSource + Send + 
     ensures refused { IfErr result (IsUnanswered
         (IsReportOfInputs document.now (map R.remaining streams.items) R.never_fails)) }
 {
-    let spec = read_document(alloc, document)?;
-    let gathered = read_streams(rt, alloc, &spec, streams)?;
-    let traces = traces_of(alloc, &spec, gathered)?;
-    let drawn = draw_traces(rt, alloc, &spec, claimed, &traces, name)?;
+    let session = read_session(rt, alloc, document, streams)?;
+    let drawn = draw_traces(rt, alloc, &session.spec, claimed, &session.traces, name)?;
     Ok(drawn)
 }
 

@@ -4,12 +4,14 @@
 //! report is checked, or drawn. What is written is exactly the text that the definitions give, whole, or the call
 //! fails.
 //!
+//! - `session`: the session that a report is held against
 //! - `checks`: checks a report's evidence
 //! - `drawings`: draws a report's evidence
 #![tactic(auto)]
 
 mod checks;
 mod drawings;
+mod session;
 
 pub use checks::check;
 pub use drawings::{Drawing, draw};

@@ -1,0 +1,44 @@
+-- Why a session comes to no answers before its messages are matched, and what is read of it.
+use Rattle.std.proofs.Common.{List, ℕ, map}
+use Rattle.pd_format.specs.Reports.{Report}
+use Rattle.pd_gather.specs.Views.{results_view}
+use Rattle.pd_judgement.specs.Judgements.{IsJudgement, IsReportOfResults, RawStream}
+use Rattle.pd_spec.specs.Views.{document_view}
+use Rattle.pd_sessions.specs.SessionReports.{IsReportOfInputs}
+use Rattle.pd_sessions.proofs.SessionReports.{inputs_report, refusal_given, refused_inputs_report}
+use Rattle.pd_claims.proofs.session.read_session.Goals as goal
+
+pub returns-in_err-spec-clause-refused : goal.returns-in_err-spec-clause-refused
+returns-in_err-spec-clause-refused g c =
+    let bytes = c.args.document.now in
+    let inputs = map g.R.ByteSource.remaining c.args.streams.items in
+    refusal_given c.from_residual.result c.in_err-spec.field-0.0
+    (λ (report : Report). (streams : List RawStream) → IsJudgement bytes streams report)
+    (IsReportOfInputs bytes inputs g.R.ByteSource.never_fails)
+    (refused_inputs_report bytes inputs g.R.ByteSource.never_fails) c.from_residual.ensures.1
+    c.in_err-spec.ensures.refused
+
+pub returns-in_err-traces-clause-refused : goal.returns-in_err-traces-clause-refused
+returns-in_err-traces-clause-refused g c =
+    let bytes = c.args.document.now in
+    let inputs = map g.R.ByteSource.remaining c.args.streams.items in
+    let document = document_view c.in_ok-spec.spec in
+    let count = c.in_ok-gathered.gathered.streams in
+    let results = results_view c.in_ok-gathered.gathered.readings.items in
+    refusal_given c.from_residual-in_err-traces.result c.in_err-traces.field-0.0
+    (IsReportOfResults document count results) (IsReportOfInputs bytes inputs g.R.ByteSource.never_fails)
+    (λ report right. inputs_report bytes inputs g.R.ByteSource.never_fails document count results report
+    c.in_ok-spec.ensures.read
+    c.in_ok-gathered.ensures.given right)
+    c.from_residual-in_err-traces.ensures.1 c.in_err-traces.ensures.refused
+
+pub returns-clause-read : goal.returns-clause-read
+returns-clause-read g c = record {
+  is_document = c.in_ok-spec.ensures.read;
+  streams = c.in_ok-gathered.ensures.given.0;
+  are_given = c.in_ok-gathered.ensures.given.1;
+  count = c.in_ok-gathered.gathered.streams;
+  results = results_view c.in_ok-gathered.gathered.readings.items;
+  comes = c.in_ok-gathered.ensures.given.2;
+  joined = c.in_ok-traces.ensures.joined;
+}

@@ -1,0 +1,44 @@
+//! The session that a report is held against.
+ghost use Rattle.pd_claims.specs.Sessions.{IsRead};
+ghost use Rattle.pd_gather.specs.Views.{traces_view};
+ghost use Rattle.pd_sessions.specs.SessionReports.{IsReportOfInputs};
+ghost use Rattle.pd_sessions.specs.Unanswered.{IsUnanswered};
+ghost use Rattle.pd_spec.specs.Views.{document_view};
+ghost use Rattle.pd_traces.specs.SessionTraces.{AreTraces};
+ghost use Rattle.std.specs.Prelude.{◌≡◌, All, IfErr, IfOk, false, map};
+
+use pd_gather::{ByteSource, read_streams};
+use pd_sessions::{Unanswered, read_document, traces_of};
+use pd_spec::Spec;
+use pd_traces::Trace;
+use std::alloc::Global;
+use std::sync::Wait;
+use std::thread::Threads;
+
+/// A session's document, and the traces of its streams.
+#[derive(Drop)]
+pub(crate) struct Session {
+    pub(crate) spec: Spec,
+    pub(crate) traces: Vec<Trace>,
+}
+
+/// Reads a session, the streams each on its own thread, or says why it comes to no answers before its messages are
+/// matched.
+pub(crate) fn read_session<T: Threads + Wait + Sync, R: ByteSource + Send + Drop>(
+    rt: &T,
+    alloc: Global,
+    document: &[u8],
+    streams: Vec<R>,
+) -> Result<Session, Unanswered>
+    requires open { All (λ r. R.has_ended r ≡ false) streams.items }
+    ensures read { IfOk result (λ session. IsRead document.now (map R.remaining streams.items) R.never_fails
+        (document_view session.spec) (traces_view session.traces.items)) }
+    ensures fit { IfOk result (λ session. AreTraces (document_view session.spec).names session.traces.items) }
+    ensures refused { IfErr result (IsUnanswered
+        (IsReportOfInputs document.now (map R.remaining streams.items) R.never_fails)) }
+{
+    let spec = read_document(alloc, document)?;
+    let gathered = read_streams(rt, alloc, &spec, streams)?;
+    let traces = traces_of(alloc, &spec, gathered)?;
+    Ok(Session { spec, traces })
+}
