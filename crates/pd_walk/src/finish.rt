@@ -12,7 +12,7 @@ ghost use Rattle.std.specs.Prelude.{◌≡◌, ◌+◌, ◌*◌, ◌≤◌, IfOk
 use super::setting::Setting;
 use super::stage::Stage;
 use super::walk::TABLE_BYTES;
-use pd_avoiding::walk_listed;
+use pd_avoiding::{Question, walk_listed};
 use pd_back::{Held, way_back};
 use pd_level::{Gate, LevelKey};
 use pd_lists::{Answers, DefinitelyAnswer, PossiblyAnswer};
@@ -72,19 +72,15 @@ fn finish<T: Threads + Wait + Sync, G: Gate + Sync, K: LevelKey + Send + Sync>(
             let mut room = TABLE_BYTES;
             let test = Compiled::compile(setting.alloc, computation, pred, &mut room)?;
             let listed = marks.to_level(setting.alloc, level)?;
-            walk_listed(
-                setting.crew,
-                setting.alloc,
+            let question = Question {
+                crew: setting.crew,
+                alloc: setting.alloc,
                 computation,
                 pred,
-                Some(&test),
-                setting.width,
-                setting.gap,
-                split,
-                listed,
-                1,
-                most,
-            )
+                width: setting.width,
+                gap: setting.gap,
+            };
+            walk_listed(&question, Some(&test), split, listed, 1, most)
         }
         Stage::Answered(answers) => Ok(answers),
     }

@@ -142,7 +142,9 @@ fn goes_on<K: LevelKey>(stages: &[Stage], level: &Whole<K>, total: u64, limit: u
     !is_over(stages, level, limit)
 }
 
-/// Holds the next whole level in place of the one that is held, once each predicate was looked at there.
+/// Holds the next whole level in place of the one that is held, once each predicate was looked at there. It stays a
+/// call, so that the loop over the level's runs has the registers.
+#[inline(never)]
 fn step_up<T: Threads + Wait + Sync, G: Gate + Sync, K: LevelKey + Send + Sync>(
     setting: &Setting<'_, '_, '_, '_, T, G>,
     steps: &Steps<'_, '_>,
