@@ -1,2 +1,3 @@
 pub mod CompiledTests
 pub mod Listed
+pub mod Questions

@@ -6,6 +6,7 @@ ghost use Rattle.pd_pred.specs.Views.{predicate_view};
 ghost use Rattle.std.specs.Prelude.{◌+◌, ◌*◌, ◌<◌, ◌≤◌, IfOk};
 
 use super::listed::{settle_listed, walk_listed};
+use super::question::Question;
 use pd_back::{Held, first_avoiding};
 use pd_clock::Computation;
 use pd_expand::Crew;
@@ -44,29 +45,16 @@ pub fn answers_by_lists<T: Threads + Wait + Sync, G: Gate + Sync>(
         first: 0,
         held: Held::new(alloc),
     };
-    match settle_listed(
+    let question = Question {
+        crew,
         alloc,
         computation,
         pred,
         width,
         gap,
-        split,
-        &level,
-        POSSIBLY_LEVELS,
-    )? {
-        Ok(on) => walk_listed(
-            crew,
-            alloc,
-            computation,
-            pred,
-            None,
-            width,
-            gap,
-            on,
-            level,
-            0,
-            POSSIBLY_LEVELS,
-        ),
+    };
+    match settle_listed(&question, split, &level, POSSIBLY_LEVELS)? {
+        Ok(on) => walk_listed(&question, None, on, level, 0, POSSIBLY_LEVELS),
         Err(answers) => Ok(answers),
     }
 }

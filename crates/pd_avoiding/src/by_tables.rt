@@ -1,16 +1,14 @@
 //! The avoiding cuts of the next level, by the tables of a compiled predicate.
-ghost use Rattle.pd_avoiding.specs.CompiledTests.{IsTestOf, events_of, meaning_of};
+ghost use Rattle.pd_avoiding.specs.CompiledTests.{events_of, meaning_of};
+ghost use Rattle.pd_avoiding.specs.Questions.{IsCompiledFor, question_events, question_test};
 ghost use Rattle.pd_back.specs.Ways.{IsAvoidingLevel};
 ghost use Rattle.pd_model.specs.Cuts.{IsConsistent};
-ghost use Rattle.pd_model.specs.Predicates.{test_of};
-ghost use Rattle.pd_pred.specs.Views.{predicate_view};
 ghost use Rattle.std.specs.Prelude.{◌≡◌, ◌+◌, ◌<◌, ◌≤◌, All, IfOk, IfSome, length, map, slice_get};
 
+use super::question::Question;
 use pd_back::{next_avoiding, next_of_any};
-use pd_clock::Computation;
 use pd_expand::Crew;
 use pd_level::{Gate, Level};
-use pd_pred::Pred;
 use pd_tables::Compiled;
 use rayon::prelude::*;
 use std::alloc::{AllocError, Global};
@@ -23,27 +21,24 @@ use std::thread::Threads;
 /// # Errors
 /// An allocation was refused, or there might be more cuts than a `u64` counts.
 pub(crate) fn next_listed<T: Threads + Wait + Sync, G: Gate + Sync>(
-    crew: &Crew<'_, '_, T, G>,
-    alloc: Global,
-    computation: &Computation<'_>,
-    pred: &Pred,
+    question: &Question<'_, '_, '_, '_, '_, T, G>,
     compiled: Option<&Compiled<'_, '_>>,
     level: &Level,
 ) -> Result<Level, AllocError>
-    requires compiled { IfSome compiled (IsTestOf computation.now (predicate_view pred.now)) }
-    requires list { IsAvoidingLevel computation.now.events
-        (test_of computation.now (predicate_view pred.now)) level.now }
+    requires compiled { IsCompiledFor question.now compiled }
+    requires list { IsAvoidingLevel (question_events question.now) (question_test question.now) level.now }
     requires low { level.now.number < 18446744073709551615 }
-    ensures list { IfOk result (λ next.
-        IsAvoidingLevel computation.now.events (test_of computation.now (predicate_view pred.now)) next) }
+    ensures list { IfOk result (IsAvoidingLevel (question_events question.now) (question_test question.now)) }
     ensures number { IfOk result (λ next. next.number ≡ level.now.number + 1) }
 {
     // the laws that the proof uses
     pd_model::avoiding_levels();
+    let crew = question.crew;
+    let alloc = question.alloc;
     let Some(test) = compiled else {
-        return next_avoiding(crew, alloc, computation, pred, level);
+        return next_avoiding(crew, alloc, question.computation, question.pred, level);
     };
-    let mut next = next_of_any(crew, alloc, computation, level)?;
+    let mut next = next_of_any(crew, alloc, question.computation, level)?;
     let marks = table_marks(crew, alloc, test, &next)?;
     next.keep(&marks, false);
     Ok(next)

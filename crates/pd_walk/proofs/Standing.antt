@@ -1,11 +1,13 @@
 -- What is known of each predicate, while one after the other is looked at.
-use Rattle.std.proofs.Common.{◌≡◌, ◌≢◌, ℕ, Bor, ◌+◌, ◌*◌, ◌<◌, ◌≤◌, ◌⊎◌, inl, inr, List, [], ◌∷◌, ◌++◌, length, length-append, get_or, take, drop, max, ◌-◌, refl, sym, ap, ◌∙◌, subst, arith}
+use Rattle.std.proofs.Common.{◌≡◌, ◌≢◌, ℕ, Bool, Bor, ◌+◌, ◌*◌, ◌<◌, ◌≤◌, ◌⊎◌, inl, inr, List, [], ◌∷◌, ◌++◌, length, length-append, get_or, take, drop, max, ◌-◌, refl, sym, ap, ◌∙◌, subst, arith}
 use Rattle.std.proofs.lemmas.Bool.{cases_lt, cases_order}
 use Rattle.std.proofs.lemmas.List.{get_or-append_right, get_or-set_other, get_or-set_same, get_or_append_left, length-set}
 use Rattle.std.specs.Prelude.{slice_set}
+use Rattle.pd_model.specs.Answers.{IsPossiblyAnswer}
 use Rattle.pd_model.specs.Cuts.{total}
 use Rattle.pd_model.specs.Events.{Computation}
 use Rattle.pd_model.specs.Predicates.{Recorded, test_of}
+use Rattle.pd_model.specs.Walks.{NoneInLevels}
 use Rattle.pd_pred.specs.Views.{predicate_view}
 use Rattle.pd_pred.specs.declared.predicate.Pred.{Pred}
 use Rattle.pd_marks.specs.Skips.{HaveNoHits}
@@ -13,13 +15,13 @@ use Rattle.pd_marks.specs.declared.skips.Skips.{Skips}
 use Rattle.pd_refusals.specs.Refusals.{AreRefusals}
 use Rattle.pd_runs.specs.Levels.{IsWholeLevel, WholeLevel}
 use Rattle.pd_tables.specs.Views.{CompiledView}
-use Rattle.pd_lists.specs.Answers.{AreAnswers}
+use Rattle.pd_lists.specs.Answers.{AreAnswers, possibly_answer_view}
 use Rattle.pd_lists.specs.Splits.{AreBeside}
 use Rattle.pd_avoiding.specs.CompiledTests.{events_of, meaning_of}
-use Rattle.pd_walk.specs.Stages.{AllStand, AreCompiled, HasComeTo, HasEnded, OneStands, Stands}
+use Rattle.pd_walk.specs.Stages.{AllStand, AreCompiled, HasComeTo, HasEnded, OneStands, Stands, number_held, possibly_known}
 use Rattle.pd_lists.specs.declared.answers.Answers.{Answers}
 use Rattle.pd_walk.specs.declared.stage.Stage.{Stage}
-use Rattle.pd_walk.specs.declared.stage.Stage.TheVariants.{Open}
+use Rattle.pd_walk.specs.declared.stage.Stage.TheVariants.{Open, Marked, Answered}
 
 -- the first ones have been looked at, and the others not yet
 pub record HaveLooked (tests : List CompiledView) (width gap : ℕ) (before level : WholeLevel) (i : ℕ)
@@ -209,77 +211,86 @@ beside_two gap k old most count same = record {
 }
 
 -- the walk has come to level 0
-pub come_first : (c : Computation) (tests : List CompiledView) (width gap k most : ℕ) (pushed : List WholeLevel)
+pub come_first : (c : Computation) (tests : List CompiledView) (width gap most : ℕ) (pushed : List WholeLevel)
     (read first : WholeLevel) (words : List ℕ) (stages : List Stage) → pushed ≡ first ∷ [] → IsWholeLevel c first
-    → first.number ≡ k → AreBeside gap k most → ((d : WholeLevel) → read ≡ get_or pushed (length pushed - 1) d)
+    → first.number ≡ 0 → AreBeside gap 0 most → ((d : WholeLevel) → read ≡ get_or pushed (length pushed - 1) d)
     → AreRefusals tests read words → AllStand tests width gap read stages
-    → HasComeTo c tests width gap k most pushed words stages
-come_first c tests width gap k most pushed read first words stages only whole number beside is
-    refused stand = record {
-      level = first;
-      only = only;
-      whole = whole;
-      number = number;
-      beside = beside;
-      refused = subst (λ (level : WholeLevel). AreRefusals tests level words) (only_whole pushed first read only is)
-          refused;
-      stand = subst (λ (level : WholeLevel). AllStand tests width gap level stages)
-          (only_whole pushed first read only is) stand;
-    }
+    → HasComeTo c tests width gap most pushed words stages
+come_first c tests width gap most pushed read first words stages only whole number beside is refused stand = record {
+  level = first;
+  only = only;
+  whole = whole;
+  within = omega (arith, number);
+  beside = subst (λ (n : ℕ). AreBeside gap n most) (sym number) beside;
+  refused = subst (λ (level : WholeLevel). AreRefusals tests level words) (only_whole pushed first read only is)
+      refused;
+  stand = subst (λ (level : WholeLevel). AllStand tests width gap level stages)
+      (only_whole pushed first read only is) stand;
+}
 
--- the walk has come one level further
-pub come_next : (c : Computation) (tests : List CompiledView) (width gap k old most : ℕ)
-    (levels pushed left : List WholeLevel) (read next : WholeLevel) (words refusals : List ℕ)
-    (before stages : List Stage) → HasComeTo c tests width gap k old levels words before
-    → pushed ≡ levels ++ next ∷ []
-    → left ≡ take (length pushed - 2) pushed ++ drop (length pushed - 1) pushed → IsWholeLevel c next
-    → next.number ≡ k + 1 → AreBeside gap (k + 1) most
-    → ((d : WholeLevel) → read ≡ get_or pushed (length pushed - 1) d) → AreRefusals tests read refusals
-    → AllStand tests width gap read stages → HasComeTo c tests width gap (k + 1) most left refusals stages
-come_next c tests width gap k old most levels pushed left read next words refusals before stages come push after whole
-    number beside is refused stand =
-    record {
-      level = next;
-      only = after ∙ ap (λ (ls : List WholeLevel). take (length ls - 2) ls ++ drop (length ls - 1) ls) two;
-      whole = whole;
-      number = number;
-      beside = beside;
-      refused = subst (λ (level : WholeLevel). AreRefusals tests level refusals)
-          (upper_whole levels pushed come.level next read come.only push is) refused;
-      stand = subst (λ (level : WholeLevel). AllStand tests width gap level stages)
-          (upper_whole levels pushed come.level next read come.only push is) stand;
-    }
-  where
-    two : pushed ≡ come.level ∷ next ∷ []
-    two = push ∙ ap (λ (ls : List WholeLevel). ls ++ next ∷ []) come.only
+-- the number of the level that is read is that of the one that is held
+pub number_read : (levels : List WholeLevel) (level read : WholeLevel) → levels ≡ level ∷ []
+    → ((d : WholeLevel) → read ≡ get_or levels (length levels - 1) d) → read.number ≡ number_held levels
+number_read levels level read only is =
+    ap (λ (l : WholeLevel). l.number) (only_whole levels level read only is) ∙ sym (ap number_held only)
+
+module _ (c : Computation) (tests : List CompiledView) (width gap old most : ℕ) (levels pushed left : List WholeLevel)
+    (next : WholeLevel) (words refusals : List ℕ) (before stages : List Stage)
+    (come : HasComeTo c tests width gap old levels words before) (push : pushed ≡ levels ++ next ∷ [])
+    (after : left ≡ take (length pushed - 2) pushed ++ drop (length pushed - 1) pushed) where
+  -- the next level alone is left
+  pub next_only : left ≡ next ∷ []
+  next_only = after ∙ ap (λ (ls : List WholeLevel). take (length ls - 2) ls ++ drop (length ls - 1) ls) two
+    where
+      two : pushed ≡ come.level ∷ next ∷ []
+      two = push ∙ ap (λ (ls : List WholeLevel). ls ++ next ∷ []) come.only
+
+  -- the walk has come one level further
+  pub come_next : (read : WholeLevel) → number_held levels < total c → IsWholeLevel c next
+      → next.number ≡ number_held levels + 1 → AreBeside gap (number_held levels + 1) most
+      → ((d : WholeLevel) → read ≡ get_or pushed (length pushed - 1) d) → AreRefusals tests read refusals
+      → AllStand tests width gap read stages → HasComeTo c tests width gap most left refusals stages
+  come_next read below whole number beside is refused stand = record {
+    level = next;
+    only = next_only;
+    whole = whole;
+    within = omega (arith, number, below);
+    beside = subst (λ (n : ℕ). AreBeside gap n most) (sym number) beside;
+    refused = subst (λ (level : WholeLevel). AreRefusals tests level refusals)
+        (upper_whole levels pushed come.level next read come.only push is) refused;
+    stand = subst (λ (level : WholeLevel). AllStand tests width gap level stages)
+        (upper_whole levels pushed come.level next read come.only push is) stand;
+  }
 
 -- no predicate needs a further level
-pub come_to_end : (recorded : Recorded) (preds : List (Bor Pred)) (tests : List CompiledView) (width gap k most : ℕ)
+pub come_to_end : (recorded : Recorded) (preds : List (Bor Pred)) (tests : List CompiledView) (width gap most : ℕ)
     (levels : List WholeLevel) (refusals : List ℕ) (stages : List Stage) → AreCompiled recorded preds tests
-    → HasComeTo recorded.events tests width gap k most levels refusals stages → k ≤ total recorded.events
-    → ((i : ℕ) (stage : Stage) → i < length stages → get_or stages i stage ≡ Open → total recorded.events ≤ k)
-    → HasEnded recorded preds width gap most levels stages
-come_to_end recorded preds tests width gap k most levels refusals stages compiled come within last = record {
+    → HasComeTo recorded.events tests width gap most levels refusals stages
+    → ((i : ℕ) (stage : Stage) → i < length stages → get_or stages i stage ≡ Open
+    → total recorded.events ≤ number_held levels) → HasEnded recorded preds width gap most levels stages
+come_to_end recorded preds tests width gap most levels refusals stages compiled come last = record {
   level = come.level;
   only = come.only;
   whole = come.whole;
-  within = omega (arith, come.number);
-  beside = subst (λ (n : ℕ). AreBeside gap n most) (sym come.number) come.beside;
+  within = come.within;
+  beside = come.beside;
   one_each = come.stand.one_each ∙ compiled.one_each;
   each = λ i pred stage lt.
       subst (λ (t : CompiledView). OneStands t width gap come.level (get_or stages i stage))
       (compiled.each i pred (test_for pred) lt)
       (come.stand.each i (test_for pred) stage (omega (arith, compiled.one_each)));
-  last = λ i stage lt is. let up = last i stage lt is in omega (arith, come.number);
+  last = λ i stage lt is.
+      let up = last i stage lt is in omega (arith, ap number_held come.only, come.within);
 }
   where
     test_for : Bor Pred → CompiledView
     test_for pred = record { recorded = recorded; predicate = predicate_view pred.now }
 
--- no run of the level is skipped where the predicate may hold
-pub skips_of : (tests : List CompiledView) (level : WholeLevel) (i : ℕ) (test : CompiledView) (skips : Skips)
-    → ((at : CompiledView) → HaveNoHits (get_or tests i at).recorded.events
-    (test_of (get_or tests i at).recorded (get_or tests i at).predicate) level.runs skips)
-    → test ≡ get_or tests i test → HaveNoHits (events_of test) (meaning_of test) level.runs skips
-skips_of tests level i test skips none is =
-    subst (λ (t : CompiledView). HaveNoHits (events_of t) (meaning_of t) level.runs skips) (sym is) (none test)
+-- the answer for Possibly after the last level that is needed
+pub known_right : NoneInLevels → (c : Computation) (test : List ℕ → Bool) (width gap : ℕ) (level : WholeLevel)
+    (stage : Stage) → Stands c test width gap level stage → (stage ≡ Open → level.number ≡ total c)
+    → IsPossiblyAnswer c test width (possibly_answer_view (possibly_known stage))
+known_right law c test width gap level Open stands last =
+    law c test width (level.number + 1) stands.narrow stands.none (omega (arith, last refl))
+known_right law c test width gap level (Marked split marks) stands last = stands.0.possibly
+known_right law c test width gap level (Answered answers) stands last = stands.possibly_right

@@ -4,9 +4,10 @@ use Rattle.std.proofs.lemmas.Bool.{cases_order}
 use Rattle.std.proofs.lemmas.List.{get_or-set_other, get_or-set_same, length-set}
 use Rattle.std.specs.Prelude.{IfOk, Result, Ok, Err, slice_set}
 use Rattle.pd_runs.specs.Levels.{WholeLevel}
-use Rattle.pd_tables.specs.Views.{CompiledView}
-use Rattle.pd_walk.specs.Stages.{AllStand, OneStands}
+use Rattle.pd_walk.specs.Rounds.{AllStandAt}
+use Rattle.pd_walk.specs.Stages.{OneStands}
 use Rattle.pd_walk.specs.Turns.{AreHandedBack, AreReady, AreTaken, AreTurnsOf}
+use Rattle.pd_walk.specs.declared.round.Round.{Round}
 use Rattle.pd_walk.specs.declared.stage.Stage.{Stage}
 use Rattle.pd_walk.specs.declared.turns.Turn.{Turn}
 use Rattle.pd_walk.proofs.Standing.{each_more}
@@ -113,30 +114,30 @@ module _ (given : List Turn) where
     same = λ j turn stage lt. known.same j turn stage (omega arith) lt;
   }
 
-module _ (tests : List CompiledView) (width gap : ℕ) where
+module _ {K : Type 0} (round : Round K) where
   -- what stands after the level before stands in the turns
   pub turns_are_ready : (before : WholeLevel) (stages : List Stage) (turns : List Turn) → AreTurnsOf stages turns
-      → AllStand tests width gap before stages → AreReady tests width gap before turns
+      → AllStandAt round before stages → AreReady round before turns
   turns_are_ready before stages turns made all i turn lt test =
-      subst (λ (s : Stage). OneStands (get_or tests i test) width gap before s)
+      subst (λ (s : Stage). OneStands (get_or round.tests.now i test) round.width round.gap before s)
       (sym (made.same i turn turn.stage (omega (arith, made.one_each))))
       (all.each i test turn.stage (omega (arith, made.one_each, all.one_each)))
 
-  -- and what stands after this level in the stages that they hand back
-  pub all_taken : (level : WholeLevel) (turns : List Turn) (stages : List Stage) → AreHandedBack turns stages
-      → length turns ≡ length tests → AreTaken tests width gap level turns → AllStand tests width gap level stages
-  all_taken level turns stages back one_each taken = record {
+  -- and what stands after the round's level in the stages that they hand back
+  pub all_taken : (turns : List Turn) (stages : List Stage) → AreHandedBack turns stages
+      → length turns ≡ length round.tests.now → AreTaken round turns → AllStandAt round round.level.now stages
+  all_taken turns stages back one_each taken = record {
     one_each = sym back.one_each ∙ one_each;
     each = λ i test stage lt.
         let turn : Turn = record { stage = stage; refused = false } in
-        subst (λ (s : Stage). OneStands (get_or tests i test) width gap level s)
+        subst (λ (s : Stage). OneStands (get_or round.tests.now i test) round.width round.gap round.level.now s)
         (sym (back.same i turn stage (omega (arith, one_each))))
         (taken i turn (omega (arith, one_each)) (back.none_refused i turn (omega (arith, one_each))) test);
   }
 
   -- in the form in which handing back gives it
-  pub after_all : {E : Type 0} (level : WholeLevel) (turns : List Turn) (stages : List Stage) (result : Result Unit E)
-      → length turns ≡ length tests → AreTaken tests width gap level turns
-      → IfOk result (λ _. AreHandedBack turns stages) → IfOk result (λ _. AllStand tests width gap level stages)
-  after_all level turns stages (Ok u) one_each taken back = all_taken level turns stages back one_each taken
-  after_all level turns stages (Err e) one_each taken back = tt
+  pub after_all : {E : Type 0} (turns : List Turn) (stages : List Stage) (result : Result Unit E)
+      → length turns ≡ length round.tests.now → AreTaken round turns → IfOk result (λ _. AreHandedBack turns stages)
+      → IfOk result (λ _. AllStandAt round round.level.now stages)
+  after_all turns stages (Ok u) one_each taken back = all_taken turns stages back one_each taken
+  after_all turns stages (Err e) one_each taken back = tt

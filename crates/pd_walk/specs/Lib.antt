@@ -1,2 +1,4 @@
+pub mod Rounds
 pub mod Stages
+pub mod Tasks
 pub mod Turns

@@ -16,6 +16,8 @@ use Rattle.pd_lists.specs.Answers.{AreAnswers}
 use Rattle.pd_lists.specs.Splits.{AreBeside, IsSplitBelow}
 use Rattle.pd_lists.specs.declared.answers.Answers.{Answers}
 use Rattle.pd_avoiding.specs.CompiledTests.{events_of, meaning_of}
+use Rattle.pd_lists.specs.declared.possibly_answer.PossiblyAnswer.{PossiblyAnswer}
+use Rattle.pd_lists.specs.declared.possibly_answer.PossiblyAnswer.TheVariants.{No}
 use Rattle.pd_walk.specs.declared.stage.Stage.{Stage}
 use Rattle.pd_walk.specs.declared.stage.Stage.TheVariants.{Open, Marked, Answered}
 
@@ -42,15 +44,20 @@ pub record AllStand (tests : List CompiledView) (width gap : ℕ) (level : Whole
   pub each : (i : ℕ) (test : CompiledView) (stage : Stage) → i < length tests
       → OneStands (slice_index_or tests i test) width gap level (slice_index_or stages i stage)
 
--- The walk up the whole levels has come to level k, which alone is held, and this is known of each predicate: what is
+-- how far the walk has come: the number of the level that is held
+abbrev pub number_held : List WholeLevel → ℕ
+number_held [] = 0
+number_held (level ∷ levels) = level.number
+
+-- The walk up the whole levels has come to a level, which alone is held, and this is known of each predicate: what is
 -- refused at its runs, and how far the answers have come.
-pub record HasComeTo (c : Computation) (tests : List CompiledView) (width gap k most : ℕ) (levels : List WholeLevel)
+pub record HasComeTo (c : Computation) (tests : List CompiledView) (width gap most : ℕ) (levels : List WholeLevel)
     (refusals : List ℕ) (stages : List Stage) : Type 0 where
   pub level : WholeLevel
   pub only : levels ≡ level ∷ []
   pub whole : IsWholeLevel c level
-  pub number : level.number ≡ k
-  pub beside : AreBeside gap k most
+  pub within : level.number ≤ total c
+  pub beside : AreBeside gap level.number most
   pub refused : AreRefusals tests level refusals
   pub stand : AllStand tests width gap level stages
 
@@ -80,6 +87,12 @@ pub record HasEnded (recorded : Recorded) (preds : List (Bor Pred)) (width gap m
       (slice_index_or stages i stage)
   pub last : (i : ℕ) (stage : Stage) → i < length stages → slice_index_or stages i stage ≡ Open
       → level.number ≡ total recorded.events
+
+-- the answer for Possibly after the last level that is needed: no cut satisfies, if none so far does
+abbrev pub possibly_known : Stage → PossiblyAnswer
+possibly_known Open = No
+possibly_known (Marked split marks) = split.possibly
+possibly_known (Answered answers) = answers.possibly
 
 -- both answers for each predicate
 pub record AllAnswered (recorded : Recorded) (preds : List (Bor Pred)) (width most : ℕ)

@@ -6,6 +6,7 @@ ghost use Rattle.pd_walk.specs.Stages.{AllAnswered};
 ghost use Rattle.std.specs.Prelude.{◌+◌, ◌*◌, ◌<◌, ◌≤◌, ℕ, IfOk, length};
 
 use super::finish::finish_all;
+use super::setting::Setting;
 use super::walk::walk_up;
 use pd_avoiding::answers_by_lists;
 use pd_back::Held;
@@ -85,59 +86,34 @@ pub fn answer_within<T: Threads + Wait + Sync, G: Gate + Sync>(
         let answers = answer_each(crew, alloc, computation, preds, width, gap)?;
         return Ok(answers);
     }
+    let setting = Setting {
+        crew,
+        alloc,
+        computation,
+        width,
+        gap,
+    };
     if processes <= SINGLE_LIMIT {
-        let answers = answer_by_runs::<T, G, u128>(
-            crew,
-            alloc,
-            computation,
-            preds,
-            width,
-            limit,
-            gap,
-        )?;
+        let answers = answer_by_runs::<T, G, u128>(&setting, preds, limit)?;
         return Ok(answers);
     }
-    let answers = answer_by_runs::<T, G, Pair>(crew, alloc, computation, preds, width, limit, gap)?;
+    let answers = answer_by_runs::<T, G, Pair>(&setting, preds, limit)?;
     Ok(answers)
 }
 
 /// The same for several processes, by whole levels of runs with this kind of key.
 fn answer_by_runs<T: Threads + Wait + Sync, G: Gate + Sync, K: LevelKey + Send + Sync>(
-    crew: &Crew<'_, '_, T, G>,
-    alloc: Global,
-    computation: &Computation<'_>,
+    setting: &Setting<'_, '_, '_, '_, T, G>,
     preds: &[&Pred],
-    width: u64,
     limit: u64,
-    gap: u64,
 ) -> Result<Vec<Answers>, AllocError>
-    requires two { 2 ≤ length computation.now.events }
-    requires fits { K.fits (length computation.now.events) }
-    requires narrow { width ≤ width_limit }
-    requires root { total computation.now.events < gap * gap }
-    ensures { IfOk result (λ answers. AllAnswered computation.now preds.now width (2 * gap + 2) answers.items) }
+    requires { K.fits (length setting.now.computation.now.events) }
+    ensures { IfOk result (λ answers. AllAnswered setting.now.computation.now preds.now setting.now.width
+        (2 * setting.now.gap + 2) answers.items) }
 {
-    let mut wholes: Held<Whole<K>> = Held::new(alloc);
-    let mut stages = walk_up(
-        crew,
-        alloc,
-        computation,
-        preds,
-        width,
-        gap,
-        limit,
-        &mut wholes,
-    )?;
-    finish_all(
-        crew,
-        alloc,
-        computation,
-        preds,
-        width,
-        gap,
-        &wholes,
-        &mut stages,
-    )
+    let mut wholes: Held<Whole<K>> = Held::new(setting.alloc);
+    let mut stages = walk_up(setting, preds, limit, &mut wholes)?;
+    finish_all(setting, preds, &wholes, &mut stages)
 }
 
 /// The same for each predicate by itself, by lists of cuts.

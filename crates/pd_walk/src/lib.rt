@@ -1,9 +1,12 @@
 //! One walk up the whole levels, for all predicates and both questions.
 //!
+//! - `setting`: what the whole walk goes by
 //! - `stage`: what is known of a predicate on the way
+//! - `round`: all predicates at a whole level
+//! - `task`: one predicate at a whole level
 //! - `settle`: what the marks of a level decide
 //! - `look`: how a predicate goes on from one level to the next
-//! - `turns`: the predicates' turns at a level, taken by several workers
+//! - `turns`: the predicates' turns in a round, taken by several workers
 //! - `worth`: whether the work at a level is worth several threads
 //! - `walk`: the walk up the whole levels, for all predicates
 //! - `finish`: the answers after the last whole level
@@ -15,8 +18,11 @@ mod all;
 mod finish;
 mod look;
 mod one;
+mod round;
+mod setting;
 mod settle;
 mod stage;
+mod task;
 mod turns;
 mod walk;
 mod worth;

@@ -5,11 +5,11 @@ ghost use Rattle.pd_model.specs.Answers.{IsPossiblyAnswer};
 ghost use Rattle.pd_model.specs.Cuts.{total};
 ghost use Rattle.pd_model.specs.Predicates.{test_of};
 ghost use Rattle.pd_pred.specs.Views.{predicate_view};
-ghost use Rattle.pd_walk.specs.Stages.{Stands};
-ghost use Rattle.pd_walk.specs.declared.stage.Stage.TheVariants.{Open};
+ghost use Rattle.pd_walk.specs.Stages.{possibly_known};
 ghost use Rattle.std.specs.Prelude.{◌≡◌, ◌+◌, ◌*◌, ◌<◌, ◌≤◌, ℕ, IfOk, length};
 
 use super::all::answer_all;
+use super::setting::Setting;
 use super::stage::Stage;
 use super::walk::walk_up;
 use pd_back::Held;
@@ -90,46 +90,26 @@ fn possibly_by_runs<T: Threads + Wait + Sync, G: Gate + Sync, K: LevelKey + Send
     ensures { IfOk result (λ answer. IsPossiblyAnswer computation.now.events
         (test_of computation.now (predicate_view pred.now)) width (possibly_answer_view answer)) }
 {
+    // the laws that the proof uses
+    pd_model::possibly_walk();
     computation.limits();
     let gap = least_root(computation.total() + 1);
-    let mut wholes: Held<Whole<K>> = Held::new(alloc);
-    let mut stages = walk_up(
+    let setting = Setting {
         crew,
         alloc,
         computation,
-        &[pred],
         width,
         gap,
-        0,
-        &mut wholes,
-    )?;
-    Ok(possibly_after(
-        computation,
-        pred,
-        width,
-        gap,
-        wholes.last(),
-        stages.remove(0),
-    ))
+    };
+    let mut wholes: Held<Whole<K>> = Held::new(alloc);
+    let mut stages = walk_up(&setting, &[pred], 0, &mut wholes)?;
+    Ok(possibly_after(stages.remove(0)))
 }
 
-/// The answer for Possibly, if this is known after a level. If no cut so far satisfies, it is the last level.
-fn possibly_after<K: LevelKey>(
-    _computation: &Computation<'_>,
-    _pred: &Pred,
-    _width: u64,
-    _gap: u64,
-    _level: &Whole<K>,
-    stage: Stage,
-) -> PossiblyAnswer
-    requires stands { Stands _computation.now.events (test_of _computation.now (predicate_view _pred.now)) _width _gap
-        _level.now stage }
-    requires last { stage ≡ Open → _level.now.number ≡ total _computation.now.events }
-    ensures { IsPossiblyAnswer _computation.now.events (test_of _computation.now (predicate_view _pred.now)) _width
-        (possibly_answer_view result) }
+/// The answer for Possibly after the last level that is needed.
+fn possibly_after(stage: Stage) -> PossiblyAnswer
+    ensures { result ≡ possibly_known stage }
 {
-    // the laws that the proof uses
-    pd_model::possibly_walk();
     match stage {
         Stage::Open => PossiblyAnswer::No,
         Stage::Marked { split, marks: _ } => split.possibly,

@@ -1,20 +1,19 @@
-//! The predicates' turns at a level, taken by several threads.
-ghost use Rattle.pd_walk.specs.Stages.{AllStand};
-ghost use Rattle.pd_walk.specs.Turns.{AreHandedBack, AreReady, AreTaken, AreTurnsOf, IsLookedAt, IsReady, IsTaken};
+//! The predicates' turns in a round, taken by several threads.
+ghost use Rattle.pd_walk.specs.Rounds.{AllStandAt, IsBeforeRound, IsRound};
+ghost use Rattle.pd_walk.specs.Turns.{AreHandedBack, AreReady, AreTaken, AreTurnsOf, IsReady, IsTaken};
 ghost use Rattle.std.specs.Prelude.{◌≡◌, ◌<◌, IfOk, false, length, slice_set};
 
 use super::look::look;
+use super::round::Round;
 use super::stage::Stage;
-use pd_clock::Computation;
+use super::task::task_of;
 use pd_level::LevelKey;
-use pd_refusals::Refusals;
 use pd_runs::Whole;
-use pd_tables::Compiled;
 use std::alloc::{AllocError, Global};
 use std::mem;
 use std::thread::{Threads, for_each_mut};
 
-/// A predicate's turn at a level.
+/// A predicate's turn in a round.
 #[derive(Drop)]
 pub(crate) struct Turn {
     /// What is known of the predicate: after the level before, and after this one if the turn is taken.
@@ -51,28 +50,20 @@ fn turns_of(alloc: Global, stages: &mut Vec<Stage>) -> Result<Vec<Turn>, AllocEr
 fn take_turn<T: Threads + Sync, K: LevelKey + Send + Sync>(
     rt: &T,
     alloc: Global,
-    computation: &Computation<'_>,
-    tests: &[Compiled<'_, '_>],
-    width: u64,
-    gap: u64,
+    round: &Round<'_, '_, '_, '_, K>,
     before: &Whole<K>,
-    level: &Whole<K>,
-    refusals: &Refusals,
-    beside: u64,
     i: usize,
     turn: &mut Turn,
 )
-    requires at { IsLookedAt computation.now tests.now width gap before.now level.now refusals.now beside }
-    requires within { i < length tests.now }
-    requires ready { IsReady tests.now width gap before.now i turn.old }
-    ensures { IsTaken tests.now width gap level.now i turn.new }
+    requires round { IsRound round.now }
+    requires before { IsBeforeRound before.now round.now }
+    requires within { i < length round.now.tests.now }
+    requires ready { IsReady round.now before.now i turn.old }
+    ensures { IsTaken round.now i turn.new }
 {
-    computation.limits();
     let stage = mem::replace(&mut turn.stage, Stage::Open);
-    let skips = refusals.of(i);
-    let looked = look(
-        rt, 1, alloc, &tests[i], width, gap, before, level, skips, beside, stage,
-    );
+    let task = task_of(round, i, 1);
+    let looked = look(rt, alloc, &task, before, stage);
     match looked {
         Ok(stage) => turn.stage = stage,
         Err(AllocError) => turn.refused = true,
@@ -102,130 +93,67 @@ fn hand_back(turns: &mut [Turn], stages: &mut Vec<Stage>) -> Result<(), AllocErr
     Ok(())
 }
 
-/// Takes each turn, by at most this many threads.
+/// Takes each turn, by at most as many threads as there are.
 fn take_all<T: Threads + Sync, K: LevelKey + Send + Sync>(
     rt: &T,
     alloc: Global,
-    computation: &Computation<'_>,
-    tests: &[Compiled<'_, '_>],
-    width: u64,
-    gap: u64,
+    round: &Round<'_, '_, '_, '_, K>,
     before: &Whole<K>,
-    level: &Whole<K>,
-    refusals: &Refusals,
-    beside: u64,
-    threads: usize,
     turns: &mut [Turn],
 )
-    requires at { IsLookedAt computation.now tests.now width gap before.now level.now refusals.now beside }
-    requires threads { 0 < threads }
-    requires one_each { length turns.old ≡ length tests.now }
-    requires ready { AreReady tests.now width gap before.now turns.old }
+    requires round { IsRound round.now }
+    requires before { IsBeforeRound before.now round.now }
+    requires one_each { length turns.old ≡ length round.now.tests.now }
+    requires ready { AreReady round.now before.now turns.old }
     ensures one_each { length turns.new ≡ length turns.old }
-    ensures taken { AreTaken tests.now width gap level.now turns.new }
+    ensures taken { AreTaken round.now turns.new }
 {
     for_each_mut(
         rt,
         turns,
-        threads,
+        round.threads,
         &move |i: usize, turn: &mut Turn|
-            requires { IsLookedAt computation.now tests.now width gap before.now level.now refusals.now beside
-                × (i < length tests.now) × IsReady tests.now width gap before.now i turn.old }
-            ensures { IsTaken tests.entry.now width gap level.entry.now i turn.new }
-        {
-            take_turn(
-                rt,
-                alloc,
-                computation,
-                tests,
-                width,
-                gap,
-                before,
-                level,
-                refusals,
-                beside,
-                i,
-                turn,
-            )
-        },
+            requires { IsRound round.now × IsBeforeRound before.now round.now
+                × (i < length round.now.tests.now) × IsReady round.now before.now i turn.old }
+            ensures { IsTaken round.entry.now i turn.new }
+        { take_turn(rt, alloc, round, before, i, turn) },
     );
 }
 
-/// What is known of each predicate after the next level, from its turn. The turns are taken by at most this many
-/// threads.
+/// What is known of each predicate after the round's level, from its turn.
 fn stages_after<T: Threads + Sync, K: LevelKey + Send + Sync>(
     rt: &T,
     alloc: Global,
-    computation: &Computation<'_>,
-    tests: &[Compiled<'_, '_>],
-    width: u64,
-    gap: u64,
+    round: &Round<'_, '_, '_, '_, K>,
     before: &Whole<K>,
-    level: &Whole<K>,
-    refusals: &Refusals,
-    beside: u64,
-    threads: usize,
     turns: &mut [Turn],
     stages: &mut Vec<Stage>,
 ) -> Result<(), AllocError>
-    requires at { IsLookedAt computation.now tests.now width gap before.now level.now refusals.now beside }
-    requires threads { 0 < threads }
-    requires one_each { length turns.old ≡ length tests.now }
-    requires places { length stages.old.items ≡ length tests.now }
-    requires ready { AreReady tests.now width gap before.now turns.old }
-    ensures { IfOk result (λ _. AllStand tests.now width gap level.now stages.new.items) }
+    requires round { IsRound round.now }
+    requires before { IsBeforeRound before.now round.now }
+    requires one_each { length turns.old ≡ length round.now.tests.now }
+    requires places { length stages.old.items ≡ length round.now.tests.now }
+    requires ready { AreReady round.now before.now turns.old }
+    ensures { IfOk result (λ _. AllStandAt round.now round.now.level.now stages.new.items) }
 {
-    take_all(
-        rt,
-        alloc,
-        computation,
-        tests,
-        width,
-        gap,
-        before,
-        level,
-        refusals,
-        beside,
-        threads,
-        turns,
-    );
+    take_all(rt, alloc, round, before, turns);
     hand_back(turns, stages)
 }
 
-/// What is known of each predicate after the next level. The predicates' turns are taken by at most this many threads.
+/// What is known of each predicate after the round's level. The predicates' turns are taken by at most as many threads
+/// as there are.
 pub(crate) fn look_shared<T: Threads + Sync, K: LevelKey + Send + Sync>(
     rt: &T,
     alloc: Global,
-    computation: &Computation<'_>,
-    tests: &[Compiled<'_, '_>],
-    width: u64,
-    gap: u64,
+    round: &Round<'_, '_, '_, '_, K>,
     before: &Whole<K>,
-    level: &Whole<K>,
-    refusals: &Refusals,
-    beside: u64,
-    threads: usize,
     stages: &mut Vec<Stage>,
 ) -> Result<(), AllocError>
-    requires at { IsLookedAt computation.now tests.now width gap before.now level.now refusals.now beside }
-    requires threads { 0 < threads }
-    requires stand { AllStand tests.now width gap before.now stages.old.items }
-    ensures { IfOk result (λ _. AllStand tests.now width gap level.now stages.new.items) }
+    requires round { IsRound round.now }
+    requires before { IsBeforeRound before.now round.now }
+    requires stand { AllStandAt round.now before.now stages.old.items }
+    ensures { IfOk result (λ _. AllStandAt round.now round.now.level.now stages.new.items) }
 {
     let mut turns = turns_of(alloc, stages)?;
-    stages_after(
-        rt,
-        alloc,
-        computation,
-        tests,
-        width,
-        gap,
-        before,
-        level,
-        refusals,
-        beside,
-        threads,
-        turns.as_mut_slice(),
-        stages,
-    )
+    stages_after(rt, alloc, round, before, turns.as_mut_slice(), stages)
 }

@@ -60,11 +60,11 @@ pub(crate) fn threads_for<K: LevelKey>(
 ) -> usize
     requires { skips.bit < 64 }
 {
+    if threads <= 1 {
+        return 1;
+    }
     let comparisons = test.comparisons();
-    if threads > 1
-        && is_much(comparisons, level.cuts())
-        && is_much(comparisons, cuts_left(level, skips))
-    {
+    if is_much(comparisons, level.cuts()) && is_much(comparisons, cuts_left(level, skips)) {
         threads
     } else {
         1

@@ -2,32 +2,32 @@
 use Rattle.std.proofs.Common.{◌+◌, ◌≤◌, sym, subst, arith}
 use Rattle.pd_model.specs.Answers.{IsDefinitelyAnswer, IsPossiblyAnswer}
 use Rattle.pd_model.specs.Cuts.{total}
-use Rattle.pd_model.specs.Predicates.{test_of}
-use Rattle.pd_pred.specs.Views.{predicate_view}
 use Rattle.pd_lists.specs.Answers.{definitely_answer_view, possibly_answer_view}
 use Rattle.pd_lists.specs.declared.definitely_answer.DefinitelyAnswer.{DefinitelyAnswer}
 use Rattle.pd_lists.specs.declared.possibly_answer.PossiblyAnswer.{PossiblyAnswer}
 use Rattle.pd_lists.proofs.Ending.{no_past}
 use Rattle.pd_avoiding.proofs.Going.{full_avoids}
+use Rattle.pd_avoiding.specs.Questions.{question_events, question_test}
 use Rattle.pd_avoiding.proofs.listed.answer_no.Goals as goal
 
 pub way_back-requires-clause-full : goal.way_back-requires-clause-full
 way_back-requires-clause-full g c _ _ =
-    full_avoids c.avoiding_levels.ensures.level c.levels.ensures.full c.args.computation.now.events
-    (test_of c.args.computation.now (predicate_view c.args.pred.now)) c.requires.split.avoided
+    full_avoids c.avoiding_levels.ensures.level c.levels.ensures.full (question_events c.args.question.now)
+    (question_test c.args.question.now) c.requires.split.avoided
 
 pub returns : goal.returns
 returns g c =
     record {
-      possibly_right = subst (λ (a : PossiblyAnswer). IsPossiblyAnswer c.args.computation.now.events
-          (test_of c.args.computation.now (predicate_view c.args.pred.now)) c.args._width (possibly_answer_view a))
+      possibly_right = subst (λ (a : PossiblyAnswer). IsPossiblyAnswer (question_events c.args.question.now)
+          (question_test c.args.question.now) c.args.question.now.width (possibly_answer_view a))
           (sym c.answered.ensures.possibly) c.requires.split.possibly;
-      definitely_right = subst (λ (a : DefinitelyAnswer). IsDefinitelyAnswer c.args.computation.now.events
-          (test_of c.args.computation.now (predicate_view c.args.pred.now)) c.args._width (definitely_answer_view a))
+      definitely_right = subst (λ (a : DefinitelyAnswer). IsDefinitelyAnswer (question_events c.args.question.now)
+          (question_test c.args.question.now) c.args.question.now.width (definitely_answer_view a))
           (sym c.answered.ensures.definitely)
-          (c.definitely_walk.ensures.path c.args.computation.now.events
-          (test_of c.args.computation.now (predicate_view c.args.pred.now)) c.args._width
-          (total c.args.computation.now.events + 1) c.requires.split.narrow (omega arith) c.in_ok-path.path.items
+          (c.definitely_walk.ensures.path (question_events c.args.question.now)
+          (question_test c.args.question.now) c.args.question.now.width
+          (total (question_events c.args.question.now) + 1) c.requires.split.narrow (omega arith)
+          c.in_ok-path.path.items
           c.in_ok-path.ensures.path);
       few = omega (
         arith,
@@ -50,7 +50,8 @@ returns g c =
       );
       past_first = λ past.
           let two : 2 ≤ c.args.most =
-          c.requires.most.two (no_past c.args.computation.now.events c.in_ok-path.path c.answered.result.definitely
+          c.requires.most.two (no_past (question_events c.args.question.now) c.in_ok-path.path
+          c.answered.result.definitely
           c.answered.ensures.definitely past) in
           omega (arith, c.answered.ensures.held, c.max-held.ensures, c.saturating_add-before.ensures);
     }

@@ -13,26 +13,27 @@ way_back-requires-clause-none_below g c _ _ = λ j cut lt level.
 
 pub way_back-requires-clause-full : goal.way_back-requires-clause-full
 way_back-requires-clause-full g c _ _ =
-    full_avoids c.avoiding_levels.ensures.level c.levels.ensures.full c.args.computation.now.events
-    (test_of c.args.computation.now (predicate_view c.args.pred.now))
-    (open_avoided c.avoidance.ensures.all c.args.computation.now.events c.limits.ensures.acyclic
-    (test_of c.args.computation.now (predicate_view c.args.pred.now)) c.args._width
-    (total c.args.computation.now.events + 1) c.requires.opened (omega arith))
+    full_avoids c.avoiding_levels.ensures.level c.levels.ensures.full c.args.setting.now.computation.now.events
+    (test_of c.args.setting.now.computation.now (predicate_view c.args.pred.now))
+    (open_avoided c.avoidance.ensures.all c.args.setting.now.computation.now.events c.limits.ensures.acyclic
+    (test_of c.args.setting.now.computation.now (predicate_view c.args.pred.now)) c.args.setting.now.width
+    (total c.args.setting.now.computation.now.events + 1) c.requires.opened (omega arith))
 
 pub returns : goal.returns
 returns g c =
     record {
       possibly_right =
-          c.possibly_walk.ensures.none c.args.computation.now.events
-          (test_of c.args.computation.now (predicate_view c.args.pred.now)) c.args._width
-          (total c.args.computation.now.events + 1) c.requires.opened.narrow c.requires.opened.none (omega arith);
+          c.possibly_walk.ensures.none c.args.setting.now.computation.now.events
+          (test_of c.args.setting.now.computation.now (predicate_view c.args.pred.now)) c.args.setting.now.width
+          (total c.args.setting.now.computation.now.events + 1) c.requires.opened.narrow c.requires.opened.none
+          (omega arith);
       definitely_right =
-          c.definitely_walk.ensures.path c.args.computation.now.events
-          (test_of c.args.computation.now (predicate_view c.args.pred.now)) c.args._width
-          (total c.args.computation.now.events + 1)
-          (open_narrow c.avoidance.ensures.all c.args.computation.now.events c.limits.ensures.acyclic
-          (test_of c.args.computation.now (predicate_view c.args.pred.now)) c.args._width
-          (total c.args.computation.now.events + 1) c.requires.opened) (omega arith) c.in_ok-path.path.items
+          c.definitely_walk.ensures.path c.args.setting.now.computation.now.events
+          (test_of c.args.setting.now.computation.now (predicate_view c.args.pred.now)) c.args.setting.now.width
+          (total c.args.setting.now.computation.now.events + 1)
+          (open_narrow c.avoidance.ensures.all c.args.setting.now.computation.now.events c.limits.ensures.acyclic
+          (test_of c.args.setting.now.computation.now (predicate_view c.args.pred.now)) c.args.setting.now.width
+          (total c.args.setting.now.computation.now.events + 1) c.requires.opened) (omega arith) c.in_ok-path.path.items
           c.in_ok-path.ensures.path;
       few = omega (
         arith,

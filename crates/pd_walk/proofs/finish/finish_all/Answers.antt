@@ -18,20 +18,22 @@ use Rattle.pd_walk.proofs.finish.finish_all.Goals as goal
 pub loop-i-init : goal.loop-i-init
 loop-i-init g c =
     subst (λ (answers : List Answers).
-    HaveFinished c.args.computation.now c.args.preds.now c.args.width c.args.gap c.args.wholes.now.most
+    HaveFinished c.args.setting.now.computation.now c.args.preds.now c.args.setting.now.width c.args.setting.now.gap
+    c.args.wholes.now.most
     c.args.wholes.now.levels.items 0 c.args.stages.now.items answers) (sym c.in_ok-answers.ensures.items)
-    (none_finished c.args.computation.now c.args.preds.now c.args.width c.args.gap c.args.wholes.now.most
+    (none_finished c.args.setting.now.computation.now c.args.preds.now c.args.setting.now.width c.args.setting.now.gap
+    c.args.wholes.now.most
     c.args.wholes.now.levels.items c.args.stages.now.items c.requires.ended)
 
 pub finish-requires-clause-level : goal.finish-requires-clause-level
 finish-requires-clause-level g c _ _ =
-    subst (λ (l : WholeLevel). IsWholeLevel c.args.computation.now.events l)
+    subst (λ (l : WholeLevel). IsWholeLevel c.args.setting.now.computation.now.events l)
     (sym (only_whole c.args.wholes.now.levels.items c.loop-i.invariant.level c.last.result.now
     c.loop-i.invariant.only c.last.ensures)) c.loop-i.invariant.whole
 
 pub finish-requires-clause-within : goal.finish-requires-clause-within
 finish-requires-clause-within g c _ _ =
-    subst (λ (l : WholeLevel). l.number ≤ total c.args.computation.now.events)
+    subst (λ (l : WholeLevel). l.number ≤ total c.args.setting.now.computation.now.events)
     (sym (only_whole c.args.wholes.now.levels.items c.loop-i.invariant.level c.last.result.now
     c.loop-i.invariant.only c.last.ensures)) c.loop-i.invariant.within
 
@@ -46,41 +48,47 @@ finish-requires-clause-last g c _ _ = λ is.
 pub finish-requires-clause-stands : goal.finish-requires-clause-stands
 finish-requires-clause-stands g c _ _ =
     subst (λ (l : WholeLevel).
-    Stands c.args.computation.now.events (test_of c.args.computation.now (predicate_view c.index-preds-i.result.now))
-    c.args.width c.args.gap l c.replace-stage.result)
+    Stands c.args.setting.now.computation.now.events (test_of c.args.setting.now.computation.now
+    (predicate_view c.index-preds-i.result.now))
+    c.args.setting.now.width c.args.setting.now.gap l c.replace-stage.result)
     (sym (only_whole c.args.wholes.now.levels.items c.loop-i.invariant.level c.last.result.now
     c.loop-i.invariant.only c.last.ensures))
     (subst (λ (s : Stage).
-    Stands c.args.computation.now.events (test_of c.args.computation.now (predicate_view c.index-preds-i.result.now))
-    c.args.width c.args.gap c.loop-i.invariant.level s)
+    Stands c.args.setting.now.computation.now.events (test_of c.args.setting.now.computation.now
+    (predicate_view c.index-preds-i.result.now))
+    c.args.setting.now.width c.args.setting.now.gap c.loop-i.invariant.level s)
     (sym (c.replace-stage.ensures.value ∙ c.index_mut.ensures.value))
     (subst (λ (p : Bor Pred).
-    Stands c.args.computation.now.events (test_of c.args.computation.now (predicate_view p.now)) c.args.width
-    c.args.gap c.loop-i.invariant.level (get_or c.loop-i.stages.items c.loop-i.i c.index_mut.result.now))
+    Stands c.args.setting.now.computation.now.events (test_of c.args.setting.now.computation.now
+    (predicate_view p.now)) c.args.setting.now.width
+    c.args.setting.now.gap c.loop-i.invariant.level (get_or c.loop-i.stages.items c.loop-i.i c.index_mut.result.now))
     (sym c.index-preds-i.is)
     (c.loop-i.invariant.left c.loop-i.i c.index-preds-i.result c.index_mut.result.now (omega arith)
     c.loop-i-test.true)))
 
 pub finish-requires-clause-most : goal.finish-requires-clause-most
 finish-requires-clause-most g c _ _ =
-    subst (λ (n : ℕ). AreBeside c.args.gap c.last.result.now.number n) (sym c.most.ensures)
-    (subst (λ (l : WholeLevel). AreBeside c.args.gap l.number c.args.wholes.now.most)
+    subst (λ (n : ℕ). AreBeside c.args.setting.now.gap c.last.result.now.number n) (sym c.most.ensures)
+    (subst (λ (l : WholeLevel). AreBeside c.args.setting.now.gap l.number c.args.wholes.now.most)
     (sym (only_whole c.args.wholes.now.levels.items c.loop-i.invariant.level c.last.result.now
     c.loop-i.invariant.only c.last.ensures)) c.loop-i.invariant.beside)
 
 pub loop-i-preserved : goal.loop-i-preserved
 loop-i-preserved g c =
     subst (λ (answers : List Answers).
-    HaveFinished c.args.computation.now c.args.preds.now c.args.width c.args.gap c.args.wholes.now.most
+    HaveFinished c.args.setting.now.computation.now c.args.preds.now c.args.setting.now.width c.args.setting.now.gap
+    c.args.wholes.now.most
     c.args.wholes.now.levels.items (c.loop-i.i + 1) (slice_set c.loop-i.stages.items c.loop-i.i
     c.replace-stage.new.dest)
     answers)
     (sym c.in_ok-push.ensures.items)
-    (one_finished c.args.computation.now c.args.preds.now c.args.width c.args.gap c.args.wholes.now.most
+    (one_finished c.args.setting.now.computation.now c.args.preds.now c.args.setting.now.width c.args.setting.now.gap
+    c.args.wholes.now.most
     c.args.wholes.now.levels.items c.loop-i.i c.loop-i.stages.items c.loop-i.answers.items c.replace-stage.new.dest
     c.in_ok-finish.field-0 c.loop-i.invariant
     (λ pred. subst (λ (p : Bor Pred).
-    AreAnswers c.args.computation.now.events (test_of c.args.computation.now (predicate_view p.now)) c.args.width
-    (2 * c.args.gap + 2) c.in_ok-finish.field-0)
+    AreAnswers c.args.setting.now.computation.now.events (test_of c.args.setting.now.computation.now
+    (predicate_view p.now)) c.args.setting.now.width
+    (2 * c.args.setting.now.gap + 2) c.in_ok-finish.field-0)
     (c.index-preds-i.is ∙ get_or_default c.args.preds.now c.loop-i.i c.index-preds-i.result pred c.loop-i-test.true)
     c.in_ok-finish.ensures))

@@ -4,5 +4,5 @@ use Rattle.pd_walk.proofs.finish.finish_all.Given as goal
 
 abbrev pub invariant-loop-i : goal.invariant-loop-i
 invariant-loop-i g l =
-    HaveFinished l.computation l.preds l.width l.gap l.wholes.most l.wholes.levels.items l.i l.stages.items
-    l.answers.items
+    HaveFinished l.setting.computation.now l.preds l.setting.width l.setting.gap l.wholes.most l.wholes.levels.items
+    l.i l.stages.items l.answers.items

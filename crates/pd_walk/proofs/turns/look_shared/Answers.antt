@@ -7,7 +7,7 @@ use Rattle.pd_walk.proofs.turns.look_shared.Goals as goal
 
 pub stages_after-requires-clause-ready : goal.stages_after-requires-clause-ready
 stages_after-requires-clause-ready g c _ _ =
-    subst (λ (turns : List Turn). AreReady c.args.tests.now c.args.width c.args.gap c.args.before.now turns)
+    subst (λ (turns : List Turn). AreReady c.args.round.now c.args.before.now turns)
     (sym c.as_mut_slice.ensures.value)
-    (turns_are_ready c.args.tests.now c.args.width c.args.gap c.args.before.now c.args.stages.now.items
+    (turns_are_ready c.args.round.now c.args.before.now c.args.stages.now.items
     c.in_ok-turns.turns.items c.in_ok-turns.ensures.turns c.requires.stand)

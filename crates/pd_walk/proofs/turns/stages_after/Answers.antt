@@ -5,6 +5,6 @@ use Rattle.pd_walk.proofs.turns.stages_after.Goals as goal
 
 pub returns : goal.returns
 returns g c =
-    after_all c.args.tests.now c.args.width c.args.gap c.args.level.now c.take_all.new.turns
+    after_all c.args.round.now c.take_all.new.turns
     c.hand_back.new.stages.items c.hand_back.result (c.take_all.ensures.one_each ∙ c.requires.one_each)
     c.take_all.ensures.taken c.hand_back.ensures

@@ -9,5 +9,6 @@ abbrev pub invariant-loop-i : goal.invariant-loop-i
 invariant-loop-i g l = record {
   one_each : length l.stages.items ≡ l.i;
   each : (j : ℕ) (test : CompiledView) (stage : Stage) → j < l.i
-      → OneStands (get_or l.tests j test) l.width l.gap l.level (get_or l.stages.items j stage);
+      → OneStands (get_or l.round.tests.now j test) l.round.width l.round.gap l.round.level.now
+      (get_or l.stages.items j stage);
 }

@@ -3,44 +3,50 @@ use Rattle.std.proofs.Common.{◌≡◌, ◌+◌, ◌++◌, [], ◌∷◌, ℕ, 
 use Rattle.pd_model.specs.Events.{Computation}
 use Rattle.pd_refusals.specs.Refusals.{AreRefusals}
 use Rattle.pd_runs.specs.Levels.{IsWholeLevel, WholeLevel}
-use Rattle.pd_walk.specs.Stages.{AllStand}
-use Rattle.pd_walk.proofs.Standing.{beside_two, come_next, lower_whole, only_whole, upper_whole}
+use Rattle.pd_lists.specs.Splits.{AreBeside}
+use Rattle.pd_walk.specs.Stages.{AllStand, number_held}
+use Rattle.pd_walk.proofs.Standing.{beside_two, come_next, lower_whole, next_only, number_read, only_whole, upper_whole}
 use Rattle.pd_walk.proofs.walk.step_up.Goals as goal
 
 pub next-requires-clause-room : goal.next-requires-clause-room
 next-requires-clause-room g c =
-    let same : c.last.result.now ≡ c.requires.come.level =
-    only_whole c.args.wholes.now.levels.items c.requires.come.level c.last.result.now c.requires.come.only
+    let number : c.last.result.now.number ≡ number_held c.args.wholes.now.levels.items =
+    number_read c.args.wholes.now.levels.items c.requires.come.level c.last.result.now c.requires.come.only
     c.last.ensures in
-    omega (arith, ap (λ (l : WholeLevel). l.number) same, c.requires.come.number, c.requires.below, c.requires.small)
+    omega (arith, number, c.requires.below, c.args.setting.now.small)
 
 pub next-requires-clause-level : goal.next-requires-clause-level
 next-requires-clause-level g c =
-    let same : c.last.result.now ≡ c.requires.come.level =
+    let held : c.last.result.now ≡ c.requires.come.level =
     only_whole c.args.wholes.now.levels.items c.requires.come.level c.last.result.now c.requires.come.only
     c.last.ensures in
     subst (λ (e : Computation). IsWholeLevel e c.last.result.now) (sym c.requires.steps)
-    (subst (λ (l : WholeLevel). IsWholeLevel c.args.computation.now.events l) (sym same) c.requires.come.whole)
+    (subst (λ (l : WholeLevel). IsWholeLevel c.args.setting.now.computation.now.events l) (sym held)
+    c.requires.come.whole)
 
 pub next-requires-2-clause-before : goal.next-requires-2-clause-before
-next-requires-2-clause-before g c _ _ = record {
-  c = c.args.computation.now.events;
-  whole =
-      subst (λ (l : WholeLevel). IsWholeLevel c.args.computation.now.events l)
-      (sym (lower_whole c.args.wholes.now.levels.items c.push.new.self.levels.items c.requires.come.level
-      c.in_ok-next.next c.last_but_one-before.result.now c.requires.come.only c.in_ok-push.ensures.levels
-      c.last_but_one-before.ensures)) c.requires.come.whole;
-}
+next-requires-2-clause-before g c _ _ =
+    let lower : c.last_but_one-before.result.now ≡ c.requires.come.level =
+    lower_whole c.args.wholes.now.levels.items c.push.new.self.levels.items c.requires.come.level c.in_ok-next.next
+    c.last_but_one-before.result.now c.requires.come.only c.in_ok-push.ensures.levels c.last_but_one-before.ensures in
+    record {
+      c = c.args.setting.now.computation.now.events;
+      whole =
+          subst (λ (l : WholeLevel). IsWholeLevel c.args.setting.now.computation.now.events l) (sym lower)
+          c.requires.come.whole;
+    }
 
 pub next-requires-2-clause-level : goal.next-requires-2-clause-level
-next-requires-2-clause-level g c _ _ = record {
-  c = c.args.computation.now.events;
-  whole =
-      subst (λ (l : WholeLevel). IsWholeLevel c.args.computation.now.events l)
-      (sym (upper_whole c.args.wholes.now.levels.items c.push.new.self.levels.items c.requires.come.level
-      c.in_ok-next.next c.last-level.result.now c.requires.come.only c.in_ok-push.ensures.levels c.last-level.ensures))
-      (subst (λ (e : Computation). IsWholeLevel e c.in_ok-next.next) c.requires.steps c.in_ok-next.ensures.level);
-}
+next-requires-2-clause-level g c _ _ =
+    let upper : c.last-level.result.now ≡ c.in_ok-next.next =
+    upper_whole c.args.wholes.now.levels.items c.push.new.self.levels.items c.requires.come.level c.in_ok-next.next
+    c.last-level.result.now c.requires.come.only c.in_ok-push.ensures.levels c.last-level.ensures in
+    record {
+      c = c.args.setting.now.computation.now.events;
+      whole =
+          subst (λ (l : WholeLevel). IsWholeLevel c.args.setting.now.computation.now.events l) (sym upper)
+          (subst (λ (e : Computation). IsWholeLevel e c.in_ok-next.next) c.requires.steps c.in_ok-next.ensures.level);
+    }
 
 pub next-requires-2-clause-processes : goal.next-requires-2-clause-processes
 next-requires-2-clause-processes g c _ _ =
@@ -56,27 +62,46 @@ next-requires-2-clause-processes g c _ _ =
 
 pub next-requires-2-clause-refusals : goal.next-requires-2-clause-refusals
 next-requires-2-clause-refusals g c _ _ =
-    subst (λ (l : WholeLevel). AreRefusals c.args.tests.now l c.args.refusals.now)
-    (sym (lower_whole c.args.wholes.now.levels.items c.push.new.self.levels.items c.requires.come.level
-    c.in_ok-next.next c.last_but_one-before.result.now c.requires.come.only c.in_ok-push.ensures.levels
-    c.last_but_one-before.ensures)) c.requires.come.refused
+    let lower : c.last_but_one-before.result.now ≡ c.requires.come.level =
+    lower_whole c.args.wholes.now.levels.items c.push.new.self.levels.items c.requires.come.level c.in_ok-next.next
+    c.last_but_one-before.result.now c.requires.come.only c.in_ok-push.ensures.levels c.last_but_one-before.ensures in
+    subst (λ (l : WholeLevel). AreRefusals c.args.tests.now l c.args.refusals.now) (sym lower)
+    c.requires.come.refused
+
+pub look_all-requires-clause-round : goal.look_all-requires-clause-round
+look_all-requires-clause-round g c _ _ =
+    let number : c.last.result.now.number ≡ number_held c.args.wholes.now.levels.items =
+    number_read c.args.wholes.now.levels.items c.requires.come.level c.last.result.now c.requires.come.only
+    c.last.ensures in
+    let upper : c.last-level.result.now ≡ c.in_ok-next.next =
+    upper_whole c.args.wholes.now.levels.items c.push.new.self.levels.items c.requires.come.level c.in_ok-next.next
+    c.last-level.result.now c.requires.come.only c.in_ok-push.ensures.levels c.last-level.ensures in
+    let two : length c.push.new.self.levels.items ≡ 2 =
+    ap length (c.in_ok-push.ensures.levels
+    ∙ ap (λ (ls : List WholeLevel). ls ++ c.in_ok-next.next ∷ []) c.requires.come.only) in
+    let next : c.last-level.result.now.number ≡ c.requires.come.level.number + 1 =
+    ap (λ (l : WholeLevel). l.number) upper
+    ∙ (c.in_ok-next.ensures.number
+    ∙ ap (λ (n : ℕ). n + 1) (number ∙ ap number_held c.requires.come.only)) in
+    record {
+      tests_for = c.requires.tests;
+      whole =
+          subst (λ (l : WholeLevel). IsWholeLevel c.args.setting.now.computation.now.events l) (sym upper)
+          (subst (λ (e : Computation). IsWholeLevel e c.in_ok-next.next) c.requires.steps c.in_ok-next.ensures.level);
+      within = omega (arith, next, ap number_held c.requires.come.only, c.requires.below);
+      narrow = c.args.setting.now.narrow;
+      root = c.args.setting.now.root;
+      few =
+          subst (λ (n : ℕ). AreBeside c.args.setting.now.gap n c.most.result) (sym next)
+          (beside_two c.args.setting.now.gap c.requires.come.level.number c.args.wholes.now.most c.most.result
+          c.requires.come.beside
+          (c.most.ensures ∙ (c.in_ok-push.ensures.most ∙ ap (λ (n : ℕ). max c.args.wholes.now.most n) two)));
+      refused = c.in_ok-after.ensures;
+      some_threads = c.count-threads.ensures;
+    }
 
 pub look_all-requires-clause-before : goal.look_all-requires-clause-before
 look_all-requires-clause-before g c _ _ =
-    subst (λ (l : WholeLevel). IsWholeLevel c.args.computation.now.events l)
-    (sym (lower_whole c.args.wholes.now.levels.items c.push.new.self.levels.items c.requires.come.level
-    c.in_ok-next.next c.last_but_one-before.result.now c.requires.come.only c.in_ok-push.ensures.levels
-    c.last_but_one-before.ensures)) c.requires.come.whole
-
-pub look_all-requires-clause-level : goal.look_all-requires-clause-level
-look_all-requires-clause-level g c _ _ =
-    subst (λ (l : WholeLevel). IsWholeLevel c.args.computation.now.events l)
-    (sym (upper_whole c.args.wholes.now.levels.items c.push.new.self.levels.items c.requires.come.level
-    c.in_ok-next.next c.last-level.result.now c.requires.come.only c.in_ok-push.ensures.levels c.last-level.ensures))
-    (subst (λ (e : Computation). IsWholeLevel e c.in_ok-next.next) c.requires.steps c.in_ok-next.ensures.level)
-
-pub look_all-requires-clause-number : goal.look_all-requires-clause-number
-look_all-requires-clause-number g c _ _ =
     let held : c.last.result.now ≡ c.requires.come.level =
     only_whole c.args.wholes.now.levels.items c.requires.come.level c.last.result.now c.requires.come.only
     c.last.ensures in
@@ -86,51 +111,55 @@ look_all-requires-clause-number g c _ _ =
     let upper : c.last-level.result.now ≡ c.in_ok-next.next =
     upper_whole c.args.wholes.now.levels.items c.push.new.self.levels.items c.requires.come.level c.in_ok-next.next
     c.last-level.result.now c.requires.come.only c.in_ok-push.ensures.levels c.last-level.ensures in
-    ap (λ (l : WholeLevel). l.number) upper
-    ∙ (c.in_ok-next.ensures.number ∙ ap (λ (l : WholeLevel). l.number + 1) (held ∙ sym lower))
-
-pub look_all-requires-clause-within : goal.look_all-requires-clause-within
-look_all-requires-clause-within g c _ _ =
-    let held : c.last.result.now ≡ c.requires.come.level =
-    only_whole c.args.wholes.now.levels.items c.requires.come.level c.last.result.now c.requires.come.only
-    c.last.ensures in
-    let upper : c.last-level.result.now ≡ c.in_ok-next.next =
-    upper_whole c.args.wholes.now.levels.items c.push.new.self.levels.items c.requires.come.level c.in_ok-next.next
-    c.last-level.result.now c.requires.come.only c.in_ok-push.ensures.levels c.last-level.ensures in
-    omega (
-      arith,
-      ap (λ (l : WholeLevel). l.number) upper,
-      c.in_ok-next.ensures.number,
-      ap (λ (l : WholeLevel). l.number) held,
-      c.requires.come.number,
-      c.requires.below,
-    )
+    record {
+      whole =
+          subst (λ (l : WholeLevel). IsWholeLevel c.args.setting.now.computation.now.events l) (sym lower)
+          c.requires.come.whole;
+      number =
+          ap (λ (l : WholeLevel). l.number) upper
+          ∙ (c.in_ok-next.ensures.number ∙ ap (λ (l : WholeLevel). l.number + 1) (held ∙ sym lower));
+    }
 
 pub look_all-requires-clause-stand : goal.look_all-requires-clause-stand
 look_all-requires-clause-stand g c _ _ =
-    subst (λ (l : WholeLevel). AllStand c.args.tests.now c.args.width c.args.gap l c.args.stages.now.items)
-    (sym (lower_whole c.args.wholes.now.levels.items c.push.new.self.levels.items c.requires.come.level
-    c.in_ok-next.next c.last_but_one-before.result.now c.requires.come.only c.in_ok-push.ensures.levels
-    c.last_but_one-before.ensures)) c.requires.come.stand
+    let lower : c.last_but_one-before.result.now ≡ c.requires.come.level =
+    lower_whole c.args.wholes.now.levels.items c.push.new.self.levels.items c.requires.come.level c.in_ok-next.next
+    c.last_but_one-before.result.now c.requires.come.only c.in_ok-push.ensures.levels c.last_but_one-before.ensures in
+    subst (λ (l : WholeLevel). AllStand c.args.tests.now c.args.setting.now.width c.args.setting.now.gap l
+    c.args.stages.now.items) (sym lower) c.requires.come.stand
 
-pub returns : goal.returns
-returns g c =
-    let held : c.last.result.now ≡ c.requires.come.level =
-    only_whole c.args.wholes.now.levels.items c.requires.come.level c.last.result.now c.requires.come.only
+pub returns-clause-come : goal.returns-clause-come
+returns-clause-come g c =
+    let number : c.last.result.now.number ≡ number_held c.args.wholes.now.levels.items =
+    number_read c.args.wholes.now.levels.items c.requires.come.level c.last.result.now c.requires.come.only
     c.last.ensures in
     let two : length c.push.new.self.levels.items ≡ 2 =
     ap length (c.in_ok-push.ensures.levels
     ∙ ap (λ (ls : List WholeLevel). ls ++ c.in_ok-next.next ∷ []) c.requires.come.only) in
-    come_next c.args.computation.now.events c.args.tests.now c.args.width c.args.gap c.args._k
+    come_next c.args.setting.now.computation.now.events c.args.tests.now c.args.setting.now.width c.args.setting.now.gap
     c.args.wholes.now.most c.drop_last_but_one.new.self.most c.args.wholes.now.levels.items
-    c.push.new.self.levels.items c.drop_last_but_one.new.self.levels.items c.last-level.result.now c.in_ok-next.next
-    c.args.refusals.now c.in_ok-after.after c.args.stages.now.items c.look_all.new.stages.items c.requires.come
-    c.in_ok-push.ensures.levels
-    c.drop_last_but_one.ensures.levels
+    c.push.new.self.levels.items c.drop_last_but_one.new.self.levels.items c.in_ok-next.next c.args.refusals.now
+    c.in_ok-after.after c.args.stages.now.items c.look_all.new.stages.items c.requires.come
+    c.in_ok-push.ensures.levels c.drop_last_but_one.ensures.levels c.last-level.result.now c.requires.below
     (subst (λ (e : Computation). IsWholeLevel e c.in_ok-next.next) c.requires.steps c.in_ok-next.ensures.level)
-    (c.in_ok-next.ensures.number
-    ∙ ap (λ (n : ℕ). n + 1) (ap (λ (l : WholeLevel). l.number) held ∙ c.requires.come.number))
-    (beside_two c.args.gap c.args._k c.args.wholes.now.most c.drop_last_but_one.new.self.most c.requires.come.beside
+    (c.in_ok-next.ensures.number ∙ ap (λ (n : ℕ). n + 1) number)
+    (beside_two c.args.setting.now.gap (number_held c.args.wholes.now.levels.items) c.args.wholes.now.most
+    c.drop_last_but_one.new.self.most
+    (subst (λ (n : ℕ). AreBeside c.args.setting.now.gap n c.args.wholes.now.most)
+    (sym (ap number_held c.requires.come.only)) c.requires.come.beside)
     (c.drop_last_but_one.ensures.most
     ∙ (c.in_ok-push.ensures.most ∙ ap (λ (n : ℕ). max c.args.wholes.now.most n) two))) c.last-level.ensures
     c.in_ok-after.ensures c.in_ok-look_all.ensures
+
+pub returns-clause-number : goal.returns-clause-number
+returns-clause-number g c =
+    let number : c.last.result.now.number ≡ number_held c.args.wholes.now.levels.items =
+    number_read c.args.wholes.now.levels.items c.requires.come.level c.last.result.now c.requires.come.only
+    c.last.ensures in
+    ap number_held (next_only c.args.setting.now.computation.now.events c.args.tests.now c.args.setting.now.width
+    c.args.setting.now.gap
+    c.args.wholes.now.most c.drop_last_but_one.new.self.most c.args.wholes.now.levels.items
+    c.push.new.self.levels.items c.drop_last_but_one.new.self.levels.items c.in_ok-next.next c.args.refusals.now
+    c.in_ok-after.after c.args.stages.now.items c.look_all.new.stages.items c.requires.come
+    c.in_ok-push.ensures.levels c.drop_last_but_one.ensures.levels)
+    ∙ (c.in_ok-next.ensures.number ∙ ap (λ (n : ℕ). n + 1) number)

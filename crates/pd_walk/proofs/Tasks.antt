@@ -1,0 +1,48 @@
+-- What holds of the tasks of a round.
+use Rattle.std.proofs.Common.{◌≡◌, ℕ, List, get_or, sym, ap, ◌∙◌, subst, arith}
+use Rattle.pd_model.specs.Predicates.{Recorded}
+use Rattle.pd_runs.specs.Levels.{WholeLevel}
+use Rattle.pd_tables.specs.Views.{CompiledView}
+use Rattle.pd_walk.specs.Rounds.{IsBeforeRound, IsNextOfWhole}
+use Rattle.pd_walk.specs.Stages.{IsOpenBelow, OneStands}
+use Rattle.pd_walk.specs.Tasks.{IsBeforeTask, IsTaskOf, StandsAt, task_events, task_test}
+use Rattle.pd_walk.specs.declared.round.Round.{Round}
+use Rattle.pd_walk.specs.declared.stage.Stage.{Stage}
+use Rattle.pd_walk.specs.declared.task.Task.{Task}
+
+module _ {K : Type 0} (round : Round K) (i : ℕ) (task : Task K) (of : IsTaskOf round i task) where
+  -- the level before that of the round is the one before that of the task
+  pub before_task : (before : WholeLevel) → IsBeforeRound before round → IsBeforeTask before task
+  before_task before next =
+      subst (λ (r : Recorded). IsNextOfWhole r.events before task.level.now) (sym of.recorded)
+      (subst (λ (l : WholeLevel). IsNextOfWhole round.computation.now.events before l) (sym of.level) next)
+
+  -- what stands of predicate i stands of the task
+  pub stands_for : (level : WholeLevel) (stage : Stage)
+      → ((test : CompiledView) → OneStands (get_or round.tests.now i test) round.width round.gap level stage)
+      → StandsAt task level stage
+  stands_for level stage stands =
+      subst (λ (t : CompiledView). OneStands t task.width task.gap level stage) (sym (of.test task.test.now))
+      (subst (λ (w : ℕ). OneStands (get_or round.tests.now i task.test.now) w task.gap level stage) (sym of.width)
+      (subst (λ (g : ℕ). OneStands (get_or round.tests.now i task.test.now) round.width g level stage) (sym of.gap)
+      (stands task.test.now)))
+
+  -- and the other way round, after the level
+  pub stands_of : (stage : Stage) → StandsAt task task.level.now stage → (test : CompiledView)
+      → OneStands (get_or round.tests.now i test) round.width round.gap round.level.now stage
+  stands_of stage stands test =
+      subst (λ (l : WholeLevel). OneStands (get_or round.tests.now i test) round.width round.gap l stage) of.level
+      (subst (λ (g : ℕ). OneStands (get_or round.tests.now i test) round.width g task.level.now stage) of.gap
+      (subst (λ (w : ℕ). OneStands (get_or round.tests.now i test) w task.gap task.level.now stage) of.width
+      (subst (λ (t : CompiledView). OneStands t task.width task.gap task.level.now stage) (of.test test) stands)))
+
+  -- below level 0 there is no cut
+  pub open_at_first : round.level.now.number ≡ 0
+      → IsOpenBelow (task_events task) (task_test task) task.width task.level.now.number
+  open_at_first first =
+      let number : task.level.now.number ≡ 0 = ap (λ (l : WholeLevel). l.number) of.level ∙ first in
+      record {
+        none = λ j cut lt level. absurd (omega (arith, number));
+        narrow = λ j lt wide. absurd
+            (omega (arith, number));
+      }

@@ -1,0 +1,48 @@
+//! One predicate at a whole level.
+ghost use Rattle.pd_walk.specs.Rounds.{IsRound};
+ghost use Rattle.pd_walk.specs.Tasks.{IsTaskOf};
+ghost use Rattle.std.specs.Prelude.{◌<◌, length};
+
+use super::round::Round;
+use super::worth::threads_for;
+use pd_level::LevelKey;
+use pd_marks::Skips;
+use pd_runs::Whole;
+use pd_tables::Compiled;
+
+/// One predicate and the level that it is looked at at: the runs that are skipped there, how many whole levels were
+/// held at once, and by how many threads it is shared.
+#[derive(Clone, Copy)]
+pub(crate) struct Task<'a, 'b, 'c, K: LevelKey> {
+    pub test: &'a Compiled<'b, 'c>,
+    pub width: u64,
+    pub gap: u64,
+    pub level: &'a Whole<K>,
+    pub skips: Skips<'a>,
+    pub beside: u64,
+    pub threads: usize,
+}
+
+/// Predicate `i` at the level of the round, shared by this many threads if it has much to evaluate there.
+pub(crate) fn task_of<'a, 'b, 'c, K: LevelKey>(
+    round: &Round<'a, '_, 'b, 'c, K>,
+    i: usize,
+    threads: usize,
+) -> Task<'a, 'b, 'c, K>
+    requires round { IsRound round.now }
+    requires within { i < length round.now.tests.now }
+    ensures { IsTaskOf round.now i result }
+{
+    round.computation.limits();
+    let test = &round.tests[i];
+    let skips = round.refusals.of(i);
+    Task {
+        test,
+        width: round.width,
+        gap: round.gap,
+        level: round.level,
+        skips,
+        beside: round.beside,
+        threads: threads_for(threads, test, round.level, skips),
+    }
+}
