@@ -78,8 +78,8 @@ def connect(server, port, seconds=SECONDS):
 
 
 def free_ports(count):
-    """The first of so many ports in a row on which nobody listens. They are kept for nobody, so a server that is started
-    on them may find them taken."""
+    """The first of so many ports in a row on which nobody listens. They are kept for nobody, so a server that is
+    started on them may find them taken."""
     taken = {number for _, number, _ in listening()}
     while True:
         first = random.choice(PORTS)

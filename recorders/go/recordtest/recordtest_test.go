@@ -16,8 +16,9 @@ import (
 )
 
 // document is one without its last brace.
-const document = `{"processes":[{"name":"left","vars":{"inside":0}},{"name":"right","vars":{"inside":0}}],"predicates":` +
-	`[{"name":"both","text":"left.inside == 1 and right.inside == 1"},{"name":"left_in","text":"left.inside == 1"}]`
+const document = `{"processes":[{"name":"left","vars":{"inside":0}},{"name":"right","vars":{"inside":0}}],` +
+	`"predicates":[{"name":"both","text":"left.inside == 1 and right.inside == 1"},` +
+	`{"name":"left_in","text":"left.inside == 1"}]`
 
 var (
 	early = []string{`{"set":{"inside":1}}`, `{"send":"m"}`, `{"set":{"inside":0}}`, `{"end":true}`}
@@ -285,8 +286,8 @@ func TestInGo(t *testing.T) {
 func TestThatFailsByItself(t *testing.T) {
 	program(t)
 	until := "turns_test.go:%d: what was recorded until then is in RUNS/%s\n"
-	seeInGo(t, "--- FAIL: TestByItself\n    turns_test.go:75: one isn't two\n    "+fmt.Sprintf(until, 74, "TestByItself-1"),
-		[]string{"TestByItself-1"}, "Itself")
+	seeInGo(t, "--- FAIL: TestByItself\n    turns_test.go:75: one isn't two\n    "+
+		fmt.Sprintf(until, 74, "TestByItself-1"), []string{"TestByItself-1"}, "Itself")
 	seeInGo(t, "--- FAIL: TestPanics\n    "+fmt.Sprintf(until, 79, "TestPanics-1")+"panic: it panics",
 		[]string{"TestPanics-1"}, "Panics")
 	seeInGo(t, "--- FAIL: TestWithoutADocument\n    turns_test.go:89: open nowhere.json: no such file or directory\n", nil,
