@@ -1,6 +1,6 @@
 #!/usr/bin/env python3
-"""try_page.py PAGE [--without HEADING]..: types the commands of a page as a reader would, and looks whether they write
-what the page says.
+"""try_page.py PAGE [--without HEADING].. [--only HEADING]..: types the commands of a page as a reader would, and looks
+whether they write what the page says.
 
 An indented block whose first word is a command is typed, in the shell in which the blocks before it were, and at the
 top of the repository if the line before says so. Of each other block after the first commands every line has to be one
@@ -15,27 +15,27 @@ import sys
 import tempfile
 
 TOP = os.path.dirname(os.path.dirname(os.path.abspath(__file__)))
-COMMANDS = {"export", "mkdir", "cp", "cd", "cat", "sed", "rm", "python3", "pytest", "javac", "java"}
+COMMANDS = {"export", "mkdir", "cp", "cd", "cat", "sed", "rm", "python3", "pytest", "go", "javac", "java"}
 SECONDS = 300
 
 
-def blocks(text, without):
-    """Each indented block, with the line before it, of all sections but those."""
+def blocks(text, without, only):
+    """Each indented block, with the line before it, of all sections but those, or of these alone."""
     for section in re.split(r"^(?=#)", text, flags=re.M):
         heading = section.partition("\n")[0].lstrip("# ")
-        if heading in without:
+        if heading in without or only and heading not in only:
             continue
         for match in re.finditer(r"(?:^(\S.*)\n+)?((?:^(?:    .*)?\n)*^    .*\n)", section, flags=re.M):
             lines = re.sub(r"^    ", "", match[2], flags=re.M).strip("\n").split("\n")
             yield match[1] or "", lines
 
 
-def typed(page, without, folder):
+def typed(page, without, only, folder):
     """For each block of commands the lines that they wrote and those that the page has."""
     script, wanted = [], []
     with open(page, encoding="utf-8") as file:
         text = re.sub(r"(?<!\w)/tmp/", f"{folder}/", file.read())
-    for before, lines in blocks(text, without):
+    for before, lines in blocks(text, without, only):
         if lines[0].split()[0] in COMMANDS:
             script += [f"cd '{TOP}'"] if before.endswith("At the top of the repository:") else []
             script += [*lines, f"echo '@@ {len(wanted)}'"]
@@ -62,10 +62,11 @@ def main():
     parser = argparse.ArgumentParser(description=__doc__, formatter_class=argparse.RawDescriptionHelpFormatter)
     parser.add_argument("page")
     parser.add_argument("--without", action="append", default=[], metavar="HEADING")
+    parser.add_argument("--only", action="append", default=[], metavar="HEADING")
     given = parser.parse_args()
     wrong = compared = 0
     with tempfile.TemporaryDirectory() as folder:
-        for written, wanted in typed(given.page, given.without, os.path.realpath(folder)):
+        for written, wanted in typed(given.page, given.without, given.only, os.path.realpath(folder)):
             line = missing(written, wanted)
             compared += len(wanted)
             if line is not None:

@@ -12,11 +12,14 @@ import sys
 import tempfile
 import time
 
-from peers import connect, free_port
-
 HERE = os.path.dirname(os.path.abspath(__file__))
+sys.path.append(os.path.join(HERE, "..", "cases"))
+import listening  # noqa: E402
+
 SESSION = os.path.join(HERE, "..", "examples", "mutual-exclusion")
 MEBIBYTE = 1 << 20
+# How often a server is started if another program takes its port first, and what it reports then.
+TRIES, NO_NETWORK = 5, "monitor: network\n"
 wrong = 0
 
 
@@ -73,35 +76,34 @@ def talkative(end):
     end.sendall(b"GET / HTTP/1.1\r\n\r\n")
 
 
-def play(port, connected, part, arguments):
+def play(end, part, arguments):
     """One peer in a process of its own: what it meets after its connection harms nobody."""
     try:
-        with connect(port) as end:
-            connected.set()
+        with end:
             part(end, *arguments)
     except OSError:
         pass
 
 
-def start(port, part, *arguments):
-    """A peer that is connected."""
-    connected = multiprocessing.Event()
-    peer = multiprocessing.Process(target=play, args=(port, connected, part, arguments))
-    peer.start()
-    connected.wait(10)
-    return peer
+def start(server, port, part, *arguments):
+    """A peer that is connected to the server; none, if it has ended."""
+    try:
+        end = listening.connect(server, port)
+    except OSError:
+        return []
+    with end:
+        peer = multiprocessing.Process(target=play, args=(end, part, arguments))
+        peer.start()
+    return [peer]
 
 
 # ---- cases
 
-def case(program, name, peers, text, status=0, line="", watchers=(), asked=0, port=None, document=None):
-    """Starts the server and the peers, one after the other, and compares how it ends."""
-    global wrong
-    port = port or free_port()
-    server = subprocess.Popen(
-        [program, "serve", document or os.path.join(SESSION, "session.json"), "--port", str(port),
-         "--watchers", str(asked or len(watchers))], stdout=subprocess.PIPE, stderr=subprocess.PIPE, text=True)
-    started = [start(port, *peer) for peer in peers] + [start(port + 1, *watcher) for watcher in watchers]
+def served(words, port, peers, watchers):
+    """How a server ends to which the peers and the watchers connect, one after the other."""
+    server = subprocess.Popen([*words, "--port", str(port)], stdout=subprocess.PIPE, stderr=subprocess.PIPE, text=True)
+    started = [it for peer in peers for it in start(server, port, *peer)]
+    started += [it for watcher in watchers for it in start(server, port + 1, *watcher)]
     try:
         output, errors = server.communicate(timeout=60)
     except subprocess.TimeoutExpired:
@@ -109,10 +111,22 @@ def case(program, name, peers, text, status=0, line="", watchers=(), asked=0, po
         output, errors = server.communicate()
     for peer in started:
         peer.join()
-    good = (output, server.returncode, errors) == (text, status, line)
+    return output, server.returncode, errors
+
+
+def case(program, name, peers, text, status=0, line="", watchers=(), asked=0, port=None, document=None):
+    """Compares how a server ends with what is stated. Without a port it is one that is free."""
+    global wrong
+    words = [program, "serve", document or os.path.join(SESSION, "session.json"),
+             "--watchers", str(asked or len(watchers))]
+    for _ in range(TRIES):
+        output, code, errors = served(words, port or listening.free_ports(2), peers, watchers)
+        if errors != NO_NETWORK or port:
+            break
+    good = (output, code, errors) == (text, status, line)
     wrong += not good
     first = (output or errors).split("\n", maxsplit=1)[0]
-    print(f"{'as stated' if good else 'WRONG'}: {name}: status {server.returncode}, {first}")
+    print(f"{'as stated' if good else 'WRONG'}: {name}: status {code}, {first}")
 
 
 def long_stream():
@@ -144,13 +158,13 @@ def main():
     case(program, "watchers that are gone at once", [left, right], REPORT, watchers=[(gone,)] * 64)
     case(program, "watchers that send", [left, right], REPORT, watchers=[(talkative,)] * 3)
     case(program, "more connections than processes", [left, (late, RIGHT, 1), (gone,), (whole, LEFT)], REPORT)
-    port = free_port()
+    port = listening.free_ports(2)
     for turn in range(3):
         case(program, f"the same port again, {turn + 1}", [left, right], REPORT, port=port)
     with socket.create_server(("127.0.0.1", port)):
-        case(program, "a port in use", [], "", 3, "monitor: network\n", port=port)
+        case(program, "a port in use", [], "", 3, NO_NETWORK, port=port)
     with socket.create_server(("127.0.0.1", port + 1)):
-        case(program, "a watchers' port in use", [], "", 3, "monitor: network\n", asked=1, port=port)
+        case(program, "a watchers' port in use", [], "", 3, NO_NETWORK, asked=1, port=port)
     with tempfile.NamedTemporaryFile("w") as document:
         case(program, "a refused document", [], "refused spec json\n", 1, document=document.name)
     print(f"{wrong} not as stated")

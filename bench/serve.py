@@ -13,7 +13,8 @@ import sys
 import tempfile
 import time
 
-from peers import connect, free_port
+sys.path.append(os.path.join(os.path.dirname(os.path.abspath(__file__)), "..", "cases"))
+import listening  # noqa: E402
 
 PROCESSES, EVENTS, LINE, PIECE = 8, 10_000, 600, 65_536
 
@@ -37,11 +38,11 @@ def write_session(folder):
     return paths
 
 
-def send(path, port, ready):
-    """One client: it connects, waits for the others, and sends its stream."""
+def send(path, connection, ready):
+    """One client: it waits for the others, and sends its stream."""
     with open(path, "rb") as stream:
         data = stream.read()
-    with connect(port) as connection:
+    with connection:
         ready.wait()
         for place in range(0, len(data), PIECE):
             connection.sendall(data[place:place + PIECE])
@@ -54,12 +55,14 @@ def judge(program, paths):
 
 
 def serve(program, paths):
-    port = free_port()
+    port = listening.free_ports(1)
     ready = multiprocessing.Barrier(PROCESSES + 1)
     server = subprocess.Popen([program, "serve", paths[0], "--port", str(port)], stdout=subprocess.PIPE)
-    clients = [multiprocessing.Process(target=send, args=(path, port, ready)) for path in paths[1:]]
-    for client in clients:
-        client.start()
+    clients = []
+    for path in paths[1:]:
+        with listening.connect(server, port) as connection:
+            clients.append(multiprocessing.Process(target=send, args=(path, connection, ready)))
+            clients[-1].start()
     ready.wait()
     start = time.perf_counter()
     text, _ = server.communicate()

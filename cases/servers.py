@@ -4,9 +4,9 @@ what each case says, and what is shown to its watchers.
 
 PROGRAM is ../crates/monitor/out/monitor if it isn't given. A case that ends otherwise is printed with both. The last
 line says how many cases there are, how often the program ran, and how many cases differ; the status is 1 if any does.
-After a server that hasn't ended in a minute no other is started. A server has two ports that nobody has bound, below
-those that the system gives to connections. If another program takes one of them before the server binds it, it is
-started again on others.
+After a server that hasn't ended in a minute no other is started. A server has two ports that nobody has bound. If
+another program takes one of them before the server binds it, it is started again on others; and a client connects only
+to the server itself (listening.py).
 """
 import argparse
 import contextlib
@@ -14,7 +14,6 @@ import errno
 import fcntl
 import json
 import os
-import random
 import re
 import socket
 import struct
@@ -24,6 +23,7 @@ import tempfile
 import termios
 import time
 
+import listening
 from run import HERE, SECONDS, Differs, differ
 
 TRIES = 5
@@ -66,18 +66,14 @@ SESSIONS = {
 OTHERS = [(0, None), (1, 1), (10, 4), (64, 16)]
 
 
-def listen(port):
-    return socket.create_server(("127.0.0.1", port))
-
-
-def two_ports():
-    """A port that nobody had bound, and itself and the next one, which are bound now."""
+def two_ports(taken):
+    """A port that nobody had bound, as was the next one, and what listens on those that are to be taken."""
     while True:
-        number = random.randrange(10_000, 30_000)
+        number = listening.free_ports(2)
         with contextlib.suppress(OSError), contextlib.ExitStack() as bound:
-            ports = [bound.enter_context(listen(number + place)) for place in (0, 1)]
-            bound.pop_all()
-            return number, ports
+            for place in taken:
+                bound.enter_context(socket.create_server(("127.0.0.1", number + place)))
+            return number, bound.pop_all()
 
 
 class Server(contextlib.ExitStack):
@@ -88,27 +84,18 @@ class Server(contextlib.ExitStack):
         if document is not None:
             with open(os.path.join(folder, "session.json"), "wb") as file:
                 file.write(document)
-        self.port, ports = two_ports()
-        for place, port in enumerate(ports):
-            if place in taken:
-                self.enter_context(port)
-            else:
-                port.close()
+        self.port, bound = two_ports(taken)
+        self.enter_context(bound)
         words = ["--port", str(self.port), "--watchers", str(watchers)]
         words += ["--workers", str(workers)] if workers else []
         self.process = self.enter_context(subprocess.Popen(
             [program, "serve", "session.json", *words], cwd=folder, stdout=subprocess.PIPE, stderr=subprocess.PIPE))
         self.callback(self.process.kill)
 
-    def connect(self, place=0):
-        """A connection to the streams' port, or to the one after it, as soon as that is bound."""
-        last = time.monotonic() + SECONDS
-        while self.process.poll() is None and time.monotonic() < last:
-            with contextlib.suppress(ConnectionRefusedError):
-                address = "127.0.0.1", self.port + place
-                return self.enter_context(socket.create_connection(address, SECONDS))
-            time.sleep(0.002)
-        raise ConnectionError(f"nobody listens on port {self.port + place}")
+    def connect(self, place=0, seconds=SECONDS):
+        """A connection to the streams' port, or to the one after it, as soon as the server listens there, if it does
+        within so long."""
+        return self.enter_context(listening.connect(self.process, self.port + place, seconds))
 
     def end(self):
         """Its status, its output and its errors."""
@@ -146,7 +133,7 @@ def clients(streams, watchers=0):
             send(server.connect(), stream)
         for stream in streams[2:]:
             with contextlib.suppress(OSError):
-                send(socket.create_connection(("127.0.0.1", server.port)), stream)
+                send(server.connect(seconds=0), stream)
         connected = [server.connect(1) for _ in range(watchers)]
         for connection in connected[::3]:
             connection.close()

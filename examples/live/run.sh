@@ -9,18 +9,29 @@ if [ ! -x "$program" ]; then
   echo "live: no program $program: build it by (cd crates/monitor && rt run < stdin)"
   exit 1
 fi
-ports=$(python3 ports.py) || exit 1
+ports=$(python3 ../../cases/listening.py) || exit 1
 read -r port lock <<< "$ports"
-"$program" serve session.json --port "$port" &
-server=$!
-python3 left.py "$port" "$lock" &
-left=$!
+started=()
+
+# starts PORT COMMAND..: starts a command, and waits until it listens on the port
+starts() {
+  "${@:2}" &
+  started+=("$!")
+  python3 ../../cases/listening.py "$!" "$1" && return
+  echo "live: nothing is judged, for another program may have taken port $1" >&2
+  kill "${started[@]}" 2> /dev/null
+  wait
+  exit 3
+}
+
+starts "$port" "$program" serve session.json --port "$port"
+starts "$lock" python3 left.py "$port" "$lock"
 python3 right.py "$port" "$lock" &
-right=$!
-wait "$server"
+started+=("$!")
+wait "${started[0]}"
 status=$?
 if [ "$status" -gt 1 ]; then
-  kill "$left" "$right" 2>/dev/null
+  kill "${started[@]}" 2> /dev/null
 fi
-wait "$left" "$right"
+wait
 exit "$status"

@@ -3,15 +3,18 @@ say. Each is given the players and a folder, and its first words say what it tri
 import contextlib
 import json
 import os
-import random
 import select
 import socket
 import subprocess
+import sys
 import threading
 import time
 
 import judged
 from players import Player, Stream, see, see_text
+
+sys.path.append(os.path.join(judged.TOP, "cases"))
+import listening  # noqa: E402
 
 THREADS, TURNS = 6, 50
 SEEN = 300
@@ -234,26 +237,17 @@ class Reading(threading.Thread):
         return self.text
 
 
-def is_bound(port):
-    """Whether someone listens on this port of 127.0.0.1."""
-    with open("/proc/net/tcp", encoding="ascii") as rows:
-        return any(row.split()[1] == f"0100007F:{port:04X}" and row.split()[3] == "0A" for row in list(rows)[1:])
-
-
 def server(folder):
     """The program as a server, and its port, once it listens. Others are tried if another program has the port."""
     path = os.path.join(folder, "session.json")
     with open(path, "w", encoding="utf-8") as file:
         file.write(DOCUMENT)
     while True:
-        port = random.randrange(10_000, 30_000)
-        if is_bound(port):
-            continue
+        port = listening.free_ports(1)
         running = subprocess.Popen([judged.PROGRAM, "serve", path, "--port", str(port)], stdout=subprocess.PIPE)
-        while running.poll() is None and not is_bound(port):
-            time.sleep(0.01)
-        if running.poll() is None:
+        if listening.wait_for(running, port):
             return running, port
+        running.kill()
         running.communicate()
         see(running.returncode == 3, f"the server ends with status {running.returncode}")
 

@@ -1,5 +1,6 @@
 """That the program of examples/failover records what is stored, that of examples/key-rotation what has the stored
-answers, and that the traces of examples/traces make what is stored: python3 -m unittest discover -s recorders/python"""
+answers, and that the traces of examples/traces and examples/traces-by-sdk make what is stored: python3 -m unittest
+discover -s recorders/python"""
 import contextlib
 import io
 import os
@@ -83,14 +84,20 @@ class Traces(unittest.TestCase):
              "--when", "^start write", "writing=1", "--when", "^end write", "writing=0",
              "--predicate", "two_writers", "blue.writing == 1 and green.writing == 1"]
 
-    def test_the_session_is_that_of_the_traces(self):
-        traces = os.path.join(EXAMPLES, "traces", "traces.json")
+    def check(self, example, events):
+        traces = os.path.join(EXAMPLES, example, "traces.json")
         with tempfile.TemporaryDirectory() as folder, contextlib.redirect_stdout(io.StringIO()) as written:
             self.assertEqual(import_opentelemetry.main(["--out", folder, *self.WORDS, traces]), 0)
             for name in ("session.json", "blue.stream", "green.stream", "lock.stream"):
-                self.assertEqual(text_of(folder, name), text_of(EXAMPLES, "traces", name))
+                self.assertEqual(text_of(folder, name), text_of(EXAMPLES, example, name))
         self.assertEqual(written.getvalue().splitlines()[0],
-                         "3 processes, 24 events, 8 messages, 0 events written as several")
+                         f"3 processes, {events} events, 8 messages, 0 events written as several")
+
+    def test_the_session_is_that_of_the_traces(self):
+        self.check("traces", 24)
+
+    def test_the_session_is_that_of_the_spans_of_the_sdk(self):
+        self.check("traces-by-sdk", 26)
 
 
 if __name__ == "__main__":

@@ -1,0 +1,35 @@
+// What the types of the recorder take and refuse: nothing of it is run. With TypeScript 4.7 or later:
+// tsc --strict --noEmit --module node16 --moduleResolution node16 --target es2022 monitor_recorder.types.mts
+import { EVENT_LIMIT, NotRecorded, Reason, Recorder } from "./monitor_recorder.cjs";
+
+export async function takes(descriptor: number): Promise<Reason | undefined> {
+  const left = Recorder.toFile("left", "left.stream");
+  try {
+    left.event();
+    left.event({ inside: 1, waiting: false, greatest: BigInt("9223372036854775807") });
+    const id: string = left.send({ inside: 0 });
+    left.sendAs("an id of its own", { inside: 1 });
+    left.receive(id);
+    const isLast: boolean = left.events === EVENT_LIMIT;
+    if (isLast) left.end();
+  } catch (error) {
+    if (error instanceof NotRecorded) return error.reason;
+    throw error;
+  } finally {
+    left.close();
+  }
+  (await Recorder.toPort("right", 7411, { seconds: 3 })).end();
+  new Recorder("other", descriptor).end();
+  return undefined;
+}
+
+export function refuses(left: Recorder): void {
+  // @ts-expect-error: a value is no text
+  left.event({ inside: "1" });
+  // @ts-expect-error: a receipt has an id
+  left.receive();
+  // @ts-expect-error: what is recorded is not for others to set
+  left.events = 0;
+  // @ts-expect-error: a recorder for a port comes later
+  Recorder.toPort("right", 7411).end();
+}
