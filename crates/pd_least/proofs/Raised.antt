@@ -38,7 +38,8 @@ pub left_on : (old counts : List ℕ) (q m : ℕ) → ((k : ℕ) → q ≤ k →
     → q + 1 ≤ k → get_or (set counts q m) k 0 ≡ get_or old k 0
 left_on old counts q m left k from = get_or-set_other counts q k m 0 (λ e. omega arith) ∙ left k (omega arith)
 
-module _ (c : Computation) (e : Place) (old new : List ℕ) (ok : IsConsistent c old) (raised : IsRaised c e old new) where
+module _ (c : Computation) (e : Place) (old new : List ℕ) (ok : IsConsistent c old)
+    (raised : IsRaised c e old new) where
   -- a process with a count is one of those raised
   counted : (q : ℕ) → 0 < get_or new q 0 → q < length old
   counted q has = let l : length new ≡ length old = raised.same in let w : q < length new = in_range new q has in
@@ -98,7 +99,8 @@ module _ (c : Computation) (e : Place) (old new : List ℕ) (ok : IsConsistent c
               (event.0, omega arith)
 
   -- a cut that has the event, and that the counts were within, has all of them
-  pub raised_within : (other : List ℕ) → IsConsistent c other → IsWithin old other → Includes other e → IsWithin new other
+  pub raised_within : (other : List ℕ) → IsConsistent c other → IsWithin old other → Includes other e
+      → IsWithin new other
   raised_within other okay within has q = go (cases_lt 0 (get_or new q 0))
     where
       go : (0 < get_or new q 0) ⊎ (get_or new q 0 ≤ 0) → get_or new q 0 ≤ get_or other q 0
