@@ -1,7 +1,8 @@
 //! The least consistent cut at which the count of each process is good.
 //!
-//! Which counts are good is what a conjunction of predicates says, one of each process: then no level has to be walked.
-//! A disjunction of several has the first of their least cuts as its first satisfying cut, as the laws say.
+//! A conjunction of predicates, one for each process, says which counts are good, and no level has to be walked for it.
+//! Where a predicate is a disjunction of such conjunctions, the first of their least cuts is the first satisfying one,
+//! as the laws say.
 //!
 //! - `good_counts`: which counts of each process are good
 //! - `least`: the least good cut

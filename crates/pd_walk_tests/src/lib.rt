@@ -7,6 +7,7 @@
 //!
 //! - `asked`: the computation of a session, and what is asked about it
 //! - `messages`: the messages of a session, with random keys and without
+//! - `least`: the least good cuts, and the order of cuts
 //! - `order`: which event happened before which, clocks, cuts and values
 //! - `pictures`: values with a character of two bytes where they are cut off in a picture
 //! - `runs`: whole levels as runs, and how many cuts they have
@@ -24,6 +25,8 @@ mod asked;
 mod by_terms;
 #[cfg(test)]
 mod definite;
+#[cfg(test)]
+mod least;
 #[cfg(test)]
 mod limits;
 #[cfg(test)]

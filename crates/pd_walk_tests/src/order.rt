@@ -1,4 +1,5 @@
 //! Which event happened before which, clocks, cuts and values: the calls of `Computation` and `Cut`.
+use crate::least::are_least;
 use crate::messages::{At, place};
 use pd_clock::{BuildFault, Computation, Cut, Place};
 use pd_pred::Values;
@@ -159,7 +160,10 @@ pub(crate) fn is_ordered(alloc: Global, computation: &Computation<'_>) -> Option
     if !right {
         return Some(false);
     }
-    are_cuts(alloc, computation)
+    if !are_cuts(alloc, computation)? {
+        return Some(false);
+    }
+    are_least(alloc, computation)
 }
 
 #[test]
