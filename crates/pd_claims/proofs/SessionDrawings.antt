@@ -1,5 +1,5 @@
 -- What is drawn of a report by the session that readers gave.
-use Rattle.std.proofs.Common.{◌≡◌, ℕ, List, map, length, sym, ap, ◌∙◌, subst, refl, true, Ok}
+use Rattle.std.proofs.Common.{◌≡◌, ℕ, List, sym, ap, ◌∙◌, subst, refl, true}
 use Rattle.std.specs.Prelude.{Bool, Option}
 use Rattle.pd_model.specs.Events.{Computation, Place}
 use Rattle.pd_model.specs.Messages.{IsMessageList}
@@ -21,7 +21,7 @@ use Rattle.pd_draw.specs.declared.drawn.Drawn.{Drawn}
 use Rattle.pd_draw.specs.declared.drawn.Drawn.TheVariants as drawn
 use Rattle.pd_sessions.specs.Computations.{AreWellFormed}
 use Rattle.pd_claims.specs.Sessions.{IsRead}
-use Rattle.pd_claims.specs.Drawings.{Draws, DrawsOf, DrawsTraces, IsAgainst}
+use Rattle.pd_claims.specs.Drawings.{DrawsOf, DrawsTraces, IsAgainst}
 use Rattle.pd_sessions.specs.SessionReports.{IsReportOfInputs}
 use Rattle.pd_sessions.proofs.FitTraces.{same_events}
 use Rattle.pd_claims.proofs.SessionFindings.{refusal_found, unread_found}

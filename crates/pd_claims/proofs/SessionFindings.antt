@@ -1,5 +1,5 @@
 -- What is found of a report by the session that readers gave.
-use Rattle.std.proofs.Common.{◌≡◌, ℕ, List, sym, ap, ◌∙◌, subst, Ok}
+use Rattle.std.proofs.Common.{ℕ, List, sym, ap, ◌∙◌, subst}
 use Rattle.std.specs.Prelude.{Bool, Option}
 use Rattle.pd_model.specs.Events.{Computation}
 use Rattle.pd_model.specs.Messages.{HasMessages}

@@ -1,5 +1,5 @@
 -- What is drawn by a document's bytes, a report's bytes and the streams that readers gave.
-use Rattle.std.specs.Prelude.{◌≡◌, ℕ, Bool, true, false, List, Option, Some, Result, Ok, Err}
+use Rattle.std.specs.Prelude.{◌≡◌, ℕ, Bool, true, List, Option, Some, Result, Ok, Err}
 use Rattle.std.specs.List.{AllZip}
 use Rattle.pd_model.specs.Events.{Place}
 use Rattle.pd_model.specs.Messages.{HasMessages, IsMessageList}

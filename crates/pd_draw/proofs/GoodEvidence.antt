@@ -1,19 +1,17 @@
 -- The evidence that a check found good.
-use Rattle.std.proofs.Common.{◌≡◌, ◌↔◌, ℕ, zero, suc, ◌<◌, Bool, true, false, ◌||◌, IsTrue, Option, Some, None, List, [], ◌∷◌, length, get_or, zip, refl, sym, ap, ◌∙◌, subst, arith}
+use Rattle.std.proofs.Common.{◌≡◌, ℕ, zero, suc, ◌<◌, Bool, true, false, ◌||◌, IsTrue, Option, Some, None, List, [], ◌∷◌, length, get_or, zip, refl, sym, ap, ◌∙◌, subst, arith}
 use Rattle.std.specs.Prelude.{position, slice_get}
 use Rattle.std.specs.List.{AllZip}
 use Rattle.std.specs.Str.{bytes_eq}
-use Rattle.std.proofs.lemmas.Bool.{false≢true}
 use Rattle.std.proofs.lemmas.List.Quantifiers.{position-Some}
 use Rattle.std.proofs.lemmas.Option.{slice_get-get_or}
-use Rattle.pd_model.specs.Events.{Computation}
 use Rattle.pd_model.specs.Predicates.{Predicate, Recorded, test_of}
-use Rattle.pd_format.specs.Documents.{Document, NamedPredicate}
+use Rattle.pd_format.specs.Documents.{Document}
 use Rattle.pd_format.specs.Names.{ProcessNames}
 use Rattle.pd_format.specs.OtherTexts.{Checked, Finding, OfSession, Unchecked, by_test, definitely_verdict, possibly_verdict}
 use Rattle.pd_format.specs.Readings.{Trace}
-use Rattle.pd_format.specs.Reports.{Answer, Definitely, Judged, Possibly, Report}
-use Rattle.pd_judgement.specs.Findings.{IsAnswersFinding, IsChecked, IsCheckedFor, IsGoodCut, IsGoodPath, has_bad, is_bad, of_verdicts}
+use Rattle.pd_format.specs.Reports.{Answer, Judged, Report}
+use Rattle.pd_judgement.specs.Findings.{IsAnswersFinding, IsChecked, IsCheckedFor, has_bad, is_bad, of_verdicts}
 use Rattle.pd_judgement.specs.Judgements.{recorded_of}
 use Rattle.pd_check.specs.Found.{IsFoundOf, of_session}
 use Rattle.pd_draw.specs.Choices.{by_evidence, by_name, choice, has_bad_in, has_evidence, is_chosen_bad, stands_against}

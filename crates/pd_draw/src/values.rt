@@ -1,10 +1,7 @@
 //! What a predicate's variables are worth.
 ghost use Rattle.pd_draw.specs.Values.{item_at, items_text, joined, names_variable, shown_value, term_names, terms_name, value_texts};
-ghost use Rattle.pd_format.specs.Names.{vars_of};
-ghost use Rattle.pd_picture.specs.Layout.{upto};
 ghost use Rattle.pd_picture.specs.Pictures.{texts_view};
 ghost use Rattle.pd_pred.specs.Trees.{sum_view, term_view, tree_view};
-ghost use Rattle.std.specs.Fmt.{signed_decimal};
 ghost use Rattle.std.specs.List.{list_any};
 ghost use Rattle.std.specs.Prelude.{◌≡◌, ◌<◌, IfOk, OnOk, length, map, string_bytes};
 

@@ -9,6 +9,7 @@ use Rattle.atomic_table.specs.Table.{State, Me, step, keeps, opening, Allows, Sp
 use mathlib.Core.Option.{none}
 use native.Mathlib.Decide.{dec_le}
 use Rattle.atomic_table.proofs.Lists.{at_set, at_snoc, set_else}
+use Rattle.pd_expand.specs.Limits.{worker_limit}
 use Rattle.pd_expand.specs.declared.view.View.{View}
 use Rattle.pd_expand.specs.ClaimRule.{view, times, past, once_below, IsFair, Kept, Draws}
 
@@ -139,7 +140,8 @@ module _ {S : Type 0} (blocks workers : ℕ) where
     sum_bound (λ (u : View). past blocks u.drawn) (λ (u : View). u.workers) s.views (λ i v e. (r.fair i v e).0),
   )
 
-  pub draws : (slots id : ℕ) (me : Me S View) → blocks ≤ 2 ^ 63 → workers ≤ 16 → past blocks me.0.drawn < me.0.workers
+  pub draws : (slots id : ℕ) (me : Me S View) → blocks ≤ 2 ^ 63 → workers ≤ worker_limit
+      → past blocks me.0.drawn < me.0.workers
       → Allows Rule slots id me 0 (λ n. (n + 1) % 2 ^ 64) (Draws (step slots 0 1 0 none) me)
   draws slots id me few_blocks few_workers room s r wide at small = let n : ℕ = slice_index s.words 0 in
       let v : View = me.0 in let w : View = view v.workers (v.drawn ++ n ∷ []) in

@@ -2,8 +2,8 @@
 ghost use Rattle.pd_match.specs.Views.{place_view};
 ghost use Rattle.pd_picture.specs.Pictures.{event_shapes, is_past, shown_at, shown_events, shown_of};
 ghost use Rattle.pd_picture.specs.Shapes.{all_seen};
-ghost use Rattle.pd_picture.specs.Tables.{IsTable, column_at, places_view};
-ghost use Rattle.std.specs.Prelude.{◌≡◌, ◌≤◌, ◌+◌, ◌<◌, ◌^◌, ◌++◌, IfOk, OnOk, flat_map, length, map};
+ghost use Rattle.pd_picture.specs.Tables.{column_at, places_view};
+ghost use Rattle.std.specs.Prelude.{◌≡◌, ◌+◌, ◌<◌, ◌++◌, IfOk, OnOk, flat_map};
 
 use super::Evidence;
 use super::shapes::{push_circle, push_number};

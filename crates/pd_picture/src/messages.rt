@@ -1,10 +1,9 @@
 //! The arrows of messages.
-ghost use Rattle.pd_traces.specs.Views.{computation_view};
 ghost use Rattle.pd_match.specs.Views.{pairs_view, place_view};
-ghost use Rattle.pd_picture.specs.Pictures.{flight_shapes, head_point, message_shapes, messages_shapes};
+ghost use Rattle.pd_picture.specs.Pictures.{head_point, message_shapes, messages_shapes};
 ghost use Rattle.pd_picture.specs.Shapes.{all_seen};
 ghost use Rattle.pd_picture.specs.Tables.{column_at};
-ghost use Rattle.std.specs.Prelude.{◌≡◌, ◌≤◌, ◌++◌, OnOk, flat_map, map};
+ghost use Rattle.std.specs.Prelude.{◌≡◌, ◌≤◌, ◌++◌, OnOk};
 
 use super::shapes::push_arrow;
 use super::window::{Window, column_at};

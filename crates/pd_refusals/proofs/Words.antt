@@ -5,6 +5,7 @@ use Rattle.std.proofs.lemmas.Bool.{cases_lt, false≢true}
 use Rattle.std.proofs.lemmas.Nat.Bits.{bit_at-suc, bit_at_lowest}
 use Rattle.std.specs.Int.{bit_at}
 use Rattle.pd_bits.specs.Words.{has_bit}
+use Rattle.pd_refusals.specs.Refusals.{bit_limit}
 
 -- the bits of a word that was moved up by one, with a new lowest bit
 pub one_bit_more : (R : ℕ → Type 0) (word bit : ℕ) → bit ≤ 1
@@ -29,7 +30,7 @@ one_bit_more R word bit small low high (suc j) set =
     ∙ ap (λ (n : ℕ). bit_at n j) half)) set)
 
 -- there is room for one bit more
-pub room : (k word bit : ℕ) → k < 16 → bit ≤ 1 → word < 2 ^ k → (word * 2 + bit < 2 ^ (k + 1))
+pub room : (k word bit : ℕ) → k < bit_limit → bit ≤ 1 → word < 2 ^ k → (word * 2 + bit < 2 ^ (k + 1))
     × (word * 2 + bit < 65536)
 room k word bit lt small below =
     let up : 2 ^ suc k ≡ 2 ^ k * 2 = pow-suc 2 k in

@@ -9,6 +9,10 @@ use Rattle.pd_neighbors.specs.Neighbors.{cut_at}
 use Rattle.pd_runs.specs.Levels.{IsWholeLevel, WholeLevel}
 use Rattle.pd_tables.specs.Views.{CompiledView}
 
+-- how many predicates have a bit in a word: the first ones
+abbrev pub bit_limit : ℕ
+bit_limit = 16
+
 -- the predicate holds at no cut with this prefix
 abbrev pub IsRefused : CompiledView → List ℕ → Type 0
 IsRefused test prefix =

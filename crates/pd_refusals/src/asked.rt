@@ -1,6 +1,6 @@
 //! The word of one run.
 ghost use Rattle.pd_marks.specs.RunPlaces.{run_at};
-ghost use Rattle.pd_refusals.specs.Refusals.{IsRefused, IsSomeLevel, IsWordOf};
+ghost use Rattle.pd_refusals.specs.Refusals.{bit_limit, IsRefused, IsSomeLevel, IsWordOf};
 ghost use Rattle.pd_tables.specs.Views.{CompiledView};
 ghost use Rattle.std.specs.Prelude.{◌≡◌, ◌+◌, ◌-◌, ◌<◌, ◌≤◌, length, slice_index, slice_index_or, take};
 
@@ -23,9 +23,9 @@ fn refusal(tests: &[Compiled<'_, '_>], prefix: &[u64], q: usize) -> u16
 
 /// How many predicates are asked: those with a bit.
 fn asked_of(tests: &[Compiled<'_, '_>]) -> usize
-    ensures few { result ≤ 16 }
+    ensures few { result ≤ bit_limit }
     ensures within { result ≤ length tests.now }
-    ensures all { result < 16 → result ≡ length tests.now }
+    ensures all { result < bit_limit → result ≡ length tests.now }
 {
     if tests.len() < BITS {
         tests.len()

@@ -10,14 +10,11 @@ use Rattle.pd_model.specs.Predicates.{Recorded, test_of}
 use Rattle.pd_model.specs.Walks.{NoneInLevels}
 use Rattle.pd_pred.specs.Views.{predicate_view}
 use Rattle.pd_pred.specs.declared.predicate.Pred.{Pred}
-use Rattle.pd_marks.specs.Skips.{HaveNoHits}
-use Rattle.pd_marks.specs.declared.skips.Skips.{Skips}
 use Rattle.pd_refusals.specs.Refusals.{AreRefusals}
 use Rattle.pd_runs.specs.Levels.{IsWholeLevel, WholeLevel}
 use Rattle.pd_tables.specs.Views.{CompiledView}
 use Rattle.pd_lists.specs.Answers.{AreAnswers, possibly_answer_view}
 use Rattle.pd_lists.specs.Splits.{AreBeside}
-use Rattle.pd_avoiding.specs.CompiledTests.{events_of, meaning_of}
 use Rattle.pd_walk.specs.Stages.{AllStand, AreCompiled, HasComeTo, HasEnded, OneStands, Stands, number_held, possibly_known}
 use Rattle.pd_lists.specs.declared.answers.Answers.{Answers}
 use Rattle.pd_walk.specs.declared.stage.Stage.{Stage}

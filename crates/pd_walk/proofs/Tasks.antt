@@ -1,5 +1,5 @@
 -- What holds of the tasks of a round.
-use Rattle.std.proofs.Common.{◌≡◌, ℕ, List, get_or, sym, ap, ◌∙◌, subst, arith}
+use Rattle.std.proofs.Common.{◌≡◌, ℕ, get_or, sym, ap, ◌∙◌, subst, arith}
 use Rattle.pd_model.specs.Predicates.{Recorded}
 use Rattle.pd_runs.specs.Levels.{WholeLevel}
 use Rattle.pd_tables.specs.Views.{CompiledView}

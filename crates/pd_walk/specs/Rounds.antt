@@ -1,5 +1,5 @@
 -- What holds of a round: all predicates at a whole level.
-use Rattle.std.specs.Prelude.{◌≡◌, ℕ, ◌+◌, ◌*◌, ◌<◌, ◌≤◌, List}
+use Rattle.std.specs.Prelude.{◌≡◌, ◌+◌, ◌*◌, ◌<◌, ◌≤◌, List}
 use Rattle.pd_lists.specs.Splits.{AreBeside}
 use Rattle.pd_model.specs.Cuts.{total}
 use Rattle.pd_model.specs.Events.{Computation}

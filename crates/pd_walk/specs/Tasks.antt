@@ -1,5 +1,5 @@
 -- What holds of a task: one predicate at a whole level.
-use Rattle.std.specs.Prelude.{◌≡◌, ℕ, ◌+◌, ◌*◌, ◌<◌, ◌≤◌, Bool, List, slice_index_or}
+use Rattle.std.specs.Prelude.{◌≡◌, ℕ, ◌*◌, ◌<◌, ◌≤◌, Bool, List, slice_index_or}
 use Rattle.pd_avoiding.specs.CompiledTests.{events_of, meaning_of}
 use Rattle.pd_format.specs.Limits.{event_limit}
 use Rattle.pd_lists.specs.Splits.{AreBeside}

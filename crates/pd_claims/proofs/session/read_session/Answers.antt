@@ -1,5 +1,5 @@
 -- Why a session comes to no answers before its messages are matched, and what is read of it.
-use Rattle.std.proofs.Common.{List, ℕ, map}
+use Rattle.std.proofs.Common.{List, map}
 use Rattle.pd_format.specs.Reports.{Report}
 use Rattle.pd_gather.specs.Views.{results_view}
 use Rattle.pd_judgement.specs.Judgements.{IsJudgement, IsReportOfResults, RawStream}

@@ -1,5 +1,5 @@
 -- The choice by what the verdicts stand for.
-use Rattle.std.proofs.Common.{◌≡◌, sym, ap, ◌∙◌}
+use Rattle.std.proofs.Common.{sym, ap, ◌∙◌}
 use Rattle.std.specs.Str.{bytes_eq}
 use Rattle.pd_format.specs.OtherTexts.{Checked}
 use Rattle.pd_pred.proofs.Positions.{position-map}

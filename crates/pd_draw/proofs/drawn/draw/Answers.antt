@@ -1,5 +1,5 @@
 -- A refusal stands against the picture, and answers are judged.
-use Rattle.std.proofs.Common.{map, ap, refl, subst}
+use Rattle.std.proofs.Common.{ap, refl}
 use Rattle.pd_report.specs.Views as views
 use Rattle.pd_check.specs.Found.{of_refusal}
 use Rattle.pd_draw.proofs.drawn.draw.Goals as goal

@@ -1,5 +1,5 @@
 -- The evidence is good, and the picture shows it.
-use Rattle.std.proofs.Common.{◌≡◌, List, sym, subst, map, refl}
+use Rattle.std.proofs.Common.{List, sym, subst, map, refl}
 use Rattle.pd_model.specs.Predicates.{Recorded}
 use Rattle.pd_format.specs.Names.{ProcessNames}
 use Rattle.pd_gather.specs.Views.{traces_view}

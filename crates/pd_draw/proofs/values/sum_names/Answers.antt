@@ -1,5 +1,5 @@
 -- A test of the terms is a test of what they stand for.
-use Rattle.std.proofs.Common.{◌≡◌, Bool, sym, ap, ◌∙◌}
+use Rattle.std.proofs.Common.{sym, ap, ◌∙◌}
 use Rattle.std.specs.List.{list_any}
 use Rattle.pd_format.proofs.ListTests.{list_any-map}
 use Rattle.pd_model.specs.Predicates.{Sign, Term}

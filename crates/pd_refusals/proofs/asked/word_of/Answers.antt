@@ -2,20 +2,20 @@
 use Rattle.std.proofs.Common.{◌≡◌, ◌+◌, ◌-◌, ◌*◌, ◌^◌, ◌<◌, ℕ, suc, IsTrue, get_or, subst, arith}
 use Rattle.std.proofs.lemmas.Bool.{false≢true}
 use Rattle.pd_bits.proofs.Truths.{zero_has_none}
-use Rattle.pd_refusals.specs.Refusals.{IsRefused}
+use Rattle.pd_refusals.specs.Refusals.{bit_limit, IsRefused}
 use Rattle.pd_refusals.proofs.Words.{one_bit_more, room}
 use Rattle.pd_refusals.proofs.asked.word_of.Goals as goal
 
 pub overflow_mul-word : goal.overflow_mul-word
 overflow_mul-word c =
-    let few : c.loop-k.k < 16 = omega (arith, c.loop-k-test.true, c.asked_of-n.ensures.few) in
+    let few : c.loop-k.k < bit_limit = omega (arith, c.loop-k-test.true, c.asked_of-n.ensures.few) in
     let w : (c.loop-k.word * 2 + 0 < 2 ^ (c.loop-k.k + 1)) × (c.loop-k.word * 2 + 0 < 65536) =
     room c.loop-k.k c.loop-k.word 0 few (omega arith) c.loop-k.invariant.small in
     omega (arith, w.1)
 
 pub overflow_add-word : goal.overflow_add-word
 overflow_add-word c =
-    let few : c.loop-k.k < 16 = omega (arith, c.loop-k-test.true, c.asked_of-n.ensures.few) in
+    let few : c.loop-k.k < bit_limit = omega (arith, c.loop-k-test.true, c.asked_of-n.ensures.few) in
     let w : (c.loop-k.word * 2 + c.refusal.result < 2 ^ (c.loop-k.k + 1))
     × (c.loop-k.word * 2 + c.refusal.result < 65536) =
     room c.loop-k.k c.loop-k.word c.refusal.result few c.refusal.ensures.bit c.loop-k.invariant.small in
@@ -29,7 +29,7 @@ loop-k-init c = record {
 
 pub loop-k-preserved : goal.loop-k-preserved
 loop-k-preserved c =
-    let few : c.loop-k.k < 16 = omega (arith, c.loop-k-test.true, c.asked_of-n.ensures.few) in
+    let few : c.loop-k.k < bit_limit = omega (arith, c.loop-k-test.true, c.asked_of-n.ensures.few) in
     record {
       small = (room c.loop-k.k c.loop-k.word c.refusal.result few c.refusal.ensures.bit c.loop-k.invariant.small).0;
       set = λ j test. one_bit_more

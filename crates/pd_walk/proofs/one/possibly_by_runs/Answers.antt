@@ -1,5 +1,5 @@
 -- What is known of the only predicate.
-use Rattle.std.proofs.Common.{ap, sym, ◌∙◌, subst, arith}
+use Rattle.std.proofs.Common.{sym, ◌∙◌, subst, arith}
 use Rattle.pd_lists.specs.Answers.{possibly_answer_view}
 use Rattle.pd_lists.specs.declared.possibly_answer.PossiblyAnswer.{PossiblyAnswer}
 use Rattle.pd_model.specs.Answers.{IsPossiblyAnswer}
