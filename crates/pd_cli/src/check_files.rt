@@ -2,39 +2,19 @@
 ghost use Rattle.pd_cli.specs.Faults.{ending_view};
 ghost use Rattle.pd_format.specs.Limits.{report_byte_limit};
 ghost use Rattle.pd_judgement.specs.Statuses.{CheckLeaves, IsLongReport};
-ghost use Rattle.pd_judgement.specs.Writes.{IsWholeInput};
 ghost use Rattle.std.specs.Prelude.{◌≡◌, ◌≤◌, ◌⊎◌, All, Err, IfErr, IfOk, Some, false, length, map, true, vec_len};
 
+use super::claim_files::read_claim;
 use super::file_source::FileSource;
-use super::session_files::{open_streams, read_document};
 use pd_arguments::SessionNames;
 use pd_claims::check;
-use pd_engine::{ByteSource, within_limit};
-use pd_format::REPORT_BYTE_LIMIT;
-use pd_sessions::{EngineFault, read_upto};
+use pd_engine::ByteSource;
+use pd_sessions::EngineFault;
 use std::alloc::Global;
 use std::io::Write;
 use std::random::RandomSource;
 use std::sync::Wait;
 use std::thread::Threads;
-
-/// The bytes of a report, of which there are at most `REPORT_BYTE_LIMIT`.
-///
-/// # Errors
-/// `Read`, if there are more or a read fails, and `Memory`.
-pub(crate) fn read_report<R: ByteSource + Drop>(
-    alloc: Global,
-    reader: R,
-) -> Result<Vec<u8>, EngineFault>
-    requires { R.has_ended reader ≡ false }
-    ensures whole { IfOk result (λ bytes. IsWholeInput (R.remaining reader) bytes.items) }
-    ensures short { IfOk result (λ bytes. vec_len bytes ≤ report_byte_limit) }
-    ensures unread { R.never_fails ≡ true → result ≡ Err EngineFault.Read → IsLongReport (R.remaining reader) }
-    ensures err { IfErr result (λ fault. (fault ≡ EngineFault.Memory) ⊎ (fault ≡ EngineFault.Read)) }
-{
-    let bytes = read_upto(alloc, reader, REPORT_BYTE_LIMIT)?;
-    within_limit(bytes, REPORT_BYTE_LIMIT, EngineFault::Read)
-}
 
 /// Checks a report by a document's bytes and the streams, writes what is found, and flushes the output. It reports
 /// whether nothing that it found is bad.
@@ -82,10 +62,7 @@ pub(crate) fn check_files<S: RandomSource + Threads + Wait + Sync, F: FileSource
         ((F.always_opens ≡ true → F.File.never_fails ≡ true → ⊥) ⊎ IsLongReport (F.bytes_of files.now report.now))
         (ending_view result) (O.contents output.old) (O.contents output.new) }
 {
-    let spec = files.open(names.spec)?;
-    let report = files.open(report)?;
-    let streams = open_streams(files, alloc, &names.streams)?;
-    let document = read_document(alloc, spec)?;
-    let claimed = read_report(alloc, report)?;
-    check_read(rt, alloc, &document, &claimed, streams, output)
+    let read = read_claim(files, alloc, report, names)?;
+    let streams = read.streams;
+    check_read(rt, alloc, &read.document, &read.report, streams, output)
 }

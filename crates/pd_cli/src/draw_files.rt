@@ -5,10 +5,9 @@ ghost use Rattle.pd_format.specs.Limits.{report_byte_limit};
 ghost use Rattle.pd_judgement.specs.Statuses.{IsLongReport, WritesUpTo};
 ghost use Rattle.std.specs.Prelude.{◌≡◌, ◌⊎◌, ◌≤◌, ◌++◌, All, IfOk, Some, false, length, map, true};
 
-use super::check_files::read_report;
+use super::claim_files::read_claim;
 use super::file_source::FileSource;
 use super::line::write_line;
-use super::session_files::{open_streams, read_document};
 use super::status::{MISUSED, REFUSED, SUCCESS, report_fault};
 use pd_arguments::SessionNames;
 use pd_claims::{Drawing, draw};
@@ -90,12 +89,17 @@ pub(crate) fn draw_files<S: RandomSource + Threads + Wait + Sync, F: FileSource,
         ((F.always_opens ≡ true → F.File.never_fails ≡ true → ⊥) ⊎ IsLongReport (F.bytes_of files.now report.now))
         (name_view predicate.entry) result (O.contents output.old) (O.contents output.new) }
 {
-    let spec = files.open(names.spec)?;
-    let report = files.open(report)?;
-    let streams = open_streams(files, alloc, &names.streams)?;
-    let document = read_document(alloc, spec)?;
-    let claimed = read_report(alloc, report)?;
-    draw_read(rt, alloc, &document, &claimed, streams, predicate, output)
+    let read = read_claim(files, alloc, report, names)?;
+    let streams = read.streams;
+    draw_read(
+        rt,
+        alloc,
+        &read.document,
+        &read.report,
+        streams,
+        predicate,
+        output,
+    )
 }
 
 /// The exit status by how a run that draws ended, which is reported if no picture is written.

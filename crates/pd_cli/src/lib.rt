@@ -14,6 +14,7 @@
 //! - `parser_error`: reports what the command line's parser has to say
 //! - `bundle`: judges the bundle on the input
 //! - `judge_files`: judges the session in files
+//! - `claim_files`: the files of a report and of the session that it is said to be of
 //! - `check_files`: checks a report against the session in files
 //! - `draw_files`: draws a report with the session in files
 //! - `server`: judges a session whose streams come by connections
@@ -29,6 +30,7 @@
 
 mod bundle;
 mod check_files;
+mod claim_files;
 mod draw_files;
 mod file_source;
 mod judge_files;

@@ -2,7 +2,7 @@
 use Rattle.std.proofs.Common.{arith, ap}
 use Rattle.std.proofs.lemmas.Result.{IfOk-weaker}
 use Rattle.pd_cli.proofs.FilesRead.{if_all_left, if_more_left}
-use Rattle.pd_cli.proofs.check_files.read_report.Goals as goal
+use Rattle.pd_cli.proofs.claim_files.read_report.Goals as goal
 
 pub returns-clause-whole : goal.returns-clause-whole
 returns-clause-whole g c =

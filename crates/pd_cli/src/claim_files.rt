@@ -1,0 +1,74 @@
+//! The files of a report and of the session that it is said to be of.
+ghost use Rattle.pd_cli.specs.FileSources.{HasWholeFile, StandsFor};
+ghost use Rattle.pd_format.specs.Limits.{report_byte_limit};
+ghost use Rattle.pd_judgement.specs.Statuses.{IsLongReport};
+ghost use Rattle.pd_judgement.specs.Writes.{IsWholeInput};
+ghost use Rattle.std.specs.List.{AllZip};
+ghost use Rattle.std.specs.Prelude.{◌≡◌, ◌≤◌, ◌⊎◌, All, Err, IfErr, IfOk, false, map, true, vec_len};
+
+use super::file_source::FileSource;
+use super::session_files::{open_streams, read_document};
+use pd_arguments::SessionNames;
+use pd_engine::{ByteSource, within_limit};
+use pd_format::REPORT_BYTE_LIMIT;
+use pd_sessions::{EngineFault, read_upto};
+use std::alloc::Global;
+
+/// The bytes of a document and of a report, and the streams, which are open and unread.
+#[derive(Drop)]
+pub(crate) struct ClaimFiles<R: Drop> {
+    pub(crate) document: Vec<u8>,
+    pub(crate) report: Vec<u8>,
+    pub(crate) streams: Vec<R>,
+}
+
+/// The bytes of a report, of which there are at most `REPORT_BYTE_LIMIT`.
+///
+/// # Errors
+/// `Read`, if there are more or a read fails, and `Memory`.
+fn read_report<R: ByteSource + Drop>(alloc: Global, reader: R) -> Result<Vec<u8>, EngineFault>
+    requires { R.has_ended reader ≡ false }
+    ensures whole { IfOk result (λ bytes. IsWholeInput (R.remaining reader) bytes.items) }
+    ensures short { IfOk result (λ bytes. vec_len bytes ≤ report_byte_limit) }
+    ensures unread { R.never_fails ≡ true → result ≡ Err EngineFault.Read → IsLongReport (R.remaining reader) }
+    ensures err { IfErr result (λ fault. (fault ≡ EngineFault.Memory) ⊎ (fault ≡ EngineFault.Read)) }
+{
+    let bytes = read_upto(alloc, reader, REPORT_BYTE_LIMIT)?;
+    within_limit(bytes, REPORT_BYTE_LIMIT, EngineFault::Read)
+}
+
+/// Opens the document, the report and then the streams, and reads the first two. All files are opened before one is
+/// read.
+///
+/// # Errors
+/// `Read`, if a file can't be opened, or the document or the report can't be read, or the report has more than
+/// `REPORT_BYTE_LIMIT` bytes, and `Memory`.
+pub(crate) fn read_claim<F: FileSource>(
+    files: &F,
+    alloc: Global,
+    report: &str,
+    names: &SessionNames<'_>,
+) -> Result<ClaimFiles<F::File>, EngineFault>
+    ensures document { IfOk result (λ read.
+        StandsFor read.document.items (F.bytes_of files.now names.now.spec.now)) }
+    ensures report { IfOk result (λ read. IsWholeInput (F.bytes_of files.now report.now) read.report.items) }
+    ensures short { IfOk result (λ read. vec_len read.report ≤ report_byte_limit) }
+    ensures streams { IfOk result (λ read. AllZip HasWholeFile
+        (map (λ name. F.bytes_of files.now name.now) names.now.streams.items)
+        (map F.File.remaining read.streams.items)) }
+    ensures open { IfOk result (λ read. All (λ stream. F.File.has_ended stream ≡ false) read.streams.items) }
+    ensures unread { result ≡ Err EngineFault.Read
+        → (F.always_opens ≡ true → F.File.never_fails ≡ true → ⊥) ⊎ IsLongReport (F.bytes_of files.now report.now) }
+    ensures err { IfErr result (λ fault. (fault ≡ EngineFault.Memory) ⊎ (fault ≡ EngineFault.Read)) }
+{
+    let document = files.open(names.spec)?;
+    let report = files.open(report)?;
+    let streams = open_streams(files, alloc, &names.streams)?;
+    let document = read_document(alloc, document)?;
+    let report = read_report(alloc, report)?;
+    Ok(ClaimFiles {
+        document,
+        report,
+        streams,
+    })
+}
