@@ -79,11 +79,6 @@ impl Terms {
         self.terms.len()
     }
 
-    /// Whether there are none.
-    pub fn is_empty(&self) -> bool {
-        self.terms.is_empty()
-    }
-
     /// The term with this number, from 0.
     pub fn term(&self, i: usize) -> Term<'_>
         requires { i < length self.now.terms.items }
