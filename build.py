@@ -27,10 +27,10 @@ def judge_stored(program):
 
 def prove_and_build(jobs):
     """The status of the proofs and of the build."""
-    status = subprocess.run([sys.executable, os.path.join(ROOT, ".ci", "prove.py"), "-j", jobs, "--for", "monitor"],
+    status = subprocess.run([sys.executable, os.path.join(ROOT, ".ci", "prove.py"), "-j", jobs, "--below", "monitor"],
                             check=False).returncode
     if status == 0:
-        print("build: all crates are proved; the program is compiled", flush=True)
+        print("build: all that it stands on is proved; the program is proved and compiled", flush=True)
         with open(os.path.join(CRATE, "stdin"), "rb") as bundle:
             ran = subprocess.run(["rt", "run"], cwd=CRATE, stdin=bundle, stdout=subprocess.PIPE,
                                  stderr=subprocess.STDOUT, check=False)

@@ -1,12 +1,12 @@
 #!/usr/bin/env python3
-"""prove.py [-j N] [--for CRATE] [CRATE..]: proves crates side by side, with N jobs and one more (N is how many
-processors there are).
+"""prove.py [-j N] [--below CRATE] [CRATE..]: proves crates side by side, N at once and one more (N is how many
+processors there are), each with one job: each job reads all of a crate's libraries, and two took longer than one.
 
-All crates are proved if none is named; with --for those that this one stands on, and it itself. A line comes for each
-crate that is proved, with its seconds and how many are left. Runs of `rt` in one folder wait for each other, so each
-works in a copy of the repository, over the libraries that are built here; what it builds, and what it keeps for the
-next time, comes back into the crate's folder `out`. So a second call proves only what has changed. It decides nothing:
-the gate is `rt ci`.
+All crates are proved if none is named; with --below those that this one stands on. A line comes for each crate that is
+proved, with its seconds and how many are left. Runs of `rt` in one folder wait for each other, so each works in a copy
+of the repository, over the libraries that are built here; what it builds, and what it keeps for the next time, comes
+back into the crate's folder `out`. So a second call proves only what has changed. It decides nothing: the gate is `rt
+ci`.
 """
 import argparse
 import contextlib
@@ -19,8 +19,6 @@ import threading
 import time
 
 ROOT = os.path.dirname(os.path.dirname(os.path.abspath(__file__)))
-NEAR = 0.8  # which part of the longest chain is one nearly as long
-MOST = 2  # how many jobs one crate has at most: with five, one took twice as long as with one
 
 
 def libraries():
@@ -75,10 +73,10 @@ def bring(name, part, source, to):
 
 
 class Run:
-    """Which crates are proved, which are at work, and the copies and jobs that are free."""
+    """Which crates are proved, which are at work, and the copies that are free."""
 
     def __init__(self, folder, names, below, jobs):
-        self.folder, self.below, self.jobs, self.idle = folder, below, jobs, jobs + 1
+        self.below = below
         self.waiting, self.proved, self.failed, self.working = set(names), set(below) - set(names), {}, set()
         self.free = [os.path.join(folder, f"copy{i}") for i in range(jobs + 1)]
         self.changed = threading.Condition()
@@ -89,10 +87,10 @@ class Run:
             ranks[name] = weights[name] + max((ranks[other] for other in above[name] if other in ranks), default=0)
         self.ranks = ranks
 
-    def prove(self, name, copy, jobs):
+    def prove(self, name, copy):
         start = time.time()
         try:
-            fault = self.prove_in(name, copy, jobs)
+            fault = self.prove_in(name, copy)
         except OSError as error:
             fault = str(error)
         with self.changed:
@@ -105,17 +103,16 @@ class Run:
             said = "proved" if fault is None else "NOT PROVED"
             print(f"{name}: {said} in {time.time() - start:.0f} s, {left} left", flush=True)
             self.free.append(copy)
-            self.idle += jobs
             self.changed.notify_all()
 
-    def prove_in(self, name, copy, jobs):
+    def prove_in(self, name, copy):
         """What `rt` says of a crate that isn't proved, or nothing."""
         for other in self.below[name]:
             if not os.path.isdir(os.path.join(copy, "crates", other, "out", "rlib")):
                 bring(other, "rlib", ROOT, copy)
         bring(name, "incremental", ROOT, copy)
         is_program = os.path.isfile(os.path.join(ROOT, "crates", name, "src", "main.rt"))
-        ran = subprocess.run(["rt", "check" if is_program else "lib", "--jobs", str(jobs)],
+        ran = subprocess.run(["rt", "check" if is_program else "lib", "--jobs", "1"],
                              cwd=os.path.join(copy, "crates", name), stdout=subprocess.PIPE, stderr=subprocess.STDOUT,
                              text=True, errors="replace", check=False)
         if ran.returncode:
@@ -127,20 +124,12 @@ class Run:
 
     def start_next(self):
         """Starts what can be proved. What has the longest chain above it comes first, since what is above it waits for
-        it: that and what has a chain nearly as long have two jobs. One job more than there are processors keeps them
-        busy while a check begins and ends."""
+        it. One crate more than there are processors keeps them busy while a check begins and ends."""
         ready = [name for name in self.waiting if self.below[name] <= self.proved]
-        ready.sort(key=lambda it: -self.ranks[it])
-        longest = max((self.ranks[name] for name in self.waiting | self.working), default=0)
-        for name in ready:
-            if self.idle <= 0 or not self.free:
-                break
-            is_first = all(self.ranks[name] >= self.ranks[other] for other in self.working)
-            jobs = min(self.idle, MOST if is_first or self.ranks[name] >= NEAR * longest else 1)
-            self.idle -= jobs
+        for name in sorted(ready, key=lambda it: -self.ranks[it])[:len(self.free)]:
             self.waiting.remove(name)
             self.working.add(name)
-            threading.Thread(target=self.prove, args=(name, self.free.pop(), jobs)).start()
+            threading.Thread(target=self.prove, args=(name, self.free.pop())).start()
 
     def all(self):
         with self.changed:
@@ -154,14 +143,14 @@ class Run:
 def main():
     parser = argparse.ArgumentParser(description=__doc__, formatter_class=argparse.RawDescriptionHelpFormatter)
     parser.add_argument("-j", type=int, default=len(os.sched_getaffinity(0)), metavar="N")
-    parser.add_argument("--for", dest="top", metavar="CRATE")
+    parser.add_argument("--below", dest="top", metavar="CRATE")
     parser.add_argument("crates", nargs="*")
     given = parser.parse_args()
     below = libraries()
     unknown = [name for name in [*given.crates, *([given.top] if given.top else [])] if name not in below]
     if unknown:
         sys.exit(f"prove: crates.txt has no crate {' '.join(unknown)}")
-    names = given.crates or ([*below[given.top], given.top] if given.top else list(below))
+    names = given.crates or list(below[given.top] if given.top else below)
     with tempfile.TemporaryDirectory(prefix="monitor-prove-") as folder, contextlib.suppress(KeyboardInterrupt):
         run = Run(folder, names, below, max(1, given.j))
         for copy in run.free:

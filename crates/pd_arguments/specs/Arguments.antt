@@ -7,6 +7,7 @@ use Rattle.clap.specs.declared.builder.command.Command.{Command}
 use Rattle.clap.specs.declared.builder.value_parser.ValueParser.TheVariants.{Unsigned}
 use Rattle.clap.specs.declared.error.kind.ErrorKind.{ErrorKind}
 use Rattle.clap.specs.declared.error.kind.ErrorKind.TheVariants.{DisplayHelp, DisplayVersion, OutOfMemory}
+use Rattle.pd_format.specs.Limits.{worker_limit}
 use Rattle.pd_judgement.specs.Statuses.{Request, JudgeInput, JudgeFiles, CheckFiles, ServeStreams, ShowHelp, Unclear}
 
 -- ---- limits
@@ -18,10 +19,6 @@ port_limit = 65534
 -- how many watchers there are at most
 abbrev pub watcher_limit : ℕ
 watcher_limit = 64
-
--- how many workers there are at most
-abbrev pub worker_limit : ℕ
-worker_limit = 16
 
 -- ---- the command line
 

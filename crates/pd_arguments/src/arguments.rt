@@ -3,7 +3,7 @@ ghost use Rattle.clap.specs.Matches.{found_of};
 ghost use Rattle.clap.specs.Simple.{app_of, subcommand_of, subcommand_rows_of};
 ghost use Rattle.clap.specs.Values.{kind_of};
 ghost use Rattle.clap.specs.Walk.{Text, rows_of};
-ghost use Rattle.pd_arguments.specs.Arguments.{AreOf, AreTaken, AsksFor, AsksToDraw, FindsSession, IsErrorOf, IsNumberText, IsPort, NamesNumber, NamesWorkers, monitor_app};
+ghost use Rattle.pd_arguments.specs.Arguments.{AreOf, AreTaken, FindsSession, IsErrorOf, IsNumberText, IsPort, NamesNumber, NamesWorkers, monitor_app};
 ghost use Rattle.pd_arguments.specs.Views.{IsAsked, IsAskedIf, session_view};
 ghost use Rattle.std.specs.Prelude.{◌≡◌, ◌≢◌, ℕ, IfErr, IfOk, IfSome, List, None, codes, map, option_map};
 

@@ -5,9 +5,9 @@ ghost use Rattle.clap.specs.declared.builder.command.Command.TheViews.{out-Comma
 ghost use Rattle.pd_arguments.specs.Arguments.{AddsCommand, check_app, document_app, draw_app, judge_app, monitor_app, number_rule, plain_app, port_rule, predicate_rule, report_app, required_rule, serve_app, stream_rule, watchers_rule, workers_rule};
 ghost use Rattle.std.specs.Prelude.{◌≡◌, IfOk, false};
 
-use super::workers::WORKER_LIMIT;
 use clap::builder::ValueParser;
 use clap::{Arg, Command};
+use pd_format::WORKER_LIMIT;
 use std::alloc::{AllocError, Global};
 
 /// What the program's help says of it.

@@ -1,9 +1,8 @@
 //! How many workers share the work on a session.
-ghost use Rattle.pd_arguments.specs.Arguments.{worker_limit};
+ghost use Rattle.pd_format.specs.Limits.{worker_limit};
 ghost use Rattle.std.specs.Prelude.{◌≡◌, ◌≤◌, IfSome, None};
 
-/// The greatest number of workers.
-pub(crate) const WORKER_LIMIT: u64 = 16;
+use pd_format::WORKER_LIMIT;
 
 /// A number of workers, from 1 to 16.
 #[derive(Drop)]

@@ -4,6 +4,8 @@ use Rattle.std.proofs.lemmas.Bool.{cases_lt}
 use Rattle.std.proofs.lemmas.List.{get_or_append_left, get_or-append_right, length_push, take-append-le, take_all}
 use Rattle.std.proofs.lemmas.List.Edits.{get_or-insert_above, get_or-insert_at, get_or-insert_below, length-insert}
 use Rattle.std.specs.List.{insert}
+use Rattle.pd_keys.specs.Keys.{AreDigits, digits, key_of}
+use Rattle.pd_keys.proofs.Keys.{digits-key}
 use Rattle.pd_model.specs.Answers.{LeavesAvoiding}
 use Rattle.pd_model.specs.Cuts.{one_less, one_more}
 use Rattle.pd_model.specs.Events.{Computation, event_count}
@@ -12,7 +14,7 @@ use Rattle.pd_level.specs.Levels.{Levelled}
 use Rattle.pd_model.proofs.Counts.{in_range, length_less, less_same, more_less, sum_less}
 use Rattle.pd_model.proofs.Paths.{avoiding_level}
 use Rattle.pd_model.proofs.WalkSteps.{some_undone}
-use Rattle.pd_back.specs.Searches.{AreDead, IsSearched, IsStacked, IsWorthTrying, NoneLeaves, undone}
+use Rattle.pd_back.specs.Searches.{AreDead, IsDead, IsSearched, IsStacked, IsWorthTrying, NoneLeaves, undone}
 use Rattle.pd_back.specs.Ways.{IsAvoidingLevel, IsReached, LeavesConsistent, LeavesOneOf}
 use Rattle.pd_model.proofs.AvoidingCuts.{avoiding_fails, avoiding_more}
 use Rattle.pd_back.proofs.Reaching.{level_leaves, reached_less}
@@ -24,37 +26,55 @@ at_push xs x d =
     get_or-append_right xs (x ∷ []) (length xs) (length xs) d refl (omega arith)
     ∙ ap (λ (n : ℕ). get_or (x ∷ []) n d) none
 
+-- a cut stands for the number of its digits
+dead_cut : (c : Computation) (cut : List ℕ) → AreDigits cut → length cut ≡ length c
+    → digits (length c) (key_of cut) ≡ cut
+dead_cut c cut small many = subst (λ (n : ℕ). digits n (key_of cut) ≡ cut) many (digits-key cut small)
+
 -- one dead end more
-pub dead_insert : (c : Computation) (test : List ℕ → Bool) (cuts : List (List ℕ)) (j : ℕ) (cut : List ℕ)
-    → AreDead c test cuts → ¬ IsAvoiding c test (sum cut) cut → j ≤ length cuts → AreDead c test (insert cuts j cut)
-dead_insert c test cuts j cut dead here within i d lt = go (cases_lt i j)
+dead_insert : (c : Computation) (test : List ℕ → Bool) (numbers : List ℕ) (j : ℕ) (cut : List ℕ)
+    → AreDead c test numbers → ¬ IsAvoiding c test (sum cut) cut → AreDigits cut → length cut ≡ length c
+    → j ≤ length numbers → AreDead c test (insert numbers j (key_of cut))
+dead_insert c test numbers j cut dead none small many within i d lt = go (cases_lt i j)
   where
-    Dead : List ℕ → Type 0
-    Dead x = ¬ IsAvoiding c test (sum x) x
+    here : IsDead c test (key_of cut)
+    here = subst (λ (x : List ℕ). ¬ IsAvoiding c test (sum x) x) (sym (dead_cut c cut small many)) none
 
-    count : length (insert cuts j cut) ≡ length cuts + 1
-    count = length-insert cuts j cut within
+    count : length (insert numbers j (key_of cut)) ≡ length numbers + 1
+    count = length-insert numbers j (key_of cut) within
 
-    past : (j < i) ⊎ (i ≤ j) → j ≤ i → Dead (get_or (insert cuts j cut) i d)
+    past : (j < i) ⊎ (i ≤ j) → j ≤ i → IsDead c test (get_or (insert numbers j (key_of cut)) i d)
     past (inl less) high =
         let up : i - 1 + 1 ≡ i = omega arith in
-        subst (λ (n : ℕ). Dead (get_or (insert cuts j cut) n d)) up
-        (subst Dead (sym (get_or-insert_above cuts j cut d (i - 1) (omega arith) within))
+        subst (λ (n : ℕ). IsDead c test (get_or (insert numbers j (key_of cut)) n d)) up
+        (subst (IsDead c test) (sym (get_or-insert_above numbers j (key_of cut) d (i - 1) (omega arith) within))
         (dead (i - 1) d (omega (arith, count))))
     past (inr le) high =
         let same : j ≡ i = omega arith in
-        subst (λ (n : ℕ). Dead (get_or (insert cuts j cut) n d)) same
-        (subst Dead (sym (get_or-insert_at cuts j cut d within)) here)
+        subst (λ (n : ℕ). IsDead c test (get_or (insert numbers j (key_of cut)) n d)) same
+        (subst (IsDead c test) (sym (get_or-insert_at numbers j (key_of cut) d within)) here)
 
-    go : (i < j) ⊎ (j ≤ i) → Dead (get_or (insert cuts j cut) i d)
+    go : (i < j) ⊎ (j ≤ i) → IsDead c test (get_or (insert numbers j (key_of cut)) i d)
     go (inl low) =
-        subst Dead (sym (get_or-insert_below cuts j cut d i low within)) (dead i d (omega arith))
+        subst (IsDead c test) (sym (get_or-insert_below numbers j (key_of cut) d i low within)) (dead i d (omega arith))
     go (inr high) = past (cases_lt j i) high
 
-pub dead_found : (c : Computation) (test : List ℕ → Bool) (cuts : List (List ℕ)) (cut : List ℕ)
-    → AreDead c test cuts → Contains cuts cut → ¬ IsAvoiding c test (sum cut) cut
-dead_found c test cuts cut dead (i, lt, at) =
-    subst (λ (x : List ℕ). ¬ IsAvoiding c test (sum x) x) at (dead i cut lt)
+-- the same, if the cut was added or left out
+pub still_dead : (c : Computation) (test : List ℕ → Bool) (numbers new cut : List ℕ) → AreDead c test numbers
+    → ¬ IsAvoiding c test (sum cut) cut → length cut ≡ length c
+    → (new ≡ numbers) ⊎ ((i : ℕ) × (i ≤ length numbers) × AreDigits cut × (new ≡ insert numbers i (key_of cut)))
+    → AreDead c test new
+still_dead c test numbers new cut dead none many (inl same) =
+    subst (λ (xs : List ℕ). AreDead c test xs) (sym same) dead
+still_dead c test numbers new cut dead none many (inr added) =
+    subst (λ (xs : List ℕ). AreDead c test xs) (sym added.3)
+    (dead_insert c test numbers added.0 cut dead none added.2 many added.1)
+
+pub dead_found : (c : Computation) (test : List ℕ → Bool) (numbers cut : List ℕ) → AreDead c test numbers
+    → AreDigits cut → length cut ≡ length c → Contains numbers (key_of cut) → ¬ IsAvoiding c test (sum cut) cut
+dead_found c test numbers cut dead small many (i, lt, at) =
+    subst (λ (x : List ℕ). ¬ IsAvoiding c test (sum x) x) (dead_cut c cut small many)
+    (subst (IsDead c test) at (dead i (key_of cut) lt))
 
 -- one step more at the end
 undone_push : (cut steps : List ℕ) (p : ℕ) → undone cut (steps ++ p ∷ []) ≡ one_less (undone cut steps) p

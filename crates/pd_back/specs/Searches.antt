@@ -1,17 +1,23 @@
 -- What is known in the midst of a search depth first. `test` says whether a cut satisfies.
 use Rattle.std.specs.Prelude.{◌≡◌, ℕ, ◌+◌, ◌<◌, ◌≤◌, Bool, false, List, [], ◌∷◌, ◌++◌, length, sum, take, slice_index, slice_index_or}
+use Rattle.pd_keys.specs.Keys.{digits}
 use Rattle.pd_model.specs.Answers.{LeavesAvoiding}
 use Rattle.pd_model.specs.Cuts.{one_less}
 use Rattle.pd_model.specs.Events.{Computation}
 use Rattle.pd_model.specs.Observations.{IsAvoiding}
 use Rattle.pd_model.specs.Paths.{IsAvoidingCut}
+use Rattle.pd_model.specs.Predicates.{test_of}
+use Rattle.pd_pred.specs.Views.{predicate_view}
 use Rattle.pd_back.specs.Ways.{IsReached, LeavesConsistent}
+use Rattle.pd_back.specs.declared.search.Search.{Search}
 
--- none of these cuts avoids
-abbrev pub AreDead : Computation → (List ℕ → Bool) → List (List ℕ) → Type 0
-AreDead c test cuts =
-    (i : ℕ) (d : List ℕ) → i < length cuts
-    → ¬ IsAvoiding c test (sum (slice_index_or cuts i d)) (slice_index_or cuts i d)
+-- the cut whose counts are the digits of the number doesn't avoid
+abbrev pub IsDead : Computation → (List ℕ → Bool) → ℕ → Type 0
+IsDead c test number = ¬ IsAvoiding c test (sum (digits (length c) number)) (digits (length c) number)
+
+-- that is so of each of these numbers
+abbrev pub AreDead : Computation → (List ℕ → Bool) → List ℕ → Type 0
+AreDead c test numbers = (i d : ℕ) → i < length numbers → IsDead c test (slice_index_or numbers i d)
 
 -- no process below p leaves an avoiding cut
 abbrev pub NoneLeaves : Computation → (List ℕ → Bool) → List ℕ → ℕ → Type 0
@@ -50,3 +56,11 @@ pub record IsSearched (c : Computation) (test : List ℕ → Bool) (path : List 
       → IsStacked c test path steps k i (undone top (take i steps)) (slice_index_or steps i e)
   pub some : (i e : ℕ) → i < length steps
       → 0 < slice_index (undone top (take i steps)) (slice_index_or steps i e)
+
+-- the computation of what a search goes by
+abbrev pub search_events : Search → Computation
+search_events search = search.computation.now.events
+
+-- whether a cut satisfies its predicate
+abbrev pub search_test : Search → List ℕ → Bool
+search_test search = test_of search.computation.now (predicate_view search.pred.now)

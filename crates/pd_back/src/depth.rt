@@ -1,16 +1,18 @@
 //! The way down to a kept level, searched depth first.
-ghost use Rattle.pd_back.specs.Searches.{AreDead, IsWorthTrying, NoneLeaves};
+ghost use Rattle.pd_back.specs.Searches.{AreDead, IsWorthTrying, NoneLeaves, search_events, search_test};
 ghost use Rattle.pd_back.specs.Ways.{IsAvoidingLevel, IsReached};
 ghost use Rattle.pd_format.specs.Limits.{process_limit};
 ghost use Rattle.pd_model.specs.Answers.{LeavesAvoiding};
 ghost use Rattle.pd_model.specs.Cuts.{IsConsistent};
 ghost use Rattle.pd_model.specs.Predicates.{test_of};
 ghost use Rattle.pd_pred.specs.Views.{predicate_view};
-ghost use Rattle.std.specs.Prelude.{◌≡◌, ◌+◌, ◌<◌, ◌≤◌, ℕ, Contains, IfNone, IfOk, IfSome, IsTrue, false, length, sum};
-ghost use Rattle.std.specs.List.{insert};
+ghost use Rattle.std.specs.Prelude.{◌≡◌, ◌+◌, ◌<◌, ◌≤◌, IfNone, IfOk, IfSome, IsTrue, false, length, sum};
 
+use super::dead::DeadEnds;
+use super::search::Search;
 use super::undo::{same_cut, without_last};
 use pd_clock::{Computation, Cut};
+use pd_keys::Pair;
 use pd_level::Level;
 use pd_pred::Pred;
 use std::alloc::{AllocError, Global};
@@ -40,14 +42,20 @@ pub(crate) fn search_down(
     ensures not_found { IfOk result (λ found. IfNone found (path.new.items ≡ path.old.items)) }
 {
     computation.limits();
+    let search = Search {
+        alloc,
+        computation,
+        pred,
+        kept,
+    };
     let dead_ends = (k - kept.number()).saturating_mul(DEAD_ENDS);
-    let mut dead = Vec::new(alloc);
+    let mut dead = DeadEnds::<Pair>::new(alloc);
     let mut steps = Vec::new(alloc);
     let mut cut = same_cut(alloc, top);
     let mut next = 0;
     for _ in 0..u64::MAX {
         let level = k - steps.len() as u64;
-        let p = next_step(alloc, computation, pred, kept, &dead, level, &cut, next);
+        let p = next_step(&search, &dead, level, &cut, next);
         if p < computation.processes() {
             steps.push(p)?;
             cut.undo(p);
@@ -61,7 +69,7 @@ pub(crate) fn search_down(
         let Some(tried) = steps.pop() else {
             return Ok(None);
         };
-        add_dead(&mut dead, same_cut(alloc, &cut))?;
+        dead.add(&cut)?;
         if dead.len() as u64 > dead_ends {
             return Ok(None);
         }
@@ -73,32 +81,26 @@ pub(crate) fn search_down(
 
 /// The least process, from `next` on, that is worth trying: the number of processes if there is none.
 fn next_step(
-    alloc: Global,
-    computation: &Computation<'_>,
-    pred: &Pred,
-    kept: &Level,
-    dead: &[Cut],
+    search: &Search<'_, '_>,
+    dead: &DeadEnds<Pair>,
     level: u64,
     cut: &Cut,
     next: usize,
 ) -> usize
-    requires list { IsAvoidingLevel computation.now.events
-        (test_of computation.now (predicate_view pred.now)) kept.now }
-    requires dead { AreDead computation.now.events (test_of computation.now (predicate_view pred.now)) dead.now }
+    requires list { IsAvoidingLevel (search_events search.now) (search_test search.now) search.now.kept.now }
+    requires dead { AreDead (search_events search.now) (search_test search.now) dead.now }
     requires few { length cut.now ≤ process_limit }
-    requires consistent { IsConsistent computation.now.events cut.now }
+    requires consistent { IsConsistent (search_events search.now) cut.now }
     requires number { sum cut.now ≡ level }
-    requires tried { NoneLeaves computation.now.events
-        (test_of computation.now (predicate_view pred.now)) cut.now next }
+    requires tried { NoneLeaves (search_events search.now) (search_test search.now) cut.now next }
     requires within { next ≤ length cut.now }
     ensures within { result ≤ length cut.now }
-    ensures tried { NoneLeaves computation.now.events
-        (test_of computation.now (predicate_view pred.now)) cut.now result }
-    ensures worth_trying { result < length cut.now → IsWorthTrying computation.now.events
-        (test_of computation.now (predicate_view pred.now)) kept.now.number cut.now result }
+    ensures tried { NoneLeaves (search_events search.now) (search_test search.now) cut.now result }
+    ensures worth_trying { result < length cut.now → IsWorthTrying (search_events search.now) (search_test search.now)
+        search.now.kept.now.number cut.now result }
 {
     for p in next..cut.counts().len() {
-        if is_worth_trying(alloc, computation, pred, kept, dead, level, cut, p) {
+        if is_worth_trying(search, dead, level, cut, p) {
             return p;
         }
     }
@@ -108,71 +110,32 @@ fn next_step(
 /// Whether to undo the last event of process `p` leaves a consistent cut that doesn't satisfy, and that the kept level
 /// has if it is of this level. Where it doesn't, no avoiding cut is left.
 fn is_worth_trying(
-    alloc: Global,
-    computation: &Computation<'_>,
-    pred: &Pred,
-    kept: &Level,
-    dead: &[Cut],
+    search: &Search<'_, '_>,
+    dead: &DeadEnds<Pair>,
     level: u64,
     cut: &Cut,
     p: usize,
 ) -> bool
-    requires list { IsAvoidingLevel computation.now.events
-        (test_of computation.now (predicate_view pred.now)) kept.now }
-    requires dead { AreDead computation.now.events (test_of computation.now (predicate_view pred.now)) dead.now }
+    requires list { IsAvoidingLevel (search_events search.now) (search_test search.now) search.now.kept.now }
+    requires dead { AreDead (search_events search.now) (search_test search.now) dead.now }
     requires few { length cut.now ≤ process_limit }
-    requires consistent { IsConsistent computation.now.events cut.now }
+    requires consistent { IsConsistent (search_events search.now) cut.now }
     requires number { sum cut.now ≡ level }
     requires within { p < length cut.now }
-    ensures yes { IsTrue result → IsWorthTrying computation.now.events
-        (test_of computation.now (predicate_view pred.now)) kept.now.number cut.now p }
-    ensures no { result ≡ false → ¬ LeavesAvoiding computation.now.events
-        (test_of computation.now (predicate_view pred.now)) cut.now p }
+    ensures yes { IsTrue result → IsWorthTrying (search_events search.now) (search_test search.now)
+        search.now.kept.now.number cut.now p }
+    ensures no { result ≡ false → ¬ LeavesAvoiding (search_events search.now) (search_test search.now) cut.now p }
 {
+    let computation = search.computation;
     if !computation.can_undo(cut, p) {
         return false;
     }
-    let low = without_last(alloc, cut, p);
-    if level - 1 == kept.number() {
-        return kept.contains(&low);
+    let low = without_last(search.alloc, cut, p);
+    if level - 1 == search.kept.number() {
+        return search.kept.contains(&low);
     }
-    if is_dead(dead, &low) {
+    if dead.has(&low) {
         return false;
     }
-    !pred.holds(&computation.at(&low))
-}
-
-/// Whether the cut is found among these, which ascend.
-fn is_dead(dead: &[Cut], cut: &Cut) -> bool
-    ensures { IsTrue result → Contains dead.now cut.now }
-{
-    let i = place_of(dead, cut);
-    i < dead.len() && dead[i].counts() == cut.counts()
-}
-
-/// Puts the cut in its place among those that ascend.
-fn add_dead(dead: &mut Vec<Cut>, cut: Cut) -> Result<(), AllocError>
-    ensures { IfOk result (λ _. (i : ℕ) × (i ≤ length dead.old.items)
-        × (dead.new.items ≡ insert dead.old.items i cut)) }
-{
-    let i = place_of(dead, &cut);
-    dead.insert(i, cut)?;
-    Ok(())
-}
-
-/// How many of these cuts, which ascend, are before this one.
-fn place_of(dead: &[Cut], cut: &Cut) -> usize
-    ensures { result ≤ length dead.now }
-{
-    let mut low = 0;
-    let mut high = dead.len();
-    while low < high {
-        let middle = low + (high - low) / 2;
-        if dead[middle].counts() < cut.counts() {
-            low = middle + 1;
-        } else {
-            high = middle;
-        }
-    }
-    low
+    !search.pred.holds(&computation.at(&low))
 }

@@ -9,6 +9,8 @@
 //! - `held`: levels that are held at once, and the greatest number of them
 //! - `avoiding`: the avoiding cuts of a level
 //! - `undo`: cuts without the last event of a process
+//! - `dead`: the dead ends of a search
+//! - `search`: what a search goes by
 //! - `depth`: the way down to a kept level, searched depth first
 //! - `descent`: the way down to a kept level
 //! - `free`: the way down where every cut avoids
@@ -17,10 +19,12 @@
 
 mod avoiding;
 mod back;
+mod dead;
 mod depth;
 mod descent;
 mod free;
 mod held;
+mod search;
 mod undo;
 
 pub use avoiding::{first_avoiding, next_avoiding, next_of_any};

@@ -7,7 +7,7 @@ use Rattle.std.proofs.lemmas.List.{drop-drop, take-append-drop, take_all}
 use Rattle.std.proofs.Math.Seq.{take-add}
 use Rattle.pd_format.specs.Bundles.{before_first, is_separator, onto_part, parts_of, parts_of_lines, whole_lines}
 use Rattle.pd_bundle.specs.Cutting.{EndsLine, IsCut, IsInLine, IsNoSeparator, IsRun, line_marks, parts_from, parts_in_line, parts_of_line}
-use Rattle.pd_bundle.specs.declared.cutter.Cut.TheVariants.{Part}
+use Rattle.pd_bundle.specs.declared.cutter.Cutting.TheVariants.{Part}
 use Rattle.pd_bundle.specs.declared.cutter.Cutter.{Cutter}
 use Rattle.pd_bundle.specs.declared.cutter.Cutter.TheVariants.{Held, Inside}
 

@@ -11,7 +11,7 @@ use Rattle.pd_judgement.specs.Writes.{IsTooLong, IsWholeInput}
 use Rattle.pd_bundle.specs.Cutting.{IsCut, line_marks, parts_from}
 use Rattle.pd_bundle.specs.Moves.{Fills, Moves}
 use Rattle.pd_bundle.specs.Steps.{Goes, HasCut, State, holds, steps_left}
-use Rattle.pd_bundle.specs.declared.cutter.Cut.TheVariants.{Hold, Part, Separator}
+use Rattle.pd_bundle.specs.declared.cutter.Cutting.TheVariants.{Hold, Part, Separator}
 use Rattle.pd_bundle.specs.declared.cutter.Cutter.{Cutter}
 use Rattle.pd_bundle.specs.declared.cutter.Cutter.TheVariants.{Held, Inside}
 use Rattle.pd_bundle.specs.declared.next.Next.{Next}

@@ -1,8 +1,8 @@
 -- The parts of a bundle of which some bytes have come.
 use Rattle.std.specs.Prelude.{◌≡◌, ◌<◌, ◌≤◌, ℕ, List, [], ◌∷◌, ◌++◌, drop, length, take}
 use Rattle.pd_format.specs.Bundles.{onto_part, parts_of, parts_of_lines, whole_lines}
-use Rattle.pd_bundle.specs.declared.cutter.Cut.{Cut}
-use Rattle.pd_bundle.specs.declared.cutter.Cut.TheVariants.{Hold, Part, Separator}
+use Rattle.pd_bundle.specs.declared.cutter.Cutting.{Cutting}
+use Rattle.pd_bundle.specs.declared.cutter.Cutting.TheVariants.{Hold, Part, Separator}
 use Rattle.pd_bundle.specs.declared.cutter.Cutter.{Cutter}
 use Rattle.pd_bundle.specs.declared.cutter.Cutter.TheVariants.{Held, Inside}
 
@@ -25,19 +25,19 @@ parts_from (Held count) bytes = parts_of (take count line_marks ++ bytes)
 parts_from Inside bytes = parts_in_line bytes
 
 -- how many bytes of a piece a cut takes
-abbrev pub taken : Cut → ℕ
+abbrev pub taken : Cutting → ℕ
 taken Hold = 1
 taken Separator = 1
 taken (Part held count) = count
 
 -- the parts from a piece on, by its cut and the parts of the bytes after it
-abbrev pub parts_after : Cut → List ℕ → List (List ℕ) → List (List ℕ)
+abbrev pub parts_after : Cutting → List ℕ → List (List ℕ) → List (List ℕ)
 parts_after Hold piece parts = parts
 parts_after Separator piece parts = [] ∷ parts
 parts_after (Part held count) piece parts = onto_part (take held line_marks ++ take count piece) parts
 
 -- The cut takes one byte or more off the piece, and the parts go on with those of the other bytes, whatever comes next.
-pub record IsCut (before after : Cutter) (piece : List ℕ) (cut : Cut) : Type 0 where
+pub record IsCut (before after : Cutter) (piece : List ℕ) (cut : Cutting) : Type 0 where
   pub some : 0 < taken cut
   pub within : taken cut ≤ length piece
   pub parts : (rest : List ℕ) → parts_from before (piece ++ rest)

@@ -8,7 +8,7 @@ ghost use Rattle.pd_format.specs.Limits.{bundle_byte_limit};
 ghost use Rattle.pd_judgement.specs.Writes.{IsTooLong};
 ghost use Rattle.std.specs.Prelude.{◌≡◌, ◌<◌, ◌≤◌, ◌+◌, ◌-◌, ◌++◌, Err, IfOk, IfSome, List, ℕ, Option, [], OnOk, drop, false, length, take, true};
 
-use super::cutter::{Cut, Cutter, marks};
+use super::cutter::{Cutter, Cutting, marks};
 use super::{BundleFault, Next};
 use pd_format::BUNDLE_BYTE_LIMIT;
 use pd_gather::ByteSource;
@@ -127,19 +127,19 @@ impl Bundle {
         let cut = cutter.cut(&self.piece[self.start..self.end]);
         self.cutter = cutter;
         match cut {
-            Cut::Hold => {
+            Cutting::Hold => {
                 self.held = 0;
                 self.start += 1;
                 self.from = self.start;
                 Next::Bytes
             }
-            Cut::Separator => {
+            Cutting::Separator => {
                 self.held = 0;
                 self.start += 1;
                 self.from = self.start;
                 Next::PartEnd
             }
-            Cut::Part(held, count) => {
+            Cutting::Part(held, count) => {
                 self.held = held;
                 self.from = self.start;
                 self.start += count;

@@ -3,7 +3,7 @@ ghost use Rattle.pd_bundle.specs.Cutting.{EndsLine, IsCut, IsInLine, IsNoSeparat
 ghost use Rattle.pd_bundle.specs.declared.cutter.Cutter.TheVariants as cutters;
 ghost use Rattle.pd_format.specs.Bundles.{onto_part, parts_of};
 ghost use Rattle.std.specs.Bool.{OnFalse, OnTrue};
-ghost use Rattle.std.specs.Prelude.{◌≡◌, ◌+◌, ◌++◌, ◌<◌, ◌≤◌, ◌∷◌, [], List, ℕ, MatchOption, drop, length, take};
+ghost use Rattle.std.specs.Prelude.{◌≡◌, ◌+◌, ◌++◌, ◌<◌, ◌≤◌, ◌∷◌, [], List, ℕ, MatchOption, length, take};
 
 use memchr::memchr;
 
@@ -18,7 +18,7 @@ pub enum Cutter {
 
 /// What the first bytes of a piece are.
 #[derive(Clone, Copy, Debug)]
-pub enum Cut {
+pub enum Cutting {
     /// The first byte is held back.
     Hold,
     /// The first byte ends a separator, and so the part.
@@ -105,7 +105,7 @@ fn run_of(piece: &[u8]) -> (usize, Cutter)
 
 impl Cutter {
     /// Takes the first bytes of a piece that isn't empty.
-    pub fn cut(&mut self, piece: &[u8]) -> Cut
+    pub fn cut(&mut self, piece: &[u8]) -> Cutting
         requires { 0 < length piece.now }
         ensures { IsCut self.old self.new piece.now result }
     {
@@ -113,20 +113,20 @@ impl Cutter {
             Cutter::Inside => {
                 let (count, after) = run_of(piece);
                 *self = after;
-                Cut::Part(0, count)
+                Cutting::Part(0, count)
             }
             Cutter::Held(held) => {
                 if ends_separator(held, piece[0]) {
                     *self = Cutter::Held(0);
-                    return Cut::Separator;
+                    return Cutting::Separator;
                 }
                 if is_held(held, piece[0]) {
                     *self = Cutter::Held(held + 1);
-                    return Cut::Hold;
+                    return Cutting::Hold;
                 }
                 let (count, after) = run_of(piece);
                 *self = after;
-                Cut::Part(held, count)
+                Cutting::Part(held, count)
             }
         }
     }

@@ -9,7 +9,7 @@ ghost use Rattle.pd_format.specs.Readings.{Open};
 ghost use Rattle.pd_gather.specs.Views.{ReadingFits, results_view};
 ghost use Rattle.pd_judgement.specs.Writes.{IsTooLong};
 ghost use Rattle.pd_spec.specs.Views.{document_view};
-ghost use Rattle.std.specs.Prelude.{◌≡◌, ◌<◌, ◌++◌, ◌∷◌, All, Err, IfOk, List, ℕ, OnOk, Option, [], false, length, true};
+ghost use Rattle.std.specs.Prelude.{◌≡◌, ◌<◌, ◌++◌, All, Err, IfOk, List, ℕ, OnOk, Option, [], false, length, true};
 
 use super::{Bundle, BundleFault};
 use pd_events::{StreamFault, TraceReader};

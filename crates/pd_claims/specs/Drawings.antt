@@ -19,8 +19,8 @@ use Rattle.pd_draw.specs.Drawn.{Comes, IsDrawn}
 use Rattle.pd_draw.specs.declared.drawn.Drawn.{Drawn}
 use Rattle.pd_draw.specs.declared.drawn.Drawn.TheVariants as drawn
 use Rattle.pd_sessions.specs.Ends.{fault_end}
-use Rattle.pd_claims.specs.declared.drawings.Drawing.{Drawing}
-use Rattle.pd_claims.specs.declared.drawings.Drawing.TheVariants.{Written, Refused, NoPredicate}
+use Rattle.pd_claims.specs.declared.drawings.DrawOutcome.{DrawOutcome}
+use Rattle.pd_claims.specs.declared.drawings.DrawOutcome.TheVariants.{Written, Refused, NoPredicate}
 use Rattle.pd_sessions.specs.declared.fault.EngineFault.{EngineFault}
 
 -- what comes of a session's traces and a report on it
@@ -97,7 +97,7 @@ pub record IsRefusalTextOf (bytes report : List ℕ) (inputs : List (Option (Lis
   pub is_text : text ≡ check_text finding
 
 -- how far the call came with the picture's text
-abbrev pub drawing_end : Result Drawing EngineFault → CallEnd
+abbrev pub drawing_end : Result DrawOutcome EngineFault → CallEnd
 drawing_end (Ok Written) = Whole
 drawing_end (Ok (Refused text)) = Silent
 drawing_end (Ok NoPredicate) = Silent
@@ -105,7 +105,7 @@ drawing_end (Err fault) = fault_end fault
 
 -- what stands against the picture, if none is written
 abbrev pub ShowsEnd : (bytes report : List ℕ) (inputs : List (Option (List ℕ))) (never_fails : Bool)
-    (name : Option (List ℕ)) → Drawing → Type 0
+    (name : Option (List ℕ)) → DrawOutcome → Type 0
 ShowsEnd bytes report inputs never_fails name Written = Unit {0}
 ShowsEnd bytes report inputs never_fails name (Refused text) =
     IsRefusalTextOf bytes report inputs never_fails name text.items

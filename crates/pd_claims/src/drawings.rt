@@ -28,7 +28,7 @@ use std::thread::Threads;
 
 /// What a call to draw came to, if nothing failed.
 #[derive(Debug, Drop)]
-pub enum Drawing {
+pub enum DrawOutcome {
     /// The picture is written.
     Written,
     /// No picture is written: something in what a check finds, of which this is the text, stands against it.
@@ -140,14 +140,14 @@ fn write_picture<W: Write>(
     alloc: Global,
     picture: &pd_svg::Drawing,
     writer: &mut W,
-) -> Result<Drawing, EngineFault>
+) -> Result<DrawOutcome, EngineFault>
     ensures written { Writes (λ text. text ≡ drawing_text picture.now) (drawing_end result)
         (W.contents writer.old) (W.contents writer.new) }
-    ensures whole { IfOk result (λ drawing. drawing ≡ Drawing.Written) }
+    ensures whole { IfOk result (λ drawing. drawing ≡ DrawOutcome.Written) }
     ensures err { IfErr result (λ fault. (fault ≡ EngineFault.Memory) ⊎ (fault ≡ EngineFault.Write)) }
 {
     match pd_svg::write(alloc, picture, writer) {
-        Ok(()) => Ok(Drawing::Written),
+        Ok(()) => Ok(DrawOutcome::Written),
         Err(fault) => match fault {
             WriteFault::Memory => Err(EngineFault::Memory),
             WriteFault::Write => Err(EngineFault::Write),
@@ -172,7 +172,7 @@ pub fn draw<S: RandomSource + Threads + Wait + Sync, R: ByteSource + Send + Drop
     streams: Vec<R>,
     name: Option<&str>,
     writer: &mut W,
-) -> Result<Drawing, EngineFault>
+) -> Result<DrawOutcome, EngineFault>
     requires open { All (λ r. R.has_ended r ≡ false) streams.items }
     // The picture's text is written whole, or a write fails and a prefix of it is; else nothing is.
     ensures written { Writes (IsDrawingTextOf spec.now report.now (map R.remaining streams.items)
@@ -184,7 +184,7 @@ pub fn draw<S: RandomSource + Threads + Wait + Sync, R: ByteSource + Send + Drop
 {
     match draw_read(rt, alloc, spec, report, streams, name)? {
         Drawn::Picture(picture) => write_picture(alloc, &picture, writer),
-        Drawn::Bad(finding) => Ok(Drawing::Refused(text(alloc, &finding)?)),
-        Drawn::NoPredicate => Ok(Drawing::NoPredicate),
+        Drawn::Bad(finding) => Ok(DrawOutcome::Refused(text(alloc, &finding)?)),
+        Drawn::NoPredicate => Ok(DrawOutcome::NoPredicate),
     }
 }

@@ -14,5 +14,5 @@ mod drawings;
 mod session;
 
 pub use checks::check;
-pub use drawings::{Drawing, draw};
+pub use drawings::{DrawOutcome, draw};
 pub use pd_check::{Checked, Finding, Verdict};

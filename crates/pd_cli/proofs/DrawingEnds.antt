@@ -6,8 +6,8 @@ use Rattle.pd_format.specs.Limits.{report_byte_limit}
 use Rattle.pd_judgement.specs.Statuses.{OfFiles}
 use Rattle.pd_judgement.specs.Writes.{Writes}
 use Rattle.pd_claims.specs.Drawings.{IsDrawingTextOf, ShowsEnd, drawing_end}
-use Rattle.pd_claims.specs.declared.drawings.Drawing.{Drawing}
-use Rattle.pd_claims.specs.declared.drawings.Drawing.TheVariants.{Written, Refused, NoPredicate}
+use Rattle.pd_claims.specs.declared.drawings.DrawOutcome.{DrawOutcome}
+use Rattle.pd_claims.specs.declared.drawings.DrawOutcome.TheVariants.{Written, Refused, NoPredicate}
 use Rattle.pd_sessions.specs.declared.fault.EngineFault.{EngineFault}
 use Rattle.pd_sessions.specs.declared.fault.EngineFault.TheVariants.{Memory, Write, Read, BundleLong}
 use Rattle.pd_cli.specs.Drawings.{DrawLeaves, Finishes, IsNoticeOf}
@@ -45,22 +45,23 @@ module _ (document report : List ℕ) (inputs : List (Option (List ℕ))) (never
   drawing_failed BundleLong old new (inr is) written = absurd (cc)
 
   -- the call came to an end, and then the output was flushed
-  pub drawing_finished : (drawing : Drawing) (result : Result Drawing EngineFault) (old middle new : Option (List ℕ))
+  pub drawing_finished : (drawing : DrawOutcome) (result : Result DrawOutcome EngineFault)
+      (old middle new : Option (List ℕ))
       → Writes (IsDrawingTextOf document report inputs never_fails name) (drawing_end (Ok drawing)) old middle
       → ShowsEnd document report inputs never_fails name drawing → Finishes drawing result middle new
       → DrawLeaves (Some document) (Some report) inputs never_fails ⊥ name result old new
   drawing_finished Written result old middle new written shows (inl is, keeps) =
-      subst (λ (r : Result Drawing EngineFault). DrawLeaves (Some document)
+      subst (λ (r : Result DrawOutcome EngineFault). DrawLeaves (Some document)
       (Some report) inputs never_fails ⊥ name r old new)
       (sym is)
       (of_read _ (written.0, written.1, appends_kept old middle new written.0 written.2 keeps))
   drawing_finished Written result old middle new written shows (inr is, keeps) =
-      subst (λ (r : Result Drawing EngineFault). DrawLeaves (Some document)
+      subst (λ (r : Result DrawOutcome EngineFault). DrawLeaves (Some document)
       (Some report) inputs never_fails ⊥ name r old new)
       (sym is)
       (of_read _ (inl (written.0, written.1, appends_kept old middle new written.0 written.2 keeps)))
   drawing_finished (Refused found) result old middle new written shows (inl is, keeps) =
-      subst (λ (r : Result Drawing EngineFault). DrawLeaves (Some document)
+      subst (λ (r : Result DrawOutcome EngineFault). DrawLeaves (Some document)
       (Some report) inputs never_fails ⊥ name r old new)
       (sym is) (kept_on old middle new written keeps)
   drawing_finished (Refused found) (Ok Written) old middle new written shows (inr is, keeps) = absurd is
@@ -72,6 +73,6 @@ module _ (document report : List ℕ) (inputs : List (Option (List ℕ))) (never
   )
   drawing_finished (Refused found) (Err fault) old middle new written shows (inr is, keeps) = absurd is
   drawing_finished NoPredicate result old middle new written shows (is, keeps) =
-      subst (λ (r : Result Drawing EngineFault). DrawLeaves (Some document)
+      subst (λ (r : Result DrawOutcome EngineFault). DrawLeaves (Some document)
       (Some report) inputs never_fails ⊥ name r old new)
       (sym is) (of_read _ shows, kept_on old middle new written keeps)

@@ -5,8 +5,8 @@ use Rattle.std.specs.List.{AllZip}
 use Rattle.pd_judgement.specs.Writes.{IsWholeInput, Whole}
 use Rattle.pd_judgement.proofs.Writing.{writes_weaker}
 use Rattle.pd_claims.specs.Drawings.{IsDrawingTextOf, LacksPredicate}
-use Rattle.pd_claims.specs.declared.drawings.Drawing.{Drawing}
-use Rattle.pd_claims.specs.declared.drawings.Drawing.TheVariants.{Written, Refused, NoPredicate}
+use Rattle.pd_claims.specs.declared.drawings.DrawOutcome.{DrawOutcome}
+use Rattle.pd_claims.specs.declared.drawings.DrawOutcome.TheVariants.{Written, Refused, NoPredicate}
 use Rattle.pd_sessions.specs.declared.fault.EngineFault.{EngineFault}
 use Rattle.pd_sessions.specs.declared.fault.EngineFault.TheVariants.{Memory, Write, Read, BundleLong}
 use Rattle.pd_cli.specs.Drawings.{DrawLeaves, IsNoticeOf}
@@ -69,7 +69,7 @@ module _ (file report_file : Option (List ℕ)) (read claimed : List ℕ) (files
     (never_fails : Bool) (MayBeUnread : Type 0) (name : Option (List ℕ)) (old new : Option (List ℕ))
     (stands : StandsFor read file)
     (whole : IsWholeInput report_file claimed) (are : AllZip HasWholeFile files lefts) where
-  pub drawn_of_files : (result : Result Drawing EngineFault)
+  pub drawn_of_files : (result : Result DrawOutcome EngineFault)
       → DrawLeaves (Some read) (Some claimed) lefts never_fails ⊥ name result old new
       → DrawLeaves file report_file files never_fails MayBeUnread name result old new
   drawn_of_files (Ok Written) left =

@@ -5,8 +5,8 @@ use Rattle.clap.specs.Words.{Text}
 use Rattle.pd_judgement.specs.Statuses.{EndsAsAsked, FilesMayFail, IsLongReport, OfFiles, Reliance, WritesUpTo, line_of_failure, status_of_failure}
 use Rattle.pd_judgement.specs.Writes.{Whole, Writes}
 use Rattle.pd_claims.specs.Drawings.{IsDrawingTextOf, IsRefusalTextOf, LacksPredicate}
-use Rattle.pd_claims.specs.declared.drawings.Drawing.{Drawing}
-use Rattle.pd_claims.specs.declared.drawings.Drawing.TheVariants.{Written, Refused, NoPredicate}
+use Rattle.pd_claims.specs.declared.drawings.DrawOutcome.{DrawOutcome}
+use Rattle.pd_claims.specs.declared.drawings.DrawOutcome.TheVariants.{Written, Refused, NoPredicate}
 use Rattle.pd_sessions.specs.declared.fault.EngineFault.{EngineFault}
 use Rattle.pd_sessions.specs.declared.fault.EngineFault.TheVariants.{Memory, Write, Read, BundleLong}
 use Rattle.pd_arguments.specs.Arguments.{AsksFor, AsksToDraw}
@@ -24,7 +24,7 @@ pub record IsNoticeOf (document report : List ℕ) (streams : List (Option (List
   pub is_notice : notice ≡ refusal_heading ++ found
 
 -- the notice of this finding
-abbrev pub IsNoticed : (found : List ℕ) → Drawing → Type 0
+abbrev pub IsNoticed : (found : List ℕ) → DrawOutcome → Type 0
 IsNoticed found Written = ⊥
 IsNoticed found (Refused notice) = notice.items ≡ refusal_heading ++ found
 IsNoticed found NoPredicate = ⊥
@@ -32,7 +32,8 @@ IsNoticed found NoPredicate = ⊥
 -- The picture is written: its whole text. The output fails: that text or a prefix of it. Something stands against the
 -- picture, or another failure: nothing.
 abbrev pub DrawLeaves : (document report : Option (List ℕ)) (streams : List (Option (List ℕ))) (never_fails : Bool)
-    (MayBeUnread : Type 0) (name : Option (List ℕ)) → Result Drawing EngineFault → (old new : Option (List ℕ)) → Type 0
+    (MayBeUnread : Type 0) (name : Option (List ℕ)) → Result DrawOutcome EngineFault → (old new : Option (List ℕ))
+    → Type 0
 DrawLeaves document report streams never_fails MayBeUnread name (Ok Written) old new =
     OfFiles document report (λ d r. Writes (IsDrawingTextOf d r streams never_fails name) Whole old new)
 DrawLeaves document report streams never_fails MayBeUnread name (Ok (Refused notice)) old new =
@@ -46,21 +47,21 @@ DrawLeaves document report streams never_fails MayBeUnread name (Err Write) old 
 DrawLeaves document report streams never_fails MayBeUnread name (Err BundleLong) old new = ⊥
 
 -- how a drawing ends after the flush: a picture stays written, and of a finding its notice is made
-abbrev pub Finishes : Drawing → Result Drawing EngineFault → (middle new : Option (List ℕ)) → Type 0
+abbrev pub Finishes : DrawOutcome → Result DrawOutcome EngineFault → (middle new : Option (List ℕ)) → Type 0
 Finishes Written result middle new = ((result ≡ Ok Written) ⊎ (result ≡ Err Write)) × Keeps middle new
 Finishes (Refused found) result middle new =
     ((result ≡ Err Memory) ⊎ IsOkAnd result (λ drawing. IsNoticed found.items drawing)) × Keeps middle new
 Finishes NoPredicate result middle new = (result ≡ Ok NoPredicate) × Keeps middle new
 
 -- the exit status
-abbrev pub draw_status : Result Drawing EngineFault → ℕ
+abbrev pub draw_status : Result DrawOutcome EngineFault → ℕ
 draw_status (Ok Written) = 0
 draw_status (Ok (Refused notice)) = 1
 draw_status (Ok NoPredicate) = 2
 draw_status (Err fault) = status_of_failure (failure_view fault)
 
 -- what is reported
-abbrev pub draw_notice : Result Drawing EngineFault → List ℕ
+abbrev pub draw_notice : Result DrawOutcome EngineFault → List ℕ
 draw_notice (Ok Written) = []
 draw_notice (Ok (Refused notice)) = notice.items
 draw_notice (Ok NoPredicate) = codes "monitor: no predicate of this name\n"
@@ -70,7 +71,7 @@ draw_notice (Err fault) = line_of_failure (failure_view fault)
 pub record EndsDrawn (document report : Option (List ℕ)) (streams : List (Option (List ℕ))) (never_fails : Bool)
     (MayBeUnread : Type 0) (name : Option (List ℕ)) (status : ℕ) (old new errors_old errors_new : Option (List ℕ)) :
     Type 0 where
-  pub ending : Result Drawing EngineFault
+  pub ending : Result DrawOutcome EngineFault
   pub is_status : status ≡ draw_status ending
   pub output : DrawLeaves document report streams never_fails MayBeUnread name ending old new
   pub errors : WritesUpTo (λ text. text ≡ draw_notice ending) errors_old errors_new

@@ -2,7 +2,7 @@
 ghost use Rattle.pd_cli.specs.Faults.{ending_view};
 ghost use Rattle.pd_format.specs.Limits.{report_byte_limit};
 ghost use Rattle.pd_judgement.specs.Statuses.{CheckLeaves, IsLongReport};
-ghost use Rattle.std.specs.Prelude.{◌≡◌, ◌≤◌, ◌⊎◌, All, Err, IfErr, IfOk, Some, false, length, map, true, vec_len};
+ghost use Rattle.std.specs.Prelude.{◌≡◌, ◌≤◌, ◌⊎◌, All, Err, Some, false, length, map, true};
 
 use super::claim_files::read_claim;
 use super::file_source::FileSource;

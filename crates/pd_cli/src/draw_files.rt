@@ -10,7 +10,7 @@ use super::file_source::FileSource;
 use super::line::write_line;
 use super::status::{MISUSED, REFUSED, SUCCESS, report_fault};
 use pd_arguments::SessionNames;
-use pd_claims::{Drawing, draw};
+use pd_claims::{DrawOutcome, draw};
 use pd_engine::ByteSource;
 use pd_sessions::EngineFault;
 use std::alloc::{AllocError, Global};
@@ -29,18 +29,22 @@ fn notice(alloc: Global, found: &[u8]) -> Result<Vec<u8>, AllocError>
 }
 
 /// Flushes the output after a picture, and makes what is reported of a finding.
-fn finish<O: Write>(alloc: Global, drawing: Drawing, output: &mut O) -> Result<Drawing, EngineFault>
+fn finish<O: Write>(
+    alloc: Global,
+    drawing: DrawOutcome,
+    output: &mut O,
+) -> Result<DrawOutcome, EngineFault>
     ensures { Finishes drawing result (O.contents output.old) (O.contents output.new) }
 {
     match drawing {
-        Drawing::Written => {
+        DrawOutcome::Written => {
             if output.flush().is_err() {
                 return Err(EngineFault::Write);
             }
-            Ok(Drawing::Written)
+            Ok(DrawOutcome::Written)
         }
-        Drawing::Refused(found) => Ok(Drawing::Refused(notice(alloc, &found)?)),
-        Drawing::NoPredicate => Ok(Drawing::NoPredicate),
+        DrawOutcome::Refused(found) => Ok(DrawOutcome::Refused(notice(alloc, &found)?)),
+        DrawOutcome::NoPredicate => Ok(DrawOutcome::NoPredicate),
     }
 }
 
@@ -57,7 +61,7 @@ fn draw_read<S: RandomSource + Threads + Wait + Sync, R: ByteSource + Send + Dro
     streams: Vec<R>,
     predicate: Option<&str>,
     output: &mut O,
-) -> Result<Drawing, EngineFault>
+) -> Result<DrawOutcome, EngineFault>
     requires open { All (λ stream. R.has_ended stream ≡ false) streams.items }
     requires short { length report.now ≤ report_byte_limit }
     ensures { DrawLeaves (Some spec.now) (Some report.now) (map R.remaining streams.items) R.never_fails ⊥
@@ -83,7 +87,7 @@ pub(crate) fn draw_files<S: RandomSource + Threads + Wait + Sync, F: FileSource,
     predicate: Option<&str>,
     names: &SessionNames<'_>,
     output: &mut O,
-) -> Result<Drawing, EngineFault>
+) -> Result<DrawOutcome, EngineFault>
     ensures { DrawLeaves (F.bytes_of files.now names.now.spec.now) (F.bytes_of files.now report.now)
         (map (λ name. F.bytes_of files.now name.now) names.now.streams.items) F.File.never_fails
         ((F.always_opens ≡ true → F.File.never_fails ≡ true → ⊥) ⊎ IsLongReport (F.bytes_of files.now report.now))
@@ -103,21 +107,21 @@ pub(crate) fn draw_files<S: RandomSource + Threads + Wait + Sync, F: FileSource,
 }
 
 /// The exit status by how a run that draws ended, which is reported if no picture is written.
-pub(crate) fn report_drawing<E: Write>(end: &Result<Drawing, EngineFault>, errors: &mut E) -> u8
+pub(crate) fn report_drawing<E: Write>(end: &Result<DrawOutcome, EngineFault>, errors: &mut E) -> u8
     ensures status { result ≡ draw_status end.now }
     ensures errors { WritesUpTo (λ text. text ≡ draw_notice end.now) (E.contents errors.old) (E.contents errors.new) }
 {
     match end {
         Ok(drawing) => match drawing {
-            Drawing::Written => {
+            DrawOutcome::Written => {
                 write_line(b"", errors);
                 SUCCESS
             }
-            Drawing::Refused(notice) => {
+            DrawOutcome::Refused(notice) => {
                 write_line(notice, errors);
                 REFUSED
             }
-            Drawing::NoPredicate => {
+            DrawOutcome::NoPredicate => {
                 write_line(b"monitor: no predicate of this name\n", errors);
                 MISUSED
             }

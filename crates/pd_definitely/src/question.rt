@@ -1,6 +1,5 @@
 //! The question and its answer.
-ghost use Rattle.pd_expand.specs.Limits.{worker_limit};
-ghost use Rattle.pd_format.specs.Limits.{width_limit};
+ghost use Rattle.pd_format.specs.Limits.{width_limit, worker_limit};
 ghost use Rattle.pd_lists.specs.Answers.{IsLeastRoot, IsPastFirst, definitely_answer_view};
 ghost use Rattle.pd_model.specs.Answers.{IsDefinitelyAnswer};
 ghost use Rattle.pd_model.specs.Cuts.{total};

@@ -1,6 +1,5 @@
 //! The answers of a session.
 ghost use Rattle.pd_engine.specs.Paths.{ArePreds, HasProcessesBelow};
-ghost use Rattle.pd_expand.specs.Limits.{worker_limit};
 ghost use Rattle.pd_format.specs.Names.{name_of_process};
 ghost use Rattle.pd_judgement.specs.Judgements.{IsAnswered, printed_definitely, printed_possibly};
 ghost use Rattle.pd_lists.specs.Answers.{definitely_answer_view, possibly_answer_view};
@@ -11,7 +10,7 @@ ghost use Rattle.pd_report.specs.Views as views;
 ghost use Rattle.pd_spec.specs.Named.{named_view};
 ghost use Rattle.pd_spec.specs.Views.{document_view};
 ghost use Rattle.std.specs.List.{AllZip};
-ghost use Rattle.std.specs.Prelude.{◌≡◌, ◌<◌, ◌≤◌, All, IfOk, length, map, string_bytes};
+ghost use Rattle.std.specs.Prelude.{◌≡◌, ◌<◌, All, IfOk, length, map, string_bytes};
 
 use pd_clock::Computation;
 use pd_expand::Crew;
@@ -27,24 +26,19 @@ use std::thread::Threads;
 
 /// The answer for each predicate, by one walk, whose lists of cuts the workers share.
 pub(crate) fn answers_of<S: Threads + Wait + Sync, G: Gate + Sync>(
-    rt: &S,
+    crew: &Crew<'_, '_, S, G>,
     alloc: Global,
     spec: &Spec,
     computation: &Computation<'_>,
-    workers: u64,
-    gate: &G,
 ) -> Result<Vec<Answer>, AllocError>
     requires names { length computation.now.events ≡ length (document_view spec.now).names }
-    requires some_workers { 1 ≤ workers }
-    requires few_workers { workers ≤ worker_limit }
     ensures { IfOk result (λ answers. AllZip
         (IsAnswered (document_view spec.now).names computation.now (document_view spec.now).width)
         (document_view spec.now).predicates (map views.answer_view answers.items)) }
 {
     let asked = spec.predicates();
     let preds = preds_of(alloc, asked)?;
-    let crew = Crew::new(rt, workers, gate);
-    let found = answer_all(&crew, alloc, computation, &preds, spec.width())?;
+    let found = answer_all(crew, alloc, computation, &preds, spec.width())?;
     let mut answers = Vec::new(alloc);
     for i in 0..asked.len() {
         answers.push(answer(alloc, spec, &asked[i], computation, &found[i])?)?;

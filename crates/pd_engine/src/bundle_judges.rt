@@ -5,7 +5,7 @@ ghost use Rattle.pd_engine.specs.Ends.{judged_as};
 ghost use Rattle.pd_engine.specs.SessionReports.{IsReportOfRead};
 ghost use Rattle.pd_sessions.specs.Unanswered.{IsUnanswered};
 ghost use Rattle.pd_engine.specs.declared.outcome.Outcome.TheVariants as outcomes;
-ghost use Rattle.pd_expand.specs.Limits.{worker_limit};
+ghost use Rattle.pd_format.specs.Limits.{worker_limit};
 ghost use Rattle.pd_format.specs.Documents.{IsDocument};
 ghost use Rattle.pd_judgement.specs.Judgements.{IsJudgement, RawStream};
 ghost use Rattle.pd_judgement.specs.Writes.{IsTextOfBundle, IsTooLong, Silent, Writes, WritesTruthOfBundle};
@@ -16,8 +16,9 @@ ghost use Rattle.std.specs.Prelude.{◌≡◌, ◌≢◌, ◌≤◌, ◌∷◌, 
 
 use super::Outcome;
 use super::judges::write_report;
-use super::reports::report_of;
+use super::reports::report_by;
 use pd_bundle::{Bundle, read_document_part, read_stream_parts, skip_parts};
+use pd_expand::Crew;
 use pd_format::DOCUMENT_BYTE_LIMIT;
 use pd_gather::ByteSource;
 use pd_level::Gate;
@@ -48,18 +49,14 @@ fn read_kept_document(alloc: Global, kept: &[u8]) -> Result<Spec, Unanswered>
 /// # Errors
 /// `BundleLong` if the bundle has over 67,108,864 bytes, `Read` if a read fails, and `Memory`.
 fn streams_report_of<S: RandomSource + Threads + Wait + Sync, R: ByteSource, G: Gate + Sync>(
-    rt: &S,
+    crew: &Crew<'_, '_, S, G>,
     alloc: Global,
     spec: &Spec,
     reader: &mut R,
     bundle: &mut Bundle,
     begins: bool,
-    workers: u64,
-    gate: &G,
 ) -> Result<Report, EngineFault>
     requires ready { bundle.old.ended ≡ false → R.has_ended reader.old ≡ false }
-    requires some_workers { 1 ≤ workers }
-    requires few_workers { workers ≤ worker_limit }
     ensures report { IfOk result (λ report. (input : Option (List ℕ)) (document : List ℕ)
         → IsDocument document (document_view spec.now)
         → HasParts begins input (R.remaining reader.old) (document ∷ []) bundle.old
@@ -70,7 +67,7 @@ fn streams_report_of<S: RandomSource + Threads + Wait + Sync, R: ByteSource, G: 
     ensures err { IfErr result (λ _. call_end result ≡ Silent) }
 {
     let gathered = read_stream_parts(alloc, spec, reader, bundle, begins)?;
-    let report = report_of(rt, alloc, spec, gathered, workers, gate)?;
+    let report = report_by(crew, alloc, spec, gathered)?;
     Ok(report)
 }
 
@@ -108,15 +105,11 @@ fn refusal_report_of<R: ByteSource>(
 /// # Errors
 /// `BundleLong` if it has over 67,108,864 bytes, `Read` if a read fails, and `Memory`.
 fn bundle_report<S: RandomSource + Threads + Wait + Sync, R: ByteSource + Drop, G: Gate + Sync>(
-    rt: &S,
+    crew: &Crew<'_, '_, S, G>,
     alloc: Global,
     reader: R,
-    workers: u64,
-    gate: &G,
 ) -> Result<Report, EngineFault>
     requires open { R.has_ended reader ≡ false }
-    requires some_workers { 1 ≤ workers }
-    requires few_workers { workers ≤ worker_limit }
     ensures report { IfOk result (λ report. IsReportOfRead (R.remaining reader) (report_view report)) }
     ensures long { result ≡ Err EngineFault.BundleLong → IsTooLong (R.remaining reader) }
     ensures sure { R.never_fails ≡ true → result ≢ Err EngineFault.Read }
@@ -126,16 +119,7 @@ fn bundle_report<S: RandomSource + Threads + Wait + Sync, R: ByteSource + Drop, 
     let mut bundle = Bundle::new(alloc)?;
     let (document, begins) = read_document_part(alloc, &mut reader, &mut bundle)?;
     match read_kept_document(alloc, &document) {
-        Ok(spec) => streams_report_of(
-            rt,
-            alloc,
-            &spec,
-            &mut reader,
-            &mut bundle,
-            begins,
-            workers,
-            gate,
-        ),
+        Ok(spec) => streams_report_of(crew, alloc, &spec, &mut reader, &mut bundle, begins),
         Err(unanswered) => refusal_report_of(&mut reader, &mut bundle, begins, unanswered),
     }
 }
@@ -176,6 +160,7 @@ pub fn judge_bundle<
     ensures long { result ≡ Err EngineFault.BundleLong → IsTooLong (R.remaining reader) }
     ensures sure { R.never_fails ≡ true → result ≢ Err EngineFault.Read }
 {
-    let report = bundle_report(rt, alloc, reader, workers, gate)?;
+    let crew = Crew::new(rt, workers, gate);
+    let report = bundle_report(&crew, alloc, reader)?;
     write_report(alloc, &report, writer)
 }

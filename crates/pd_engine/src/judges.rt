@@ -1,16 +1,16 @@
 //! Judges a session, and writes its report.
 ghost use Rattle.pd_engine.specs.Ends.{IsTextAs, judged_as};
-ghost use Rattle.pd_sessions.specs.Ends.{call_end};
-ghost use Rattle.pd_engine.specs.declared.outcome.Outcome.TheVariants as outcomes;
-ghost use Rattle.pd_expand.specs.Limits.{worker_limit};
-ghost use Rattle.pd_judgement.specs.Judgements.{ended_streams};
-ghost use Rattle.pd_judgement.specs.Writes.{IsReportTextOf, IsTextOfStreams, Writes, WritesTruth};
+ghost use Rattle.pd_engine.specs.Judging.{JudgesStreams};
+ghost use Rattle.pd_format.specs.Limits.{worker_limit};
+ghost use Rattle.pd_judgement.specs.Writes.{Writes};
 ghost use Rattle.pd_report.specs.Views.{report_view};
-ghost use Rattle.std.specs.Prelude.{◌≡◌, ◌⊎◌, ◌≤◌, ℕ, All, IfErr, IfOk, List, Some, false, map, true};
+ghost use Rattle.pd_sessions.specs.Ends.{call_end};
+ghost use Rattle.std.specs.Prelude.{◌≡◌, ◌⊎◌, ◌≤◌, All, IfErr, false, map};
 
 use super::Outcome;
 use super::outcome::report_outcome;
 use super::reports::streams_report;
+use pd_expand::Crew;
 use pd_gather::{ByteSource, NoObserver, Observer};
 use pd_level::Gate;
 use pd_report::{Report, write};
@@ -33,6 +33,29 @@ pub(crate) fn write_report<W: Write>(
 {
     write(alloc, report, writer)?;
     Ok(report_outcome(report))
+}
+
+/// Judges a session, and writes its report. The observer, if there is one, watches while the streams are read.
+fn judge_streams<
+    S: RandomSource + Threads + Wait + Sync,
+    R: ByteSource + Send + Drop,
+    W: Write,
+    G: Gate + Sync,
+    O: Observer + Sync,
+>(
+    crew: &Crew<'_, '_, S, G>,
+    alloc: Global,
+    spec: &[u8],
+    readers: Vec<R>,
+    observer: Option<&O>,
+    writer: &mut W,
+) -> Result<Outcome, EngineFault>
+    requires { All (λ r. R.has_ended r ≡ false) readers.items }
+    ensures { JudgesStreams spec.now (map R.remaining readers.items) R.never_fails result
+        (W.contents writer.old) (W.contents writer.new) }
+{
+    let report = streams_report(crew, alloc, spec, readers, observer)?;
+    write_report(alloc, &report, writer)
 }
 
 /// Judges the session of the document in these bytes and of the streams, and writes its report. The streams are read
@@ -59,25 +82,11 @@ pub fn judge<
     requires open { All (λ r. R.has_ended r ≡ false) readers.items }
     requires some_workers { 1 ≤ workers }
     requires few_workers { workers ≤ worker_limit }
-    // The text of the report of the document and of the streams that the readers gave is written whole, judged or
-    // refused as is reported, and it is true; a write that fails leaves a prefix of it, out of memory nothing, and no
-    // other fault comes.
-    ensures written { Writes (IsTextOfStreams spec.now (map R.remaining readers.items) R.never_fails
-        (judged_as result)) (call_end result) (W.contents writer.old) (W.contents writer.new) }
-    // If the streams' bytes are known and no read fails, it is the report of these bytes,
-    ensures whole { R.never_fails ≡ true → (streams : List (List ℕ)) → map R.remaining readers.items ≡ map Some streams
-        → Writes (IsReportTextOf spec.now (ended_streams streams) (judged_as result)) (call_end result)
+    ensures { JudgesStreams spec.now (map R.remaining readers.items) R.never_fails result
         (W.contents writer.old) (W.contents writer.new) }
-    // and if they hold a well-formed session, it is judged; with no level over the width, what is written tells the
-    // truth of each predicate.
-    ensures headline { R.never_fails ≡ true → IfOk result (λ outcome. (streams : List (List ℕ))
-        → map R.remaining readers.items ≡ map Some streams
-        → WritesTruth spec.now (ended_streams streams) (outcome ≡ outcomes.Judged) (W.contents writer.old)
-        (W.contents writer.new)) }
-    ensures err { IfErr result (λ fault. (fault ≡ EngineFault.Memory) ⊎ (fault ≡ EngineFault.Write)) }
 {
-    let report = streams_report(rt, alloc, spec, readers, workers, gate, None::<&NoObserver>)?;
-    write_report(alloc, &report, writer)
+    let crew = Crew::new(rt, workers, gate);
+    judge_streams(&crew, alloc, spec, readers, None::<&NoObserver>, writer)
 }
 
 /// Judges a session as `judge` does, while the observer watches the streams that are read, on one thread more. It
@@ -106,18 +115,9 @@ pub fn judge_watched<
     requires open { All (λ r. R.has_ended r ≡ false) readers.items }
     requires some_workers { 1 ≤ workers }
     requires few_workers { workers ≤ worker_limit }
-    // What is written is what `judge` writes of what the readers gave.
-    ensures written { Writes (IsTextOfStreams spec.now (map R.remaining readers.items) R.never_fails
-        (judged_as result)) (call_end result) (W.contents writer.old) (W.contents writer.new) }
-    ensures whole { R.never_fails ≡ true → (streams : List (List ℕ)) → map R.remaining readers.items ≡ map Some streams
-        → Writes (IsReportTextOf spec.now (ended_streams streams) (judged_as result)) (call_end result)
+    ensures { JudgesStreams spec.now (map R.remaining readers.items) R.never_fails result
         (W.contents writer.old) (W.contents writer.new) }
-    ensures headline { R.never_fails ≡ true → IfOk result (λ outcome. (streams : List (List ℕ))
-        → map R.remaining readers.items ≡ map Some streams
-        → WritesTruth spec.now (ended_streams streams) (outcome ≡ outcomes.Judged) (W.contents writer.old)
-        (W.contents writer.new)) }
-    ensures err { IfErr result (λ fault. (fault ≡ EngineFault.Memory) ⊎ (fault ≡ EngineFault.Write)) }
 {
-    let report = streams_report(rt, alloc, spec, readers, workers, gate, Some(observer))?;
-    write_report(alloc, &report, writer)
+    let crew = Crew::new(rt, workers, gate);
+    judge_streams(&crew, alloc, spec, readers, Some(observer), writer)
 }

@@ -1,7 +1,7 @@
 //! The report of a session.
 ghost use Rattle.pd_sessions.specs.SessionReports.{IsReportOfInputs};
 ghost use Rattle.pd_sessions.specs.Unanswered.{given_report};
-ghost use Rattle.pd_expand.specs.Limits.{worker_limit};
+ghost use Rattle.pd_format.specs.Limits.{worker_limit};
 ghost use Rattle.pd_format.specs.Readings as readings;
 ghost use Rattle.pd_format.specs.Sessions.{session};
 ghost use Rattle.pd_gather.specs.Views.{ReadingFits, results_view};
@@ -13,6 +13,7 @@ ghost use Rattle.pd_spec.specs.Views.{document_view};
 ghost use Rattle.std.specs.Prelude.{◌≡◌, ◌≤◌, All, IfOk, IfSome, IsOkUnless, List, Ok, false, map};
 
 use super::answers::answers_of;
+use pd_expand::Crew;
 use pd_gather::{ByteSource, Gathered, Observer, read_streams_watched};
 use pd_level::Gate;
 use pd_report::Report;
@@ -25,28 +26,42 @@ use std::thread::Threads;
 
 /// The report of what the streams of a session gave, with an answer for each predicate, or why there are none.
 fn answered<S: RandomSource + Threads + Wait + Sync, G: Gate + Sync>(
-    rt: &S,
+    crew: &Crew<'_, '_, S, G>,
     alloc: Global,
     spec: &Spec,
     gathered: Gathered,
-    workers: u64,
-    gate: &G,
 ) -> Result<Report, Unanswered>
-    requires fits { All (ReadingFits (document_view spec.now).names) gathered.readings.items }
-    requires some_workers { 1 ≤ workers }
-    requires few_workers { workers ≤ worker_limit }
+    requires { All (ReadingFits (document_view spec.now).names) gathered.readings.items }
     ensures { IfSome (given_report result) (IsReportOfResults (document_view spec.now) gathered.streams
         (results_view gathered.readings.items)) }
 {
     let traces = traces_of(alloc, spec, gathered)?;
-    let (computation, messages) = computation_of(rt, alloc, spec, &traces)?;
-    let answers = answers_of(rt, alloc, spec, &computation, workers, gate)?;
+    let (computation, messages) = computation_of(crew.runtime(), alloc, spec, &traces)?;
+    let answers = answers_of(crew, alloc, spec, &computation)?;
     Ok(Report::Judged {
         processes: spec.names().processes() as u64,
         events: computation.total(),
         messages,
         answers,
     })
+}
+
+/// The report of what the streams of a session gave: the first refusal, or an answer for each predicate.
+///
+/// # Errors
+/// `Memory`.
+pub(crate) fn report_by<S: RandomSource + Threads + Wait + Sync, G: Gate + Sync>(
+    crew: &Crew<'_, '_, S, G>,
+    alloc: Global,
+    spec: &Spec,
+    gathered: Gathered,
+) -> Result<Report, EngineFault>
+    requires fits { All (ReadingFits (document_view spec.now).names) gathered.readings.items }
+    ensures report { IfOk result (λ report. IsReportOfResults (document_view spec.now) gathered.streams
+        (results_view gathered.readings.items) (report_view report)) }
+    ensures err { IsOkUnless result EngineFault.Memory }
+{
+    settled(answered(crew, alloc, spec, gathered))
 }
 
 /// The report of what the streams of a session gave: the first refusal, or an answer for each predicate. The workers,
@@ -80,7 +95,7 @@ pub fn report_of<S: RandomSource + Threads + Wait + Sync, G: Gate + Sync>(
 {
     pd_judgement::headline();
     pd_judgement::reports_agree();
-    settled(answered(rt, alloc, spec, gathered, workers, gate))
+    report_by(&Crew::new(rt, workers, gate), alloc, spec, gathered)
 }
 
 /// The report of a session of the document in these bytes and of what the streams' readers give, or why it comes to no
@@ -91,23 +106,19 @@ fn session_report<
     G: Gate + Sync,
     O: Observer + Sync,
 >(
-    rt: &S,
+    crew: &Crew<'_, '_, S, G>,
     alloc: Global,
     document: &[u8],
     readers: Vec<R>,
-    workers: u64,
-    gate: &G,
     observer: Option<&O>,
 ) -> Result<Report, Unanswered>
-    requires open { All (λ r. R.has_ended r ≡ false) readers.items }
-    requires some_workers { 1 ≤ workers }
-    requires few_workers { workers ≤ worker_limit }
+    requires { All (λ r. R.has_ended r ≡ false) readers.items }
     ensures { IfSome (given_report result)
         (IsReportOfInputs document.now (map R.remaining readers.items) R.never_fails) }
 {
     let spec = read_document(alloc, document)?;
-    let gathered = read_streams_watched(rt, alloc, &spec, readers, observer)?;
-    answered(rt, alloc, &spec, gathered, workers, gate)
+    let gathered = read_streams_watched(crew.runtime(), alloc, &spec, readers, observer)?;
+    answered(crew, alloc, &spec, gathered)
 }
 
 /// The report of a session of the document in these bytes and of what the streams' readers give: the first refusal, or
@@ -122,20 +133,16 @@ pub(crate) fn streams_report<
     G: Gate + Sync,
     O: Observer + Sync,
 >(
-    rt: &S,
+    crew: &Crew<'_, '_, S, G>,
     alloc: Global,
     document: &[u8],
     readers: Vec<R>,
-    workers: u64,
-    gate: &G,
     observer: Option<&O>,
 ) -> Result<Report, EngineFault>
-    requires open { All (λ r. R.has_ended r ≡ false) readers.items }
-    requires some_workers { 1 ≤ workers }
-    requires few_workers { workers ≤ worker_limit }
+    requires { All (λ r. R.has_ended r ≡ false) readers.items }
     ensures given { IfOk result (λ report.
         IsReportOfInputs document.now (map R.remaining readers.items) R.never_fails (report_view report)) }
     ensures err { IsOkUnless result EngineFault.Memory }
 {
-    settled(session_report(rt, alloc, document, readers, workers, gate, observer))
+    settled(session_report(crew, alloc, document, readers, observer))
 }

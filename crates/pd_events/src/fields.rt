@@ -1,5 +1,5 @@
 //! The fields of a JSON object.
-ghost use Rattle.std.specs.Prelude.{◌≡◌, ◌≢◌, ℕ, map, string_bytes, length, MatchOption};
+ghost use Rattle.std.specs.Prelude.{◌≡◌, ◌≢◌, map, string_bytes, length, MatchOption};
 ghost use Rattle.std.specs.Str.{bytes_eq};
 ghost use Rattle.std.specs.List.{list_any, list_all};
 ghost use Rattle.std.specs.BTreeMap.{keys};

@@ -1,6 +1,6 @@
 //! Lines of the plain shape: an event whose fields are read token by token, with no JSON value in between. A line takes
 //! no memory of its own.
-ghost use Rattle.std.specs.Prelude.{◌≡◌, ◌≢◌, ◌==◌, None, ℕ, ◌<◌, ◌≤◌, true, false, List, [], ◌∷◌, length, AllPairs, map, string_bytes, Option, Some, option_and_then, Ok, IfOk, IfSome, IsTrue, OnOk, slice_index, slice_index_or, slice_set};
+ghost use Rattle.std.specs.Prelude.{◌≡◌, ◌≢◌, ◌==◌, None, ℕ, ◌<◌, true, false, List, [], ◌∷◌, length, AllPairs, map, string_bytes, Option, Some, option_and_then, Ok, IfOk, IfSome, IsTrue, OnOk, slice_index, slice_index_or, slice_set};
 ghost use Rattle.fast_float.specs.Text.{minus, scan};
 ghost use Rattle.json.specs.Token.{number, string, key as symbol_key};
 ghost use Rattle.serde_json.specs.Data.{Members, no_members};

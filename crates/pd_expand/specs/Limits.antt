@@ -1,9 +1,5 @@
--- The limits of what is expanded at once.
+-- The limit of what is expanded at once.
 use Rattle.std.specs.Prelude.{ℕ}
-
--- how many workers there may be
-abbrev pub worker_limit : ℕ
-worker_limit = 16
 
 -- how many cuts a block has, but for the last one of a level, which may have less
 abbrev pub block_length : ℕ

@@ -1,5 +1,5 @@
 //! Several workers that share the work on a level.
-ghost use Rattle.pd_expand.specs.Limits.{worker_limit};
+ghost use Rattle.pd_format.specs.Limits.{worker_limit};
 ghost use Rattle.pd_model.specs.Answers.{IsListOf, MoreThan};
 ghost use Rattle.pd_model.specs.Cuts.{IsConsistent, IsNextOf};
 ghost use Rattle.pd_model.specs.Predicates.{test_of};

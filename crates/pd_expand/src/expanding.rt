@@ -1,5 +1,5 @@
 //! The next level, by several workers.
-ghost use Rattle.pd_expand.specs.Limits.{worker_limit};
+ghost use Rattle.pd_format.specs.Limits.{worker_limit};
 ghost use Rattle.pd_model.specs.Answers.{IsListOf, MoreThan};
 ghost use Rattle.pd_model.specs.Cuts.{IsConsistent, IsNextOf};
 ghost use Rattle.std.specs.Prelude.{◌≡◌, ◌+◌, ◌<◌, ◌≤◌, All, IfOk, length, min};

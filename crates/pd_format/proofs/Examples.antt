@@ -10,9 +10,9 @@ use Rattle.pd_format.specs.Lines.{line, line_feed, open_lines, finished_lines, f
 use Rattle.pd_format.proofs.LineFacts.{fault-append, short_is_sound_lem, unended-no_feed}
 use Rattle.pd_format.specs.Names.{ProcessNames}
 use Rattle.pd_format.specs.Records.{RecordFault, Json, Shape, Join, UnknownProcess, UnknownVar, Value, MessageId, LineRecord, Joins, Happens, Ends, record_of}
-use Rattle.pd_format.specs.Readings.{Reading, Ended, Open, reading, result_of, Trace, StreamFault, Unended, InRecord}
+use Rattle.pd_format.specs.Readings.{Ended, Open, reading, result_of, Unended}
 use Rattle.pd_format.specs.Documents as documents
-use Rattle.pd_format.specs.Documents.{DocumentFault, Outline, outline_of_bytes, names_of_outline, initial_of, width_of}
+use Rattle.pd_format.specs.Documents.{DocumentFault, Outline, outline_of_bytes, names_of_outline, width_of}
 use Rattle.pd_format.specs.Sessions.{session, Taken, Absent, bytes_of, Piece, AtEnd, Broken}
 use Rattle.pd_format.specs.Reports.{Possibly, Definitely, Judged, Refused, Cycle, report_text}
 use Rattle.pd_format.specs.OtherTexts.{snapshot_text, check_text, NotRead}

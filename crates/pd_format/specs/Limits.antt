@@ -1,5 +1,5 @@
--- The greatest sizes that are read. Each stands once, here and in `src/limits.rt`; over any of them the input is
--- refused.
+-- The greatest sizes and numbers that are taken. Each stands once, here and in `src/limits.rt`; over any of them the
+-- input is refused.
 use Rattle.std.specs.Prelude.{ℕ}
 
 -- ---- session documents
@@ -73,3 +73,9 @@ bundle_byte_limit = 67108864
 -- bytes of a report
 abbrev pub report_byte_limit : ℕ
 report_byte_limit = 268435456
+
+-- ---- the work on a session
+
+-- workers that share it
+abbrev pub worker_limit : ℕ
+worker_limit = 16

@@ -1,4 +1,5 @@
-//! The greatest sizes that are read, as constants. Each has its twin in `specs/Limits.antt`, which the definitions use.
+//! The greatest sizes and numbers that are taken, as constants. Each has its twin in `specs/Limits.antt`, which the
+//! definitions use.
 
 /// The most bytes of a session document.
 pub const DOCUMENT_BYTE_LIMIT: usize = 262_144;
@@ -47,3 +48,6 @@ pub const BUNDLE_BYTE_LIMIT: usize = 67_108_864;
 
 /// The most bytes of a report.
 pub const REPORT_BYTE_LIMIT: usize = 268_435_456;
+
+/// The most workers that share the work on a session.
+pub const WORKER_LIMIT: u64 = 16;

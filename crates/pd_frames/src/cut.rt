@@ -4,7 +4,7 @@ ghost use Rattle.pd_format.specs.Limits.{line_byte_limit, stream_byte_limit};
 ghost use Rattle.pd_frames.specs.Cuts.{Faces, FacesEnd, Fits, IsOpen};
 ghost use Rattle.pd_frames.specs.Views.{frame_fault_view, frame_faults_view, lines_view};
 ghost use Rattle.std.specs.Cow.{cow_slice_items};
-ghost use Rattle.std.specs.Prelude.{◌≡◌, ◌+◌, ◌*◌, ◌^◌, ◌<◌, ◌≤◌, false, List, ℕ, [], ◌∷◌, ◌++◌, length, Some, IfSome, IfNone, IfOk, OnOk, MatchOption};
+ghost use Rattle.std.specs.Prelude.{◌≡◌, ◌+◌, ◌*◌, ◌<◌, ◌≤◌, false, List, ℕ, [], ◌∷◌, ◌++◌, length, Some, IfSome, IfNone, IfOk, OnOk, MatchOption};
 
 use super::line::{FrameFault, Line};
 use memchr::memchr;
@@ -14,7 +14,7 @@ use std::borrow::CowSlice;
 
 /// What is left of a piece once the lines that end in it are taken off.
 #[derive(Drop)]
-pub struct Cut<'kept, 'piece> {
+pub struct Remainder<'kept, 'piece> {
     /// The lines that end, without the blank ones.
     pub lines: Vec<Line<'piece>>,
     /// The first fault of the lines that end, after which nothing counts.
@@ -142,7 +142,7 @@ pub fn take_lines<'kept, 'piece>(
     mut line: u64,
     mut total: u64,
     piece: &'piece [u8],
-) -> Result<Cut<'kept, 'piece>, AllocError>
+) -> Result<Remainder<'kept, 'piece>, AllocError>
     requires { Fits (length kept.now) line total }
     ensures batch { IfOk result (λ cut. (bytes : List ℕ) → IsOpen kept.now line total bytes →
         IsBatch bytes piece.now (lines_view cut.lines.items) (frame_faults_view cut.fault)) }
@@ -158,7 +158,7 @@ pub fn take_lines<'kept, 'piece>(
     let mut tail = piece;
     'lines: while let Some((part, following)) = split_line(tail) {
         if let Some(fault) = ended_fault(kept, line, total, part) {
-            return Ok(Cut {
+            return Ok(Remainder {
                 lines,
                 fault: Some(fault),
                 kept,
@@ -174,7 +174,7 @@ pub fn take_lines<'kept, 'piece>(
         tail = following;
     }
     let fault = part_fault(kept, line, total, tail);
-    Ok(Cut {
+    Ok(Remainder {
         lines,
         fault,
         kept,

@@ -3,9 +3,9 @@ ghost use Rattle.pd_format.specs.Lines.{IsBatch, finished_lines, frame_fault, op
 ghost use Rattle.pd_frames.specs.State.{Stands, finished_state, line_to_come};
 ghost use Rattle.pd_frames.specs.Views.{IsFaultAlone, frame_faults_view, lines_view};
 ghost use Rattle.std.specs.Bool.{OnTrue, OnFalse};
-ghost use Rattle.std.specs.Prelude.{◌≡◌, ℕ, Bool, true, false, List, [], ◌++◌, ◌+◌, ◌<◌, ◌⊎◌, None, length, if◌then◌else◌, IfOk, IsOk, IsOkAnd, IsSome, OnErr, OnOk};
+ghost use Rattle.std.specs.Prelude.{◌≡◌, ℕ, Bool, true, false, List, [], ◌++◌, ◌+◌, ◌<◌, ◌⊎◌, None, length, if◌then◌else◌, IfOk, IsOkAnd, IsSome, OnErr, OnOk};
 
-use super::cut::{Cut, push_line, take_lines};
+use super::cut::{Remainder, push_line, take_lines};
 use super::line::{Batch, FrameFault};
 use std::alloc::{AllocError, Global};
 use std::marker::Model;
@@ -128,7 +128,7 @@ impl Framer {
                 fault: self.fault,
             });
         }
-        let Cut {
+        let Remainder {
             lines,
             fault,
             kept,

@@ -1,5 +1,4 @@
 //! The streams of a session at one place: too many of them are not read.
-ghost use Rattle.pd_format.specs.Sessions.{StreamResult};
 ghost use Rattle.pd_gather.specs.ReadStreams.{ComesTo};
 ghost use Rattle.pd_gather.specs.Views.{ReadingFits, results_view};
 ghost use Rattle.pd_judgement.specs.Judgements.{RawStream};

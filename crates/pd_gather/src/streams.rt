@@ -9,7 +9,7 @@ ghost use Rattle.pd_gather.specs.Taken.{HasClosed, HasTaken, OrderDoesntMatter, 
 ghost use Rattle.pd_gather.specs.Views.{ReadingFits, input_view, results_view};
 ghost use Rattle.pd_spec.specs.Views.{document_view};
 ghost use Rattle.std.specs.Bool.{OnFalse, OnTrue};
-ghost use Rattle.std.specs.Prelude.{◌≡◌, ◌<◌, ◌≤◌, ℕ, ◌++◌, ◌∷◌, [], List, All, IfOk, IsOk, OnErr, OnOk, Some, length, slice_get};
+ghost use Rattle.std.specs.Prelude.{◌≡◌, ◌<◌, ◌≤◌, ◌++◌, ◌∷◌, [], List, All, IfOk, IsOk, OnErr, OnOk, Some, length, slice_get};
 
 use super::{Gathered, Input};
 use pd_events::{StreamFault, TraceReader};

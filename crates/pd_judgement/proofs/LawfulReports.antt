@@ -6,7 +6,7 @@ use Rattle.pd_model.specs.Events.{Place, first_of}
 use Rattle.pd_model.specs.Cuts.{total}
 use Rattle.pd_model.proofs.PrintedPlaces.{AreShort, cycle_events}
 use Rattle.pd_format.specs.Bundles.{parts_of}
-use Rattle.pd_format.specs.Documents.{Document, DocumentFault, IsDocument, IsRefusedDocument, HasRefusedPredicate}
+use Rattle.pd_format.specs.Documents.{Document, DocumentFault, IsRefusedDocument, HasRefusedPredicate}
 use Rattle.pd_format.specs.Documents as documents
 use Rattle.pd_format.specs.Limits.{process_limit, predicate_limit, predicate_byte_limit, event_limit, stream_count_limit}
 use Rattle.pd_format.specs.Lists.{is_one_of}

@@ -3,7 +3,7 @@ ghost use Rattle.pd_least.specs.LeastCuts.{HasNoGood, IsGood, IsLeastGood};
 ghost use Rattle.pd_least.specs.Raises.{HasNoNext, IsBelowGood, IsNextGood, IsRaised};
 ghost use Rattle.pd_match.specs.Views.{place_view};
 ghost use Rattle.pd_model.specs.Events.{IsEvent, event_count};
-ghost use Rattle.std.specs.Prelude.{◌≡◌, ◌<◌, ◌≤◌, ℕ, IfNone, IfOk, IfSome, IsTrue, false, length, slice_index, true};
+ghost use Rattle.std.specs.Prelude.{◌≡◌, ◌<◌, ◌≤◌, ℕ, IfNone, IfOk, IfSome, false, length, slice_index, true};
 
 use super::good_counts::GoodCounts;
 use pd_clock::{Computation, Cut, Place};

@@ -82,7 +82,9 @@ pub(crate) fn hits<K: Key, T: RunTest>(
     }
     level.limits();
     if level.processes() <= SINGLE_LIMIT {
-        return mask(level, test, i, x, n, &mut [0; SINGLE_LIMIT]);
+        let mut counts = [0; SINGLE_LIMIT];
+        return mask(level, test, i, x, n, &mut counts);
     }
-    mask(level, test, i, x, n, &mut [0; PROCESS_LIMIT])
+    let mut counts = [0; PROCESS_LIMIT];
+    mask(level, test, i, x, n, &mut counts)
 }

@@ -5,7 +5,7 @@ use Rattle.std.specs.Global.{Global}
 use Rattle.std.proofs.lemmas.Bool.{cases_lt}
 use Rattle.std.proofs.lemmas.List.Elements.{Contains-append_left, Contains-append_right, Contains-get_or, Contains-push, Contains-push_cases}
 use Rattle.std.proofs.lemmas.Option.{slice_get_past, same_Some}
-use Rattle.pd_model.specs.Events.{Computation, Receive, IsBefore, IsEvent, Linked, event_count, numbered, place}
+use Rattle.pd_model.specs.Events.{Computation, Receive, IsBefore, IsEvent, Linked, event_count, place}
 use Rattle.pd_model.specs.Events as events
 use Rattle.pd_model.specs.Messages.{IsMessage, IsMessageList}
 use Rattle.pd_model.proofs.Chains.{event_from_kind}

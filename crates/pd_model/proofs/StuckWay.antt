@@ -5,7 +5,7 @@ use Rattle.std.proofs.lemmas.List.{length_push, take-append-drop}
 use Rattle.std.proofs.lemmas.List.Elements.{All-push, All-nil}
 use Rattle.std.proofs.lemmas.List.Quantifiers.{all_pairs_push}
 use Rattle.pd_model.specs.Events as events
-use Rattle.pd_model.specs.Events.{Computation, place, IsEvent, Linked, first_of, event_count}
+use Rattle.pd_model.specs.Events.{Computation, IsEvent, Linked, first_of}
 use Rattle.pd_model.specs.Order.{IsStuck, IsFirstStuck, IsLeastStuck, GoesBackTo, HasEachProcessOnce, IsReportedCycle}
 use Rattle.pd_model.proofs.Chains.{events_of_happens}
 use Rattle.pd_model.proofs.Consistency.{process_in_range}

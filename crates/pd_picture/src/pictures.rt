@@ -79,27 +79,37 @@ fn page_width(window: Window, focus: u32) -> u32
     lanes.max(values).max(800)
 }
 
+/// What a picture shows: a run, with its messages as pairs of a send and a receipt, and the evidence.
+#[derive(Clone, Copy)]
+struct Subject<'a, 'b> {
+    computation: &'a Computation<'b>,
+    traces: &'a [Trace],
+    messages: &'a [(Place, Place)],
+    names: &'a [String],
+    title: &'a str,
+    evidence: &'a Evidence,
+}
+
 /// Adds the lines of the processes, the arrows of the messages, and the dots of the events.
 fn push_run(
     alloc: Global,
     shapes: &mut Vec<Shape>,
     window: Window,
     rows: &[Vec<u32>],
-    computation: &Computation<'_>,
-    traces: &[Trace],
-    messages: &[(Place, Place)],
-    names: &[String],
-    evidence: &Evidence,
+    subject: &Subject<'_, '_>,
 ) -> Result<(), AllocError>
     ensures { OnOk result (all_seen shapes.new.items ≡ all_seen shapes.old.items
-        ++ run_shapes window (column_at rows.now) (is_flight (computation_view traces.now) messages.now)
-        computation.now.events (pairs_view messages.now) (texts_view names.now) evidence.now) }
+        ++ run_shapes window (column_at rows.now)
+        (is_flight (computation_view subject.now.traces.now) subject.now.messages.now)
+        subject.now.computation.now.events (pairs_view subject.now.messages.now) (texts_view subject.now.names.now)
+        subject.now.evidence.now) }
 {
-    let places = shown_events(alloc, computation, window, rows)?;
-    push_lanes(alloc, shapes, window, names)?;
+    let messages = subject.messages;
+    let places = shown_events(alloc, subject.computation, window, rows)?;
+    push_lanes(alloc, shapes, window, subject.names)?;
     push_messages(shapes, window, rows, messages)?;
-    push_flights(shapes, window, rows, traces, messages, &places)?;
-    push_dots(alloc, shapes, window, rows, evidence, &places)
+    push_flights(shapes, window, rows, subject.traces, messages, &places)?;
+    push_dots(alloc, shapes, window, rows, subject.evidence, &places)
 }
 
 /// All shapes, each over those before it.
@@ -108,70 +118,49 @@ fn all_shapes(
     window: Window,
     widest: u32,
     rows: &[Vec<u32>],
-    computation: &Computation<'_>,
-    traces: &[Trace],
-    messages: &[(Place, Place)],
-    names: &[String],
-    title: &str,
-    evidence: &Evidence,
+    subject: &Subject<'_, '_>,
 ) -> Result<Vec<Shape>, AllocError>
-    ensures { IfOk result (λ shapes. all_seen shapes.items ≡ heading_shapes window widest title.now evidence.now
-        ++ run_shapes window (column_at rows.now) (is_flight (computation_view traces.now) messages.now)
-        computation.now.events (pairs_view messages.now) (texts_view names.now) evidence.now
-        ++ evidence_shapes window (column_at rows.now) computation.now.events evidence.now) }
+    ensures { IfOk result (λ shapes. all_seen shapes.items
+        ≡ heading_shapes window widest subject.now.title.now subject.now.evidence.now
+        ++ run_shapes window (column_at rows.now)
+        (is_flight (computation_view subject.now.traces.now) subject.now.messages.now)
+        subject.now.computation.now.events (pairs_view subject.now.messages.now) (texts_view subject.now.names.now)
+        subject.now.evidence.now
+        ++ evidence_shapes window (column_at rows.now) subject.now.computation.now.events
+        subject.now.evidence.now) }
 {
+    let evidence = subject.evidence;
     let mut shapes = Vec::new(alloc);
-    push_headings(alloc, &mut shapes, window, widest, title, evidence)?;
-    push_run(
+    push_headings(alloc, &mut shapes, window, widest, subject.title, evidence)?;
+    push_run(alloc, &mut shapes, window, rows, subject)?;
+    push_evidence(
         alloc,
         &mut shapes,
         window,
         rows,
-        computation,
-        traces,
-        messages,
-        names,
+        subject.computation,
         evidence,
     )?;
-    push_evidence(alloc, &mut shapes, window, rows, computation, evidence)?;
     Ok(shapes)
 }
 
 /// The picture of a run whose events have these columns.
-fn drawn(
-    alloc: Global,
-    rows: &[Vec<u32>],
-    computation: &Computation<'_>,
-    traces: &[Trace],
-    messages: &[(Place, Place)],
-    names: &[String],
-    title: &str,
-    evidence: &Evidence,
-) -> Result<Drawing, AllocError>
-    requires columns { AreColumns computation.now.events (column_at rows.now) }
-    requires table { IsTable computation.now.events rows.now }
-    requires traces { computation_view traces.now ≡ computation.now.events }
-    requires messages { IsMessageList computation.now.events (pairs_view messages.now) }
-    ensures { IfOk result (IsPicture computation.now.events (pairs_view messages.now) (texts_view names.now) title.now
-        evidence.now) }
+fn drawn(alloc: Global, rows: &[Vec<u32>], subject: &Subject<'_, '_>) -> Result<Drawing, AllocError>
+    requires columns { AreColumns subject.now.computation.now.events (column_at rows.now) }
+    requires table { IsTable subject.now.computation.now.events rows.now }
+    requires traces { computation_view subject.now.traces.now ≡ subject.now.computation.now.events }
+    requires messages { IsMessageList subject.now.computation.now.events (pairs_view subject.now.messages.now) }
+    ensures { IfOk result (IsPicture subject.now.computation.now.events (pairs_view subject.now.messages.now)
+        (texts_view subject.now.names.now) subject.now.title.now subject.now.evidence.now) }
 {
+    let computation = subject.computation;
+    let evidence = subject.evidence;
     let widest = widest(rows, computation);
     let focus = focus(rows, computation, evidence);
     let window = Window::around(widest, focus);
-    let shapes = all_shapes(
-        alloc,
-        window,
-        widest,
-        rows,
-        computation,
-        traces,
-        messages,
-        names,
-        title,
-        evidence,
-    )?;
-    let title = String::from_str(alloc, title)?;
-    let description = description(alloc, window, widest, computation, names, evidence)?;
+    let shapes = all_shapes(alloc, window, widest, rows, subject)?;
+    let title = String::from_str(alloc, subject.title)?;
+    let description = description(alloc, window, widest, computation, subject.names, evidence)?;
     Ok(Drawing {
         width: page_width(window, focus),
         height: lane_y(computation.processes()) - 30,
@@ -204,14 +193,13 @@ pub fn picture(
         evidence.now) }
 {
     let rows = columns(alloc, computation)?;
-    drawn(
-        alloc,
-        &rows,
+    let subject = Subject {
         computation,
         traces,
         messages,
         names,
         title,
         evidence,
-    )
+    };
+    drawn(alloc, &rows, &subject)
 }

@@ -1,5 +1,5 @@
 //! The question and its answer.
-ghost use Rattle.pd_expand.specs.Limits.{worker_limit};
+ghost use Rattle.pd_format.specs.Limits.{worker_limit};
 ghost use Rattle.pd_lists.specs.Answers.{possibly_answer_view};
 ghost use Rattle.pd_model.specs.Answers.{IsPossiblyAnswer};
 ghost use Rattle.pd_model.specs.Predicates.{test_of};

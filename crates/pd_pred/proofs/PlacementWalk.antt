@@ -4,7 +4,6 @@ use Rattle.std.proofs.lemmas.List.{map-append, take_more, take-append-drop}
 use Rattle.pd_format.specs.Laws.{PrefixesAreWalked, WalksGoOn, DepthsAreHeights, StacksGoOn}
 use Rattle.pd_format.specs.Names.{ProcessNames}
 use Rattle.pd_format.specs.Tokens as format
-use Rattle.pd_format.specs.Tokens.{Token, End, placed}
 use Rattle.pd_format.specs.PredicateTexts.{tokens_of}
 use Rattle.pd_pred.specs.Placement.{Position, first_position, Steps, IsFaultAt, IsFirstMisplaced, IsSoundPlace}
 use Rattle.pd_pred.specs.Tokens.{token_view, placed_view, lexed_view}

@@ -32,7 +32,7 @@ ghost use Rattle.pd_pred.specs.Placement.{IsWellPlaced};
 ghost use Rattle.pd_pred.specs.Tokens.{lexed_view};
 ghost use Rattle.pd_pred.specs.Trees.{comparison_view, sign_view, sum_view, term_view, tree_view};
 ghost use Rattle.pd_pred.specs.declared.token.Placed.{Placed};
-ghost use Rattle.std.specs.Prelude.{◌≡◌, ◌<◌, ◌≤◌, ◌+◌, ◌∷◌, ◌++◌, IfOk, IsFalse, IsTrue, List, MatchOption, Some, codes, length};
+ghost use Rattle.std.specs.Prelude.{◌≡◌, ◌<◌, ◌≤◌, ◌+◌, ◌∷◌, IfOk, IsFalse, IsTrue, MatchOption, Some, codes, length};
 
 use super::Names;
 use super::numbers::number_of;

@@ -2,7 +2,7 @@
 ghost use Rattle.pd_format.specs.Names.{process_named, var_named, vars_of, ProcessNames as Entry};
 ghost use Rattle.pd_format.specs.Names.{AreDistinct};
 ghost use Rattle.pd_pred.specs.Names.{entries_view};
-ghost use Rattle.std.specs.Prelude.{◌≡◌, ◌<◌, List, length, map, string_bytes, slice_get, position, IfSome, Some};
+ghost use Rattle.std.specs.Prelude.{◌≡◌, ◌<◌, List, length, map, string_bytes, slice_get, position, IfSome};
 ghost use Rattle.std.specs.Str.{bytes_eq};
 
 use std::marker::Model;

@@ -4,7 +4,7 @@ ghost use Rattle.pd_report.specs.Reading.{first_part_view, first_text, second_te
 ghost use Rattle.pd_report.specs.Remaining.{words_left};
 ghost use Rattle.pd_report.specs.Views.{definitely_view, names_view, possibly_view};
 ghost use Rattle.std.specs.List.{AllByRecursion};
-ghost use Rattle.std.specs.Prelude.{◌≡◌, ◌<◌, ◌∷◌, [], decimal, length, map, IfOk};
+ghost use Rattle.std.specs.Prelude.{◌<◌, ◌∷◌, [], decimal, length, map, IfOk};
 
 use super::definitely::Definitely;
 use super::listed::{numbers, path};

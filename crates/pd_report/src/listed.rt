@@ -4,7 +4,7 @@ ghost use Rattle.pd_report.specs.Reading.{IsFoundAs, IsReadAs, IsTextOf};
 ghost use Rattle.pd_report.specs.Remaining.{words_left};
 ghost use Rattle.pd_report.specs.Views.{names_view, named_place_view, named_places_view, place_view};
 ghost use Rattle.std.specs.List.{AllByRecursion};
-ghost use Rattle.std.specs.Prelude.{◌≡◌, ◌<◌, decimal, length, map, IfOk, MatchBool};
+ghost use Rattle.std.specs.Prelude.{◌<◌, decimal, length, map, IfOk, MatchBool};
 
 use super::remaining::Words;
 use super::words::{is, name, number, word_text};

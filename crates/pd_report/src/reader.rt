@@ -1,11 +1,11 @@
 //! Reads a report.
-ghost use Rattle.pd_format.specs.Lines.{ended_lines, line_feed};
+ghost use Rattle.pd_format.specs.Lines.{line_feed};
 ghost use Rattle.pd_format.specs.Reports.{answer_lines, text_of_lines, Agrees, IsNoReport, IsReport};
 ghost use Rattle.pd_report.specs.Pairs.{AnswersFit, IsPair};
 ghost use Rattle.pd_report.specs.Reading.{counts_text, CountsFit};
 ghost use Rattle.pd_report.specs.Views.{answer_view, report_view};
 ghost use Rattle.pd_report.specs.declared.read_fault.ReportFault.TheVariants.{Line};
-ghost use Rattle.std.specs.Prelude.{◌≡◌, ◌∷◌, ◌++◌, ◌*◌, ◌+◌, ◌<◌, ◌≤◌, ℕ, Err, flat_map, map, IfOk};
+ghost use Rattle.std.specs.Prelude.{◌≡◌, ◌∷◌, ◌++◌, ◌*◌, ◌+◌, ◌<◌, ℕ, Err, flat_map, map, IfOk};
 
 use super::answer::Answer;
 use super::answer_line::{first_line, second_line};

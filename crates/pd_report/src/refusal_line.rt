@@ -1,12 +1,12 @@
 //! Reads the line of a refusal.
 ghost use Rattle.pd_format.specs.Lists.{is_one_of};
 ghost use Rattle.pd_format.specs.RefusalKinds.{AbsentKind, CycleKind, MatchKind, PredicateKind, SpecKind, StreamKind, StreamsKind};
-ghost use Rattle.pd_format.specs.Reports.{match_words, place_text, predicate_words, refusal_words, spec_words, stream_words, with_commas, Fits, IsName, PlaceIsLawful, RefusalIsLawful};
+ghost use Rattle.pd_format.specs.Reports.{place_text, refusal_words, spec_words, with_commas, IsName, PlaceIsLawful, RefusalIsLawful};
 ghost use Rattle.pd_report.specs.Reading.{at_fault_view, at_fault_words, refused_text, stream_fault_view, stream_fault_words, AtFaultIsLawful, IsOfKind, StreamFaultIsLawful, IsFoundAs, IsReadAs};
 ghost use Rattle.pd_report.specs.Remaining.{words_left};
 ghost use Rattle.pd_report.specs.Views.{named_places_view, refusal_view};
 ghost use Rattle.std.specs.List.{AllByRecursion};
-ghost use Rattle.std.specs.Prelude.{◌≡◌, ◌<◌, ◌∷◌, [], codes, length, map, string_bytes, IsTrue};
+ghost use Rattle.std.specs.Prelude.{◌<◌, ◌∷◌, [], codes, length, map, string_bytes, IsTrue};
 
 use super::fault_words::{is_match_word, is_predicate_word, is_spec_word, is_stream_word};
 use super::listed::{place_words, places};

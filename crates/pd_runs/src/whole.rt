@@ -103,8 +103,9 @@ fn next_level<K: Key>(
     ensures number { IfOk result (λ next. next.number ≡ number + 1) }
 {
     steps.limits();
+    let others = steps.prefix();
     let mut runs = Vec::with_capacity(alloc, olds.len().saturating_add(births.len()))?;
-    let mut born = Births::new(alloc)?;
+    let mut born = Births::new(alloc, others)?;
     let mut last = None;
     let mut i = 0;
     for j in 0..births.len() {
@@ -124,7 +125,7 @@ fn next_level<K: Key>(
     }
     let born = born.sorted(alloc)?;
     Ok(Whole {
-        processes: steps.prefix() + 2,
+        processes: others + 2,
         number: number + 1,
         cuts: cuts_in(&runs),
         runs,
@@ -143,8 +144,9 @@ impl<K: Key> Whole<K> {
         ensures number { IfOk result (λ level. level.number ≡ 0) }
     {
         steps.limits();
+        let others = steps.prefix();
         let mut runs = Vec::with_capacity(alloc, 1)?;
-        let mut born = Births::new(alloc)?;
+        let mut born = Births::new(alloc, others)?;
         runs.push(KeptRun {
             key: K::none(),
             lo: 0,
@@ -159,7 +161,7 @@ impl<K: Key> Whole<K> {
         add_births(steps, &empty, None, &mut born)?;
         let born = born.sorted(alloc)?;
         Ok(Whole {
-            processes: steps.prefix() + 2,
+            processes: others + 2,
             number: 0,
             cuts: 1,
             runs,

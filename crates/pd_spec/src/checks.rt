@@ -1,13 +1,12 @@
 //! The faults of a document of right shape, but for those in the texts of predicates.
-ghost use Rattle.std.specs.Prelude.{◌≡◌, ◌||◌, length, map, string_bytes, is_some, ◌&&◌, IfOk, IfErr, OnOk, None, option_map, option_and_then};
+ghost use Rattle.std.specs.Prelude.{◌≡◌, ◌||◌, length, map, string_bytes, ◌&&◌, IfOk, IfErr, OnOk, None, option_map};
 ghost use Rattle.std.specs.List.{list_all};
 ghost use Rattle.std.specs.BTreeMap.{keys};
-ghost use Rattle.serde_json.specs.Find.{as_number, as_i64};
+ghost use Rattle.serde_json.specs.Find.{as_i64};
 ghost use Rattle.serde_json.specs.View.{view};
 ghost use Rattle.pd_format.specs.Documents.{has_twice, is_within, outline_fault, predicate_names, process_names, vars_fit, width_fits};
 ghost use Rattle.pd_format.specs.Limits.{predicate_limit, process_limit};
 ghost use Rattle.pd_format.specs.Names.{is_name};
-ghost use Rattle.pd_format.specs.Records.{whole_number};
 ghost use Rattle.pd_spec.specs.Faults.{IsFaultFound};
 ghost use Rattle.pd_spec.specs.Outlines.{process_view, predicate_outline_view, outline_view, has_names};
 

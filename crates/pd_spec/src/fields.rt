@@ -1,5 +1,5 @@
 //! The fields of a JSON object.
-ghost use Rattle.std.specs.Prelude.{◌≡◌, map, string_bytes, option_map, option_and_then, is_some};
+ghost use Rattle.std.specs.Prelude.{◌≡◌, map, string_bytes, option_map, is_some};
 ghost use Rattle.serde_json.specs.Find.{as_str, as_object, as_array, get_member};
 ghost use Rattle.serde_json.specs.View.{view, members_view, items_view};
 ghost use Rattle.std.specs.List.{list_any, list_all};

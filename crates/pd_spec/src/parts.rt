@@ -1,5 +1,5 @@
 //! The names and the initial values of a document, made from its outline.
-ghost use Rattle.std.specs.Prelude.{◌≡◌, ◌++◌, IfOk, false, map, string_bytes};
+ghost use Rattle.std.specs.Prelude.{◌≡◌, IfOk, false, map, string_bytes};
 ghost use Rattle.std.specs.BTreeMap.{keys, values};
 ghost use Rattle.serde_json.specs.View.{view};
 ghost use Rattle.pd_format.specs.Documents.{has_twice, initial_of, names_of_outline, process_names};

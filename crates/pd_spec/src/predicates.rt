@@ -2,7 +2,6 @@
 ghost use Rattle.std.specs.Prelude.{◌≡◌, IfOk, IfErr, map};
 ghost use Rattle.std.specs.List.{AllZip};
 ghost use Rattle.pd_format.specs.Documents.{IsNamedPredicate};
-ghost use Rattle.pd_pred.specs.Views.{IsErrorOf};
 ghost use Rattle.pd_spec.specs.Named.{named_view};
 ghost use Rattle.pd_spec.specs.Outlines.{predicate_outline_view};
 ghost use Rattle.pd_spec.specs.Predicates.{IsFaultIn, IsFaultAmong};

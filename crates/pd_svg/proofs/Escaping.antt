@@ -1,7 +1,7 @@
 -- What is written of a text is escaped.
 use Rattle.std.proofs.Common.{◌≡◌, ℕ, Bool, true, false, List, [], ◌∷◌, ◌++◌, refl}
 use Rattle.std.specs.Prelude.{◌==◌, ◌&&◌, not, if◌then◌else◌, codes}
-use Rattle.pd_svg.specs.Escapes.{IsEscaped, none, plain, ampersand, less, greater, quote, apostrophe, is_control, is_plain, ends_no_character, escape, escaped_after, escaped_byte, replacement}
+use Rattle.pd_svg.specs.Escapes.{IsEscaped, none, plain, ampersand, less, greater, quote, apostrophe, is_control, is_plain, ends_no_character, escape, escaped_after, replacement}
 
 -- what is written of a byte, by its tests
 abbrev chosen : (a b c d e f g : Bool) → ℕ → List ℕ

@@ -1,8 +1,7 @@
 //! A drawing's text, also written.
-ghost use Rattle.pd_svg.specs.Escapes.{escape};
 ghost use Rattle.pd_svg.specs.Svg.{drawing_text, head_text, labelled, page_text, root_end, root_start, root_text, view_box, view_start};
 ghost use Rattle.std.specs.Io.KnownBytes.{Appends, Keeps};
-ghost use Rattle.std.specs.Prelude.{◌≡◌, ◌++◌, ◌<◌, ℕ, codes, decimal, length, take, Err, IfOk, OnOk};
+ghost use Rattle.std.specs.Prelude.{◌≡◌, ◌++◌, ◌<◌, ℕ, length, take, Err, IfOk, OnOk};
 
 use super::Drawing;
 use super::escape::push_escaped;

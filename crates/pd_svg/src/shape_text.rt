@@ -1,7 +1,6 @@
 //! The element of a shape.
-ghost use Rattle.pd_svg.specs.Escapes.{escape};
-ghost use Rattle.pd_svg.specs.Svg.{anchor_word, attribute, circle_text, class_name, ends_text, place_text, point_text, points_text, shape_text, shapes_text, text_text};
-ghost use Rattle.std.specs.Prelude.{◌≡◌, ◌++◌, codes, decimal, OnOk};
+ghost use Rattle.pd_svg.specs.Svg.{anchor_word, circle_text, class_name, ends_text, place_text, point_text, points_text, shape_text, shapes_text, text_text};
+ghost use Rattle.std.specs.Prelude.{◌≡◌, ◌++◌, OnOk};
 
 use super::escape::push_escaped;
 use super::tags::{push_attribute, push_length};

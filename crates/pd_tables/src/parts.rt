@@ -8,7 +8,6 @@ ghost use Rattle.pd_tables.specs.Parts.{
   IsRowOf,
   SpeakBelow,
   numbers_value,
-  part_of_difference,
   part_value,
   parts_value,
   row_at,

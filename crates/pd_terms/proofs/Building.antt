@@ -6,7 +6,7 @@ use Rattle.std.proofs.lemmas.Grind.{flat_map-append}
 use Rattle.std.proofs.lemmas.List.{map-append, take_more}
 use Rattle.pd_model.specs.Predicates.{Predicate, Recorded, And, Or, test_of}
 use Rattle.pd_terms.specs.Rows.{AreOf, IsRowOf, MakesTerms, numbers_view, products, row_holds, term_holds, terms_hold, turned}
-use Rattle.pd_terms.specs.declared.row.Row.{Row}
+use Rattle.pd_terms.specs.declared.row.TruthRow.{TruthRow}
 
 products_push : (xs : List (List ℕ)) (x : List ℕ) (ys : List (List ℕ)) → products (xs ++ x ∷ []) ys
     ≡ products xs ys ++ map (λ (other : List ℕ). x ++ other) ys
@@ -32,7 +32,7 @@ map_same (x ∷ xs) = ap (λ (ys : List (List ℕ)). x ∷ ys) (map_same xs)
 -- ---- what terms mean
 
 -- a row that is there is there among more rows
-row_more : (rows more : List Row) (i : ℕ) → i < length rows → slice_get (rows ++ more) i ≡ slice_get rows i
+row_more : (rows more : List TruthRow) (i : ℕ) → i < length rows → slice_get (rows ++ more) i ≡ slice_get rows i
 row_more [] more i lt = absurd (omega arith)
 row_more (row ∷ rows) more zero lt = refl
 row_more (row ∷ rows) more (suc i) lt = row_more rows more i (omega arith)
@@ -44,16 +44,16 @@ all_tail : {A : Type 0} (P : A → Type 0) (x : A) (xs : List A) → All P (x �
 all_tail P x xs all i d lt = all (suc i) d (omega arith)
 
 -- a term means the same by more rows
-term_more : (rows more : List Row) (term : List ℕ) (cut : List ℕ) → All (λ i. i < length rows) term
+term_more : (rows more : List TruthRow) (term : List ℕ) (cut : List ℕ) → All (λ i. i < length rows) term
     → term_holds (rows ++ more) term cut ≡ term_holds rows term cut
 term_more rows more [] cut all = refl
 term_more rows more (i ∷ term) cut all =
-    ap (λ (row : Option Row). row_holds row cut && term_holds (rows ++ more) term cut)
+    ap (λ (row : Option TruthRow). row_holds row cut && term_holds (rows ++ more) term cut)
     (row_more rows more i (all_head (λ i. i < length rows) i term all))
     ∙ ap (λ (truth : Bool). row_holds (slice_get rows i) cut && truth)
     (term_more rows more term cut (all_tail (λ i. i < length rows) i term all))
 
-pub terms_more : (rows more : List Row) (terms : List (List ℕ)) (cut : List ℕ) → AreOf rows terms
+pub terms_more : (rows more : List TruthRow) (terms : List (List ℕ)) (cut : List ℕ) → AreOf rows terms
     → terms_hold (rows ++ more) terms cut ≡ terms_hold rows terms cut
 terms_more rows more [] cut all = refl
 terms_more rows more (term ∷ terms) cut all =
@@ -63,7 +63,7 @@ terms_more rows more (term ∷ terms) cut all =
     (terms_more rows more terms cut (all_tail (All (λ i. i < length rows)) term terms all))
 
 -- two terms together hold where both do
-term_both : (rows : List Row) (first second : List ℕ) (cut : List ℕ)
+term_both : (rows : List TruthRow) (first second : List ℕ) (cut : List ℕ)
     → term_holds rows (first ++ second) cut ≡ (term_holds rows first cut && term_holds rows second cut)
 term_both rows [] second cut = refl
 term_both rows (i ∷ first) second cut =
@@ -75,7 +75,7 @@ term_both rows (i ∷ first) second cut =
     and_assoc false b c = refl
 
 -- terms beside others hold where one of both does
-pub terms_either : (rows : List Row) (first second : List (List ℕ)) (cut : List ℕ)
+pub terms_either : (rows : List TruthRow) (first second : List (List ℕ)) (cut : List ℕ)
     → terms_hold rows (first ++ second) cut ≡ (terms_hold rows first cut || terms_hold rows second cut)
 terms_either rows [] second cut = refl
 terms_either rows (term ∷ first) second cut =
@@ -87,7 +87,7 @@ terms_either rows (term ∷ first) second cut =
     or_assoc false b c = refl
 
 -- a term with each of others holds where it and one of them does
-with_each : (rows : List Row) (term : List ℕ) (others : List (List ℕ)) (cut : List ℕ)
+with_each : (rows : List TruthRow) (term : List ℕ) (others : List (List ℕ)) (cut : List ℕ)
     → terms_hold rows (map (λ (other : List ℕ). term ++ other) others) cut
     ≡ (term_holds rows term cut && terms_hold rows others cut)
 with_each rows term [] cut = none (term_holds rows term cut)
@@ -107,7 +107,7 @@ with_each rows term (other ∷ others) cut =
     share false b c = refl
 
 -- each of the first terms with each of the second
-pub terms_both : (rows : List Row) (first second : List (List ℕ)) (cut : List ℕ)
+pub terms_both : (rows : List TruthRow) (first second : List (List ℕ)) (cut : List ℕ)
     → terms_hold rows (products first second) cut ≡ (terms_hold rows first cut && terms_hold rows second cut)
 terms_both rows [] second cut = refl
 terms_both rows (term ∷ first) second cut =
@@ -128,7 +128,7 @@ terms_both rows (term ∷ first) second cut =
 -- ---- what is made
 
 -- terms of rows that are there are of more rows too
-of_more : (rows more : List Row) (terms : List (List ℕ)) → AreOf rows terms → AreOf (rows ++ more) terms
+of_more : (rows more : List TruthRow) (terms : List (List ℕ)) → AreOf rows terms → AreOf (rows ++ more) terms
 of_more rows more terms all t d lt i e in_ =
     let there : get_or (get_or terms t d) i e < length rows = all t d lt i e in_ in
     rw (length-append rows more) (omega arith)
@@ -140,7 +140,7 @@ append_one P (x ∷ xs) ys all others (suc i) d lt =
     append_one P xs ys (all_tail P x xs all) others i d (omega arith)
 
 -- products of terms of rows that are there
-of_products : (rows : List Row) (first second : List (List ℕ)) → AreOf rows first → AreOf rows second
+of_products : (rows : List TruthRow) (first second : List (List ℕ)) → AreOf rows first → AreOf rows second
     → AreOf rows (products first second)
 of_products rows [] second all others i d lt = absurd (omega arith)
 of_products rows (term ∷ first) second all others i d lt =
@@ -157,7 +157,7 @@ of_products rows (term ∷ first) second all others i d lt =
         with_all ys (all_tail (All (λ j. j < length rows)) y ys each) k e (omega arith)
 
 -- a constant adds no row
-pub made_constant : (r : Recorded) (negated : Bool) (predicate : Predicate) (rows : List Row) (truth : Bool)
+pub made_constant : (r : Recorded) (negated : Bool) (predicate : Predicate) (rows : List TruthRow) (truth : Bool)
     → ((cut : List ℕ) → turned negated (test_of r predicate cut) ≡ truth)
     → MakesTerms r negated predicate rows rows (cond truth ([] ∷ []) [])
 made_constant r negated predicate rows true is = record {
@@ -184,20 +184,21 @@ made_constant r negated predicate rows false is = record {
 }
 
 -- a comparison adds its row
-pub made_row : (r : Recorded) (negated : Bool) (predicate : Predicate) (rows : List Row) (row : Row)
+pub made_row : (r : Recorded) (negated : Bool) (predicate : Predicate) (rows : List TruthRow) (row : TruthRow)
     → IsRowOf r negated predicate row
     → MakesTerms r negated predicate rows (rows ++ row ∷ []) ((length rows ∷ []) ∷ [])
 made_row r negated predicate rows row is = record {
   more = row ∷ [];
   is = refl;
-  within = λ w. append_one (λ (q : Row). q.process < length r.events) rows (row ∷ []) w last;
+  within = λ w. append_one (λ (q : TruthRow). q.process < length r.events) rows (row ∷ []) w last;
   terms_of = record {
     speak = one;
-    hold = λ cut fits. always cut ∙ (ap (λ (found : Option Row). row_holds found cut) (found rows) ∙ is.holds cut fits);
+    hold = λ cut fits. always cut
+        ∙ (ap (λ (found : Option TruthRow). row_holds found cut) (found rows) ∙ is.holds cut fits);
   };
 }
   where
-    last : All (λ (q : Row). q.process < length r.events) (row ∷ [])
+    last : All (λ (q : TruthRow). q.process < length r.events) (row ∷ [])
     last zero d lt = is.within
     last (suc i) d lt = absurd (omega arith)
 
@@ -206,7 +207,7 @@ made_row r negated predicate rows row is = record {
     one zero d lt (suc k) e in_ = absurd (omega arith)
     one (suc i) d lt k e in_ = absurd (omega arith)
 
-    found : (before : List Row) → slice_get (before ++ row ∷ []) (length before) ≡ Some row
+    found : (before : List TruthRow) → slice_get (before ++ row ∷ []) (length before) ≡ Some row
     found [] = refl
     found (first ∷ before) = found before
 
@@ -219,19 +220,19 @@ made_row r negated predicate rows row is = record {
         go false = refl
 
 -- what two predicates make, of which a third one, or its opposite, holds where both do
-pub made_both : (r : Recorded) (negated : Bool) (left right both : Predicate) (old mid new : List Row)
+pub made_both : (r : Recorded) (negated : Bool) (left right both : Predicate) (old mid new : List TruthRow)
     (first second : List (List ℕ)) → MakesTerms r negated left old mid first → MakesTerms r negated right mid new second
     → ((cut : List ℕ) → turned negated (test_of r both cut)
     ≡ (turned negated (test_of r left cut) && turned negated (test_of r right cut)))
     → MakesTerms r negated both old new (products first second)
 made_both r negated left right both old mid new first second one two means = record {
   more = one.more ++ two.more;
-  is = two.is ∙ (ap (λ (rows : List Row). rows ++ two.more) one.is ∙ append_assoc old one.more two.more);
+  is = two.is ∙ (ap (λ (rows : List TruthRow). rows ++ two.more) one.is ∙ append_assoc old one.more two.more);
   within = λ w. two.within (one.within w);
   terms_of = record {
     speak = of_products new first second
-        (subst (λ (rows : List Row). AreOf rows first) (sym two.is) (of_more mid two.more first one.terms_of.speak))
-        two.terms_of.speak;
+        (subst (λ (rows : List TruthRow). AreOf rows first) (sym two.is)
+        (of_more mid two.more first one.terms_of.speak)) two.terms_of.speak;
     hold = λ cut fits. terms_both new first second cut
         ∙ (ap (λ (truth : Bool). truth && terms_hold new second cut) (earlier cut ∙ one.terms_of.hold cut fits)
         ∙ (ap (λ (truth : Bool). turned negated (test_of r left cut) && truth) (two.terms_of.hold cut fits)
@@ -241,23 +242,23 @@ made_both r negated left right both old mid new first second one two means = rec
   where
     earlier : (cut : List ℕ) → terms_hold new first cut ≡ terms_hold mid first cut
     earlier cut =
-        ap (λ (rows : List Row). terms_hold rows first cut) two.is
+        ap (λ (rows : List TruthRow). terms_hold rows first cut) two.is
         ∙ terms_more mid two.more first cut one.terms_of.speak
 
 -- or where one of both does
-pub made_either : (r : Recorded) (negated : Bool) (left right either : Predicate) (old mid new : List Row)
+pub made_either : (r : Recorded) (negated : Bool) (left right either : Predicate) (old mid new : List TruthRow)
     (first second : List (List ℕ)) → MakesTerms r negated left old mid first → MakesTerms r negated right mid new second
     → ((cut : List ℕ) → turned negated (test_of r either cut)
     ≡ (turned negated (test_of r left cut) || turned negated (test_of r right cut)))
     → MakesTerms r negated either old new (first ++ second)
 made_either r negated left right either old mid new first second one two means = record {
   more = one.more ++ two.more;
-  is = two.is ∙ (ap (λ (rows : List Row). rows ++ two.more) one.is ∙ append_assoc old one.more two.more);
+  is = two.is ∙ (ap (λ (rows : List TruthRow). rows ++ two.more) one.is ∙ append_assoc old one.more two.more);
   within = λ w. two.within (one.within w);
   terms_of = record {
     speak = append_one (All (λ i. i < length new)) first second
-        (subst (λ (rows : List Row). AreOf rows first) (sym two.is) (of_more mid two.more first one.terms_of.speak))
-        two.terms_of.speak;
+        (subst (λ (rows : List TruthRow). AreOf rows first) (sym two.is)
+        (of_more mid two.more first one.terms_of.speak)) two.terms_of.speak;
     hold = λ cut fits. terms_either new first second cut
         ∙ (ap (λ (truth : Bool). truth || terms_hold new second cut) (earlier cut ∙ one.terms_of.hold cut fits)
         ∙ (ap (λ (truth : Bool). turned negated (test_of r left cut) || truth) (two.terms_of.hold cut fits)
@@ -267,7 +268,7 @@ made_either r negated left right either old mid new first second one two means =
   where
     earlier : (cut : List ℕ) → terms_hold new first cut ≡ terms_hold mid first cut
     earlier cut =
-        ap (λ (rows : List Row). terms_hold rows first cut) two.is
+        ap (λ (rows : List TruthRow). terms_hold rows first cut) two.is
         ∙ terms_more mid two.more first cut one.terms_of.speak
 
 not_and : (a b : Bool) → not (a && b) ≡ (not a || not b)
@@ -279,7 +280,7 @@ not_or true b = refl
 not_or false b = refl
 
 -- what an `and` makes of its parts
-pub made_and : (r : Recorded) (negated : Bool) (left right : Predicate) (old mid new : List Row)
+pub made_and : (r : Recorded) (negated : Bool) (left right : Predicate) (old mid new : List TruthRow)
     (first second : List (List ℕ)) → MakesTerms r negated left old mid first → MakesTerms r negated right mid new second
     → MakesTerms r negated (And left right) old new (cond negated (first ++ second) (products first second))
 made_and r true left right old mid new first second one two =
@@ -289,7 +290,7 @@ made_and r false left right old mid new first second one two =
     made_both r false left right (And left right) old mid new first second one two (λ cut. refl)
 
 -- and an `or`
-pub made_or : (r : Recorded) (negated : Bool) (left right : Predicate) (old mid new : List Row)
+pub made_or : (r : Recorded) (negated : Bool) (left right : Predicate) (old mid new : List TruthRow)
     (first second : List (List ℕ)) → MakesTerms r negated left old mid first → MakesTerms r negated right mid new second
     → MakesTerms r negated (Or left right) old new (cond (not negated) (first ++ second) (products first second))
 made_or r true left right old mid new first second one two =

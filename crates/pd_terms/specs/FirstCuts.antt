@@ -10,10 +10,10 @@ use Rattle.pd_terms.specs.Locals.{HasFewTerms}
 use Rattle.pd_terms.specs.Rows.{term_allows}
 use Rattle.pd_terms.specs.declared.first.ByTerms.{ByTerms}
 use Rattle.pd_terms.specs.declared.first.ByTerms.TheVariants.{Satisfied, Unsatisfied, Undecided}
-use Rattle.pd_terms.specs.declared.row.Row.{Row}
+use Rattle.pd_terms.specs.declared.row.TruthRow.{TruthRow}
 
 -- the counts that are good for the term with this number
-abbrev pub goods_of : List Row → List (List ℕ) → ℕ → ℕ → ℕ → Bool
+abbrev pub goods_of : List TruthRow → List (List ℕ) → ℕ → ℕ → ℕ → Bool
 goods_of rows terms i = term_allows rows (slice_index_or terms i [])
 
 -- the first of the least good cuts of the numbers below n, or none if none of them has one

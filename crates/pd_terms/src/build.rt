@@ -2,9 +2,9 @@
 ghost use Rattle.pd_pred.specs.Trees.{tree_view};
 ghost use Rattle.pd_terms.specs.Locals.{IsLocal};
 ghost use Rattle.pd_terms.specs.Rows.{MakesTerms, numbers_view, products};
-ghost use Rattle.std.specs.Prelude.{◌≡◌, ◌∷◌, [], ◌++◌, ◌&&◌, ◌||◌, cond, IfOk, List, map};
+ghost use Rattle.std.specs.Prelude.{◌≡◌, ◌∷◌, [], ◌++◌, cond, IfOk, map};
 
-use super::row::{Row, row_of};
+use super::row::{TruthRow, row_of};
 use pd_clock::Computation;
 use pd_pred::Tree;
 use std::alloc::{AllocError, Global};
@@ -114,7 +114,7 @@ pub(crate) fn build(
     computation: &Computation<'_>,
     tree: &Tree,
     negated: bool,
-    rows: &mut Vec<Row>,
+    rows: &mut Vec<TruthRow>,
 ) -> Result<Vec<Vec<usize>>, AllocError>
     requires { IsLocal (tree_view tree.now) }
     ensures { IfOk result (λ terms. MakesTerms computation.now negated (tree_view tree.now) rows.old.items

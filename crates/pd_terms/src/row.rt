@@ -13,7 +13,7 @@ use std::alloc::{AllocError, Global};
 
 /// Where a comparison holds, by how many events of one process have happened.
 #[derive(Drop)]
-pub(crate) struct Row {
+pub(crate) struct TruthRow {
     pub(crate) process: usize,
     pub(crate) truths: Vec<bool>,
 }
@@ -68,7 +68,7 @@ fn row_by(
     tree: &Tree,
     process: usize,
     negated: bool,
-) -> Result<Row, AllocError>
+) -> Result<TruthRow, AllocError>
     requires within { process < length computation.now.events }
     requires depends { DependsOn computation.now (tree_view tree.now) process }
     ensures { IfOk result (IsRowOf computation.now negated (tree_view tree.now)) }
@@ -80,7 +80,7 @@ fn row_by(
         cut.redo(process);
         truths.push(holds(computation, tree, &cut, negated))?;
     }
-    Ok(Row { process, truths })
+    Ok(TruthRow { process, truths })
 }
 
 /// Where a comparison holds that names one process at most, or where it doesn't if `negated`. The sums are those of the
@@ -95,7 +95,7 @@ pub(crate) fn row_of(
     left: &Sum,
     right: &Sum,
     negated: bool,
-) -> Result<Row, AllocError>
+) -> Result<TruthRow, AllocError>
     requires sums { IsComparisonOf (tree_view tree.now) (sum_view left.now) (sum_view right.now) }
     requires local { NameOne (sum_view left.now) (sum_view right.now) }
     ensures { IfOk result (IsRowOf computation.now negated (tree_view tree.now)) }

@@ -1,14 +1,13 @@
 //! The terms of a predicate.
-ghost use Rattle.pd_model.specs.Predicates.{test_of};
 ghost use Rattle.pd_pred.specs.Views.{predicate_view};
 ghost use Rattle.pd_terms.specs.Locals.{HasFewTerms};
 ghost use Rattle.pd_terms.specs.Rows.{AreOf, AreTermsOf, AreWithin, numbers_view, row_allows, term_allows};
-ghost use Rattle.std.specs.Prelude.{◌≡◌, ◌<◌, ◌↔◌, ℕ, All, IfOk, IfSome, None, Ok, Some, false, length, slice_get};
+ghost use Rattle.std.specs.Prelude.{◌≡◌, ◌<◌, All, IfOk, IfSome, None, Ok, Some, false, length, slice_get};
 
 use super::build::build;
 use super::count::count;
 use super::local::is_local;
-use super::row::Row;
+use super::row::TruthRow;
 use pd_clock::Computation;
 use pd_least::GoodCounts;
 use pd_pred::Pred;
@@ -20,7 +19,7 @@ pub const TERM_LIMIT: u64 = 4_096;
 /// A predicate as an `or` of terms, over the counts of a computation.
 #[derive(Drop)]
 pub struct Terms {
-    rows: Vec<Row>,
+    rows: Vec<TruthRow>,
     terms: Vec<Vec<usize>>,
     ghost sound: { AreOf rows.items (numbers_view terms.items) },
 }
@@ -28,13 +27,13 @@ pub struct Terms {
 /// One of the terms.
 #[derive(Clone, Copy)]
 pub struct Term<'a> {
-    rows: &'a [Row],
+    rows: &'a [TruthRow],
     numbers: &'a [usize],
     ghost sound: { All (λ i. i < length rows.now) numbers.now },
 }
 
 /// Whether a count of a process is good for a comparison.
-fn allows(row: &Row, process: usize, count: u64) -> bool
+fn allows(row: &TruthRow, process: usize, count: u64) -> bool
     ensures { result ≡ row_allows (Some row.now) process count }
 {
     if row.process != process {

@@ -10,7 +10,7 @@ use Rattle.pd_model.specs.Predicates.{Recorded, test_of}
 use Rattle.pd_model.specs.Walks.{NoneInLevels}
 use Rattle.pd_pred.specs.Views.{predicate_view}
 use Rattle.pd_pred.specs.declared.predicate.Pred.{Pred}
-use Rattle.pd_refusals.specs.Refusals.{AreRefusals}
+use Rattle.pd_skips.specs.SkippedRuns.{AreSkipped}
 use Rattle.pd_runs.specs.Levels.{IsWholeLevel, WholeLevel}
 use Rattle.pd_tables.specs.Views.{CompiledView}
 use Rattle.pd_lists.specs.Answers.{AreAnswers, possibly_answer_view}
@@ -43,14 +43,14 @@ module _ (tests : List CompiledView) (width gap : ℕ) (before level : WholeLeve
   all_looked stages i past looked =
       record { one_each = looked.one_each; each = λ j test stage lt. looked.looked j test stage (omega arith) lt }
 
-  -- one more, which was taken out before
-  pub one_looked : (stages : List Stage) (i : ℕ) (taken new : Stage) → i < length tests
+  -- one more
+  pub one_looked : (stages : List Stage) (i : ℕ) (new : Stage) → i < length tests
       → HaveLooked tests width gap before level i stages
       → ((test : CompiledView) → OneStands (get_or tests i test) width gap level new)
-      → HaveLooked tests width gap before level (i + 1) (slice_set (slice_set stages i taken) i new)
-  one_looked stages i taken new within known stands =
+      → HaveLooked tests width gap before level (i + 1) (slice_set stages i new)
+  one_looked stages i new within known stands =
       record {
-        one_each = length-set (slice_set stages i taken) i new ∙ (length-set stages i taken ∙ known.one_each);
+        one_each = length-set stages i new ∙ known.one_each;
         looked = λ j test stage lt in_list. looked j test stage (cases_order j i) lt in_list;
         left = λ j test stage le in_list.
             subst (λ (s : Stage). OneStands (get_or tests j test) width gap before s)
@@ -58,22 +58,18 @@ module _ (tests : List CompiledView) (width gap : ℕ) (before level : WholeLeve
       }
     where
       other : (j : ℕ) (stage : Stage) → j ≢ i
-          → get_or (slice_set (slice_set stages i taken) i new) j stage ≡ get_or stages j stage
-      other j stage apart =
-          get_or-set_other (slice_set stages i taken) i j new stage apart
-          ∙ get_or-set_other stages i j taken stage apart
+          → get_or (slice_set stages i new) j stage ≡ get_or stages j stage
+      other j stage apart = get_or-set_other stages i j new stage apart
 
-      same : (stage : Stage) → get_or (slice_set (slice_set stages i taken) i new) i stage ≡ new
-      same stage =
-          get_or-set_same (slice_set stages i taken) i new stage
-          (omega (arith, length-set stages i taken, known.one_each))
+      same : (stage : Stage) → get_or (slice_set stages i new) i stage ≡ new
+      same stage = get_or-set_same stages i new stage (omega (arith, known.one_each))
 
       looked : (j : ℕ) (test : CompiledView) (stage : Stage) → (j ≡ i) ⊎ ((j < i) ⊎ (i < j)) → j < i + 1
           → j < length tests → OneStands (get_or tests j test) width gap level
-          (get_or (slice_set (slice_set stages i taken) i new) j stage)
+          (get_or (slice_set stages i new) j stage)
       looked j test stage (inl at) lt in_list =
           subst (λ (n : ℕ). OneStands (get_or tests n test) width gap level
-          (get_or (slice_set (slice_set stages i taken) i new) n stage)) (sym at)
+          (get_or (slice_set stages i new) n stage)) (sym at)
           (subst (λ (s : Stage). OneStands (get_or tests i test) width gap level s) (sym (same stage)) (stands test))
       looked j test stage (inr (inl low)) lt in_list =
           subst (λ (s : Stage). OneStands (get_or tests j test) width gap level s)
@@ -211,16 +207,16 @@ beside_two gap k old most count same = record {
 pub come_first : (c : Computation) (tests : List CompiledView) (width gap most : ℕ) (pushed : List WholeLevel)
     (read first : WholeLevel) (words : List ℕ) (stages : List Stage) → pushed ≡ first ∷ [] → IsWholeLevel c first
     → first.number ≡ 0 → AreBeside gap 0 most → ((d : WholeLevel) → read ≡ get_or pushed (length pushed - 1) d)
-    → AreRefusals tests read words → AllStand tests width gap read stages
+    → AreSkipped tests read words → AllStand tests width gap read stages
     → HasComeTo c tests width gap most pushed words stages
-come_first c tests width gap most pushed read first words stages only whole number beside is refused stand = record {
+come_first c tests width gap most pushed read first words stages only whole number beside is skipped stand = record {
   level = first;
   only = only;
   whole = whole;
   within = omega (arith, number);
   beside = subst (λ (n : ℕ). AreBeside gap n most) (sym number) beside;
-  refused = subst (λ (level : WholeLevel). AreRefusals tests level words) (only_whole pushed first read only is)
-      refused;
+  skipped = subst (λ (level : WholeLevel). AreSkipped tests level words) (only_whole pushed first read only is)
+      skipped;
   stand = subst (λ (level : WholeLevel). AllStand tests width gap level stages)
       (only_whole pushed first read only is) stand;
 }
@@ -232,7 +228,7 @@ number_read levels level read only is =
     ap (λ (l : WholeLevel). l.number) (only_whole levels level read only is) ∙ sym (ap number_held only)
 
 module _ (c : Computation) (tests : List CompiledView) (width gap old most : ℕ) (levels pushed left : List WholeLevel)
-    (next : WholeLevel) (words refusals : List ℕ) (before stages : List Stage)
+    (next : WholeLevel) (words skipped : List ℕ) (before stages : List Stage)
     (come : HasComeTo c tests width gap old levels words before) (push : pushed ≡ levels ++ next ∷ [])
     (after : left ≡ take (length pushed - 2) pushed ++ drop (length pushed - 1) pushed) where
   -- the next level alone is left
@@ -245,27 +241,27 @@ module _ (c : Computation) (tests : List CompiledView) (width gap old most : ℕ
   -- the walk has come one level further
   pub come_next : (read : WholeLevel) → number_held levels < total c → IsWholeLevel c next
       → next.number ≡ number_held levels + 1 → AreBeside gap (number_held levels + 1) most
-      → ((d : WholeLevel) → read ≡ get_or pushed (length pushed - 1) d) → AreRefusals tests read refusals
-      → AllStand tests width gap read stages → HasComeTo c tests width gap most left refusals stages
-  come_next read below whole number beside is refused stand = record {
+      → ((d : WholeLevel) → read ≡ get_or pushed (length pushed - 1) d) → AreSkipped tests read skipped
+      → AllStand tests width gap read stages → HasComeTo c tests width gap most left skipped stages
+  come_next read below whole number beside is right stand = record {
     level = next;
     only = next_only;
     whole = whole;
     within = omega (arith, number, below);
     beside = subst (λ (n : ℕ). AreBeside gap n most) (sym number) beside;
-    refused = subst (λ (level : WholeLevel). AreRefusals tests level refusals)
-        (upper_whole levels pushed come.level next read come.only push is) refused;
+    skipped = subst (λ (level : WholeLevel). AreSkipped tests level skipped)
+        (upper_whole levels pushed come.level next read come.only push is) right;
     stand = subst (λ (level : WholeLevel). AllStand tests width gap level stages)
         (upper_whole levels pushed come.level next read come.only push is) stand;
   }
 
 -- no predicate needs a further level
 pub come_to_end : (recorded : Recorded) (preds : List (Bor Pred)) (tests : List CompiledView) (width gap most : ℕ)
-    (levels : List WholeLevel) (refusals : List ℕ) (stages : List Stage) → AreCompiled recorded preds tests
-    → HasComeTo recorded.events tests width gap most levels refusals stages
+    (levels : List WholeLevel) (skipped : List ℕ) (stages : List Stage) → AreCompiled recorded preds tests
+    → HasComeTo recorded.events tests width gap most levels skipped stages
     → ((i : ℕ) (stage : Stage) → i < length stages → get_or stages i stage ≡ Open
     → total recorded.events ≤ number_held levels) → HasEnded recorded preds width gap most levels stages
-come_to_end recorded preds tests width gap most levels refusals stages compiled come last = record {
+come_to_end recorded preds tests width gap most levels skipped stages compiled come last = record {
   level = come.level;
   only = come.only;
   whole = come.whole;

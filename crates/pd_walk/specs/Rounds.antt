@@ -3,14 +3,14 @@ use Rattle.std.specs.Prelude.{◌≡◌, ◌+◌, ◌*◌, ◌<◌, ◌≤◌, L
 use Rattle.pd_lists.specs.Splits.{AreBeside}
 use Rattle.pd_model.specs.Cuts.{total}
 use Rattle.pd_model.specs.Events.{Computation}
-use Rattle.pd_refusals.specs.Refusals.{AreRefusals}
+use Rattle.pd_skips.specs.SkippedRuns.{AreSkipped}
 use Rattle.pd_runs.specs.Levels.{IsWholeLevel, WholeLevel}
 use Rattle.pd_walk.specs.Stages.{AllStand, AreFor}
 use Rattle.pd_walk.specs.declared.round.Round.{Round}
 use Rattle.pd_walk.specs.declared.stage.Stage.{Stage}
 
--- The predicates are compiled for the computation, and the level is one of its whole levels. At its runs this is
--- refused, and this many whole levels were held at once.
+-- The predicates are compiled for the computation, and the level is one of its whole levels. These of its runs are
+-- skipped, and this many whole levels were held at once.
 pub record IsRound {K : Type 0} (round : Round K) : Type 0 where
   pub tests_for : AreFor round.computation.now round.tests.now
   pub whole : IsWholeLevel round.computation.now.events round.level.now
@@ -18,7 +18,7 @@ pub record IsRound {K : Type 0} (round : Round K) : Type 0 where
   pub narrow : round.width < 18446744073709551615
   pub root : total round.computation.now.events < round.gap * round.gap
   pub few : AreBeside round.gap round.level.now.number round.beside
-  pub refused : AreRefusals round.tests.now round.level.now round.refusals.now
+  pub skipped : AreSkipped round.tests.now round.level.now round.skipped.now
   pub some_threads : 0 < round.threads
 
 -- the level is the one after this whole level

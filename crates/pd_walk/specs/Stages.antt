@@ -9,7 +9,7 @@ use Rattle.pd_model.specs.Walks.{IsNarrowBelow, NoneBelow}
 use Rattle.pd_marks.specs.Marks.{IsMarking}
 use Rattle.pd_pred.specs.Views.{predicate_view}
 use Rattle.pd_pred.specs.declared.predicate.Pred.{Pred}
-use Rattle.pd_refusals.specs.Refusals.{AreRefusals}
+use Rattle.pd_skips.specs.SkippedRuns.{AreSkipped}
 use Rattle.pd_runs.specs.Levels.{IsWholeLevel, WholeLevel}
 use Rattle.pd_tables.specs.Views.{CompiledView}
 use Rattle.pd_lists.specs.Answers.{AreAnswers}
@@ -49,16 +49,16 @@ abbrev pub number_held : List WholeLevel → ℕ
 number_held [] = 0
 number_held (level ∷ levels) = level.number
 
--- The walk up the whole levels has come to a level, which alone is held, and this is known of each predicate: what is
--- refused at its runs, and how far the answers have come.
+-- The walk up the whole levels has come to a level, which alone is held, and this is known of each predicate: which of
+-- the level's runs it skips, and how far the answers have come.
 pub record HasComeTo (c : Computation) (tests : List CompiledView) (width gap most : ℕ) (levels : List WholeLevel)
-    (refusals : List ℕ) (stages : List Stage) : Type 0 where
+    (words : List ℕ) (stages : List Stage) : Type 0 where
   pub level : WholeLevel
   pub only : levels ≡ level ∷ []
   pub whole : IsWholeLevel c level
   pub within : level.number ≤ total c
   pub beside : AreBeside gap level.number most
-  pub refused : AreRefusals tests level refusals
+  pub skipped : AreSkipped tests level words
   pub stand : AllStand tests width gap level stages
 
 -- each was compiled for what was recorded

@@ -6,6 +6,7 @@ ghost use Rattle.pd_model.specs.Answers.{IsFirstSatisfying, IsPossiblyAnswer};
 ghost use Rattle.pd_model.specs.Cuts.{IsOfLevel};
 ghost use Rattle.pd_model.specs.Walks.{NoneBelow};
 ghost use Rattle.pd_walk.specs.Stages.{IsOpenBelow};
+ghost use Rattle.pd_walk.specs.declared.stage.Stage.TheVariants.{Open};
 ghost use Rattle.pd_walk.specs.Tasks.{IsBeforeTask, IsTask, StandsAt, task_events, task_test};
 ghost use Rattle.std.specs.Prelude.{◌≡◌, ◌+◌, ℕ, IfNone, IfOk, IfSome, List, false, true};
 
@@ -19,6 +20,7 @@ use pd_lists::{PossiblyAnswer, Split};
 use pd_marks::{Marks, first_hit, first_hit_by_threads, next, next_by_threads, unsatisfying};
 use pd_runs::Whole;
 use std::alloc::{AllocError, Global};
+use std::mem;
 use std::thread::Threads;
 
 /// The first cut of the level that satisfies, by the task's threads if they are several.
@@ -70,8 +72,37 @@ fn next_of<T: Threads + Sync, K: LevelKey + Send + Sync>(
     next(alloc, before, marks, task.level, task.test, task.skips)
 }
 
+/// What becomes known of a predicate at a level, if before it none satisfied: nothing if none does there either.
+fn look_open<T: Threads + Sync, K: LevelKey + Send + Sync>(
+    rt: &T,
+    alloc: Global,
+    task: &Task<'_, '_, '_, K>,
+) -> Result<Option<Stage>, AllocError>
+    requires task { IsTask task.now }
+    requires opened { IsOpenBelow (task_events task.now) (task_test task.now) task.now.width
+        task.now.level.now.number }
+    ensures found { IfOk result (λ found. IfSome found (StandsAt task.now task.now.level.now)) }
+    ensures none { IfOk result (λ found. IfNone found (StandsAt task.now task.now.level.now Open)) }
+{
+    // the laws that the proof uses
+    pd_model::levels();
+    pd_model::avoidance();
+    let found = possibly_at(rt, alloc, task)?;
+    let Some(possibly) = found else {
+        return Ok(None);
+    };
+    let marks = unsatisfying(alloc, task.level, task.test, task.skips)?;
+    let split = Split {
+        possibly,
+        first: task.level.number(),
+        held: Held::new(alloc),
+    };
+    let stage = settle(alloc, task, split, marks)?;
+    Ok(Some(stage))
+}
+
 /// What is known of a predicate after a level, if before it none satisfied.
-pub(crate) fn look_open<T: Threads + Sync, K: LevelKey + Send + Sync>(
+pub(crate) fn stage_at<T: Threads + Sync, K: LevelKey + Send + Sync>(
     rt: &T,
     alloc: Global,
     task: &Task<'_, '_, '_, K>,
@@ -81,20 +112,10 @@ pub(crate) fn look_open<T: Threads + Sync, K: LevelKey + Send + Sync>(
         task.now.level.now.number }
     ensures { IfOk result (StandsAt task.now task.now.level.now) }
 {
-    // the laws that the proof uses
-    pd_model::levels();
-    pd_model::avoidance();
-    let found = possibly_at(rt, alloc, task)?;
-    let Some(possibly) = found else {
-        return Ok(Stage::Open);
-    };
-    let marks = unsatisfying(alloc, task.level, task.test, task.skips)?;
-    let split = Split {
-        possibly,
-        first: task.level.number(),
-        held: Held::new(alloc),
-    };
-    settle(alloc, task, split, marks)
+    match look_open(rt, alloc, task)? {
+        Some(stage) => Ok(stage),
+        None => Ok(Stage::Open),
+    }
 }
 
 /// The answer for Possibly, if it is found at this level: unknown if the level is too wide, and else its first
@@ -146,7 +167,7 @@ fn look_marked<T: Threads + Sync, K: LevelKey + Send + Sync>(
 }
 
 /// What is known of a predicate after the next level.
-pub(crate) fn look<T: Threads + Sync, K: LevelKey + Send + Sync>(
+fn look_on<T: Threads + Sync, K: LevelKey + Send + Sync>(
     rt: &T,
     alloc: Global,
     task: &Task<'_, '_, '_, K>,
@@ -159,8 +180,36 @@ pub(crate) fn look<T: Threads + Sync, K: LevelKey + Send + Sync>(
     ensures { IfOk result (StandsAt task.now task.now.level.now) }
 {
     match stage {
-        Stage::Open => look_open(rt, alloc, task),
+        Stage::Open => stage_at(rt, alloc, task),
         Stage::Marked { split, marks } => look_marked(rt, alloc, task, before, split, &marks),
         Stage::Answered(answers) => Ok(Stage::Answered(answers)),
     }
+}
+
+/// Looks at a predicate at the next level: what is known of it after that takes the place of what was known before.
+/// What doesn't change isn't moved.
+pub(crate) fn look<T: Threads + Sync, K: LevelKey + Send + Sync>(
+    rt: &T,
+    alloc: Global,
+    task: &Task<'_, '_, '_, K>,
+    before: &Whole<K>,
+    stage: &mut Stage,
+) -> Result<(), AllocError>
+    requires task { IsTask task.now }
+    requires before { IsBeforeTask before.now task.now }
+    requires stands { StandsAt task.now before.now stage.old }
+    ensures { IfOk result (λ _. StandsAt task.now task.now.level.now stage.new) }
+{
+    match stage {
+        Stage::Open => match look_open(rt, alloc, task)? {
+            Some(next) => *stage = next,
+            None => {}
+        },
+        Stage::Marked { split: _, marks: _ } => {
+            let marked = mem::replace(stage, Stage::Open);
+            *stage = look_on(rt, alloc, task, before, marked)?;
+        }
+        Stage::Answered(_) => {}
+    }
+    Ok(())
 }

@@ -2,11 +2,11 @@
 
 use pd_clock::Computation;
 use pd_level::LevelKey;
-use pd_refusals::Refusals;
 use pd_runs::Whole;
+use pd_skips::SkippedRuns;
 use pd_tables::Compiled;
 
-/// All predicates and the level that they are looked at at: what is refused at its runs, how many whole levels were
+/// All predicates and the level that they are looked at at: which of its runs are skipped, how many whole levels were
 /// held at once, and how many threads there are.
 #[derive(Clone, Copy)]
 pub(crate) struct Round<'a, 'b, 'c, 'd, K: LevelKey> {
@@ -15,7 +15,7 @@ pub(crate) struct Round<'a, 'b, 'c, 'd, K: LevelKey> {
     pub width: u64,
     pub gap: u64,
     pub level: &'a Whole<K>,
-    pub refusals: &'a Refusals,
+    pub skipped: &'a SkippedRuns,
     pub beside: u64,
     pub threads: usize,
 }

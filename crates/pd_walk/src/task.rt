@@ -35,7 +35,7 @@ pub(crate) fn task_of<'a, 'b, 'c, K: LevelKey>(
 {
     round.computation.limits();
     let test = &round.tests[i];
-    let skips = round.refusals.of(i);
+    let skips = round.skipped.of(i);
     Task {
         test,
         width: round.width,

@@ -61,11 +61,10 @@ fn take_turn<T: Threads + Sync, K: LevelKey + Send + Sync>(
     requires ready { IsReady round.now before.now i turn.old }
     ensures { IsTaken round.now i turn.new }
 {
-    let stage = mem::replace(&mut turn.stage, Stage::Open);
     let task = task_of(round, i, 1);
-    let looked = look(rt, alloc, &task, before, stage);
+    let looked = look(rt, alloc, &task, before, &mut turn.stage);
     match looked {
-        Ok(stage) => turn.stage = stage,
+        Ok(()) => {}
         Err(AllocError) => turn.refused = true,
     }
 }

@@ -6,7 +6,7 @@ ghost use Rattle.pd_walk.specs.declared.stage.Stage.{Stage};
 ghost use Rattle.pd_walk.specs.declared.stage.Stage.TheVariants.{Open};
 ghost use Rattle.std.specs.Prelude.{◌≡◌, ◌+◌, ◌<◌, ◌≤◌, ℕ, IfOk, IsTrue, [], false, length, slice_index_or};
 
-use super::look::{look, look_open};
+use super::look::{look, stage_at};
 use super::round::Round;
 use super::setting::Setting;
 use super::stage::Stage;
@@ -17,11 +17,10 @@ use pd_back::Held;
 use pd_clock::Computation;
 use pd_level::{Gate, LevelKey};
 use pd_pred::Pred;
-use pd_refusals::Refusals;
 use pd_runs::{Steps, Whole};
+use pd_skips::SkippedRuns;
 use pd_tables::Compiled;
 use std::alloc::{AllocError, Global};
-use std::mem;
 use std::sync::Wait;
 use std::thread::Threads;
 
@@ -67,9 +66,8 @@ fn look_in_turn<T: Threads + Sync, K: LevelKey + Send + Sync>(
     ensures { IfOk result (λ _. AllStandAt round.now round.now.level.now stages.new.items) }
 {
     for i in 0..round.tests.len() {
-        let stage = mem::replace(&mut stages[i], Stage::Open);
         let task = task_of(round, i, round.threads);
-        stages[i] = look(rt, alloc, &task, before, stage)?;
+        look(rt, alloc, &task, before, &mut stages[i])?;
     }
     Ok(())
 }
@@ -104,7 +102,7 @@ fn look_first<T: Threads + Sync, K: LevelKey + Send + Sync>(
     let mut stages = Vec::with_capacity(alloc, round.tests.len())?;
     for i in 0..round.tests.len() {
         let task = task_of(round, i, 1);
-        stages.push(look_open(rt, alloc, &task)?)?;
+        stages.push(stage_at(rt, alloc, &task)?)?;
     }
     Ok(stages)
 }
@@ -150,16 +148,16 @@ fn step_up<T: Threads + Wait + Sync, G: Gate + Sync, K: LevelKey + Send + Sync>(
     steps: &Steps<'_, '_>,
     tests: &[Compiled<'_, '_>],
     wholes: &mut Held<Whole<K>>,
-    refusals: &mut Refusals,
+    skipped: &mut SkippedRuns,
     stages: &mut Vec<Stage>,
 ) -> Result<(), AllocError>
     requires steps { steps.now ≡ setting.now.computation.now.events }
     requires tests { AreFor setting.now.computation.now tests.now }
     requires below { number_held wholes.old.levels.items < total setting.now.computation.now.events }
     requires come { HasComeTo setting.now.computation.now.events tests.now setting.now.width setting.now.gap
-        wholes.old.most wholes.old.levels.items refusals.old stages.old.items }
+        wholes.old.most wholes.old.levels.items skipped.old stages.old.items }
     ensures come { IfOk result (λ _. HasComeTo setting.now.computation.now.events tests.now setting.now.width
-        setting.now.gap wholes.new.most wholes.new.levels.items refusals.new stages.new.items) }
+        setting.now.gap wholes.new.most wholes.new.levels.items skipped.new stages.new.items) }
     ensures number { IfOk result (λ _. number_held wholes.new.levels.items
         ≡ number_held wholes.old.levels.items + 1) }
 {
@@ -170,19 +168,19 @@ fn step_up<T: Threads + Wait + Sync, G: Gate + Sync, K: LevelKey + Send + Sync>(
     let level = wholes.last();
     let threads = setting.crew.count() as usize;
     let rt = setting.crew.runtime();
-    let after = Refusals::next(rt, threads, alloc, tests, before, refusals, level)?;
+    let after = SkippedRuns::next(rt, threads, alloc, tests, before, skipped, level)?;
     let round = Round {
         computation: setting.computation,
         tests,
         width: setting.width,
         gap: setting.gap,
         level,
-        refusals: &after,
+        skipped: &after,
         beside: wholes.most(),
         threads,
     };
     look_all(rt, alloc, &round, before, stages)?;
-    *refusals = after;
+    *skipped = after;
     wholes.drop_last_but_one();
     Ok(())
 }
@@ -208,20 +206,20 @@ pub(crate) fn walk_up<T: Threads + Wait + Sync, G: Gate + Sync, K: LevelKey + Se
     let tests = compile_all(alloc, computation, preds)?;
     wholes.push(Whole::first(alloc, &steps)?)?;
     let first = wholes.last();
-    let mut refusals = Refusals::first(alloc, &tests, first)?;
+    let mut skipped = SkippedRuns::first(alloc, &tests, first)?;
     let round = Round {
         computation,
         tests: &tests,
         width: setting.width,
         gap: setting.gap,
         level: first,
-        refusals: &refusals,
+        skipped: &skipped,
         beside: wholes.most(),
         threads: setting.crew.count() as usize,
     };
     let mut stages = look_first(setting.crew.runtime(), alloc, &round)?;
     while goes_on(&stages, wholes.last(), total, limit) {
-        step_up(setting, &steps, &tests, wholes, &mut refusals, &mut stages)?;
+        step_up(setting, &steps, &tests, wholes, &mut skipped, &mut stages)?;
     }
     Ok(stages)
 }

@@ -5,12 +5,12 @@ use crate::limits::are_same;
 use crate::messages::are_messages;
 use crate::order::is_ordered;
 use crate::pictures::are_cut_off;
-use crate::refusals::are_skipped;
 use crate::runs::{
     FOUR, FOUR_COUNTS, FOUR_RUNS, FOUR_STREAMS, TWO, TWO_COUNTS, TWO_STREAMS, are_whole,
 };
+use crate::skipped::are_skipped;
 use crate::through::{Way, are_ways};
-use crate::{order, refusals, seams, through};
+use crate::{order, seams, skipped, through};
 use pd_clock::Computation;
 use pd_format::STREAM_COUNT_LIMIT;
 use pd_match::match_messages;
@@ -131,8 +131,8 @@ fn sessions_answer_as_they_should(rt: HostRuntime) {
             question: Question::Runs(&seams::COUNTS, &[]),
         },
         Row {
-            document: refusals::DOCUMENT,
-            streams: &refusals::STREAMS,
+            document: skipped::DOCUMENT,
+            streams: &skipped::STREAMS,
             question: Question::Skips,
         },
         Row {

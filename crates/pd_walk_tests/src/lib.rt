@@ -11,7 +11,7 @@
 //! - `order`: which event happened before which, clocks, cuts and values
 //! - `pictures`: values with a character of two bytes where they are cut off in a picture
 //! - `runs`: whole levels as runs, and how many cuts they have
-//! - `refusals`: runs that are skipped
+//! - `skipped`: runs that are skipped
 //! - `seams`: sessions of nine and of sixteen processes, whose cuts have a pair of numbers as their key
 //! - `limits`: the answers, whatever the width of a whole level at which the walk goes on by lists
 //! - `definite`: answers for Definitely, how many levels are held for them, and what is found of evidence
@@ -36,10 +36,10 @@ mod order;
 #[cfg(test)]
 mod pictures;
 #[cfg(test)]
-mod refusals;
-#[cfg(test)]
 mod runs;
 #[cfg(test)]
 mod seams;
+#[cfg(test)]
+mod skipped;
 #[cfg(test)]
 mod through;

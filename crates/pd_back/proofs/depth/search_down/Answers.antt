@@ -1,6 +1,5 @@
 -- The search depth first.
 use Rattle.std.proofs.Common.{◌≡◌, ℕ, ◌+◌, ◌<◌, ◌≤◌, List, [], ◌∷◌, ◌++◌, length, get_or, sum, refl, sym, ◌∙◌, ap, subst, arith}
-use Rattle.std.specs.List.{insert}
 use Rattle.pd_model.specs.Cuts.{one_less, one_more}
 use Rattle.pd_model.specs.Events.{event_count}
 use Rattle.pd_format.specs.Limits.{event_limit}
@@ -11,7 +10,7 @@ use Rattle.pd_model.proofs.Counts.{sum_less}
 use Rattle.pd_back.specs.Searches.{AreDead, IsSearched, IsWorthTrying}
 use Rattle.pd_back.specs.Ways.{IsReached}
 use Rattle.pd_back.proofs.Reaching.{reached_counts}
-use Rattle.pd_back.proofs.Searching.{dead_insert, searched_dead, searched_first, searched_found, searched_pop, searched_push, searched_room}
+use Rattle.pd_back.proofs.Searching.{searched_dead, searched_first, searched_found, searched_pop, searched_push, searched_room, still_dead}
 use Rattle.pd_back.proofs.depth.search_down.Goals as goal
 
 pub same_cut-cut-requires : goal.same_cut-cut-requires
@@ -24,8 +23,8 @@ same_cut-cut-requires c =
 pub loop-init : goal.loop-init
 loop-init c =
     record {
-      dead = subst (λ (cuts : List (List ℕ)). AreDead c.args.computation.now.events (test_of c.args.computation.now
-          (predicate_view c.args.pred.now)) cuts) (sym c.new-dead.ensures.items)
+      dead = subst (λ (numbers : List ℕ). AreDead c.args.computation.now.events (test_of c.args.computation.now
+          (predicate_view c.args.pred.now)) numbers) (sym c.new-dead.ensures)
           (λ i d lt. absurd (omega arith));
       searched = subst (λ (cut : List ℕ). IsSearched c.args.computation.now.events (test_of c.args.computation.now
           (predicate_view c.args.pred.now)) c.args.path.now.items c.args.kept.now.number c.args.k
@@ -41,9 +40,7 @@ loop-init c =
     }
 
 pub next_step-p-requires-clause-dead : goal.next_step-p-requires-clause-dead
-next_step-p-requires-clause-dead c =
-    subst (λ (cuts : List (List ℕ)). AreDead c.args.computation.now.events (test_of c.args.computation.now
-    (predicate_view c.args.pred.now)) cuts) (sym c.deref.ensures.value) c.loop.invariant.dead
+next_step-p-requires-clause-dead c = c.loop.invariant.dead
 
 pub next_step-p-requires-clause-consistent : goal.next_step-p-requires-clause-consistent
 next_step-p-requires-clause-consistent c = c.loop.invariant.searched.here.here.0
@@ -68,7 +65,7 @@ returns-then-level-number-clause-found c =
     let longer : c.extend_from_slice.new.self.items
     ≡ c.args.path.now.items ++ (c.loop.steps.items ++ c.next_step-p.result ∷ []) =
     c.in_ok-extend_from_slice.ensures.items
-    ∙ (ap (λ (steps : List ℕ). c.loop.path.items ++ steps) (c.deref-then-level-number.ensures.value ∙ pushed)
+    ∙ (ap (λ (steps : List ℕ). c.loop.path.items ++ steps) (c.deref.ensures.value ∙ pushed)
     ∙ ap (λ (path : List ℕ). path ++ (c.loop.steps.items ++ c.next_step-p.result ∷ [])) c.loop.invariant.same) in (
       subst (λ (cut : List ℕ). IsReached c.args.computation.now.events (test_of c.args.computation.now (predicate_view
           c.args.pred.now)) c.extend_from_slice.new.self.items cut) (sym less)
@@ -148,8 +145,6 @@ loop-preserved c =
     c.loop.invariant.searched.here.here.0.fits.one_each in
     let stepped : c.loop.steps.items ≡ c.pop.new.self.items ++ c.in-Some.tried ∷ [] =
     rw c.in-Some.is at c.pop.ensures.items in
-    let added : (i : ℕ) × (i ≤ length c.loop.dead.items)
-    × (c.add_dead.new.dead.items ≡ insert c.loop.dead.items i c.same_cut.result) = c.in_ok-add_dead.ensures in
     let none : ¬ IsAvoiding c.args.computation.now.events (test_of c.args.computation.now (predicate_view
     c.args.pred.now)) (sum c.loop.cut) c.loop.cut =
     searched_dead c.args.computation.now.events (test_of c.args.computation.now (predicate_view c.args.pred.now))
@@ -172,12 +167,9 @@ loop-preserved c =
     c.args.pred.now)) c.args.path.now.items c.args.kept.now.number c.args.k c.args.top.now
     cut c.in-Some.tried c.pop.new.self.items) (sym c.redo.ensures) popped in
     record {
-      dead = subst (λ (cuts : List (List ℕ)). AreDead c.args.computation.now.events (test_of c.args.computation.now
-          (predicate_view c.args.pred.now)) cuts) (sym added.2)
-          (subst (λ (cut : List ℕ). AreDead c.args.computation.now.events (test_of c.args.computation.now
-          (predicate_view c.args.pred.now)) (insert c.loop.dead.items added.0 cut)) (sym c.same_cut.ensures)
-          (dead_insert c.args.computation.now.events (test_of c.args.computation.now (predicate_view c.args.pred.now))
-          c.loop.dead.items added.0 c.loop.cut c.loop.invariant.dead none added.1));
+      dead = still_dead c.args.computation.now.events (test_of c.args.computation.now (predicate_view
+          c.args.pred.now)) c.loop.dead c.add.new.self c.loop.cut c.loop.invariant.dead none count
+          c.in_ok-add.ensures;
       searched = back;
       within = back.here.within;
       same = c.loop.invariant.same;

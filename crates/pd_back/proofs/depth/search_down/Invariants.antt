@@ -7,7 +7,7 @@ use Rattle.pd_back.proofs.depth.search_down.Given as goal
 
 abbrev pub invariant-loop : goal.invariant-loop
 invariant-loop l = record {
-  dead : AreDead l.computation.events (test_of l.computation (predicate_view l.pred)) l.dead.items;
+  dead : AreDead l.computation.events (test_of l.computation (predicate_view l.pred)) l.dead;
   searched : IsSearched l.computation.events (test_of l.computation (predicate_view l.pred)) l.fn.path.items
       l.kept.number l.k l.top l.cut l.next l.steps.items;
   within : l.next ≤ length l.cut;

@@ -1,7 +1,5 @@
 -- The first stuck event is the first that is left, if one is left.
 use Rattle.std.proofs.Common.{◌≡◌, ℕ, ◌<◌, ◌≤◌, List, length, get_or, sym, ap, ◌∙◌, arith}
-use Rattle.std.specs.Prelude.{vec_len}
-use Rattle.std.proofs.lemmas.List.{length-map}
 use Rattle.pd_model.specs.Events.{event_count}
 use Rattle.pd_traces.specs.declared.event.Trace.{Trace}
 use Rattle.pd_traces.specs.Views.{computation_view}

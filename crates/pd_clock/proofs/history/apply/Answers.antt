@@ -1,5 +1,5 @@
 -- One setting more.
-use Rattle.std.proofs.Common.{◌≡◌, ℕ, ℤ, ◌+◌, List, length, drop, ap, sym, subst, ◌∙◌}
+use Rattle.std.proofs.Common.{ℕ, ℤ, ◌+◌, List, length, drop, ap, sym, subst, ◌∙◌}
 use Rattle.std.proofs.lemmas.List.{length-set}
 use Rattle.pd_clock.specs.Histories.{AreVars, row_after}
 use Rattle.pd_clock.proofs.HistorySteps.{row_more, var_there}

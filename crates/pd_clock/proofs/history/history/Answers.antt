@@ -1,6 +1,5 @@
 -- One event more.
 use Rattle.std.proofs.Common.{◌≡◌, ℕ, ℤ, ◌+◌, ◌++◌, List, length, drop, ap, append_assoc, sym, subst, ◌∙◌}
-use Rattle.pd_model.specs.Events.{Event}
 use Rattle.pd_clock.specs.Histories.{AreVars, row_after, rows_after}
 use Rattle.pd_clock.proofs.HistorySteps.{rows_more, vars_there}
 use Rattle.pd_clock.proofs.Rows.{length-row_after}

@@ -1,8 +1,7 @@
 -- The next event of a process, and the send that it waits for.
-use Rattle.std.proofs.Common.{rules, ◌≡◌, ◌<◌, ◌≤◌, ℕ, List, length, get_or, refl, ap, ◌∙◌, subst, inr, arith}
-use Rattle.std.specs.Prelude.{Some, None, vec_len}
+use Rattle.std.proofs.Common.{rules, ◌≡◌, ◌<◌, ◌≤◌, ℕ, List, length, get_or, refl, ap, subst, inr, arith}
+use Rattle.std.specs.Prelude.{Some, None}
 use Rattle.std.proofs.lemmas.Bool.{leb-true, leb-false}
-use Rattle.std.proofs.lemmas.List.{length-map}
 use Rattle.std.proofs.lemmas.Option.{same_Some, none-some}
 use Rattle.pd_clock.specs.Orders.{IsDone, next_of}
 use Rattle.pd_traces.specs.declared.event.Trace.{Trace}

@@ -1,5 +1,5 @@
 -- The kind of the event at index `n` of process `p`.
-use Rattle.std.proofs.Common.{◌≡◌, ◌<◌, List, length, ap, subst, ◌∙◌}
+use Rattle.std.proofs.Common.{◌<◌, List, length, ap, subst, ◌∙◌}
 use Rattle.pd_model.specs.Events as events
 use Rattle.pd_traces.specs.Columns.{seen_kind_view}
 use Rattle.pd_traces.specs.declared.event.Trace.{Trace}

@@ -9,10 +9,11 @@ use Rattle.pd_picture.proofs.pictures.drawn.Goals as goal
 
 pub returns : goal.returns
 returns c =
-    let high : c.lane_y.result - 30 ≡ lane_y (length c.args.computation.now.events) - 30 =
+    let high : c.lane_y.result - 30 ≡ lane_y (length c.args.subject.now.computation.now.events) - 30 =
     ap (λ (n : ℕ). n - 30) c.lane_y.ensures ∙ ap (λ (n : ℕ). lane_y n - 30) c.processes.ensures in
-    is_picture c.args.computation.now.events (computation_view c.args.traces.now) (column_at c.args.rows.now)
-    c.args.messages.now (texts_view c.args.names.now) c.args.title.now c.args.evidence.now c.widest-widest.result
+    is_picture c.args.subject.now.computation.now.events (computation_view c.args.subject.now.traces.now)
+    (column_at c.args.rows.now) c.args.subject.now.messages.now (texts_view c.args.subject.now.names.now)
+    c.args.subject.now.title.now c.args.subject.now.evidence.now c.widest-widest.result
     c.focus-focus.result c.around-window.result c.requires.traces c.widest-widest.ensures c.focus-focus.ensures
     c.around-window.ensures c.requires.messages c.requires.columns _ c.in_ok-shapes.ensures
     c.page_width.ensures high c.in_ok-title.ensures.ok c.in_ok-description.ensures

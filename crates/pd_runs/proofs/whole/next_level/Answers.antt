@@ -267,12 +267,12 @@ invariant_of-result g c =
     let end = at_end c.args.steps.now c.args.number c.args.olds.now births c.loop-i.i (length c.args.births.now)
     c.loop-i.runs.items c.loop-i.born c.loop-i.invariant.0 c.loop-i.invariant.1 c.loop-i-test.false
     (length-map c.args.births.now number) in
-    let e : length c.args.steps.now ≡ c.prefix.result + 2 =
-    omega (arith, c.prefix.ensures, c.limits.ensures.two) in
+    let e : length c.args.steps.now ≡ c.prefix-others.result + 2 =
+    omega (arith, c.prefix-others.ensures, c.limits.ensures.two) in
     let born : List ℕ = map g.K.Key.number c.in_ok-born-2.born.items in
-    let counted : c.cuts_in.result ≡ cut_count (runs_view (c.prefix.result + 2 - 2) c.loop-i.runs.items) =
-    c.cuts_in.ensures (c.prefix.result + 2 - 2)
-    ∙ ap (λ (rs : List KeyedRun). cut_count (runs_view (c.prefix.result + 2 - 2) rs)) c.deref.ensures.value in
+    let counted : c.cuts_in.result ≡ cut_count (runs_view (c.prefix-others.result + 2 - 2) c.loop-i.runs.items) =
+    c.cuts_in.ensures (c.prefix-others.result + 2 - 2)
+    ∙ ap (λ (rs : List KeyedRun). cut_count (runs_view (c.prefix-others.result + 2 - 2) rs)) c.deref.ensures.value in
     let kept : IsKeptLevel g.K.Key.room (length c.args.steps.now) (c.args.number + 1) c.loop-i.runs.items born =
     ended_kept g.K.Key.room c.args.steps.now c.args.number c.args.olds.now births given c.loop-i.runs.items
     c.loop-i.born c.loop-i.invariant.0 end born c.in_ok-born-2.ensures.there c.in_ok-born-2.ensures.back
@@ -291,8 +291,8 @@ returns-clause-level g c =
     let end = at_end c.args.steps.now c.args.number c.args.olds.now births c.loop-i.i (length c.args.births.now)
     c.loop-i.runs.items c.loop-i.born c.loop-i.invariant.0 c.loop-i.invariant.1 c.loop-i-test.false
     (length-map c.args.births.now number) in
-    let e : length c.args.steps.now ≡ c.prefix.result + 2 =
-    omega (arith, c.prefix.ensures, c.limits.ensures.two) in
+    let e : length c.args.steps.now ≡ c.prefix-others.result + 2 =
+    omega (arith, c.prefix-others.ensures, c.limits.ensures.two) in
     let born : List ℕ = map g.K.Key.number c.in_ok-born-2.born.items in
     subst (λ (m : ℕ). IsWholeLevel c.args.steps.now (whole_view m (c.args.number + 1) c.loop-i.runs.items born)) e
     (ended_level g.K.Key.room c.args.steps.now c.args.number c.args.olds.now births given c.loop-i.runs.items

@@ -5,7 +5,7 @@ use Rattle.std.specs.Prelude.{Bool, true, false, not, cond}
 use Rattle.pd_model.specs.Predicates.{Predicate, And, Or, test_of}
 use Rattle.pd_pred.specs.Trees.{tree_view}
 use Rattle.pd_terms.specs.Rows.{MakesTerms, numbers_view, products, turned}
-use Rattle.pd_terms.specs.declared.row.Row.{Row}
+use Rattle.pd_terms.specs.declared.row.TruthRow.{TruthRow}
 use Rattle.pd_terms.proofs.Building.{made_constant, made_row, made_and, made_or}
 use Rattle.pd_terms.proofs.build.+build.Goals as goal
 
@@ -47,7 +47,7 @@ returns-in_ok-push-in-Compare t c =
     omega (
       arith,
       c.len.ensures,
-      ap (λ (rows : List Row). length rows) c.in_ok-push-in-Compare.ensures.items,
+      ap (λ (rows : List TruthRow). length rows) c.in_ok-push-in-Compare.ensures.items,
       length-append c.args.rows.now.items (c.in_ok-row_of-in-Compare.field-0 ∷ []),
     ) in
     IfOk-weaker c.single.result (λ terms. numbers_view terms.items ≡ ((c.len.result - 1) ∷ []) ∷ [])
@@ -56,7 +56,7 @@ returns-in_ok-push-in-Compare t c =
     (λ terms is. subst (λ (ts : List (List ℕ)). MakesTerms c.args.computation.now c.args.negated
     (tree_view c.args.tree.now) c.args.rows.now.items c.push.new.self.items ts)
     (sym (is ∙ ap (λ (i : ℕ). (i ∷ []) ∷ []) last))
-    (subst (λ (rows : List Row). MakesTerms c.args.computation.now c.args.negated (tree_view c.args.tree.now)
+    (subst (λ (rows : List TruthRow). MakesTerms c.args.computation.now c.args.negated (tree_view c.args.tree.now)
     c.args.rows.now.items rows ((length c.args.rows.now.items ∷ []) ∷ []))
     (sym c.in_ok-push-in-Compare.ensures.items)
     (made_row c.args.computation.now c.args.negated (tree_view c.args.tree.now) c.args.rows.now.items

@@ -12,7 +12,7 @@ use Rattle.pd_walk.proofs.task.task_of.Goals as goal
 pub threads_for-requires : goal.threads_for-requires
 threads_for-requires g c =
     (c.of-skips.ensures c.args.round.now.tests.now c.index-round-i.result c.args.round.now.level.now
-    c.requires.round.refused c.requires.within).few
+    c.requires.round.skipped c.requires.within).few
 
 pub returns : goal.returns
 returns g c =
@@ -34,7 +34,7 @@ returns g c =
         few = c.requires.round.few;
         skips =
             c.of-skips.ensures c.args.round.now.tests.now c.index-round-i.result c.args.round.now.level.now
-            c.requires.round.refused c.requires.within;
+            c.requires.round.skipped c.requires.within;
       };
       test = λ d. get_or_default c.args.round.now.tests.now c.args.i c.index-round-i.result d c.requires.within;
       recorded = recorded;

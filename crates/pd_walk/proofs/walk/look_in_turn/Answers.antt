@@ -1,5 +1,5 @@
 -- One predicate after the other is looked at.
-use Rattle.std.proofs.Common.{get_or, sym, ◌∙◌, subst, arith}
+use Rattle.std.proofs.Common.{get_or, sym, subst, arith}
 use Rattle.pd_tables.specs.Views.{CompiledView}
 use Rattle.pd_walk.specs.Stages.{OneStands}
 use Rattle.pd_walk.specs.declared.stage.Stage.{Stage}
@@ -20,19 +20,19 @@ look-requires-clause-before g c _ _ =
 pub look-requires-clause-stands : goal.look-requires-clause-stands
 look-requires-clause-stands g c _ _ =
     stands_for c.args.round.now c.loop-i.i c.task_of-task.result c.task_of-task.ensures c.args.before.now
-    c.replace-stage.result
+    c.index_mut.result.now
     (λ (test : CompiledView).
     subst (λ (stage : Stage). OneStands (get_or c.args.round.now.tests.now c.loop-i.i test) c.args.round.now.width
-    c.args.round.now.gap c.args.before.now stage) (sym (c.replace-stage.ensures.value ∙ c.index_mut.ensures.value))
+    c.args.round.now.gap c.args.before.now stage) (sym c.index_mut.ensures.value)
     (c.loop-i.invariant.left c.loop-i.i test c.index_mut.result.now (omega arith) c.loop-i-test.true))
 
 pub loop-i-preserved : goal.loop-i-preserved
 loop-i-preserved g c =
     one_looked c.args.round.now.tests.now c.args.round.now.width c.args.round.now.gap c.args.before.now
-    c.args.round.now.level.now c.loop-i.stages.items c.loop-i.i c.replace-stage.new.dest c.in_ok-stages.field-0
+    c.args.round.now.level.now c.loop-i.stages.items c.loop-i.i c.look.new.stage
     c.loop-i-test.true c.loop-i.invariant
-    (stands_of c.args.round.now c.loop-i.i c.task_of-task.result c.task_of-task.ensures c.in_ok-stages.field-0
-    c.in_ok-stages.ensures)
+    (stands_of c.args.round.now c.loop-i.i c.task_of-task.result c.task_of-task.ensures c.look.new.stage
+    c.in_ok-look.ensures)
 
 pub returns : goal.returns
 returns g c =

@@ -1,7 +1,7 @@
 -- The next whole level in place of the one before it.
 use Rattle.std.proofs.Common.{◌≡◌, ◌+◌, ◌++◌, [], ◌∷◌, ℕ, List, length, max, ap, sym, ◌∙◌, subst, arith}
 use Rattle.pd_model.specs.Events.{Computation}
-use Rattle.pd_refusals.specs.Refusals.{AreRefusals}
+use Rattle.pd_skips.specs.SkippedRuns.{AreSkipped}
 use Rattle.pd_runs.specs.Levels.{IsWholeLevel, WholeLevel}
 use Rattle.pd_lists.specs.Splits.{AreBeside}
 use Rattle.pd_walk.specs.Stages.{AllStand, number_held}
@@ -60,13 +60,13 @@ next-requires-2-clause-processes g c _ _ =
     ∙ ap (λ (e : Computation). length e) (sym c.requires.steps) ∙ sym c.in_ok-next.ensures.level.processes
     ∙ ap (λ (l : WholeLevel). l.processes) (sym upper)
 
-pub next-requires-2-clause-refusals : goal.next-requires-2-clause-refusals
-next-requires-2-clause-refusals g c _ _ =
+pub next-requires-2-clause-skipped : goal.next-requires-2-clause-skipped
+next-requires-2-clause-skipped g c _ _ =
     let lower : c.last_but_one-before.result.now ≡ c.requires.come.level =
     lower_whole c.args.wholes.now.levels.items c.push.new.self.levels.items c.requires.come.level c.in_ok-next.next
     c.last_but_one-before.result.now c.requires.come.only c.in_ok-push.ensures.levels c.last_but_one-before.ensures in
-    subst (λ (l : WholeLevel). AreRefusals c.args.tests.now l c.args.refusals.now) (sym lower)
-    c.requires.come.refused
+    subst (λ (l : WholeLevel). AreSkipped c.args.tests.now l c.args.skipped.now) (sym lower)
+    c.requires.come.skipped
 
 pub look_all-requires-clause-round : goal.look_all-requires-clause-round
 look_all-requires-clause-round g c _ _ =
@@ -96,7 +96,7 @@ look_all-requires-clause-round g c _ _ =
           (beside_two c.args.setting.now.gap c.requires.come.level.number c.args.wholes.now.most c.most.result
           c.requires.come.beside
           (c.most.ensures ∙ (c.in_ok-push.ensures.most ∙ ap (λ (n : ℕ). max c.args.wholes.now.most n) two)));
-      refused = c.in_ok-after.ensures;
+      skipped = c.in_ok-after.ensures;
       some_threads = c.count-threads.ensures;
     }
 
@@ -138,7 +138,7 @@ returns-clause-come g c =
     ∙ ap (λ (ls : List WholeLevel). ls ++ c.in_ok-next.next ∷ []) c.requires.come.only) in
     come_next c.args.setting.now.computation.now.events c.args.tests.now c.args.setting.now.width c.args.setting.now.gap
     c.args.wholes.now.most c.drop_last_but_one.new.self.most c.args.wholes.now.levels.items
-    c.push.new.self.levels.items c.drop_last_but_one.new.self.levels.items c.in_ok-next.next c.args.refusals.now
+    c.push.new.self.levels.items c.drop_last_but_one.new.self.levels.items c.in_ok-next.next c.args.skipped.now
     c.in_ok-after.after c.args.stages.now.items c.look_all.new.stages.items c.requires.come
     c.in_ok-push.ensures.levels c.drop_last_but_one.ensures.levels c.last-level.result.now c.requires.below
     (subst (λ (e : Computation). IsWholeLevel e c.in_ok-next.next) c.requires.steps c.in_ok-next.ensures.level)
@@ -159,7 +159,7 @@ returns-clause-number g c =
     ap number_held (next_only c.args.setting.now.computation.now.events c.args.tests.now c.args.setting.now.width
     c.args.setting.now.gap
     c.args.wholes.now.most c.drop_last_but_one.new.self.most c.args.wholes.now.levels.items
-    c.push.new.self.levels.items c.drop_last_but_one.new.self.levels.items c.in_ok-next.next c.args.refusals.now
+    c.push.new.self.levels.items c.drop_last_but_one.new.self.levels.items c.in_ok-next.next c.args.skipped.now
     c.in_ok-after.after c.args.stages.now.items c.look_all.new.stages.items c.requires.come
     c.in_ok-push.ensures.levels c.drop_last_but_one.ensures.levels)
     ∙ (c.in_ok-next.ensures.number ∙ ap (λ (n : ℕ). n + 1) number)

@@ -1,7 +1,7 @@
 -- The walk from level 0 to the last level that is needed.
 use Rattle.std.proofs.Common.{◌≡◌, ◌+◌, ◌++◌, [], ◌∷◌, ℕ, List, length, get_or, refl, ap, sym, ◌∙◌, subst, arith}
 use Rattle.pd_model.specs.Events.{Computation}
-use Rattle.pd_refusals.specs.Refusals.{AreRefusals}
+use Rattle.pd_skips.specs.SkippedRuns.{AreSkipped}
 use Rattle.pd_runs.specs.Levels.{IsWholeLevel, WholeLevel}
 use Rattle.pd_tables.specs.Views.{CompiledView}
 use Rattle.pd_lists.specs.Splits.{AreBeside}
@@ -58,9 +58,9 @@ look_first-requires-clause-round g c _ _ =
           subst (λ (n : ℕ). AreBeside c.args.setting.now.gap n c.most.result) (sym number)
           (beside_one c.args.setting.now.gap c.most.result
           (omega (arith, c.most.ensures, c.in_ok-push.ensures.most, c.requires.none, ap length only)));
-      refused =
-          subst (λ (tests : List CompiledView). AreRefusals tests c.last-first.result.now c.in_ok-refusals.refusals)
-          (c.deref.ensures.value ∙ sym c.deref-2.ensures.value) c.in_ok-refusals.ensures;
+      skipped =
+          subst (λ (tests : List CompiledView). AreSkipped tests c.last-first.result.now c.in_ok-skipped.skipped)
+          (c.deref.ensures.value ∙ sym c.deref-2.ensures.value) c.in_ok-skipped.ensures;
       some_threads = c.count.ensures;
     }
 
@@ -72,13 +72,13 @@ loop-steps-init g c =
     come_first c.args.setting.now.computation.now.events c.in_ok-tests.tests.items c.args.setting.now.width
     c.args.setting.now.gap
     c.push.new.self.most c.push.new.self.levels.items c.last-first.result.now c.in_ok-first.field-0
-    c.in_ok-refusals.refusals c.in_ok-stages.stages.items only
+    c.in_ok-skipped.skipped c.in_ok-stages.stages.items only
     (subst (λ (e : Computation). IsWholeLevel e c.in_ok-first.field-0) c.in_ok-steps.ensures
     c.in_ok-first.ensures.level) c.in_ok-first.ensures.number
     (beside_one c.args.setting.now.gap c.push.new.self.most
     (omega (arith, c.in_ok-push.ensures.most, c.requires.none, ap length only))) c.last-first.ensures
-    (subst (λ (tests : List CompiledView). AreRefusals tests c.last-first.result.now c.in_ok-refusals.refusals)
-    c.deref.ensures.value c.in_ok-refusals.ensures)
+    (subst (λ (tests : List CompiledView). AreSkipped tests c.last-first.result.now c.in_ok-skipped.skipped)
+    c.deref.ensures.value c.in_ok-skipped.ensures)
     (subst (λ (tests : List CompiledView).
     AllStand tests c.args.setting.now.width c.args.setting.now.gap c.last-first.result.now
     c.in_ok-stages.stages.items) c.deref-2.ensures.value c.in_ok-stages.ensures)
@@ -98,7 +98,7 @@ pub returns : goal.returns
 returns g c =
     come_to_end c.args.setting.now.computation.now c.args.preds.now c.in_ok-tests.tests.items
     c.args.setting.now.width c.args.setting.now.gap c.loop-steps.wholes.most c.loop-steps.wholes.levels.items
-    c.loop-steps.refusals c.loop-steps.stages.items c.in_ok-tests.ensures c.loop-steps.invariant
+    c.loop-steps.skipped c.loop-steps.stages.items c.in_ok-tests.ensures c.loop-steps.invariant
     (λ i stage lt is.
     let up = c.loop-steps-test.ensures.last refl i stage
     (omega (arith, ap length c.deref-in-loop-steps.ensures.value))

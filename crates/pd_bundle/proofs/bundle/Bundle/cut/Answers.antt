@@ -1,7 +1,7 @@
 -- The bytes that the cut takes are held back, end a separator, or are given.
 use Rattle.std.proofs.Common.{◌≤◌, ◌+◌, ◌-◌, ◌++◌, ap, refl, drop, take, []}
 use Rattle.pd_bundle.specs.Cutting.{IsCut, line_marks}
-use Rattle.pd_bundle.specs.declared.cutter.Cut.TheVariants as cuts
+use Rattle.pd_bundle.specs.declared.cutter.Cutting.TheVariants as cuts
 use Rattle.pd_bundle.proofs.Moving.{cut_hold, cut_part, cut_separator, slice_none, slice_rest, slice_room, slice_run}
 use Rattle.pd_bundle.proofs.bundle.Bundle.cut.Goals as goal
 

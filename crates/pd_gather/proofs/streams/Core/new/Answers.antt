@@ -1,5 +1,5 @@
 -- The readers of streams of which nothing has come.
-use Rattle.std.proofs.Common.{[], ◌∷◌, ◌++◌, All, List, arith, subst, sym}
+use Rattle.std.proofs.Common.{[], All, arith, subst, sym}
 use Rattle.std.proofs.lemmas.List.Elements.{All-push}
 use Rattle.std.proofs.lemmas.Option.{get_or_from_slice_get, slice_get_within}
 use Rattle.pd_format.specs.Readings.{Open}

@@ -8,10 +8,12 @@ use Rattle.pd_runs.proofs.births.Births.push.Goals as goal
 pub returns : goal.returns
 returns g c =
     let number = g.K.Key.number in
-    let within : c.args.p < length c.self.inside.lists.items = omega (arith, c.self.invariant, c.requires) in
+    let within : c.min-place.result < length c.self.inside.lists.items =
+    omega (arith, c.self.invariant, c.min-place.ensures, c.len.ensures) in
     subst (λ (old : List ℕ). HasOneMore old (number c.args.cut)
-    (births_in number (slice_set c.self.inside.lists.items c.args.p c.push.new.self)))
+    (births_in number (slice_set c.self.inside.lists.items c.min-place.result c.push.new.self)))
     c.self.view_is
-    (births_push number c.self.inside.lists.items c.args.p c.push.new.self c.index_mut.result.now c.args.cut within
+    (births_push number c.self.inside.lists.items c.min-place.result c.push.new.self c.index_mut.result.now c.args.cut
+    within
     (c.in_ok-push.ensures.items
     ∙ ap (λ (list : Vec g.row.K.Denot Global). list.items ++ c.args.cut ∷ []) c.index_mut.ensures.value))

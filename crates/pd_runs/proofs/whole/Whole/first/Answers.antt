@@ -26,8 +26,8 @@ add_births-requires-clause-cut g c =
 
 pub invariant_of-result : goal.invariant_of-result
 invariant_of-result g c =
-    let e : length c.args.steps.now ≡ c.prefix.result + 2 =
-    omega (arith, c.prefix.ensures, c.limits.ensures.two) in
+    let e : length c.args.steps.now ≡ c.prefix-others.result + 2 =
+    omega (arith, c.prefix-others.ensures, c.limits.ensures.two) in
     let runs : c.push.new.self.items ≡ first_run ∷ [] =
     c.in_ok-push.ensures.items
     ∙ ap (λ (key : ℕ). c.in_ok-runs.runs.items ++ (record { key = key; lo = 0; hi = 0; rest = 0 }) ∷ []) c.none.ensures
@@ -45,16 +45,17 @@ invariant_of-result g c =
     c.add_births.new.born born grown c.in_ok-born-2.ensures.there
     c.in_ok-born-2.ensures.back g.K.Key.room (g.met.K.Key.fits_room (length c.args.steps.now) c.requires)
     c.in_ok-born-2.ensures.ascends in (
-      subst (λ (rs : List KeyedRun). IsKeptLevel g.K.Key.room (c.prefix.result + 2) 0 rs born) (sym runs)
+      subst (λ (rs : List KeyedRun). IsKeptLevel g.K.Key.room (c.prefix-others.result + 2) 0 rs born) (sym runs)
           (subst (λ (m : ℕ). IsKeptLevel g.K.Key.room m 0 (first_run ∷ []) born) e kept),
-      subst (λ (rs : List KeyedRun). 1 ≡ cut_count (runs_view (c.prefix.result + 2 - 2) rs)) (sym runs) (omega arith),
+      subst (λ (rs : List KeyedRun). 1 ≡ cut_count (runs_view (c.prefix-others.result + 2 - 2) rs)) (sym runs)
+          (omega arith),
       subst g.K.Key.fits e c.requires,
     )
 
 pub returns-clause-level : goal.returns-clause-level
 returns-clause-level g c =
-    let e : length c.args.steps.now ≡ c.prefix.result + 2 =
-    omega (arith, c.prefix.ensures, c.limits.ensures.two) in
+    let e : length c.args.steps.now ≡ c.prefix-others.result + 2 =
+    omega (arith, c.prefix-others.ensures, c.limits.ensures.two) in
     let runs : c.push.new.self.items ≡ first_run ∷ [] =
     c.in_ok-push.ensures.items
     ∙ ap (λ (key : ℕ). c.in_ok-runs.runs.items ++ (record { key = key; lo = 0; hi = 0; rest = 0 }) ∷ []) c.none.ensures
@@ -67,7 +68,7 @@ returns-clause-level g c =
     (length c.args.steps.now - 2) c.in_ok-born.born c.add_births.new.born) c.none-2.ensures
     c.in_ok-add_births.ensures) in
     let born : List ℕ = map g.K.Key.number c.in_ok-born-2.born.items in
-    subst (λ (rs : List KeyedRun). IsWholeLevel c.args.steps.now (whole_view (c.prefix.result + 2) 0 rs born))
+    subst (λ (rs : List KeyedRun). IsWholeLevel c.args.steps.now (whole_view (c.prefix-others.result + 2) 0 rs born))
     (sym runs)
     (subst (λ (m : ℕ). IsWholeLevel c.args.steps.now (whole_view m 0 (first_run ∷ []) born)) e
     (first_level c.args.steps.now c.limits.ensures.short

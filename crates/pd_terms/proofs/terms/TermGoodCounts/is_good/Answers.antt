@@ -4,17 +4,17 @@ use Rattle.std.proofs.lemmas.List.{drop_more}
 use Rattle.std.proofs.lemmas.Option.{slice_get-get_or}
 use Rattle.std.specs.Prelude.{Bool, ◌&&◌, Option, Some, slice_get}
 use Rattle.pd_terms.specs.Rows.{row_allows, term_allows}
-use Rattle.pd_terms.specs.declared.row.Row.{Row}
+use Rattle.pd_terms.specs.declared.row.TruthRow.{TruthRow}
 use Rattle.pd_terms.proofs.terms.TermGoodCounts.is_good.Goals as goal
 
 -- what is left of a term, by its first comparison
-left : (rows : List Row) (numbers : List ℕ) (k : ℕ) (row : Row) (p count : ℕ) → k < length numbers
+left : (rows : List TruthRow) (numbers : List ℕ) (k : ℕ) (row : TruthRow) (p count : ℕ) → k < length numbers
     → slice_get rows (get_or numbers k 0) ≡ Some row
     → term_allows rows (drop k numbers) p count
     ≡ (row_allows (Some row) p count && term_allows rows (drop (k + 1) numbers) p count)
 left rows numbers k row p count lt at =
     ap (λ (term : List ℕ). term_allows rows term p count) (drop_more numbers k 0 lt)
-    ∙ ap (λ (found : Option Row). row_allows found p count && term_allows rows (drop (k + 1) numbers) p count) at
+    ∙ ap (λ (found : Option TruthRow). row_allows found p count && term_allows rows (drop (k + 1) numbers) p count) at
 
 pub returns-then-not-allows : goal.returns-then-not-allows
 returns-then-not-allows c =

@@ -1,2 +1,0 @@
--- What the refusals of a whole level are.
-pub mod Refusals

@@ -1,0 +1,2 @@
+-- What the skipped of a whole level are.
+pub mod SkippedRuns

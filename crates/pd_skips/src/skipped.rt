@@ -1,0 +1,232 @@
+//! The words of a level's runs.
+ghost use Rattle.pd_marks.specs.RunPlaces.{key_of_run, run_at};
+ghost use Rattle.pd_marks.specs.Skips.{HaveNoHits};
+ghost use Rattle.pd_model.specs.Predicates.{test_of};
+ghost use Rattle.pd_skips.specs.SkippedRuns.{AreSkipped, IsSomeLevel, IsWordOf};
+ghost use Rattle.pd_runs.specs.Levels.{WholeLevel};
+ghost use Rattle.pd_tables.specs.Views.{CompiledView};
+ghost use Rattle.std.specs.Prelude.{◌≡◌, ◌<◌, ◌≤◌, ℕ, IfOk, IfSome, List, length, slice_index, slice_index_or};
+
+use super::asked::{BITS, asked};
+use super::by_threads::{are_many, may_be_many, words_by_threads};
+use pd_format::PROCESS_LIMIT;
+use pd_keys::Key;
+use pd_marks::Skips;
+use pd_runs::Whole;
+use pd_tables::Compiled;
+use std::alloc::{AllocError, Global};
+use std::marker::Model;
+use std::thread::Threads;
+
+/// A word for each run of a whole level: bit `q` is set only if predicate `q` holds at no cut with the run's prefix.
+/// The first 16 predicates have a bit.
+#[derive(Drop)]
+pub struct SkippedRuns {
+    words: Vec<u16>,
+}
+
+impl Model for SkippedRuns {
+    ghost use Rattle.std.specs.Prelude.{ℕ, List};
+
+    ghost Value = { List ℕ };
+
+    ghost view = { λ r. r.words.items };
+}
+
+/// The number whose digits are the counts of the prefix of run `i`.
+fn key<K: Key>(level: &Whole<K>, i: usize) -> K
+    requires { i < length level.now.runs }
+    ensures { K.number result ≡ key_of_run (run_at level.now.runs i) }
+{
+    level.key(i)
+}
+
+/// The place of the first run from `at` on whose number isn't below `key`, or how many runs there are.
+fn place_from<K: Key>(level: &Whole<K>, sought: K, at: usize) -> usize
+    ensures beyond { result < length level.now.runs → K.number sought ≤ key_of_run (run_at level.now.runs result) }
+    ensures below { (j : ℕ) → at ≤ j → j < result → j < length level.now.runs
+        → key_of_run (run_at level.now.runs j) < K.number sought }
+    ensures within { result ≤ length level.now.runs }
+{
+    for j in at..level.len() {
+        if !key(level, j).is_below(sought) {
+            return j;
+        }
+    }
+    level.len()
+}
+
+/// Whether the run at this place in the level before, if there is one, has another prefix than run `i`.
+pub(crate) fn is_born<K: Key>(before: &Whole<K>, at: usize, level: &Whole<K>, i: usize) -> bool
+    requires { i < length level.now.runs }
+{
+    at >= before.len() || !key(before, at).is_same(key(level, i))
+}
+
+/// The word of the run at this place in the level before, if that has the prefix of run `i`.
+pub(crate) fn kept<K: Key>(
+    _tests: &[Compiled<'_, '_>],
+    before: &Whole<K>,
+    skipped: &SkippedRuns,
+    at: usize,
+    level: &Whole<K>,
+    i: usize,
+) -> Option<u16>
+    requires before { IsSomeLevel before.now }
+    requires level { IsSomeLevel level.now }
+    requires processes { before.now.processes ≡ level.now.processes }
+    requires skipped { AreSkipped _tests.now before.now skipped.now }
+    requires within { i < length level.now.runs }
+    ensures { IfSome result (IsWordOf _tests.now (run_at level.now.runs i).prefix) }
+{
+    before.limits();
+    level.limits();
+    if at < before.len() && key(before, at).is_same(key(level, i)) {
+        return Some(skipped.word(at));
+    }
+    None
+}
+
+/// The word of run `i`: that of the run at this place in the level before, if that has its prefix.
+fn word_after<K: Key>(
+    tests: &[Compiled<'_, '_>],
+    before: &Whole<K>,
+    skipped: &SkippedRuns,
+    at: usize,
+    level: &Whole<K>,
+    i: usize,
+    counts: &mut [u64],
+) -> u16
+    requires before { IsSomeLevel before.now }
+    requires level { IsSomeLevel level.now }
+    requires processes { before.now.processes ≡ level.now.processes }
+    requires skipped { AreSkipped tests.now before.now skipped.now }
+    requires within { i < length level.now.runs }
+    requires room { level.now.processes ≤ length counts.old }
+    ensures { IsWordOf tests.now (run_at level.now.runs i).prefix result }
+{
+    match kept(tests, before, skipped, at, level, i) {
+        Some(word) => word,
+        None => asked(tests, level, i, counts),
+    }
+}
+
+/// For each run of the level the place of its prefix in the level before, if that has it.
+fn places_of<K: Key>(
+    alloc: Global,
+    before: &Whole<K>,
+    level: &Whole<K>,
+) -> Result<Vec<usize>, AllocError>
+    ensures { IfOk result (λ places. length places.items ≡ length level.now.runs) }
+{
+    let mut places = Vec::with_capacity(alloc, level.len())?;
+    let mut at = 0;
+    for i in 0..level.len() {
+        at = place_from(before, key(level, i), at);
+        places.push(at)?;
+    }
+    Ok(places)
+}
+
+/// The words of the runs, one after the other.
+fn words_in_turn<K: Key>(
+    alloc: Global,
+    tests: &[Compiled<'_, '_>],
+    before: &Whole<K>,
+    skipped: &SkippedRuns,
+    level: &Whole<K>,
+) -> Result<Vec<u16>, AllocError>
+    requires before { IsSomeLevel before.now }
+    requires level { IsSomeLevel level.now }
+    requires processes { before.now.processes ≡ level.now.processes }
+    requires skipped { AreSkipped tests.now before.now skipped.now }
+    ensures { IfOk result (λ words. AreSkipped tests.now level.now words.items) }
+{
+    level.limits();
+    let mut words = Vec::with_capacity(alloc, level.len())?;
+    let mut counts = [0; PROCESS_LIMIT];
+    let mut at = 0;
+    for i in 0..level.len() {
+        at = place_from(before, key(level, i), at);
+        words.push(word_after(tests, before, skipped, at, level, i, &mut counts))?;
+    }
+    Ok(words)
+}
+
+impl SkippedRuns {
+    /// The word of run `i`.
+    fn word(&self, i: usize) -> u16
+        requires { i < length self.now }
+        ensures { result ≡ slice_index self.now i }
+    {
+        self.words[i]
+    }
+
+    /// The skipped of a level, for which each run is asked.
+    ///
+    /// # Errors
+    /// An allocation was refused.
+    pub fn first<K: Key>(
+        alloc: Global,
+        tests: &[Compiled<'_, '_>],
+        level: &Whole<K>,
+    ) -> Result<SkippedRuns, AllocError>
+        requires { IsSomeLevel level.now }
+        ensures { IfOk result (AreSkipped tests.now level.now) }
+    {
+        level.limits();
+        let mut words = Vec::with_capacity(alloc, level.len())?;
+        let mut counts = [0; PROCESS_LIMIT];
+        for i in 0..level.len() {
+            words.push(asked(tests, level, i, &mut counts))?;
+        }
+        Ok(SkippedRuns { words })
+    }
+
+    /// The skipped of the next level, from those of a level. Only the runs with a new prefix are asked: by at most
+    /// this many threads, if they are many.
+    ///
+    /// # Errors
+    /// An allocation was refused.
+    pub fn next<R: Threads + Sync, K: Key + Sync>(
+        rt: &R,
+        threads: usize,
+        alloc: Global,
+        tests: &[Compiled<'_, '_>],
+        before: &Whole<K>,
+        skipped: &SkippedRuns,
+        level: &Whole<K>,
+    ) -> Result<SkippedRuns, AllocError>
+        requires before { IsSomeLevel before.now }
+        requires level { IsSomeLevel level.now }
+        requires processes { before.now.processes ≡ level.now.processes }
+        requires skipped { AreSkipped tests.now before.now skipped.now }
+        ensures { IfOk result (AreSkipped tests.now level.now) }
+    {
+        if threads > 1 && may_be_many(tests, level) {
+            let places = places_of(alloc, before, level)?;
+            if are_many(tests, before, level, &places) {
+                let words = words_by_threads(
+                    rt, threads, alloc, tests, before, skipped, level, &places,
+                )?;
+                return Ok(SkippedRuns { words });
+            }
+        }
+        let words = words_in_turn(alloc, tests, before, skipped, level)?;
+        Ok(SkippedRuns { words })
+    }
+
+    /// The runs that predicate `q` needn't be evaluated at. From predicate 16 on that is none.
+    pub fn of(&self, q: usize) -> Skips<'_>
+        ensures { (tests : List CompiledView) (test : CompiledView) (level : WholeLevel)
+            → AreSkipped tests level self.now → q < length tests
+            → HaveNoHits (slice_index_or tests q test).recorded.events
+            (test_of (slice_index_or tests q test).recorded (slice_index_or tests q test).predicate) level.runs
+            result }
+    {
+        if q < BITS {
+            return Skips::new(&self.words, q as u64);
+        }
+        Skips::none()
+    }
+}
