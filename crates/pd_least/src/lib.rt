@@ -18,4 +18,4 @@ mod order;
 pub use good_counts::GoodCounts;
 pub use laws::{cut_order, first_of_least};
 pub use least::least_good;
-pub use order::is_before;
+pub use order::{events, is_before};

@@ -19,8 +19,8 @@ pub fn is_before(a: &Cut, b: &Cut) -> bool
     first < second || (first == second && is_lex_below(a.counts(), b.counts()))
 }
 
-/// How many events there are in a cut of these counts.
-fn events(counts: &[u64]) -> u64
+/// How many events there are in a cut of these counts, which has no more than a computation may have.
+pub fn events(counts: &[u64]) -> u64
     requires { sum counts.now ≤ event_limit * process_limit }
     ensures { result ≡ sum counts.now }
 {

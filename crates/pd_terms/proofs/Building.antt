@@ -37,10 +37,10 @@ row_more [] more i lt = absurd (omega arith)
 row_more (row ∷ rows) more zero lt = refl
 row_more (row ∷ rows) more (suc i) lt = row_more rows more i (omega arith)
 
-all_head : {A : Type 0} (P : A → Type 0) (x : A) (xs : List A) → All P (x ∷ xs) → P x
+pub all_head : {A : Type 0} (P : A → Type 0) (x : A) (xs : List A) → All P (x ∷ xs) → P x
 all_head P x xs all = all 0 x (omega arith)
 
-all_tail : {A : Type 0} (P : A → Type 0) (x : A) (xs : List A) → All P (x ∷ xs) → All P xs
+pub all_tail : {A : Type 0} (P : A → Type 0) (x : A) (xs : List A) → All P (x ∷ xs) → All P xs
 all_tail P x xs all i d lt = all (suc i) d (omega arith)
 
 -- a term means the same by more rows
@@ -133,7 +133,7 @@ of_more rows more terms all t d lt i e in_ =
     let there : get_or (get_or terms t d) i e < length rows = all t d lt i e in_ in
     rw (length-append rows more) (omega arith)
 
-append_one : {A : Type 0} (P : A → Type 0) (xs ys : List A) → All P xs → All P ys → All P (xs ++ ys)
+pub append_one : {A : Type 0} (P : A → Type 0) (xs ys : List A) → All P xs → All P ys → All P (xs ++ ys)
 append_one P [] ys all others i d lt = others i d lt
 append_one P (x ∷ xs) ys all others zero d lt = all zero d (omega arith)
 append_one P (x ∷ xs) ys all others (suc i) d lt =
@@ -271,7 +271,7 @@ made_either r negated left right either old mid new first second one two means =
         ap (λ (rows : List TruthRow). terms_hold rows first cut) two.is
         ∙ terms_more mid two.more first cut one.terms_of.speak
 
-not_and : (a b : Bool) → not (a && b) ≡ (not a || not b)
+pub not_and : (a b : Bool) → not (a && b) ≡ (not a || not b)
 not_and true b = refl
 not_and false b = refl
 

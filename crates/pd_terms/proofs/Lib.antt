@@ -4,3 +4,4 @@ pub mod Locality
 pub mod Building
 pub mod Firsts
 pub mod Allowed
+pub mod Oring

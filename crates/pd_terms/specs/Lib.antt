@@ -2,3 +2,4 @@
 pub mod Locals
 pub mod Rows
 pub mod FirstCuts
+pub mod Ors

@@ -17,14 +17,17 @@
 //! - `build`: how terms are made
 //! - `terms`: the terms of a predicate
 //! - `first`: the first satisfying cut, by terms
+//! - `clause`: predicates that are an `or` of comparisons, and what decides Definitely of them
 #![tactic(auto)]
 
 mod build;
+mod clause;
 mod count;
 mod first;
 mod local;
 mod row;
 mod terms;
 
+pub use clause::{ByClause, definitely_by_clause};
 pub use first::{ByTerms, possibly_by_terms};
 pub use terms::{TERM_LIMIT, Term, Terms};

@@ -62,7 +62,10 @@ fn holds(computation: &Computation<'_>, tree: &Tree, cut: &Cut, negated: bool) -
 }
 
 /// Where a predicate holds that depends on the count of this process alone, or where it doesn't if `negated`.
-fn row_by(
+///
+/// # Errors
+/// An allocation was refused.
+pub(crate) fn row_by(
     alloc: Global,
     computation: &Computation<'_>,
     tree: &Tree,

@@ -1,5 +1,6 @@
 //! The computation of a session, and what is asked about it.
 use crate::by_terms::are_decided;
+use crate::clause::are_passed;
 use crate::definite::are_answers;
 use crate::limits::are_same;
 use crate::messages::are_messages;
@@ -10,7 +11,7 @@ use crate::runs::{
 };
 use crate::skipped::are_skipped;
 use crate::through::{Way, are_ways};
-use crate::{order, seams, skipped, through};
+use crate::{clause, order, seams, skipped, through};
 use pd_clock::Computation;
 use pd_format::STREAM_COUNT_LIMIT;
 use pd_match::match_messages;
@@ -38,6 +39,8 @@ pub(crate) enum Question<'a> {
     Definite,
     /// Whether the terms of each predicate decide what they should.
     Terms,
+    /// Whether each predicate that is a clause has its level.
+    Clauses,
     /// Whether each of these cuts has its observation.
     Through(&'a [Way<'a>]),
 }
@@ -85,6 +88,7 @@ pub(crate) fn is_right<K: RandomSource, T: Threads + Wait + Sync>(
         Question::Limits => are_same(rt, alloc, &computation, &spec),
         Question::Definite => are_answers(rt, alloc, &computation, &spec, again),
         Question::Terms => are_decided(alloc, &computation, &spec),
+        Question::Clauses => are_passed(alloc, &computation, &spec),
         Question::Through(ways) => are_ways(alloc, &computation, ways),
     }
 }
@@ -149,6 +153,11 @@ fn sessions_answer_as_they_should(rt: HostRuntime) {
             document: through::BROADCAST,
             streams: &through::BROADCAST_STREAMS,
             question: Question::Through(&through::BROADCAST_WAYS),
+        },
+        Row {
+            document: clause::DOCUMENT,
+            streams: &order::STREAMS,
+            question: Question::Clauses,
         },
         Row {
             document: THREE,

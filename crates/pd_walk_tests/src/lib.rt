@@ -8,6 +8,7 @@
 //! - `asked`: the computation of a session, and what is asked about it
 //! - `messages`: the messages of a session, with random keys and without
 //! - `least`: the least good cuts, and the order of cuts
+//! - `clause`: the level of a disjunction that has no avoiding cut
 //! - `order`: which event happened before which, clocks, cuts and values
 //! - `pictures`: values with a character of two bytes where they are cut off in a picture
 //! - `runs`: whole levels as runs, and how many cuts they have
@@ -23,6 +24,8 @@
 mod asked;
 #[cfg(test)]
 mod by_terms;
+#[cfg(test)]
+mod clause;
 #[cfg(test)]
 mod definite;
 #[cfg(test)]

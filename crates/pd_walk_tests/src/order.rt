@@ -1,4 +1,5 @@
 //! Which event happened before which, clocks, cuts and values: the calls of `Computation` and `Cut`.
+use crate::clause::are_free;
 use crate::least::are_least;
 use crate::messages::{At, place};
 use pd_clock::{BuildFault, Computation, Cut, Place};
@@ -163,7 +164,10 @@ pub(crate) fn is_ordered(alloc: Global, computation: &Computation<'_>) -> Option
     if !are_cuts(alloc, computation)? {
         return Some(false);
     }
-    are_least(alloc, computation)
+    if !are_least(alloc, computation)? {
+        return Some(false);
+    }
+    are_free(alloc, computation)
 }
 
 #[test]

@@ -1,0 +1,56 @@
+-- Predicates that are an `or` of comparisons, and what decides Definitely of them.
+use Rattle.std.specs.Prelude.{⊤, ◌≡◌, ℕ, ◌<◌, All, Bool, true, false, ◌&&◌, ◌||◌, nat_eq, not, List, [], ◌∷◌, ◌++◌, length, Some, slice_index_or}
+use Rattle.pd_model.specs.Answers.{IsLeastFree}
+use Rattle.pd_model.specs.Cuts.{FitsProcesses}
+use Rattle.pd_model.specs.Observations.{Definitely, Possibly}
+use Rattle.pd_model.specs.Predicates.{Predicate, Always, Never, Compare, Not, And, Or, Recorded, test_of}
+use Rattle.pd_terms.specs.Locals.{IsLocal}
+use Rattle.pd_terms.specs.Rows.{row_holds, turned}
+use Rattle.pd_terms.specs.declared.clause.ByClause.{ByClause}
+use Rattle.pd_terms.specs.declared.clause.ByClause.TheVariants.{Passed, Unsatisfied, Undecided}
+use Rattle.pd_terms.specs.declared.row.TruthRow.{TruthRow}
+
+-- the predicate, or its opposite where it is negated, is an `or` of comparisons and constants
+abbrev pub IsOr : (negated : Bool) → Predicate → Type 0
+IsOr negated Always = ⊤
+IsOr negated Never = ⊤
+IsOr negated (Compare left comparison right) = ⊤
+IsOr negated (Not inner) = IsOr (not negated) inner
+IsOr negated (And left right) = (negated ≡ true) × IsOr negated left × IsOr negated right
+IsOr negated (Or left right) = (negated ≡ false) × IsOr negated left × IsOr negated right
+
+-- an `or` of comparisons, each of which names one process at most
+abbrev pub IsLocalOr : Predicate → Type 0
+IsLocalOr predicate = IsLocal predicate × IsOr false predicate
+
+-- some comparison holds at a cut
+abbrev pub rows_hold : List TruthRow → List ℕ → Bool
+rows_hold [] cut = false
+rows_hold (row ∷ rows) cut = row_holds (Some row) cut || rows_hold rows cut
+
+-- the comparison speaks of process p, and holds at this count of it
+abbrev pub row_good : TruthRow → ℕ → ℕ → Bool
+row_good row p count = nat_eq row.process p && slice_index_or row.truths.items count false
+
+-- the count of a process is good for some comparison
+abbrev pub clause_good : List TruthRow → ℕ → ℕ → Bool
+clause_good [] p count = false
+clause_good (row ∷ rows) p count = row_good row p count || clause_good rows p count
+
+-- Rows of processes that are there were put after others: one of them holds where the predicate does, or where it
+-- doesn't.
+pub record MakesRows (r : Recorded) (negated : Bool) (predicate : Predicate) (old new : List TruthRow) : Type 0 where
+  pub more : List TruthRow
+  pub is : new ≡ old ++ more
+  pub within : All (λ row. row.process < length r.events) more
+  pub hold : (cut : List ℕ) → FitsProcesses r.events cut
+      → rows_hold more cut ≡ turned negated (test_of r predicate cut)
+
+-- Every observation passes through a satisfying cut, and this is the least level with no avoiding cut; or no cut
+-- satisfies; or the predicate isn't one that is decided so.
+abbrev pub IsRightByClause : Recorded → Predicate → ByClause → Type 0
+IsRightByClause r predicate (Passed level) =
+    IsLocalOr predicate × IsLeastFree r.events (test_of r predicate) level
+    × Definitely r.events (test_of r predicate)
+IsRightByClause r predicate Unsatisfied = IsLocalOr predicate × (¬ Possibly r.events (test_of r predicate))
+IsRightByClause r predicate Undecided = ¬ IsLocalOr predicate
