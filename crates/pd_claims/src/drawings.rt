@@ -14,7 +14,7 @@ ghost use Rattle.std.specs.Prelude.{◌≡◌, ◌⊎◌, All, IfErr, IfOk, IsOk
 
 use super::session::read_session;
 use pd_check::{Finding, find_refused, text};
-use pd_draw::Drawn;
+use pd_draw::{Drawn, Run};
 use pd_gather::ByteSource;
 use pd_report::{Report, ReportFault, WriteFault};
 use pd_sessions::{EngineFault, Unanswered, build, messages_of};
@@ -55,16 +55,13 @@ fn draw_traces<S: RandomSource>(
     let matched = messages_of(rt, alloc, spec, traces)?;
     let pairs = matched.pairs(alloc)?;
     let (computation, messages) = build(alloc, spec, traces, matched)?;
-    let drawn = pd_draw::draw(
-        alloc,
+    let run = Run {
         spec,
-        claimed,
-        &computation,
-        messages,
+        computation: &computation,
         traces,
-        &pairs,
-        name,
-    )?;
+        pairs: &pairs,
+    };
+    let drawn = pd_draw::draw(alloc, &run, claimed, messages, name)?;
     Ok(drawn)
 }
 

@@ -2,4 +2,5 @@
 pub mod Choices
 pub mod Values
 pub mod Exhibits
+pub mod Runs
 pub mod Drawn

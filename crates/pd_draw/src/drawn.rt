@@ -4,27 +4,24 @@ ghost use Rattle.pd_check.specs.Views.{finding_view};
 ghost use Rattle.pd_draw.specs.Choices.{name_view};
 ghost use Rattle.pd_draw.specs.Drawn.{Comes, IsChosenPicture, IsFoundFor, IsGoodAt, IsGoodChoice, IsJudged, IsLetBy, IsPictureOf, ShowsPredicate, process_names};
 ghost use Rattle.pd_draw.specs.Exhibits.{ShowsNothing, run_title};
-ghost use Rattle.pd_traces.specs.Views.{computation_view};
+ghost use Rattle.pd_draw.specs.Runs.{IsRun};
 ghost use Rattle.pd_format.specs.Reports as reports;
 ghost use Rattle.pd_gather.specs.Views.{traces_view};
-ghost use Rattle.pd_judgement.specs.Judgements.{recorded_of};
 ghost use Rattle.pd_match.specs.Views.{pairs_view};
-ghost use Rattle.pd_model.specs.Messages.{HasMessages, IsMessageList};
+ghost use Rattle.pd_model.specs.Messages.{HasMessages};
 ghost use Rattle.pd_picture.specs.Pictures.{IsPicture, texts_view};
 ghost use Rattle.pd_report.specs.Views as views;
 ghost use Rattle.pd_spec.specs.Views.{document_view};
-ghost use Rattle.std.specs.Prelude.{◌≡◌, ℕ, IfOk, length, map};
+ghost use Rattle.std.specs.Prelude.{◌≡◌, ℕ, IfOk, map};
 
 use super::choice::{Choice, chosen, is_chosen_bad};
 use super::exhibit::{evidence_of, title_of};
+use super::run::Run;
 use pd_check::{Finding, find_formed};
-use pd_clock::{Computation, Place};
 use pd_picture::{Evidence, picture};
 use pd_pred::Names;
 use pd_report::{Answer, Report};
-use pd_spec::Spec;
 use pd_svg::Drawing;
-use pd_traces::Trace;
 use std::alloc::{AllocError, Global};
 
 /// What comes of a session and a report on it.
@@ -77,97 +74,77 @@ fn lane_names(alloc: Global, names: &Names) -> Result<Vec<String>, AllocError>
 /// The picture of the run with this evidence.
 fn run_picture(
     alloc: Global,
-    spec: &Spec,
-    computation: &Computation<'_>,
-    traces: &[Trace],
-    pairs: &[(Place, Place)],
+    run: &Run<'_, '_>,
     title: &str,
     evidence: &Evidence,
 ) -> Result<Drawing, AllocError>
-    requires traces { computation_view traces.now ≡ computation.now.events }
-    requires pairs { IsMessageList computation.now.events (pairs_view pairs.now) }
-    ensures { IfOk result (IsPicture computation.now.events (pairs_view pairs.now)
-        (process_names (document_view spec.now)) title.now evidence.now) }
+    requires read { IsRun run.now }
+    ensures { IfOk result (IsPicture run.now.computation.now.events (pairs_view run.now.pairs.now)
+        (process_names (document_view run.now.spec.now)) title.now evidence.now) }
 {
-    let lanes = lane_names(alloc, spec.names())?;
-    picture(alloc, computation, traces, pairs, &lanes, title, evidence)
+    let lanes = lane_names(alloc, run.spec.names())?;
+    picture(
+        alloc,
+        run.computation,
+        run.traces,
+        run.pairs,
+        &lanes,
+        title,
+        evidence,
+    )
 }
 
 /// The picture of the run alone.
-fn draw_run(
-    alloc: Global,
-    spec: &Spec,
-    computation: &Computation<'_>,
-    traces: &[Trace],
-    pairs: &[(Place, Place)],
-) -> Result<Drawing, AllocError>
-    requires recorded { computation.now ≡ recorded_of (document_view spec.now) (traces_view traces.now) }
-    requires traces { computation_view traces.now ≡ computation.now.events }
-    requires pairs { IsMessageList computation.now.events (pairs_view pairs.now) }
-    ensures { IfOk result (IsPictureOf (document_view spec.now) (traces_view traces.now) (pairs_view pairs.now)
-        (λ evidence title. ShowsNothing evidence × (title ≡ run_title))) }
+fn draw_run(alloc: Global, run: &Run<'_, '_>) -> Result<Drawing, AllocError>
+    requires read { IsRun run.now }
+    ensures { IfOk result (IsPictureOf (document_view run.now.spec.now) (traces_view run.now.traces.now)
+        (pairs_view run.now.pairs.now) (λ evidence title. ShowsNothing evidence × (title ≡ run_title))) }
 {
-    run_picture(
-        alloc,
-        spec,
-        computation,
-        traces,
-        pairs,
-        "The run",
-        &Evidence::Absent,
-    )
+    run_picture(alloc, run, "The run", &Evidence::Absent)
 }
 
 /// The picture of the run with the evidence of predicate `i`, counted from 0.
 fn draw_predicate(
     alloc: Global,
-    spec: &Spec,
+    run: &Run<'_, '_>,
     answers: &[Answer],
-    computation: &Computation<'_>,
-    traces: &[Trace],
-    pairs: &[(Place, Place)],
     i: usize,
 ) -> Result<Drawing, AllocError>
-    requires good { IsGoodAt (document_view spec.now) computation.now (map views.answer_view answers.now) i }
-    requires recorded { computation.now ≡ recorded_of (document_view spec.now) (traces_view traces.now) }
-    requires traces { computation_view traces.now ≡ computation.now.events }
-    requires pairs { IsMessageList computation.now.events (pairs_view pairs.now) }
-    requires one_each { length computation.now.events ≡ length (document_view spec.now).names }
-    ensures { IfOk result (IsPictureOf (document_view spec.now) (traces_view traces.now) (pairs_view pairs.now)
-        (ShowsPredicate (document_view spec.now) (traces_view traces.now) (map views.answer_view answers.now) i)) }
+    requires read { IsRun run.now }
+    requires good { IsGoodAt (document_view run.now.spec.now) run.now.computation.now
+        (map views.answer_view answers.now) i }
+    ensures { IfOk result (IsPictureOf (document_view run.now.spec.now) (traces_view run.now.traces.now)
+        (pairs_view run.now.pairs.now) (ShowsPredicate (document_view run.now.spec.now)
+        (traces_view run.now.traces.now) (map views.answer_view answers.now) i)) }
 {
+    let spec = run.spec;
     let asked = &spec.predicates()[i];
-    let evidence = evidence_of(alloc, spec.names(), computation, asked, &answers[i])?;
+    let evidence = evidence_of(alloc, spec.names(), run.computation, asked, &answers[i])?;
     let title = title_of(alloc, &asked.name, &evidence)?;
-    run_picture(alloc, spec, computation, traces, pairs, &title, &evidence)
+    run_picture(alloc, run, &title, &evidence)
 }
 
 /// The picture by this choice of a predicate, unless there is none of the name that was asked for.
 fn draw_choice(
     alloc: Global,
-    spec: &Spec,
+    run: &Run<'_, '_>,
     answers: &[Answer],
-    computation: &Computation<'_>,
-    traces: &[Trace],
-    pairs: &[(Place, Place)],
     chosen: Choice,
 ) -> Result<Option<Drawing>, AllocError>
-    requires good { IsGoodChoice (document_view spec.now) computation.now (map views.answer_view answers.now) chosen }
-    requires recorded { computation.now ≡ recorded_of (document_view spec.now) (traces_view traces.now) }
-    requires traces { computation_view traces.now ≡ computation.now.events }
-    requires pairs { IsMessageList computation.now.events (pairs_view pairs.now) }
-    requires one_each { length computation.now.events ≡ length (document_view spec.now).names }
-    ensures { IfOk result (IsChosenPicture (document_view spec.now) (traces_view traces.now) (pairs_view pairs.now)
-        (map views.answer_view answers.now) chosen) }
+    requires read { IsRun run.now }
+    requires good { IsGoodChoice (document_view run.now.spec.now) run.now.computation.now
+        (map views.answer_view answers.now) chosen }
+    ensures { IfOk result (IsChosenPicture (document_view run.now.spec.now) (traces_view run.now.traces.now)
+        (pairs_view run.now.pairs.now) (map views.answer_view answers.now) chosen) }
 {
     match chosen {
         Choice::Unknown => Ok(None),
         Choice::Alone => {
-            let drawing = draw_run(alloc, spec, computation, traces, pairs)?;
+            let drawing = draw_run(alloc, run)?;
             Ok(Some(drawing))
         }
         Choice::Of(i) => {
-            let drawing = draw_predicate(alloc, spec, answers, computation, traces, pairs, i)?;
+            let drawing = draw_predicate(alloc, run, answers, i)?;
             Ok(Some(drawing))
         }
     }
@@ -176,73 +153,53 @@ fn draw_choice(
 /// The picture of a report with these answers, of which this is found, or what stands against it.
 fn draw_found(
     alloc: Global,
-    spec: &Spec,
+    run: &Run<'_, '_>,
     finding: Finding,
     answers: &[Answer],
-    computation: &Computation<'_>,
-    traces: &[Trace],
-    pairs: &[(Place, Place)],
     name: Option<&str>,
 ) -> Result<Drawn, AllocError>
-    requires found { IsFoundFor (document_view spec.now) (traces_view traces.now) (map views.answer_view answers.now)
-        (finding_view finding) }
-    requires recorded { computation.now ≡ recorded_of (document_view spec.now) (traces_view traces.now) }
-    requires traces { computation_view traces.now ≡ computation.now.events }
-    requires pairs { IsMessageList computation.now.events (pairs_view pairs.now) }
-    requires one_each { length computation.now.events ≡ length (document_view spec.now).names }
+    requires read { IsRun run.now }
+    requires found { IsFoundFor (document_view run.now.spec.now) (traces_view run.now.traces.now)
+        (map views.answer_view answers.now) (finding_view finding) }
     ensures { IfOk result (λ drawn. (messages : ℕ) (claimed : reports.Report)
         → IsJudged claimed (map views.answer_view answers.now)
-        → IsFoundOf (document_view spec.now) (traces_view traces.now) messages claimed (finding_view finding)
-        → Comes (document_view spec.now) (traces_view traces.now) (pairs_view pairs.now) messages claimed
-        (name_view name.entry) drawn) }
+        → IsFoundOf (document_view run.now.spec.now) (traces_view run.now.traces.now) messages claimed
+        (finding_view finding)
+        → Comes (document_view run.now.spec.now) (traces_view run.now.traces.now) (pairs_view run.now.pairs.now)
+        messages claimed (name_view name.entry) drawn) }
 {
     let Some(chosen) = let_by(&finding, name) else {
         return Ok(Drawn::Bad(finding));
     };
-    match draw_choice(alloc, spec, answers, computation, traces, pairs, chosen)? {
+    match draw_choice(alloc, run, answers, chosen)? {
         Some(drawing) => Ok(Drawn::Picture(drawing)),
         None => Ok(Drawn::NoPredicate),
     }
 }
 
 /// The picture of a session and a report on it, or what stands against it. It shows the evidence of the predicate of
-/// this name, and without a name that of the first predicate that has evidence; if none has, the run alone. The
-/// computation, the number of messages and the pairs of their sends and receipts are those of the traces.
+/// this name, and without a name that of the first predicate that has evidence; if none has, the run alone. The number
+/// of messages is that of the run.
 ///
 /// # Errors
 /// Out of memory.
 pub fn draw(
     alloc: Global,
-    spec: &Spec,
+    run: &Run<'_, '_>,
     claimed: &Report,
-    computation: &Computation<'_>,
     messages: u64,
-    traces: &[Trace],
-    pairs: &[(Place, Place)],
     name: Option<&str>,
 ) -> Result<Drawn, AllocError>
-    requires recorded { computation.now ≡ recorded_of (document_view spec.now) (traces_view traces.now) }
-    requires counted { HasMessages computation.now.events messages }
-    requires traces { computation_view traces.now ≡ computation.now.events }
-    requires pairs { IsMessageList computation.now.events (pairs_view pairs.now) }
-    requires one_each { length computation.now.events ≡ length (document_view spec.now).names }
-    ensures { IfOk result (Comes (document_view spec.now) (traces_view traces.now) (pairs_view pairs.now) messages
-        (views.report_view claimed.now) (name_view name.entry)) }
+    requires read { IsRun run.now }
+    requires counted { HasMessages run.now.computation.now.events messages }
+    ensures { IfOk result (Comes (document_view run.now.spec.now) (traces_view run.now.traces.now)
+        (pairs_view run.now.pairs.now) messages (views.report_view claimed.now) (name_view name.entry)) }
 {
     match claimed {
         Report::Refused(_) => Ok(Drawn::Bad(Finding::OfRefusal(false))),
         Report::Judged { answers, .. } => {
-            let finding = find_formed(alloc, spec, claimed, computation, messages)?;
-            draw_found(
-                alloc,
-                spec,
-                finding,
-                answers,
-                computation,
-                traces,
-                pairs,
-                name,
-            )
+            let finding = find_formed(alloc, run.spec, claimed, run.computation, messages)?;
+            draw_found(alloc, run, finding, answers, name)
         }
     }
 }

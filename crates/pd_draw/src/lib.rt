@@ -9,12 +9,15 @@
 //! - `choice`: which predicate is drawn
 //! - `values`: what a predicate's variables are worth
 //! - `exhibit`: the evidence that is drawn, and what the picture is called
+//! - `run`: the session that is drawn, as it has been read
 //! - `drawn`: the picture, or what stands against it
 #![tactic(auto)]
 
 mod choice;
 mod drawn;
 mod exhibit;
+mod run;
 mod values;
 
 pub use drawn::{Drawn, draw};
+pub use run::Run;

@@ -17,17 +17,19 @@ draw-requires-clause-counted g c =
     messages_counted (document_view c.args.spec.now) (traces_view c.args.traces.now)
     c.in_ok-computation.computation c.in_ok-computation.messages c.in_ok-computation.ensures.formed
 
-pub draw-requires-clause-traces : goal.draw-requires-clause-traces
-draw-requires-clause-traces g c =
-    events_recorded (document_view c.args.spec.now) c.args.traces.now c.in_ok-computation.computation
-    c.in_ok-computation.messages c.in_ok-computation.ensures.formed
-
-pub draw-requires-clause-pairs : goal.draw-requires-clause-pairs
-draw-requires-clause-pairs g c =
-    pairs_recorded (document_view c.args.spec.now) c.args.traces.now c.in_ok-computation.computation
-    c.in_ok-computation.messages (pairs_view c.deref.result.now) c.in_ok-computation.ensures.formed
-    (subst (λ (pairs : List (Place × Place)). IsMessageList (computation_view c.args.traces.now) pairs)
-    (sym (ap pairs_view c.deref.ensures.value ∙ c.in_ok-pairs.ensures)) c.in_ok-matched.ensures.messages)
+pub draw-requires-clause-read : goal.draw-requires-clause-read
+draw-requires-clause-read g c =
+    let document = document_view c.args.spec.now in
+    record {
+      recorded = c.in_ok-computation.ensures.formed.same;
+      is_recorded = events_recorded document c.args.traces.now c.in_ok-computation.computation
+          c.in_ok-computation.messages c.in_ok-computation.ensures.formed;
+      are_messages = pairs_recorded document c.args.traces.now c.in_ok-computation.computation
+          c.in_ok-computation.messages (pairs_view c.deref.result.now) c.in_ok-computation.ensures.formed
+          (subst (λ (pairs : List (Place × Place)). IsMessageList (computation_view c.args.traces.now) pairs)
+          (sym (ap pairs_view c.deref.ensures.value ∙ c.in_ok-pairs.ensures)) c.in_ok-matched.ensures.messages);
+      one_each = c.in_ok-computation.ensures.formed.one_each;
+    }
 
 pub returns-clause-drawn : goal.returns-clause-drawn
 returns-clause-drawn g c =

@@ -11,7 +11,8 @@ use Rattle.pd_draw.proofs.drawn.draw_found.Goals as goal
 pub draw_choice-requires-clause-good : goal.draw_choice-requires-clause-good
 draw_choice-requires-clause-good c =
     let of = c.requires.found in
-    good_choice (document_view c.args.spec.now) (traces_view c.args.traces.now) of.messages c.args.computation.now
-    of.claimed of.judged.processes of.judged.events of.judged.matched (map views.answer_view c.args.answers.now)
-    (name_view c.args.name) (finding_view c.args.finding) c.in-Some.chosen c.requires.recorded of.judged.is of.found
+    good_choice (document_view c.args.run.now.spec.now) (traces_view c.args.run.now.traces.now) of.messages
+    c.args.run.now.computation.now of.claimed of.judged.processes of.judged.events of.judged.matched
+    (map views.answer_view c.args.answers.now) (name_view c.args.name) (finding_view c.args.finding)
+    c.in-Some.chosen c.requires.read.recorded of.judged.is of.found
     (rw c.in-Some.is at c.let_by.ensures)

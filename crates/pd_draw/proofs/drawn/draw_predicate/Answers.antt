@@ -17,17 +17,17 @@ pub evidence_of-requires-clause-good : goal.evidence_of-requires-clause-good
 evidence_of-requires-clause-good c =
     let asked = named_view c.index-predicates-i.result in
     let answer = views.answer_view c.index-answers-i.result in
-    subst (λ (names : List ProcessNames). HasGoodEvidence names c.args.computation.now asked.predicate answer)
+    subst (λ (names : List ProcessNames). HasGoodEvidence names c.args.run.now.computation.now asked.predicate answer)
     (sym c.names.ensures) (c.requires.good.good asked answer
-    (seen_at named_view c.predicates.result.now (document_view c.args.spec.now).predicates c.args.i
+    (seen_at named_view c.predicates.result.now (document_view c.args.run.now.spec.now).predicates c.args.i
     c.index-predicates-i.result c.predicates.ensures c.requires.good.asked_there c.index-predicates-i.is)
     (seen_at views.answer_view c.args.answers.now (map views.answer_view c.args.answers.now) c.args.i
     c.index-answers-i.result refl c.requires.good.answer_there c.index-answers-i.is))
 
 pub returns : goal.returns
 returns c =
-    let document = document_view c.args.spec.now in
-    let traces = traces_view c.args.traces.now in
+    let document = document_view c.args.run.now.spec.now in
+    let traces = traces_view c.args.run.now.traces.now in
     let answers = map views.answer_view c.args.answers.now in
     let asked = named_view c.index-predicates-i.result in
     let answer = views.answer_view c.index-answers-i.result in
@@ -35,10 +35,10 @@ returns c =
     let shows : Shows document.names (recorded_of document traces) asked.predicate answer evidence =
     subst (λ (names : List ProcessNames). Shows names (recorded_of document traces) asked.predicate answer evidence)
     c.names.ensures (subst (λ (r : Recorded). Shows c.names.result.now r asked.predicate answer evidence)
-    c.requires.recorded c.in_ok-evidence.ensures) in
-    pictured document traces (pairs_view c.args.pairs.now) c.args.computation.now
+    c.requires.read.recorded c.in_ok-evidence.ensures) in
+    pictured document traces (pairs_view c.args.run.now.pairs.now) c.args.run.now.computation.now
     (ShowsPredicate document traces answers c.args.i) c.run_picture.result evidence c.deref-2.result.now
-    c.requires.recorded
+    c.requires.read.recorded
     (record {
       asked = asked;
       is_asked = seen_at named_view c.predicates.result.now document.predicates c.args.i c.index-predicates-i.result

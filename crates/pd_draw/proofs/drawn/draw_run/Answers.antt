@@ -11,6 +11,7 @@ use Rattle.pd_draw.proofs.drawn.draw_run.Goals as goal
 
 pub returns : goal.returns
 returns c =
-    pictured (document_view c.args.spec.now) (traces_view c.args.traces.now) (pairs_view c.args.pairs.now)
-    c.args.computation.now (λ (evidence : Evidence) (title : List ℕ). ShowsNothing evidence × (title ≡ run_title))
-    c.run_picture.result Absent run_title c.requires.recorded (tt, refl) c.run_picture.ensures
+    pictured (document_view c.args.run.now.spec.now) (traces_view c.args.run.now.traces.now)
+    (pairs_view c.args.run.now.pairs.now) c.args.run.now.computation.now
+    (λ (evidence : Evidence) (title : List ℕ). ShowsNothing evidence × (title ≡ run_title))
+    c.run_picture.result Absent run_title c.requires.read.recorded (tt, refl) c.run_picture.ensures

@@ -1,5 +1,5 @@
 -- The observation of these names, and that there is one.
-use Rattle.std.proofs.Common.{List, ℕ, map, sym, false}
+use Rattle.std.proofs.Common.{List, ℕ, map, sym}
 use Rattle.std.specs.Prelude.{string_bytes}
 use Rattle.std.proofs.lemmas.Bool.{false≢true}
 use Rattle.pd_model.specs.Predicates.{test_of}
