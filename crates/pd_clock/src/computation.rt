@@ -3,7 +3,6 @@ ghost use Rattle.pd_clock.specs.Computations.{FitsInitial, Keeps, recorded_view}
 ghost use Rattle.pd_traces.specs.SessionTraces.{AreTraces};
 ghost use Rattle.pd_traces.specs.Views.{computation_view};
 ghost use Rattle.pd_format.specs.Limits.{event_limit, process_limit};
-ghost use Rattle.pd_spec.specs.Views.{document_view};
 ghost use Rattle.pd_clock.specs.Orders.{cycle_view};
 ghost use Rattle.pd_clock.specs.Senders.{IsSender};
 ghost use Rattle.pd_clock.specs.StateViews.{state_view};
@@ -22,8 +21,7 @@ use super::order::{Order, put_in_order};
 use super::state::value_in_history;
 use super::{BuildFault, Cut, State};
 use pd_match::{Matched, Place};
-use pd_spec::Spec;
-use pd_traces::Trace;
+use pd_traces::{InitialValues, Trace};
 use std::alloc::{AllocError, Global};
 use std::marker::Model;
 
@@ -102,26 +100,26 @@ fn none_above(counts: &[u64], traces: &[Trace]) -> bool
 }
 
 impl<'a> Computation<'a> {
-    /// The computation of these traces, one for each process of the document and in their order. The messages are those
+    /// The computation of these traces, one for each process of the session and in their order. The messages are those
     /// of the traces.
     ///
     /// # Errors
     /// `Cycle` exactly where some event happened before itself, or `Memory`.
-    pub fn build(
+    pub fn build<S: InitialValues>(
         alloc: Global,
-        spec: &'a Spec,
+        session: &'a S,
         traces: &'a [Trace],
         matched: Matched,
     ) -> Result<Computation<'a>, BuildFault>
-        requires traces { AreTraces (document_view spec.now).names traces.now }
+        requires traces { AreTraces (S.names session.now) traces.now }
         requires messages { IsMessageList (computation_view traces.now) matched }
         ensures recorded { IfOk result (λ computation.
-            computation ≡ recorded_view (document_view spec.now).initial traces.now) }
+            computation ≡ recorded_view (S.initial session.now) traces.now) }
         ensures acyclic { IfOk result (λ computation. HasNoCycle (computation_view traces.now)) }
         ensures cycle { IfErr result (λ fault.
             IfSome (cycle_view fault) (IsReportedCycle (computation_view traces.now))) }
     {
-        let initial = spec.initial_rows();
+        let initial = session.initial_rows();
         let Order { done, clocks } = put_in_order(alloc, traces, &matched)?;
         if let Some(places) = reported_cycle(alloc, traces, &matched, &done)? {
             return Err(BuildFault::Cycle(places));

@@ -1,7 +1,7 @@
 //! A finished computation: its events, its consistent cuts and the state at each of them.
 //!
 //! A computation is seen by contracts as what was recorded: the initial values and the events of each process. A cut is
-//! seen as its counts. `build` takes a document with the traces of its processes, and refuses events of which one
+//! seen as its counts. `build` takes a session with the traces of its processes, and refuses events of which one
 //! happened before itself, with the causal cycle. `before` and `clock` decide happened-before, `sender` gives the send
 //! of a receipt, `consistent` whether counts are those of a cut that is closed under happened-before, and `can_undo`
 //! whether a consistent cut stays one without the last event of a process. `at` gives the state at a cut, whose values

@@ -10,6 +10,7 @@ pub mod Tokens
 pub mod Grammar
 pub mod PredicateTexts
 pub mod Documents
+pub mod Versions
 pub mod Sessions
 pub mod Reports
 pub mod RefusalWords

@@ -1,8 +1,12 @@
 //! What bytes mean: lines, records, readings, session documents, predicates and reports.
 //! The definitions stand in `specs/`; each function here is a law that holds of them.
+//!
+//! - `limits`: the limits, by their names
+//! - `version`: the version of a document
 #![tactic(auto)]
 
 mod limits;
+mod version;
 
 ghost use Rattle.pd_format.specs.LineLaws.{
   ShortPartIsSound,
@@ -43,6 +47,7 @@ pub use limits::{
     LINE_BYTE_LIMIT, NAME_BYTE_LIMIT, PREDICATE_BYTE_LIMIT, PREDICATE_LIMIT, PROCESS_LIMIT,
     REPORT_BYTE_LIMIT, STREAM_BYTE_LIMIT, STREAM_COUNT_LIMIT, VAR_LIMIT, WIDTH_LIMIT, WORKER_LIMIT,
 };
+pub use version::Version;
 
 /// The lines of more bytes begin with the lines of these.
 pub fn lines_go_on()

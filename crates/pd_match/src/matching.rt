@@ -2,7 +2,7 @@
 ghost use Rattle.pd_traces.specs.Views.{computation_view};
 ghost use Rattle.pd_match.specs.Noted.{HasAll, place_noted, sends_marked};
 ghost use Rattle.pd_match.specs.Views.{match_fault_view};
-ghost use Rattle.pd_spec.specs.Views.{version_view};
+ghost use Rattle.pd_format.specs.Versions.{version_view};
 ghost use Rattle.pd_model.specs.Events.{Send};
 ghost use Rattle.pd_model.specs.Messages.{HasLawfulMessages, IsMessageList, IsReported};
 ghost use Rattle.std.specs.Prelude.{◌≡◌, IfErr, IfOk, IfSome};
@@ -11,7 +11,7 @@ use super::receiving::senders_in;
 use super::sending::sends_of;
 use super::{MatchFault, Matched, Place};
 use indexmap::IndexMap;
-use pd_spec::Version;
+use pd_format::Version;
 use pd_traces::Trace;
 use std::alloc::Global;
 use std::hash::{BuildHasher, BuildHasherDefault, FoldHasher, RandomState};

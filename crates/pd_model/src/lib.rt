@@ -1,10 +1,16 @@
 //! The model of the monitor: what a computation, a cut, an observation and an answer are, with the laws that hold of
 //! them. Each function here has no code. Its contract is a law, which is proved for every computation.
+//!
+//! - `values`: where code has the values of variables from
 #![tactic(auto)]
+
+mod values;
 
 ghost use Rattle.pd_model.specs.Examples.{BothAtOnce, NoReceiptAlone, AvoidedUpToTwo, CycleOfReceipts};
 ghost use Rattle.pd_model.specs.Walks.{ShortLevel, ShortAvoiding, FoundInLevel, NoneInLevels, WideNext, FreeLevel, PathOfLevels, UndoneByList, SomeUndone};
 ghost use Rattle.pd_model.specs.Laws.{StepHappens, HappenedOnward, HappenedIsLeast, LevelHasList, AvoidingHasList, CountsOfCut, CutOfCounts, OneEventMore, ClocksDecide, OneClock, CanUndo, FirstLevel, NextLevel, LastLevel, EmptyLevel, FullLevel, AvoidingLevel, NextAvoiding, FirstAvoidingList, NextAvoidingList, FreeLevelDecides, PathIsFound, PathAvoids, EveryCutIsObserved, PossiblyBothWays, NoYesBesideNo, CutBelowLevel, OnePossiblyAnswer, OneDefinitelyAnswer, OneList, OneFault, OneCycle, StuckStep, StuckReceipt, LeftAreStuck, NoneStuck, MeetAndJoin, StepDown, CutBetween, AllAvoid, AvoidAtFirstHit, AvoidByUndoing};
+
+pub use values::Values;
 
 /// A cut and its counts determine each other, and one event more is one count greater by 1.
 pub fn cuts_and_counts()

@@ -5,8 +5,8 @@ ghost use Rattle.pd_pred.specs.Trees.{comparison_view, sign_view, sum_view, term
 ghost use Rattle.std.specs.Int.RustNames.{unsigned_abs};
 ghost use Rattle.std.specs.Prelude.{◌≡◌, ◌<◌, ◌^◌};
 
-use super::Values;
 use super::tree::{Comparison, Sign, SignedTerm, Sum, Term, Tree};
+use pd_model::Values;
 
 /// Whether the predicate is true at the state.
 pub(crate) fn holds<V: Values>(tree: &Tree, values: &V) -> bool

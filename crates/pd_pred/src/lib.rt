@@ -6,7 +6,6 @@
 //!
 //! - `name`: what is a name
 //! - `names`: the processes of a session and their variables
-//! - `values`: where the values of variables come from
 //! - `error`: why a text is refused
 //! - `predicate`: the predicate itself
 //! - `token`, `lexer`: the tokens of a text, and how they are read
@@ -29,11 +28,10 @@ mod predicate;
 mod state;
 mod token;
 mod tree;
-mod values;
 
 pub use error::{PredError, PredErrorKind};
 pub use name::is_name;
 pub use names::{Names, ProcessNames};
+pub use pd_model::Values;
 pub use predicate::Pred;
 pub use tree::{Comparison, Sign, SignedTerm, Sum, Term, Tree};
-pub use values::Values;

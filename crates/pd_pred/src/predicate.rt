@@ -12,8 +12,9 @@ use super::lexer::{LexError, lex};
 use super::numbers::first_too_large;
 use super::placement::first_misplaced;
 use super::tree::Tree;
-use super::{Names, PredError, PredErrorKind, Values};
+use super::{Names, PredError, PredErrorKind};
 use pd_format::PREDICATE_BYTE_LIMIT;
+use pd_model::Values;
 use std::alloc::Global;
 
 /// A predicate over the variables of a session.

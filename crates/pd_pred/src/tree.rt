@@ -2,8 +2,8 @@
 ghost use Rattle.pd_format.specs.Limits.{predicate_byte_limit};
 ghost use Rattle.std.specs.Prelude.{◌≤◌, vec_len};
 
-use super::Values;
 use super::evaluate::holds;
+use pd_model::Values;
 
 /// A sign before a term.
 #[derive(Clone, Copy, Debug, PartialEq, Eq)]

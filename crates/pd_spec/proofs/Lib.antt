@@ -5,6 +5,7 @@ pub mod Distinct
 pub mod DocumentFacts
 pub mod Each
 pub mod Faultless
+pub mod InitialValues
 pub mod OutlineViews
 pub mod PredicateFaults
 pub mod Rows

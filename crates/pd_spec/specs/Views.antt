@@ -2,18 +2,12 @@
 use Rattle.std.specs.Prelude.{ℕ, List, map, MatchOption}
 use Rattle.pd_format.specs.Documents.{Document, IsRefusedDocument}
 use Rattle.pd_format.specs.Documents as faults
-use Rattle.pd_model.specs.Messages as messages
+use Rattle.pd_format.specs.Versions.{version_view}
 use Rattle.pd_pred.specs.Views.{predicate_fault_view}
 use Rattle.pd_spec.specs.declared.fault.SpecFault.{SpecFault}
 use Rattle.pd_spec.specs.declared.fault.SpecFault.TheVariants as kinds
 use Rattle.pd_spec.specs.declared.spec.Spec.{Spec}
-use Rattle.pd_spec.specs.declared.version.Version.{Version}
-use Rattle.pd_spec.specs.declared.version.Version.TheVariants as versions
 use Rattle.pd_spec.specs.Named.{named_view}
-
-abbrev pub version_view : Version → messages.Version
-version_view versions.One = messages.One
-version_view versions.Two = messages.Two
 
 abbrev pub document_view : Spec → Document
 document_view spec = record {

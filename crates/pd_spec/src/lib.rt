@@ -35,5 +35,5 @@ pub use fault::SpecFault;
 pub use fields::{are_whole, has_only, value_at};
 pub use json::json_value;
 pub use named::NamedPred;
+pub use pd_format::Version;
 pub use spec::Spec;
-pub use version::Version;

@@ -8,9 +8,10 @@ use super::json::json_value;
 use super::outline::Outline;
 use super::predicates::parse_all;
 use super::version::version_of;
-use super::{NamedPred, SpecFault, Version};
-use pd_format::{DEFAULT_WIDTH, DOCUMENT_BYTE_LIMIT};
+use super::{NamedPred, SpecFault};
+use pd_format::{DEFAULT_WIDTH, DOCUMENT_BYTE_LIMIT, Version};
 use pd_pred::Names;
+use pd_traces::InitialValues;
 use serde_json::Value;
 use std::alloc::Global;
 
@@ -54,7 +55,8 @@ impl Spec {
     ghost use Rattle.pd_spec.specs.Named.{named_view};
     ghost use Rattle.pd_spec.specs.Outlines.{outline_view};
     ghost use Rattle.pd_spec.specs.Predicates.{IsLateFault};
-    ghost use Rattle.pd_spec.specs.Views.{document_view, version_view, IsFaultOf};
+    ghost use Rattle.pd_format.specs.Versions.{version_view};
+    ghost use Rattle.pd_spec.specs.Views.{document_view, IsFaultOf};
 
     /// The document that these bytes are.
     ///
@@ -148,5 +150,17 @@ impl Spec {
         ensures { version_view result ≡ (document_view self.now).version }
     {
         self.version
+    }
+}
+
+impl InitialValues for Spec {
+    ghost use Rattle.pd_spec.specs.Views.{document_view};
+
+    ghost names = { λ s. (document_view s).names };
+
+    ghost initial = { λ s. (document_view s).initial };
+
+    fn initial_rows(&self) -> &[Vec<i64>] {
+        self.initial.as_slice()
     }
 }

@@ -1,19 +1,11 @@
-//! The version of a document.
+//! The version that a document says.
 ghost use Rattle.std.specs.Prelude.{◌≡◌, option_map};
 ghost use Rattle.serde_json.specs.View.{view};
 ghost use Rattle.pd_format.specs.Documents.{numbered_version, version_of};
-ghost use Rattle.pd_spec.specs.Views.{version_view};
+ghost use Rattle.pd_format.specs.Versions.{version_view};
 
+use pd_format::Version;
 use serde_json::Value;
-
-/// Which processes may receive a message.
-#[derive(Clone, Copy, Debug, PartialEq, Eq)]
-pub enum Version {
-    /// One of them, once. A document without the field `version` has this version.
-    One,
-    /// Several of them, each once.
-    Two,
-}
 
 fn numbered(number: i64) -> Option<Version>
     ensures { option_map version_view result ≡ numbered_version number }

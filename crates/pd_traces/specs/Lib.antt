@@ -1,3 +1,4 @@
 pub mod Columns
 pub mod Views
 pub mod SessionTraces
+pub mod InitialRows

@@ -8,15 +8,18 @@
 //! - `kind`: the kind of an event, as it is seen there
 //! - `settings`: what an event sets, as it is seen there
 //! - `events`: the events of a process, in columns
+//! - `initial`: the values of variables before any event
 #![tactic(auto)]
 
 mod entry;
 mod event;
 mod events;
+mod initial;
 mod kind;
 mod settings;
 
 pub use event::{Event, EventKind, Trace};
 pub use events::{Events, seen};
+pub use initial::InitialValues;
 pub use kind::Kind;
 pub use settings::Settings;

@@ -1,7 +1,7 @@
 -- Matches sends and receipts, by a hasher.
 use Rattle.std.proofs.Common.{rules}
 use Rattle.std.specs.Prelude.{IfSome}
-use Rattle.pd_spec.specs.Views.{version_view}
+use Rattle.pd_format.specs.Versions.{version_view}
 use Rattle.pd_traces.specs.Views.{computation_view}
 use Rattle.pd_model.specs.Messages.{IsReported}
 use Rattle.pd_match.specs.Views.{match_fault_view}

@@ -3,7 +3,7 @@ use Rattle.std.proofs.Common.{◌≡◌, ◌∙◌, ◌+◌, [], add-one, ap, ar
 use Rattle.std.proofs.lemmas.List.{length-map, length-replicate}
 use Rattle.indexmap.specs.IndexMap.{index_map_len}
 use Rattle.pd_traces.specs.declared.event.Trace.{Trace}
-use Rattle.pd_spec.specs.Views.{version_view}
+use Rattle.pd_format.specs.Versions.{version_view}
 use Rattle.pd_traces.specs.Views.{computation_view}
 use Rattle.pd_model.specs.Messages.{IsMessageList}
 use Rattle.pd_match.specs.Noted.{CountsSends, event_place, last_receiver, pairs_in, place_noted, sends_marked}

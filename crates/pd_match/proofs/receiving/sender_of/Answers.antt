@@ -1,7 +1,7 @@
 -- The send of the event at index `n` of process `p`, if it is a receipt.
 use Rattle.std.proofs.Common.{◌≡◌, ◌∙◌, ℕ, Some, ap, rules, refl, subst, suc, sym, List, bytes_eq, cond}
 use Rattle.std.specs.Prelude.{IfSome}
-use Rattle.pd_spec.specs.Views.{version_view}
+use Rattle.pd_format.specs.Versions.{version_view}
 use Rattle.pd_traces.specs.Views.{computation_view}
 use Rattle.pd_traces.specs.Columns.{seen_kind_view}
 use Rattle.pd_model.specs.Events.{Receive, kind_at}

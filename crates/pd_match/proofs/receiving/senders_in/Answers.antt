@@ -1,6 +1,6 @@
 -- For each event of process `p` its send, if it is a receipt.
 use Rattle.std.proofs.Common.{◌≡◌, ◌↔◌, Some, option_map, ◌∙◌, ◌+◌, add-one, arith, refl, suc, subst, sym}
-use Rattle.pd_spec.specs.Views.{version_view}
+use Rattle.pd_format.specs.Versions.{version_view}
 use Rattle.pd_traces.specs.Views.{computation_view}
 use Rattle.pd_model.specs.Events.{event_count}
 use Rattle.pd_model.specs.Events as events

@@ -2,7 +2,8 @@
 use Rattle.std.proofs.Common.{subst}
 use Rattle.pd_model.specs.Messages.{HasLawfulMessages, Version}
 use Rattle.pd_match.specs.Views.{match_fault_view}
-use Rattle.pd_spec.specs.Views.{document_view, version_view}
+use Rattle.pd_format.specs.Versions.{version_view}
+use Rattle.pd_spec.specs.Views.{document_view}
 use Rattle.pd_traces.specs.Views.{computation_view}
 use Rattle.pd_report.specs.Views as views
 use Rattle.pd_sessions.proofs.FitTraces.{refused_report}

@@ -1,14 +1,14 @@
--- The traces fit the document, and if no cycle is reported all events have their clocks.
-use Rattle.std.proofs.Common.{◌≡◌, ℤ, List, map, Option, Some, None, refl, sym, subst}
-use Rattle.std.specs.Prelude.{IfNone, string_bytes, Vec}
+-- The traces fit the session, and if no cycle is reported all events have their clocks.
+use Rattle.std.proofs.Common.{◌≡◌, ℤ, List, Option, Some, None, refl, sym, subst}
+use Rattle.std.specs.Prelude.{IfNone, Vec}
 use Rattle.std.specs.Global.{Global}
+use Rattle.pd_format.specs.Names.{ProcessNames}
 use Rattle.pd_model.specs.Order.{HasNoCycle}
+use Rattle.pd_model.specs.Predicates.{Initial}
+use Rattle.pd_traces.specs.InitialRows.{AreInitialRows}
 use Rattle.pd_traces.specs.Views.{computation_view}
 use Rattle.pd_traces.specs.SessionTraces.{AreTraces}
 use Rattle.pd_traces.specs.declared.event.Trace.{Trace}
-use Rattle.pd_spec.specs.Sound.{IsSound}
-use Rattle.pd_spec.specs.Views.{document_view}
-use Rattle.pd_spec.specs.declared.spec.Spec.{Spec}
 use Rattle.pd_clock.specs.Computations.{FitsInitial, initial_view}
 use Rattle.pd_clock.proofs.FitTraces.{fits_initial}
 use Rattle.pd_clock.proofs.PastFacts.{all_clocks}
@@ -19,32 +19,32 @@ none_reported : {A : Type 0} (reported : Option A) (P : Type 0) → ((x : A) →
 none_reported None P no_place holds = holds
 none_reported (Some x) P no_place holds = absurd (no_place x refl)
 
--- the traces fit the document's values, which are these
-fits : (spec : Spec) (rows : List (Vec ℤ Global)) (traces : List Trace) → initial_view rows
-    ≡ (document_view spec).initial → AreTraces (document_view spec).names traces → FitsInitial rows traces
-fits spec rows traces same are =
-    fits_initial (document_view spec).names rows (map (λ p. string_bytes p.name) spec.predicates.items) spec.width
-    traces
-    (subst (λ (values : List (List ℤ)). IsSound (document_view spec).names values
-    (map (λ p. string_bytes p.name) spec.predicates.items) spec.width) (sym same) spec.sound) are
+-- the traces fit the session's values, which are these
+fits : (names : List ProcessNames) (initial : Initial) (rows : List (Vec ℤ Global)) (traces : List Trace)
+    → initial_view rows ≡ initial → AreInitialRows names initial → AreTraces names traces → FitsInitial rows traces
+fits names initial rows traces same fit are =
+    fits_initial names rows traces (subst (λ (values : Initial). AreInitialRows names values) (sym same) fit) are
 
 pub put_in_order-requires-clause-few : goal.put_in_order-requires-clause-few
-put_in_order-requires-clause-few c =
-    (fits c.args.spec.now c.initial_rows-initial.result.now c.args.traces.now c.initial_rows-initial.ensures
-    c.requires.traces).few
+put_in_order-requires-clause-few g c =
+    (fits (g.S.InitialValues.names c.args.session.now) (g.S.InitialValues.initial c.args.session.now)
+    c.initial_rows-initial.result.now c.args.traces.now c.initial_rows-initial.ensures.rows
+    c.initial_rows-initial.ensures.fit c.requires.traces).few
 
 pub put_in_order-requires-clause-short : goal.put_in_order-requires-clause-short
-put_in_order-requires-clause-short c =
-    (fits c.args.spec.now c.initial_rows-initial.result.now c.args.traces.now c.initial_rows-initial.ensures
-    c.requires.traces).short
+put_in_order-requires-clause-short g c =
+    (fits (g.S.InitialValues.names c.args.session.now) (g.S.InitialValues.initial c.args.session.now)
+    c.initial_rows-initial.result.now c.args.traces.now c.initial_rows-initial.ensures.rows
+    c.initial_rows-initial.ensures.fit c.requires.traces).short
 
 pub histories-requires : goal.histories-requires
-histories-requires c =
-    fits c.args.spec.now c.initial_rows-initial.result.now c.args.traces.now c.initial_rows-initial.ensures
-    c.requires.traces
+histories-requires g c =
+    fits (g.S.InitialValues.names c.args.session.now) (g.S.InitialValues.initial c.args.session.now)
+    c.initial_rows-initial.result.now c.args.traces.now c.initial_rows-initial.ensures.rows
+    c.initial_rows-initial.ensures.fit c.requires.traces
 
 pub invariant_of-result : goal.invariant_of-result
-invariant_of-result c =
+invariant_of-result g c =
     let acyclic : HasNoCycle (computation_view c.args.traces.now) =
     none_reported c.in_ok-places.field-0 (HasNoCycle (computation_view c.args.traces.now)) c.in_default.not-Some
     c.in_ok-places.ensures.none in (
