@@ -3,16 +3,85 @@
 build.py --unproved [OUT]: builds it in two to three minutes without its proofs, for those who want to try it first.
 
 The first proves all that the program stands on, side by side, with a line for each crate, and then builds
-crates/monitor/out/monitor. What is proved is kept, so the next call proves only what has changed. The second writes
-crates/monitor/out/monitor-unproved, or OUT: it reads and writes the same, and its help says that it isn't proved.
+crates/monitor/out/monitor. It is the gate, `rt ci`, on a copy that has these crates alone, without the edits that must
+fail. What is proved is kept on this machine, so the next call, and the gate, prove only what has changed. The second
+writes crates/monitor/out/monitor-unproved, or OUT: it reads and writes the same, and its help says that it isn't proved.
 """
 import argparse
 import os
+import re
+import shutil
 import subprocess
 import sys
+import tempfile
+import time
 
 ROOT = os.path.dirname(os.path.abspath(__file__))
 CRATE = os.path.join(ROOT, "crates", "monitor")
+HEAD = re.compile(r"== \w")
+PROVED = re.compile(r"rt: (\w+) (proved$|is kept: )")
+NOT_PROVED = re.compile(r"rt: \w+ NOT PROVED")
+
+
+def lines_of_crates():
+    """Each crate's line in crates.txt, in the file's order."""
+    with open(os.path.join(ROOT, "crates.txt"), encoding="utf-8") as lines:
+        found = [line.split("#")[0].split() for line in lines]
+    return {line[0].rstrip(":"): line for line in found if line}
+
+
+def below(name, lines):
+    """The crate and those that it stands on."""
+    return {name}.union(*(below(other, lines) for other in lines[name][1:] if other in lines))
+
+
+def copy_crates(to):
+    """Copies the crates that the program stands on, and gives how many there are."""
+    lines = lines_of_crates()
+    names = below("monitor", lines)
+    shutil.copy2(os.path.join(ROOT, "HANDLES"), to)
+    with open(os.path.join(to, "crates.txt"), "w", encoding="utf-8") as file:
+        file.writelines(" ".join(line) + "\n" for name, line in lines.items() if name in names)
+    for name in names:
+        shutil.copytree(os.path.join(ROOT, "crates", name), os.path.join(to, "crates", name),
+                        ignore=lambda at, _: {"out", "edits", "must-fail"} if os.path.basename(at) == name else set())
+    return len(names)
+
+
+def prove(folder, count, jobs):
+    """Whether each crate of a copy is proved and the program runs as it should. Shows a line for each crate, and what
+    `rt` says of one that isn't proved."""
+    start, done, said = time.time(), 0, []
+    environment = {**os.environ, **({"RT_JOBS": jobs} if jobs else {})}
+    with subprocess.Popen(["rt", "ci"], cwd=folder, env=environment, text=True, errors="replace",
+                          stdout=subprocess.PIPE, stderr=subprocess.STDOUT) as run:
+        for line in run.stdout:
+            found = PROVED.match(line)
+            said = [line] if HEAD.match(line) else [*said, line]
+            if found:
+                done += 1
+                print(f"{found[1]}: proved, {count - done} left, after {time.time() - start:.0f} s", flush=True)
+            elif NOT_PROVED.match(line):
+                sys.stdout.writelines(said)
+            if found or NOT_PROVED.match(line):
+                said = []
+    if run.returncode:
+        sys.stdout.writelines(said)
+    return run.returncode == 0
+
+
+def build_proved(program, jobs):
+    os.makedirs(os.path.dirname(program), exist_ok=True)
+    with tempfile.TemporaryDirectory(prefix="monitor-build-") as folder:
+        if not prove(folder, copy_crates(folder), jobs):
+            return 1
+        shutil.copy2(os.path.join(folder, "crates", "monitor", "out", "monitor"), program)
+    return 0
+
+
+def build_unproved(program):
+    os.makedirs(os.path.dirname(program), exist_ok=True)
+    return subprocess.run([sys.executable, os.path.join(ROOT, "bench", "unproved.py"), program], check=False).returncode
 
 
 def judge_stored(program):
@@ -25,33 +94,13 @@ def judge_stored(program):
     return report == stored
 
 
-def prove_and_build(jobs):
-    """The status of the proofs and of the build."""
-    status = subprocess.run([sys.executable, os.path.join(ROOT, ".ci", "prove.py"), "-j", jobs, "--below", "monitor"],
-                            check=False).returncode
-    if status == 0:
-        print("build: all that it stands on is proved; the program is proved and compiled", flush=True)
-        with open(os.path.join(CRATE, "stdin"), "rb") as bundle:
-            ran = subprocess.run(["rt", "run"], cwd=CRATE, stdin=bundle, stdout=subprocess.PIPE,
-                                 stderr=subprocess.STDOUT, check=False)
-        status = ran.returncode
-        if status:
-            sys.stdout.write(ran.stdout.decode(errors="replace"))
-    return status
-
-
-def build_unproved(program):
-    os.makedirs(os.path.dirname(program), exist_ok=True)
-    return subprocess.run([sys.executable, os.path.join(ROOT, "bench", "unproved.py"), program], check=False).returncode
-
-
 def main():
     parser = argparse.ArgumentParser(description=__doc__, formatter_class=argparse.RawDescriptionHelpFormatter)
-    parser.add_argument("-j", default=str(len(os.sched_getaffinity(0))), metavar="N", help="jobs in all")
+    parser.add_argument("-j", metavar="N", help="crates at once, if not as many as there are processors")
     parser.add_argument("--unproved", nargs="?", const=os.path.join(CRATE, "out", "monitor-unproved"), metavar="OUT")
     given = parser.parse_args()
     program = os.path.abspath(given.unproved or os.path.join(CRATE, "out", "monitor"))
-    status = build_unproved(program) if given.unproved else prove_and_build(given.j)
+    status = build_unproved(program) if given.unproved else build_proved(program, given.j)
     if status:
         sys.exit(status)
     print(f"build: {os.path.relpath(program)} is built, and judges crates/monitor/stdin:", flush=True)

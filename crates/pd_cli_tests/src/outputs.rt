@@ -67,71 +67,73 @@ fn is_left<T: RandomSource + Threads + Wait + Sync>(
     Ok(good)
 }
 
+/// What is run, with its status and its output: how it begins, or all of it.
+const OUTPUTS: [(&str, &[&str], u8, &str, bool); 11] = [
+    ("a bundle", &[], SUCCESS, REPORT, true),
+    ("help", &["--help"], SUCCESS, "Judges predicates", false),
+    (
+        "help of a command",
+        &["check", "--help"],
+        SUCCESS,
+        CHECK_HELP,
+        true,
+    ),
+    ("files", &["judge", "spec", "a", "b"], SUCCESS, REPORT, true),
+    (
+        "garbage for a document",
+        &["judge", "garbage", "a", "b"],
+        REFUSED,
+        "refused spec json\n",
+        true,
+    ),
+    (
+        "a check",
+        &["check", "spec", "wrong", "a", "b"],
+        REFUSED,
+        BAD_CUT,
+        true,
+    ),
+    (
+        "no report",
+        &["check", "spec", "garbage", "a", "b"],
+        REFUSED,
+        "report line 1\n",
+        true,
+    ),
+    (
+        "a picture",
+        &["draw", "spec", "report", "a", "b"],
+        SUCCESS,
+        "<svg xmlns=",
+        false,
+    ),
+    (
+        "a picture of a predicate",
+        &["draw", "--predicate", "both", "spec", "report", "a", "b"],
+        SUCCESS,
+        "<svg xmlns=",
+        false,
+    ),
+    (
+        "a server",
+        &["serve", "spec", "--port", "1", "--watchers", "1"],
+        SUCCESS,
+        REPORT,
+        true,
+    ),
+    (
+        "a server of garbage",
+        &["serve", "garbage", "--port", "1"],
+        REFUSED,
+        "refused spec json\n",
+        true,
+    ),
+];
+
 #[test]
 fn outputs_that_take_little_or_fail(rt: HostRuntime) -> Result<(), Fail> {
-    let cases: [(&str, &[&str], u8, &str, bool); 11] = [
-        ("a bundle", &[], SUCCESS, REPORT, true),
-        ("help", &["--help"], SUCCESS, "Judges predicates", false),
-        (
-            "help of a command",
-            &["check", "--help"],
-            SUCCESS,
-            CHECK_HELP,
-            true,
-        ),
-        ("files", &["judge", "spec", "a", "b"], SUCCESS, REPORT, true),
-        (
-            "garbage for a document",
-            &["judge", "garbage", "a", "b"],
-            REFUSED,
-            "refused spec json\n",
-            true,
-        ),
-        (
-            "a check",
-            &["check", "spec", "wrong", "a", "b"],
-            REFUSED,
-            BAD_CUT,
-            true,
-        ),
-        (
-            "no report",
-            &["check", "spec", "garbage", "a", "b"],
-            REFUSED,
-            "report line 1\n",
-            true,
-        ),
-        (
-            "a picture",
-            &["draw", "spec", "report", "a", "b"],
-            SUCCESS,
-            "<svg xmlns=",
-            false,
-        ),
-        (
-            "a picture of a predicate",
-            &["draw", "--predicate", "both", "spec", "report", "a", "b"],
-            SUCCESS,
-            "<svg xmlns=",
-            false,
-        ),
-        (
-            "a server",
-            &["serve", "spec", "--port", "1", "--watchers", "1"],
-            SUCCESS,
-            REPORT,
-            true,
-        ),
-        (
-            "a server of garbage",
-            &["serve", "garbage", "--port", "1"],
-            REFUSED,
-            "refused spec json\n",
-            true,
-        ),
-    ];
     let alloc = rt.alloc();
-    for (name, words, status, begin, is_whole) in cases {
+    for (name, words, status, begin, is_whole) in OUTPUTS {
         let network = Scripted::new(&[OF_A, OF_B], true);
         let ran = run_to(&rt, alloc, &network, words, AMPLE, AMPLE)?;
         let text = ran.output.as_slice();
@@ -144,41 +146,43 @@ fn outputs_that_take_little_or_fail(rt: HostRuntime) -> Result<(), Fail> {
     Ok(())
 }
 
+/// What is run and fails, with its status and what it writes on standard error: how that begins, or all of it.
+const ERRORS: [(&str, &[&str], u8, &str, bool); 5] = [
+    (
+        "no files",
+        &["check", "gone", "gone", "gone"],
+        FAILED,
+        "monitor: read\n",
+        true,
+    ),
+    ("another command", &["judges"], MISUSED, "error: ", false),
+    (
+        "a cut that is no evidence",
+        &["draw", "spec", "wrong", "a", "b"],
+        REFUSED,
+        NO_PICTURE,
+        true,
+    ),
+    (
+        "no predicate",
+        &["draw", "--predicate", "bot", "spec", "report", "a", "b"],
+        MISUSED,
+        "monitor: no predicate of this name\n",
+        true,
+    ),
+    (
+        "no second stream",
+        &["serve", "spec", "--port", "1"],
+        FAILED,
+        "monitor: network\n",
+        true,
+    ),
+];
+
 #[test]
 fn errors_that_take_little_or_fail(rt: HostRuntime) -> Result<(), Fail> {
-    let cases: [(&str, &[&str], u8, &str, bool); 5] = [
-        (
-            "no files",
-            &["check", "gone", "gone", "gone"],
-            FAILED,
-            "monitor: read\n",
-            true,
-        ),
-        ("another command", &["judges"], MISUSED, "error: ", false),
-        (
-            "a cut that is no evidence",
-            &["draw", "spec", "wrong", "a", "b"],
-            REFUSED,
-            NO_PICTURE,
-            true,
-        ),
-        (
-            "no predicate",
-            &["draw", "--predicate", "bot", "spec", "report", "a", "b"],
-            MISUSED,
-            "monitor: no predicate of this name\n",
-            true,
-        ),
-        (
-            "no second stream",
-            &["serve", "spec", "--port", "1"],
-            FAILED,
-            "monitor: network\n",
-            true,
-        ),
-    ];
     let alloc = rt.alloc();
-    for (name, words, status, begin, is_whole) in cases {
+    for (name, words, status, begin, is_whole) in ERRORS {
         let network = Scripted::new(&[OF_A], false);
         let ran = run_to(&rt, alloc, &network, words, AMPLE, AMPLE)?;
         let text = ran.errors.as_slice();

@@ -8,74 +8,78 @@ use std::test::Fail;
 /// The line that reports a connection that can't be accepted.
 const NETWORK_LINE: &str = "monitor: network\n";
 
+/// The streams that connect to a server, with its status, its report, and what it writes on standard error.
+const SERVED: [(&str, &[&str], u8, &str, &str); 7] = [
+    ("two streams", &[OF_A, OF_B], SUCCESS, REPORT, ""),
+    ("the other order", &[OF_B, OF_A], SUCCESS, REPORT, ""),
+    ("a third stream", &[OF_A, OF_B, OF_B], SUCCESS, REPORT, ""),
+    (
+        "a stream that ends within a line",
+        &["{\"process\":\"a\"}\n{\"set", OF_B],
+        REFUSED,
+        "refused stream 1 line 2 json\n",
+        "",
+    ),
+    (
+        "garbage",
+        &[OF_A, "\u{0}\u{1}\n"],
+        REFUSED,
+        "refused stream 2 line 1 json\n",
+        "",
+    ),
+    ("no second stream", &[OF_A], FAILED, "", NETWORK_LINE),
+    ("no stream", &[], FAILED, "", NETWORK_LINE),
+];
+
+/// Command lines of a server, and whether watchers can connect. Watchers that take nothing, watchers that can't be
+/// accepted, and workers change nothing.
+const WATCHED: [(bool, &[&str]); 4] = [
+    (false, &["serve", "spec", "--port", "1", "--watchers", "0"]),
+    (
+        true,
+        &[
+            "serve",
+            "spec",
+            "--port",
+            "1",
+            "--watchers",
+            "1",
+            "--workers",
+            "1",
+        ],
+    ),
+    (
+        true,
+        &[
+            "serve",
+            "spec",
+            "--port",
+            "1",
+            "--watchers",
+            "10",
+            "--workers",
+            "4",
+        ],
+    ),
+    (
+        false,
+        &[
+            "serve",
+            "spec",
+            "--port",
+            "1",
+            "--watchers",
+            "64",
+            "--workers",
+            "16",
+        ],
+    ),
+];
+
 #[test]
 fn servers_end_by_their_connections(rt: HostRuntime) -> Result<(), Fail> {
-    let cases: [(&str, &'static [&'static str], u8, &str, &str); 7] = [
-        ("two streams", &[OF_A, OF_B], SUCCESS, REPORT, ""),
-        ("the other order", &[OF_B, OF_A], SUCCESS, REPORT, ""),
-        ("a third stream", &[OF_A, OF_B, OF_B], SUCCESS, REPORT, ""),
-        (
-            "a stream that ends within a line",
-            &["{\"process\":\"a\"}\n{\"set", OF_B],
-            REFUSED,
-            "refused stream 1 line 2 json\n",
-            "",
-        ),
-        (
-            "garbage",
-            &[OF_A, "\u{0}\u{1}\n"],
-            REFUSED,
-            "refused stream 2 line 1 json\n",
-            "",
-        ),
-        ("no second stream", &[OF_A], FAILED, "", NETWORK_LINE),
-        ("no stream", &[], FAILED, "", NETWORK_LINE),
-    ];
-    for (name, streams, status, text, line) in cases {
-        // Watchers that take nothing, watchers that can't be accepted, and workers change nothing.
-        let others: [(bool, &[&str]); 4] = [
-            (false, &["serve", "spec", "--port", "1", "--watchers", "0"]),
-            (
-                true,
-                &[
-                    "serve",
-                    "spec",
-                    "--port",
-                    "1",
-                    "--watchers",
-                    "1",
-                    "--workers",
-                    "1",
-                ],
-            ),
-            (
-                true,
-                &[
-                    "serve",
-                    "spec",
-                    "--port",
-                    "1",
-                    "--watchers",
-                    "10",
-                    "--workers",
-                    "4",
-                ],
-            ),
-            (
-                false,
-                &[
-                    "serve",
-                    "spec",
-                    "--port",
-                    "1",
-                    "--watchers",
-                    "64",
-                    "--workers",
-                    "16",
-                ],
-            ),
-        ];
-        for (has_watchers, words) in others {
+    for (name, streams, status, text, line) in SERVED {
+        for (has_watchers, words) in WATCHED {
             let network = Scripted::new(streams, has_watchers);
             let ran = run_to(&rt, rt.alloc(), &network, words, AMPLE, AMPLE)?;
             assert!(rt; ran.is(status, text.as_bytes(), line.as_bytes()), "{name}");

@@ -51,6 +51,10 @@ point_text point = codes " " ++ decimal point.x ++ codes "," ++ decimal point.y
 abbrev pub points_text : List Point → List ℕ
 points_text points = flat_map point_text points
 
+unfoldable pub polyline_text : Class → List Point → List ℕ
+polyline_text class points =
+    attribute (codes "class") (class_name class) ++ codes " points=\"" ++ points_text points ++ codes "\""
+
 unfoldable pub place_text : Class → Point → List ℕ
 place_text class at =
     attribute (codes "class") (class_name class) ++ attribute (codes "x") (decimal at.x)
@@ -67,9 +71,7 @@ shape_text (Line class from to) = codes "<line" ++ ends_text class from to ++ co
 shape_text (Arrow class from to) =
     codes "<line" ++ ends_text class from to ++ attribute (codes "marker-end") (codes "url(#head)") ++ codes "/>\n"
 shape_text (Circle class centre radius) = codes "<circle" ++ circle_text class centre radius ++ codes "/>\n"
-shape_text (Polyline class points) =
-    codes "<polyline" ++ attribute (codes "class") (class_name class) ++ codes " points=\""
-    ++ points_text points.items ++ codes "\"/>\n"
+shape_text (Polyline class points) = codes "<polyline" ++ polyline_text class points.items ++ codes "/>\n"
 shape_text (Text class at anchor size text) =
     codes "<text" ++ text_text class at anchor size ++ codes ">" ++ escape (string_bytes text) ++ codes "</text>\n"
 

@@ -1,5 +1,5 @@
 //! The element of a shape.
-ghost use Rattle.pd_svg.specs.Svg.{anchor_word, circle_text, class_name, ends_text, place_text, point_text, points_text, shape_text, shapes_text, text_text};
+ghost use Rattle.pd_svg.specs.Svg.{anchor_word, circle_text, class_name, ends_text, place_text, point_text, points_text, polyline_text, shape_text, shapes_text, text_text};
 ghost use Rattle.std.specs.Prelude.{◌≡◌, ◌++◌, OnOk};
 
 use super::escape::push_escaped;
@@ -86,6 +86,17 @@ fn push_points(out: &mut Vec<u8>, points: &[Point]) -> Result<(), AllocError>
     Ok(())
 }
 
+/// Appends the attributes of a line through points.
+#[tactic(auto, unfolding(crate::specs::Svg::polyline_text))]
+fn push_polyline(out: &mut Vec<u8>, class: Class, points: &[Point]) -> Result<(), AllocError>
+    ensures { OnOk result (out.new.items ≡ out.old.items ++ polyline_text class points.now) }
+{
+    push_attribute(out, b"class", class_name(class))?;
+    push_bytes(out, b" points=\"")?;
+    push_points(out, points)?;
+    push_bytes(out, b"\"")
+}
+
 /// Appends the class of a text, and where it stands.
 #[tactic(auto, unfolding(crate::specs::Svg::place_text))]
 fn push_place(out: &mut Vec<u8>, class: Class, at: Point) -> Result<(), AllocError>
@@ -139,10 +150,8 @@ pub(crate) fn push_shape(out: &mut Vec<u8>, shape: &Shape) -> Result<(), AllocEr
         }
         Shape::Polyline { class, points } => {
             push_bytes(out, b"<polyline")?;
-            push_attribute(out, b"class", class_name(*class))?;
-            push_bytes(out, b" points=\"")?;
-            push_points(out, points)?;
-            push_bytes(out, b"\"/>\n")
+            push_polyline(out, *class, points)?;
+            push_bytes(out, b"/>\n")
         }
         Shape::Text {
             class,

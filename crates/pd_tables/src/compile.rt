@@ -106,43 +106,19 @@ pub(crate) fn compile<'a>(
         Tree::And(left, right) => {
             let is_and = !negated;
             let (node, rest) = split(rest, is_and);
-            let node = compile(
-                alloc,
-                computation,
-                right,
-                negated,
-                Rest { is_and, node },
-                room,
-            )?;
-            let node = compile(
-                alloc,
-                computation,
-                left,
-                negated,
-                Rest { is_and, node },
-                room,
-            )?;
+            let chain = Rest { is_and, node };
+            let node = compile(alloc, computation, right, negated, chain, room)?;
+            let chain = Rest { is_and, node };
+            let node = compile(alloc, computation, left, negated, chain, room)?;
             join(alloc, rest.is_and, node, rest.node)
         }
         Tree::Or(left, right) => {
             let is_and = negated;
             let (node, rest) = split(rest, is_and);
-            let node = compile(
-                alloc,
-                computation,
-                right,
-                negated,
-                Rest { is_and, node },
-                room,
-            )?;
-            let node = compile(
-                alloc,
-                computation,
-                left,
-                negated,
-                Rest { is_and, node },
-                room,
-            )?;
+            let chain = Rest { is_and, node };
+            let node = compile(alloc, computation, right, negated, chain, room)?;
+            let chain = Rest { is_and, node };
+            let node = compile(alloc, computation, left, negated, chain, room)?;
             join(alloc, rest.is_and, node, rest.node)
         }
         _ => {

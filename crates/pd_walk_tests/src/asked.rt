@@ -101,87 +101,89 @@ struct Row<'a> {
     question: Question<'a>,
 }
 
+/// The sessions, with what is asked about each.
+const ROWS: [Row<'static>; 15] = [
+    Row {
+        document: order::DOCUMENT,
+        streams: &order::STREAMS,
+        question: Question::Order,
+    },
+    Row {
+        document: order::DOCUMENT,
+        streams: &order::STREAMS,
+        question: Question::Picture,
+    },
+    Row {
+        document: TWO,
+        streams: &TWO_STREAMS,
+        question: Question::Runs(&TWO_COUNTS, &[]),
+    },
+    Row {
+        document: FOUR,
+        streams: &FOUR_STREAMS,
+        question: Question::Runs(&FOUR_COUNTS, &FOUR_RUNS),
+    },
+    Row {
+        document: seams::NINE,
+        streams: &seams::NINE_STREAMS,
+        question: Question::Runs(&seams::COUNTS, &[]),
+    },
+    Row {
+        document: seams::SIXTEEN,
+        streams: &seams::SIXTEEN_STREAMS,
+        question: Question::Runs(&seams::COUNTS, &[]),
+    },
+    Row {
+        document: skipped::DOCUMENT,
+        streams: &skipped::STREAMS,
+        question: Question::Skips,
+    },
+    Row {
+        document: order::DOCUMENT,
+        streams: &order::STREAMS,
+        question: Question::Through(&through::WAYS),
+    },
+    Row {
+        document: through::CROSSED,
+        streams: &through::CROSSED_STREAMS,
+        question: Question::Through(&through::CROSSED_WAYS),
+    },
+    Row {
+        document: through::BROADCAST,
+        streams: &through::BROADCAST_STREAMS,
+        question: Question::Through(&through::BROADCAST_WAYS),
+    },
+    Row {
+        document: clause::DOCUMENT,
+        streams: &order::STREAMS,
+        question: Question::Clauses,
+    },
+    Row {
+        document: THREE,
+        streams: &THREE_STREAMS,
+        question: Question::Limits,
+    },
+    Row {
+        document: THREE,
+        streams: &THREE_STREAMS,
+        question: Question::Terms,
+    },
+    Row {
+        document: seams::NINE,
+        streams: &seams::NINE_STREAMS,
+        question: Question::Limits,
+    },
+    Row {
+        document: seams::SIXTEEN,
+        streams: &seams::SIXTEEN_STREAMS,
+        question: Question::Limits,
+    },
+];
+
 #[test]
 fn sessions_answer_as_they_should(rt: HostRuntime) {
-    let rows = [
-        Row {
-            document: order::DOCUMENT,
-            streams: &order::STREAMS,
-            question: Question::Order,
-        },
-        Row {
-            document: order::DOCUMENT,
-            streams: &order::STREAMS,
-            question: Question::Picture,
-        },
-        Row {
-            document: TWO,
-            streams: &TWO_STREAMS,
-            question: Question::Runs(&TWO_COUNTS, &[]),
-        },
-        Row {
-            document: FOUR,
-            streams: &FOUR_STREAMS,
-            question: Question::Runs(&FOUR_COUNTS, &FOUR_RUNS),
-        },
-        Row {
-            document: seams::NINE,
-            streams: &seams::NINE_STREAMS,
-            question: Question::Runs(&seams::COUNTS, &[]),
-        },
-        Row {
-            document: seams::SIXTEEN,
-            streams: &seams::SIXTEEN_STREAMS,
-            question: Question::Runs(&seams::COUNTS, &[]),
-        },
-        Row {
-            document: skipped::DOCUMENT,
-            streams: &skipped::STREAMS,
-            question: Question::Skips,
-        },
-        Row {
-            document: order::DOCUMENT,
-            streams: &order::STREAMS,
-            question: Question::Through(&through::WAYS),
-        },
-        Row {
-            document: through::CROSSED,
-            streams: &through::CROSSED_STREAMS,
-            question: Question::Through(&through::CROSSED_WAYS),
-        },
-        Row {
-            document: through::BROADCAST,
-            streams: &through::BROADCAST_STREAMS,
-            question: Question::Through(&through::BROADCAST_WAYS),
-        },
-        Row {
-            document: clause::DOCUMENT,
-            streams: &order::STREAMS,
-            question: Question::Clauses,
-        },
-        Row {
-            document: THREE,
-            streams: &THREE_STREAMS,
-            question: Question::Limits,
-        },
-        Row {
-            document: THREE,
-            streams: &THREE_STREAMS,
-            question: Question::Terms,
-        },
-        Row {
-            document: seams::NINE,
-            streams: &seams::NINE_STREAMS,
-            question: Question::Limits,
-        },
-        Row {
-            document: seams::SIXTEEN,
-            streams: &seams::SIXTEEN_STREAMS,
-            question: Question::Limits,
-        },
-    ];
     let mut number: u64 = 0;
-    for row in &rows {
+    for row in &ROWS {
         number = number.wrapping_add(1);
         let right = is_right(
             &rt,

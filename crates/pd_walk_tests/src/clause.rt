@@ -1,34 +1,14 @@
 //! The least level of the session in `order` that has no avoiding cut, for disjunctions: `free_level`, `most_before`
 //! and `definitely_by_clause`.
-ghost use Rattle.std.specs.Prelude.{cond, false, nat_eq, nat_le};
-
+use crate::least::Wanted;
 use pd_clause::{free_level, most_before};
 use pd_clock::Computation;
-use pd_least::GoodCounts;
 use pd_spec::Spec;
 use pd_terms::{ByClause, definitely_by_clause};
 use std::alloc::Global;
 
-/// Process 0 is good from a count on, process 1 at one count alone, and no other process at any.
-#[derive(Drop)]
-struct Either {
-    from: u64,
-    at: u64,
-}
-
-impl GoodCounts for Either {
-    ghost good = { λ w p n. cond (nat_eq p 0) (nat_le w.from n) (cond (nat_eq p 1) (nat_eq n w.at) false) };
-
-    fn is_good(&self, process: usize, count: u64) -> bool {
-        match process {
-            0 => self.from <= count,
-            1 => count == self.at,
-            _ => false,
-        }
-    }
-}
-
-/// Which counts are good, and the least level that has no cut in which none has been reached.
+/// Process 0 is good from the first number on, process 1 at the second alone, and no other process at any. Beside it
+/// stands the least level that has no cut in which none has come to a good count.
 const LEVELS: [(u64, u64, Option<u64>); 7] = [
     (0, 9, Some(0)),
     // no process has so many events
@@ -46,13 +26,21 @@ const LEVELS: [(u64, u64, Option<u64>); 7] = [
 pub(crate) fn are_free(alloc: Global, computation: &Computation<'_>) -> Option<bool> {
     let mut right = true;
     for (from, at, level) in LEVELS {
-        let wanted = Either { from, at };
+        let wanted = Wanted {
+            from,
+            at,
+            others: false,
+        };
         let Ok(found) = free_level(alloc, computation, &wanted) else {
             return None;
         };
         right = right && found == level;
     }
-    let wanted = Either { from: 3, at: 9 };
+    let wanted = Wanted {
+        from: 3,
+        at: 9,
+        others: false,
+    };
     match most_before(alloc, computation, &wanted) {
         Ok(Some(cut)) => Some(right && cut.counts() == [2, 4, 0].as_slice()),
         Ok(None) => Some(false),

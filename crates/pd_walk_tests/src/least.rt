@@ -1,26 +1,27 @@
 //! The least good cuts of the session in `order`, and the order of cuts: `least_good` and `is_before`.
-ghost use Rattle.std.specs.Prelude.{cond, nat_eq, nat_le, true};
+ghost use Rattle.std.specs.Prelude.{cond, nat_eq, nat_le};
 
 use pd_clock::{Computation, Cut};
 use pd_least::{GoodCounts, is_before, least_good};
 use std::alloc::Global;
 use std::test::Fail;
 
-/// Process 0 is good from a count on, process 1 at one count alone, and each other process at any.
+/// Process 0 is good from a count on, process 1 at one count alone, and each other process at any or at none.
 #[derive(Drop)]
-struct Wanted {
-    from: u64,
-    at: u64,
+pub(crate) struct Wanted {
+    pub(crate) from: u64,
+    pub(crate) at: u64,
+    pub(crate) others: bool,
 }
 
 impl GoodCounts for Wanted {
-    ghost good = { λ w p n. cond (nat_eq p 0) (nat_le w.from n) (cond (nat_eq p 1) (nat_eq n w.at) true) };
+    ghost good = { λ w p n. cond (nat_eq p 0) (nat_le w.from n) (cond (nat_eq p 1) (nat_eq n w.at) w.others) };
 
     fn is_good(&self, process: usize, count: u64) -> bool {
         match process {
             0 => self.from <= count,
             1 => count == self.at,
-            _ => true,
+            _ => self.others,
         }
     }
 }
@@ -55,7 +56,11 @@ fn has_counts(found: &Option<Cut>, counts: &Option<[u64; 3]>) -> bool {
 pub(crate) fn are_least(alloc: Global, computation: &Computation<'_>) -> Option<bool> {
     let mut right = true;
     for (from, at, counts) in LEAST {
-        let wanted = Wanted { from, at };
+        let wanted = Wanted {
+            from,
+            at,
+            others: true,
+        };
         let Ok(found) = least_good(alloc, computation, &wanted) else {
             return None;
         };
