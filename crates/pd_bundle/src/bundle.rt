@@ -16,7 +16,7 @@ use std::alloc::{AllocError, Global};
 use std::marker::Model;
 
 /// How many bytes are asked for at a time.
-const PIECE: usize = 16_384;
+const PIECE: usize = 32_768;
 
 /// Room for the bytes of one read.
 fn new_piece(alloc: Global, size: usize) -> Result<Vec<u8>, AllocError>
