@@ -5,3 +5,4 @@ pub mod Building
 pub mod Firsts
 pub mod Allowed
 pub mod Oring
+pub mod Conjoining

@@ -97,15 +97,16 @@ rows_from (row ∷ rows) cut p good =
         or_left (row_holds (Some row) cut) (rows_hold rows cut) (holds_here here (eqb_tells row.process p))
     go later (inr rest) = or_right (row_holds (Some row) cut) (rows_hold rows cut) (later rest)
 
--- so a cut satisfies exactly if some process is at a good count
-pub is_clause : (r : Recorded) (predicate : Predicate) (rows : List TruthRow) → MakesRows r false predicate [] rows
-    → IsClause r.events (test_of r predicate) (clause_good rows)
-is_clause r predicate rows made cut ok = (
+-- so the predicate, or its opposite, holds exactly if some process is at a good count
+pub is_clause_of : (r : Recorded) (negated : Bool) (predicate : Predicate) (rows : List TruthRow)
+    → MakesRows r negated predicate [] rows
+    → IsClause r.events (λ cut. turned negated (test_of r predicate cut)) (clause_good rows)
+is_clause_of r negated predicate rows made cut ok = (
   λ satisfies. rows_to rows cut within (holds ∙ satisfies),
   λ w. sym holds ∙ rows_from rows cut w.0 w.2,
 )
   where
-    holds : rows_hold rows cut ≡ test_of r predicate cut
+    holds : rows_hold rows cut ≡ turned negated (test_of r predicate cut)
     holds = ap (λ (all : List TruthRow). rows_hold all cut) made.is ∙ made.hold cut ok.fits
 
     within : All (λ (row : TruthRow). row.process < length cut) rows

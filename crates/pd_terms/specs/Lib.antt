@@ -3,3 +3,5 @@ pub mod Locals
 pub mod Rows
 pub mod FirstCuts
 pub mod Ors
+pub mod Conjunctions
+pub mod Passages

@@ -26,8 +26,8 @@ pub enum ByClause {
 
 /// The comparisons of which one has to hold.
 #[derive(Drop)]
-struct Clause {
-    rows: Vec<TruthRow>,
+pub(crate) struct Clause {
+    pub(crate) rows: Vec<TruthRow>,
 }
 
 /// Whether a comparison speaks of this process, and holds at this count of it.
@@ -74,7 +74,7 @@ fn is_or(tree: &Tree, negated: bool) -> bool
 ///
 /// # Errors
 /// An allocation was refused.
-fn push_rows(
+pub(crate) fn push_rows(
     alloc: Global,
     computation: &Computation<'_>,
     tree: &Tree,

@@ -18,16 +18,23 @@
 //! - `terms`: the terms of a predicate
 //! - `first`: the first satisfying cut, by terms
 //! - `clause`: predicates that are an `or` of comparisons, and what decides Definitely of them
+//! - `conjunction`: predicates that have one term, and what the observations pass through
+//! - `never`: the path of an observation where no cut satisfies
+//! - `passage`: whether every observation passes through a satisfying cut, by terms
 #![tactic(auto)]
 
 mod build;
 mod clause;
+mod conjunction;
 mod count;
 mod first;
 mod local;
+mod never;
+mod passage;
 mod row;
 mod terms;
 
 pub use clause::{ByClause, definitely_by_clause};
 pub use first::{ByTerms, possibly_by_terms};
+pub use passage::{PassageByTerms, definitely_by_terms};
 pub use terms::{TERM_LIMIT, Term, Terms};

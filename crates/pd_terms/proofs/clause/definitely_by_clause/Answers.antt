@@ -7,13 +7,13 @@ use Rattle.pd_pred.specs.Trees.{tree_view}
 use Rattle.pd_pred.specs.Views.{predicate_view}
 use Rattle.pd_terms.specs.Ors.{IsLocalOr, MakesRows, clause_good}
 use Rattle.pd_terms.specs.declared.row.TruthRow.{TruthRow}
-use Rattle.pd_terms.proofs.Oring.{is_clause}
+use Rattle.pd_terms.proofs.Oring.{is_clause_of}
 use Rattle.pd_terms.proofs.clause.definitely_by_clause.Goals as goal
 
 made_clause : (r : Recorded) (tree predicate : Predicate) (none rows : List TruthRow) → tree ≡ predicate → none ≡ []
     → MakesRows r false tree none rows → IsClause r.events (test_of r predicate) (clause_good rows)
 made_clause r tree predicate none rows same empty made =
-    is_clause r predicate rows
+    is_clause_of r false predicate rows
     (subst (λ (p : Predicate). MakesRows r false p [] rows) same
     (subst (λ (old : List TruthRow). MakesRows r false tree old rows) empty made))
 

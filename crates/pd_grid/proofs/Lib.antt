@@ -1,0 +1,10 @@
+-- The modules of lemmas of this crate.
+pub mod Taken
+pub mod Bands
+pub mod FirstPairs
+pub mod AvoidingPairs
+pub mod Filled
+pub mod RowPairs
+pub mod MostCuts
+pub mod AvoidingLevels
+pub mod Passing

@@ -1,0 +1,31 @@
+//! The consistent pairs of one count of the first process.
+ghost use Rattle.pd_grid.specs.Rows.{AreUpTo, IsEnd, IsFirstTrue};
+ghost use Rattle.std.specs.Prelude.{◌≤◌, length};
+
+use super::good_pairs::GoodPairs;
+
+/// Where the numbers that are at most `i` end, where those before `from` are. They never fall, so none after it is.
+pub(crate) fn end_of(numbers: &[u64], i: u64, from: usize) -> usize
+    requires within { from ≤ length numbers.now }
+    requires before { AreUpTo numbers.now i from }
+    ensures { IsEnd numbers.now i result }
+{
+    for j in from..numbers.len() {
+        if numbers[j] > i {
+            return j;
+        }
+    }
+    numbers.len()
+}
+
+/// The least `j` from `low` on, before `end`, that is good together with `i`.
+pub(crate) fn first_good<G: GoodPairs>(wanted: &G, i: u64, low: u64, end: u64) -> Option<u64>
+    ensures { IsFirstTrue (G.good wanted.now i) low end result }
+{
+    for j in low..end {
+        if wanted.is_good(i, j) {
+            return Some(j);
+        }
+    }
+    None
+}
