@@ -4,6 +4,7 @@ use crate::clause::are_passed;
 use crate::definite::are_answers;
 use crate::limits::are_same;
 use crate::messages::are_messages;
+use crate::of_two::are_of_two;
 use crate::order::is_ordered;
 use crate::pictures::are_cut_off;
 use crate::runs::{
@@ -41,6 +42,8 @@ pub(crate) enum Question<'a> {
     Terms,
     /// Whether each predicate that is a clause has its level.
     Clauses,
+    /// Whether each predicate of two processes has its answers.
+    Pairs,
     /// Whether each of these cuts has its observation.
     Through(&'a [Way<'a>]),
 }
@@ -89,6 +92,7 @@ pub(crate) fn is_right<K: RandomSource, T: Threads + Wait + Sync>(
         Question::Definite => are_answers(rt, alloc, &computation, &spec, again),
         Question::Terms => are_decided(alloc, &computation, &spec),
         Question::Clauses => are_passed(alloc, &computation, &spec),
+        Question::Pairs => are_of_two(alloc, &computation, &spec),
         Question::Through(ways) => are_ways(alloc, &computation, ways),
     }
 }
@@ -102,7 +106,7 @@ struct Row<'a> {
 }
 
 /// The sessions, with what is asked about each.
-const ROWS: [Row<'static>; 15] = [
+const ROWS: [Row<'static>; 16] = [
     Row {
         document: order::DOCUMENT,
         streams: &order::STREAMS,
@@ -167,6 +171,11 @@ const ROWS: [Row<'static>; 15] = [
         document: THREE,
         streams: &THREE_STREAMS,
         question: Question::Terms,
+    },
+    Row {
+        document: THREE,
+        streams: &THREE_STREAMS,
+        question: Question::Pairs,
     },
     Row {
         document: seams::NINE,

@@ -1,7 +1,8 @@
-//! Possibly by terms: `possibly_by_terms`.
+//! Both questions by terms: `possibly_by_terms` and `definitely_by_terms`.
+use crate::definite::PATH;
 use pd_clock::Computation;
 use pd_spec::Spec;
-use pd_terms::{ByTerms, possibly_by_terms};
+use pd_terms::{ByTerms, PassageByTerms, definitely_by_terms, possibly_by_terms};
 use std::alloc::Global;
 
 /// What the terms of a predicate decide: the first satisfying cut, that there is none, or nothing.
@@ -34,7 +35,39 @@ fn is_expected(answer: &ByTerms, expected: Expected<'_>) -> bool {
     }
 }
 
-/// Whether each predicate has its answer. Nothing if memory was refused.
+/// What the observations pass through by the terms of a predicate: the level, the path of `definite`, another one, or
+/// nothing.
+#[derive(Clone, Copy)]
+enum Way {
+    Passed(u64),
+    Along,
+    Aside,
+    Undecided,
+}
+
+/// The same predicates: each that terms decide has one term.
+const WAYS: [Way; 7] = [
+    Way::Along,
+    Way::Undecided,
+    Way::Undecided,
+    Way::Aside,
+    Way::Along,
+    Way::Passed(29),
+    Way::Undecided,
+];
+
+/// Whether this is what the observations pass through.
+fn is_way(answer: &PassageByTerms, way: Way) -> bool {
+    match (answer, way) {
+        (PassageByTerms::Passed(level), Way::Passed(known)) => *level == known,
+        (PassageByTerms::Avoided(path), Way::Along) => path.as_slice() == PATH.as_slice(),
+        (PassageByTerms::Avoided(path), Way::Aside) => path.as_slice() != PATH.as_slice(),
+        (PassageByTerms::Undecided, Way::Undecided) => true,
+        _ => false,
+    }
+}
+
+/// Whether each predicate has its answers. Nothing if memory was refused.
 pub(crate) fn are_decided(
     alloc: Global,
     computation: &Computation<'_>,
@@ -46,10 +79,16 @@ pub(crate) fn are_decided(
         let Some(expected) = ANSWERS.get(at) else {
             return Some(false);
         };
+        let Some(way) = WAYS.get(at) else {
+            return Some(false);
+        };
         let Ok(answer) = possibly_by_terms(alloc, computation, &named[at].pred) else {
             return None;
         };
-        right = right && is_expected(&answer, *expected);
+        let Ok(passage) = definitely_by_terms(alloc, computation, &named[at].pred) else {
+            return None;
+        };
+        right = right && is_expected(&answer, *expected) && is_way(&passage, *way);
     }
     Some(right)
 }

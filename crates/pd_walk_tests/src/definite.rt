@@ -14,7 +14,7 @@ use std::test::Fail;
 use std::thread::Threads;
 
 /// The observation that is named if no cut satisfies: the last process as far as it goes, then the one before it.
-const PATH: [usize; 30] = [
+pub(crate) const PATH: [usize; 30] = [
     2, 2, 2, 2, 2, 2, 2, 2, 2, 2, 1, 1, 1, 1, 1, 1, 1, 1, 1, 1, 0, 0, 0, 0, 0, 0, 0, 0, 0, 0,
 ];
 

@@ -42,7 +42,7 @@ const LEAST: [(u64, u64, Option<[u64; 3]>); 8] = [
 ];
 
 /// Whether the cut that was found has these counts, or there is none.
-fn has_counts(found: &Option<Cut>, counts: &Option<[u64; 3]>) -> bool {
+pub(crate) fn has_counts(found: &Option<Cut>, counts: &Option<[u64; 3]>) -> bool {
     match found {
         Some(cut) => match counts {
             Some(counts) => cut.counts() == counts.as_slice(),

@@ -9,6 +9,7 @@
 //! - `messages`: the messages of a session, with random keys and without
 //! - `least`: the least good cuts, and the order of cuts
 //! - `clause`: the level of a disjunction that has no avoiding cut
+//! - `passages`: what observations pass through, by counts and by pairs of counts
 //! - `order`: which event happened before which, clocks, cuts and values
 //! - `pictures`: values with a character of two bytes where they are cut off in a picture
 //! - `runs`: whole levels as runs, and how many cuts they have
@@ -17,7 +18,8 @@
 //! - `limits`: the answers, whatever the width of a whole level at which the walk goes on by lists
 //! - `definite`: answers for Definitely, how many levels are held for them, and what is found of evidence
 //! - `through`: observations through a cut
-//! - `by_terms`: the first satisfying cut of a predicate by its terms
+//! - `by_terms`: both questions by the terms of a predicate
+//! - `of_two`: both questions by the counts of two processes
 #![tactic(auto)]
 
 #[cfg(test)]
@@ -35,7 +37,11 @@ mod limits;
 #[cfg(test)]
 mod messages;
 #[cfg(test)]
+mod of_two;
+#[cfg(test)]
 mod order;
+#[cfg(test)]
+mod passages;
 #[cfg(test)]
 mod pictures;
 #[cfg(test)]

@@ -2,6 +2,7 @@
 use crate::clause::are_free;
 use crate::least::are_least;
 use crate::messages::{At, place};
+use crate::passages::are_found;
 use pd_clock::{BuildFault, Computation, Cut, Place};
 use pd_pred::Values;
 use pd_samples::{A, B, C};
@@ -167,7 +168,10 @@ pub(crate) fn is_ordered(alloc: Global, computation: &Computation<'_>) -> Option
     if !are_least(alloc, computation)? {
         return Some(false);
     }
-    are_free(alloc, computation)
+    if !are_free(alloc, computation)? {
+        return Some(false);
+    }
+    are_found(alloc, computation)
 }
 
 #[test]
