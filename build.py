@@ -100,7 +100,12 @@ def main():
     parser.add_argument("--unproved", nargs="?", const=os.path.join(CRATE, "out", "monitor-unproved"), metavar="OUT")
     given = parser.parse_args()
     program = os.path.abspath(given.unproved or os.path.join(CRATE, "out", "monitor"))
-    status = build_unproved(program) if given.unproved else build_proved(program, given.j)
+    if not shutil.which("rt"):
+        sys.exit("build: the command rt isn't found: the Rattle kit has it")
+    try:
+        status = build_unproved(program) if given.unproved else build_proved(program, given.j)
+    except KeyboardInterrupt:
+        sys.exit(130)
     if status:
         sys.exit(status)
     print(f"build: {os.path.relpath(program)} is built, and judges crates/monitor/stdin:", flush=True)

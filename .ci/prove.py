@@ -1,12 +1,11 @@
 #!/usr/bin/env python3
-"""prove.py [-j N] [--below CRATE] [CRATE..]: proves crates side by side, N at once and one more (N is how many
-processors there are), each with one job: each job reads all of a crate's libraries, and two took longer than one.
+"""prove.py [-j N] [CRATE..]: proves crates side by side, N at once and one more (N is how many processors there are),
+each with one job: each job reads all of a crate's libraries, and two took longer than one.
 
-All crates are proved if none is named; with --below those that this one stands on. A line comes for each crate that is
-proved, with its seconds and how many are left. Runs of `rt` in one folder wait for each other, so each works in a copy
-of the repository, over the libraries that are built here; what it builds, and what it keeps for the next time, comes
-back into the crate's folder `out`. So a second call proves only what has changed. It decides nothing: the gate is `rt
-ci`.
+All crates are proved if none is named. A line comes for each crate that is proved, with its seconds and how many are
+left. Runs of `rt` in one folder wait for each other, so each works in a copy of the repository, over the libraries that
+are built here; what it builds, and what it keeps for the next time, comes back into the crate's folder `out`. So a
+second call proves only what has changed. It decides nothing: the gate is `rt ci`.
 """
 import argparse
 import contextlib
@@ -143,14 +142,13 @@ class Run:
 def main():
     parser = argparse.ArgumentParser(description=__doc__, formatter_class=argparse.RawDescriptionHelpFormatter)
     parser.add_argument("-j", type=int, default=len(os.sched_getaffinity(0)), metavar="N")
-    parser.add_argument("--below", dest="top", metavar="CRATE")
     parser.add_argument("crates", nargs="*")
     given = parser.parse_args()
     below = libraries()
-    unknown = [name for name in [*given.crates, *([given.top] if given.top else [])] if name not in below]
+    unknown = [name for name in given.crates if name not in below]
     if unknown:
         sys.exit(f"prove: crates.txt has no crate {' '.join(unknown)}")
-    names = given.crates or list(below[given.top] if given.top else below)
+    names = given.crates or list(below)
     with tempfile.TemporaryDirectory(prefix="monitor-prove-") as folder, contextlib.suppress(KeyboardInterrupt):
         run = Run(folder, names, below, max(1, given.j))
         for copy in run.free:
