@@ -2,12 +2,13 @@
 """refuse_each.py PROGRAM [INPUT..]: refuses each of the program's allocations, reads and writes in turn.
 
 An input is a bundle, or a folder with `session.json`, `report` and files `NAME.stream`. A folder is judged from its
-files, by one worker and by two, and as a bundle; its report is checked and drawn; and its streams are served, with a
-watcher. Five small sessions are run beside them: one that is judged, one with messages, one with a causal cycle, one
-with wide levels, and one of sixteen processes. For each of these runs and each N, counted upward until a run meets no
-refusal, the program runs with its Nth allocation refused; then with its Nth read failing, and with its Nth write.
-Before these it runs once with each allocation slow: a thread that asks for memory under a lock lets the others wait for
-the lock meanwhile, so an unlock that wakes nobody leaves a run without an end.
+files, by one worker and by two, with --beyond-width, and as a bundle; its report is checked and drawn; and its streams
+are served, with a watcher. Small sessions are run beside them: one that is judged, one with messages, one with a causal
+cycle, one with wide levels, and one of sixteen processes; and one of width 1, that is judged and served with
+--beyond-width alone, and has predicates for each way to answer. For each of these runs and each N, counted upward until
+a run meets no refusal, the program runs with its Nth allocation refused; then with its Nth read failing, and with its
+Nth write. Before these it runs once with each allocation slow: a thread that asks for memory under a lock lets the
+others wait for the lock meanwhile, so an unlock that wakes nobody leaves a run without an end.
 
 It must end as a run that is refused nothing; or, for an allocation, with status 4, nothing on standard output and
 `monitor: memory` on standard error; for a read, with status 3 and `monitor: read`, or with what is made of a stream
@@ -36,15 +37,26 @@ TWO, BOTH = {"a": "x", "b": "y"}, {"both": "a.x == 1 and b.y == 1"}
 # Of sixteen processes four have events: the first and the last, and those at which a cut's two numbers meet.
 EVENTS = {0: ['"set":{"n":1}', '"set":{"n":0}'], 7: ['"send":"m"', '"recv":"k"'], 8: ['"send":"k"', '"recv":"m"'],
           15: ['"set":{"n":1}', '"set":{"n":0}']}
+# The predicates of the session of width 1: of one term, clauses, of several terms, of two processes in one comparison,
+# and one that isn't decided.
+WAYS = {"each": "a.x == 1 and b.x == 2 and c.x == 1", "always": "a.x >= 1 and b.x >= 1 and c.x >= 1",
+        "never": "a.x == 2 and b.x == 1 and c.x == 3", "either": "a.x == 3 or b.x == 2 or c.x == 2",
+        "neither": "not (a.x < 3 and b.x < 3 and c.x < 3)", "no": "a.x == 3 and b.x == 1 or c.x == 3",
+        "terms": "(a.x == 2 or b.x == 2) and (b.x == 1 or c.x == 2)", "apart": "a.x - b.x == 2",
+        "sum": "a.x + b.x == 3 or a.x > b.x + 1", "nine": "a.x + b.x == 9", "wide": "a.x + b.x + c.x == 3"}
+STEPS = [['"send":"m","set":{"x":1}', '"set":{"x":2}'], ['"recv":"m","set":{"x":1}', '"set":{"x":2}'],
+         ['"set":{"x":1}', '"set":{"x":2}']]
+# Those with the longest runs come first.
 SESSIONS = {
+    "sixteen processes": ({f"p{k}": "n" for k in range(16)}, {"ends": "p0.n == 1 and p15.n == 1"},
+                          [EVENTS.get(k, []) for k in range(16)]),
+    "width 1": ({"a": "x", "b": "x", "c": "x"}, WAYS, STEPS, 1),
     "one cut alone": (TWO, BOTH, [['"set":{"x":1}', '"set":{"x":0}'], ['"set":{"y":1}', '"set":{"y":0}']]),
     "messages": (TWO, BOTH, [['"send":"m","set":{"x":1}', '"recv":"k","set":{"x":0}'],
                              ['"send":"k","set":{"y":1}', '"recv":"m","set":{"y":0}']]),
     "a causal cycle": (TWO, BOTH, [['"recv":"k"', '"send":"m"'], ['"recv":"m"', '"send":"k"']]),
     "wide levels": ({"a": "n", "b": "n", "c": "n"}, {"top": "a.n + b.n + c.n == 30", "never": "a.n == 99"},
                     [[f'"set":{{"n":{value}}}' for value in range(1, 11)]] * 3),
-    "sixteen processes": ({f"p{k}": "n" for k in range(16)}, {"ends": "p0.n == 1 and p15.n == 1"},
-                          [EVENTS.get(k, []) for k in range(16)]),
 }
 KINDS = ("allocation", "read", "write")
 # What is made of a stream that can't be read: the report, what a check finds, what a watcher is shown, and what stands
@@ -61,12 +73,12 @@ NO_END = f"no end after {RUN_SECONDS} seconds".encode()
 TRIES, NO_NETWORK, PORTS = 5, b"monitor: network\n", (10_000, 30_000)
 
 
-def write_session(folder, variables, predicates, events):
+def write_session(folder, variables, predicates, events, width=4096):
     """Writes the document and the streams of a session, but no report."""
     processes = ",".join(f'{{"name":"{name}","vars":{{"{variable}":0}}}}' for name, variable in variables.items())
     texts = ",".join(f'{{"name":"{name}","text":"{text}"}}' for name, text in predicates.items())
     with open(os.path.join(folder, "session.json"), "w") as out:
-        out.write(f'{{"processes":[{processes}],"predicates":[{texts}]}}\n')
+        out.write(f'{{"processes":[{processes}],"predicates":[{texts}],"width":{width}}}\n')
     for name, lines in zip(variables, events):
         with open(os.path.join(folder, f"{name}.stream"), "w") as out:
             out.writelines(f"{{{line}}}\n" for line in [f'"process":"{name}"', *lines, '"end":true'])
@@ -157,8 +169,9 @@ def contents(path):
         return opened.read()
 
 
-def runs_of(program, path):
-    """Each run of an input: its name, what runs it, the program and its arguments, and the bytes that it is given."""
+def runs_of(program, path, beyond_alone):
+    """Each run of an input, or of those with --beyond-width alone: its name, what runs it, the program and its
+    arguments, and the bytes that it is given."""
     if not os.path.isdir(path):
         return [("", run, [program], contents(path))]
     names = sorted(name for name in os.listdir(path) if name.endswith(".stream"))
@@ -169,7 +182,10 @@ def runs_of(program, path):
         with open(report, "wb") as out:
             out.write(subprocess.run(judge, capture_output=True, timeout=RUN_SECONDS, check=False).stdout)
     parts = [contents(part) for part in [document, *streams]]
-    return [("judge", run, judge, b""), ("judge by two workers", run, [*judge, "--workers", "2"], b""),
+    beyond = ("judge beyond the width", run, [*judge, "--beyond-width"], b"")
+    if beyond_alone:
+        return [beyond, ("serve beyond the width", serve, [program, "serve", "--beyond-width", document], parts[1:])]
+    return [("judge", run, judge, b""), ("judge by two workers", run, [*judge, "--workers", "2"], b""), beyond,
             ("a bundle", run, [program], b"---\n".join(parts)),
             ("check", run, [program, "check", document, report, *streams], b""),
             ("draw", run, [program, "draw", document, report, *streams], b""),
@@ -224,7 +240,8 @@ def main():
             os.mkdir(inputs[name])
             write_session(inputs[name], *session)
         found = []
-        for name, how, *one in [(name, *one) for name, path in inputs.items() for one in runs_of(program, path)]:
+        for name, how, *one in [(name, *one) for name, path in inputs.items()
+                                for one in runs_of(program, path, name == "width 1")]:
             own = tempfile.mkdtemp(dir=folder)
             os.link(os.path.join(folder, "shim.so"), os.path.join(own, "shim.so"))
             found.append(pool.submit(refuse_each, f"{name}: {how}".strip(": "), *one, own))

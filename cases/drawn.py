@@ -6,8 +6,9 @@ The plain judge is written from the definitions in docs/SPECIFICATION.md, with n
 closed as a relation, cuts are all counts of events that are closed under it, and if a session has few observations,
 Definitely is judged by all of them too. PROGRAM is ../crates/monitor/out/monitor if it isn't given. Each session is
 judged as a bundle; one of four also from files, by 2 and 16 workers, and its report is checked, as it is and forged.
-Half of the sessions are of version 2, in which a message may have several receivers. One of three has 7 to 16 processes,
-of which few have events. Each kind of line has to stand in the reports and findings so often that the drawing can't go
+These are judged with --beyond-width too, with their own width and with width 1, and those reports are checked. Half of
+the sessions are of version 2, in which a message may have several receivers. One of three has 7 to 16 processes, of
+which few have events. Each kind of line has to stand in the reports and findings so often that the drawing can't go
 empty. The last line says how many sessions there are, how often the program ran, and how many sessions differ; the
 status is 1 if any does, or if lines are missing. With --only the session K is drawn alone.
 """
@@ -31,7 +32,8 @@ from run import Differs, HERE, Place, checked
 # How many observations a session has at most if all of them are looked at.
 FEW = 2600
 # What stands in lines, and in how many lines of 600 sessions at least. One line for each session says how many
-# receivers its messages have at most, and what came of it; all others are the program's.
+# receivers its messages have at most, and what came of it; one for each answer that was unknown says what it is with
+# --beyond-width, and why; all others are the program's.
 LINES_WANTED = {
     "session 1 ": 15, "session 2 ": 45, "session 3 ": 60, "session 4 ": 4,
     "session 7 ": 6, "session 8 ": 6, "session 9 ": 12, "session 15 ": 6, "session 16 ": 12,
@@ -44,6 +46,12 @@ LINES_WANTED = {
     "version 2, one receiver, judged": 50, "version 2, 2 receivers, judged": 18, "version 2, 3 receivers, judged": 1,
     "version 2, [2-9] receivers, cycle": 5, "version 2, [2-9] receivers, refused": 6,
     " possibly good": 20, " possibly bad": 40, " definitely good": 30, " definitely bad": 30,
+    "width, of two, local: .* yes": 16, "width, of two, local: .* no": 30,
+    "width, of two, mixed: .* yes": 3, "width, of two, mixed: .* no": 6,
+    "width, conjunction: .* yes": 6, "width, conjunction: .* no": 15,
+    "width, clause: .* yes": 3, "width, clause: .* no": 3,
+    "width, terms: Possibly yes": 4, "width, terms: Possibly no": 2, "width, terms: Definitely no": 2,
+    "width, undecided: Possibly unknown": 6, "width, undecided: Definitely unknown": 12,
 }
 RELATIONS = {"==": operator.eq, "!=": operator.ne, "<": operator.lt, "<=": operator.le, ">": operator.gt,
              ">=": operator.ge}
@@ -156,6 +164,49 @@ def holds(session, cut, predicate):
     return RELATIONS[word](left, right)
 
 
+def comparisons(predicate):
+    """Of each comparison in the predicate, the processes that it names."""
+    word, *parts = predicate
+    if word in RELATIONS:
+        return [{reference[0] for terms in parts for _, _, reference in terms if reference}]
+    return [named_there for part in parts for named_there in comparisons(part)]
+
+
+def pushed_down(predicate, negated=False):
+    """The predicate with its negations pushed down: `or`s and `and`s alone, each other part being a leaf."""
+    word, *parts = predicate
+    if word == "not":
+        return pushed_down(parts[0], not negated)
+    if word not in ("and", "or"):
+        return ("leaf",)
+    word = word if not negated else "or" if word == "and" else "and"
+    return (word, *[pushed_down(part, negated) for part in parts])
+
+
+def term_count(tree):
+    """How many terms the predicate with these `or`s and `and`s has once it is multiplied out."""
+    word, *parts = tree
+    return {"leaf": math.prod, "and": math.prod, "or": sum}[word](map(term_count, parts))
+
+
+def is_or(tree):
+    word, *parts = tree
+    return word != "and" and all(map(is_or, parts))
+
+
+def ways(session, predicate, satisfying):
+    """Why Possibly of the predicate is decided without the levels, and why Definitely is: nothing if it isn't."""
+    named_there, tree = comparisons(predicate), pushed_down(predicate)
+    is_local = all(len(processes) < 2 for processes in named_there)
+    if len(session.names) > 1 and len(set().union(*named_there)) < 3:
+        return ["of two, local" if is_local else "of two, mixed"] * 2
+    if not is_local or term_count(tree) > 4096:
+        return [None, None]
+    if term_count(tree) == 1 or is_or(tree):
+        return ["conjunction" if term_count(tree) == 1 else "clause"] * 2
+    return ["terms", None if satisfying else "terms"]
+
+
 def undone(cut, process):
     """The cut without the last event of this process."""
     return (*cut[:process], cut[process] - 1, *cut[process + 1:])
@@ -258,7 +309,10 @@ class Judged:
             messages = sum(bool(session.with_id_of(send, receipts)) for send in session.of_kind("send"))
             self.first_line = (f"session {len(session.names)} processes {len(session.places)} events "
                                f"{messages} messages\n")
-            self.report = self.first_line + "".join(map(self.answers, session.predicates))
+            self.has_few = observation_count(self.cuts) <= FEW
+            self.satisfying = [{cut for cut in self.cuts if holds(session, cut, predicate)}
+                               for _, predicate in session.predicates]
+            self.report = self.reported(session.width)
 
     def place(self, place):
         return f"{self.session.names[place[0]]}#{place[1]}"
@@ -271,16 +325,38 @@ class Judged:
         came = "judged" if self.cuts is not None else words[1] if words[1] in ("spec", "cycle") else "refused"
         return f"version {session.version}, {f'{most} receivers' if most > 1 else 'one receiver'}, {came}\n"
 
-    def answers(self, named_predicate):
-        session, (name, predicate) = self.session, named_predicate
-        satisfying = {cut for cut in self.cuts if holds(session, cut, predicate)}
-        self.satisfying.append(satisfying)
-        definite = definitely(session, self.cuts, satisfying, session.width)
-        if observation_count(self.cuts) <= FEW:
-            observed = definitely_observed(session, self.cuts, satisfying, session.width)
+    def answers(self, number, widths):
+        """Possibly and Definitely of the predicate of this number, each under a width of its own."""
+        session, satisfying, (name, _) = self.session, self.satisfying[number], self.session.predicates[number]
+        definite = definitely(session, self.cuts, satisfying, widths[1])
+        if self.has_few:
+            observed = definitely_observed(session, self.cuts, satisfying, widths[1])
             if observed != definite:
                 raise Differs(f"all observations say {name} definitely {observed}, the avoiding cuts {definite}")
-        return f"{name} possibly {possibly(self.cuts, satisfying, session.width)}\n{name} definitely {definite}\n"
+        return [possibly(self.cuts, satisfying, widths[0]), definite]
+
+    def reported(self, width):
+        """The report if this is the width, without the option."""
+        return self.of_answers([self.answers(number, [width] * 2) for number in range(len(self.satisfying))])
+
+    def reported_beyond(self, width):
+        """The report if this is the width, with the option; and a line for each answer that is unknown without it."""
+        if self.cuts is None:
+            return self.report, ""
+        rows, lines = [], []
+        for number, ((_, predicate), satisfying) in enumerate(zip(self.session.predicates, self.satisfying)):
+            why = ways(self.session, predicate, satisfying)
+            within = self.answers(number, [width] * 2)
+            rows.append(self.answers(number, [math.inf if way else width for way in why]))
+            for modality, way, old, new in zip(("Possibly", "Definitely"), why, within, rows[-1]):
+                if old.startswith("unknown"):
+                    lines.append(f"beyond the width, {way or 'undecided'}: {modality} {new.split()[0]}\n")
+        return self.of_answers(rows), "".join(lines)
+
+    def of_answers(self, rows):
+        """The report with these answers."""
+        return self.first_line + "".join(f"{name} possibly {possible}\n{name} definitely {definite}\n" for
+                                         (name, _), (possible, definite) in zip(self.session.predicates, rows))
 
 
 # The drawing of sessions.
@@ -390,27 +466,85 @@ def muddle(draw, session):
             second.kind = "recv"
 
 
-def draw_sum(draw, session):
+def draw_sum(draw, session, processes):
     terms = []
     for _ in range(draw.choice([1, 1, 2, 2, 3])):
-        process = draw.randrange(len(session.names))
+        process = draw.choice(processes)
         reference = (process, draw.choice(list(session.initial[process]))) if draw.random() < 0.8 else None
         factor = draw.choice([0, 1, 1, 1, 2, 3]) if draw.random() < 0.97 else 2 ** 31 - 1
         terms.append((draw.choice([1, 1, -1]), factor, reference))
     return terms
 
 
-def draw_predicate(draw, session, depth=3):
-    """A predicate as a tree: a word with its parts; a comparison's parts are sums of a sign, a factor and a reference,
-    or the factor alone."""
+def draw_comparison(draw, session, processes):
+    """A comparison that names none but these processes, or seldom a constant."""
+    if draw.random() < 0.04:
+        return (draw.choice(["true", "false"]),)
+    right = [(draw.choice([1, -1]), draw.randint(0, 3), None)]
+    if draw.random() < 0.4:
+        right = draw_sum(draw, session, processes)
+    return (draw.choice(["==", "==", *RELATIONS]), draw_sum(draw, session, processes), right)
+
+
+def draw_tree(draw, leaf, depth=3):
     word = draw.choice(["and", "and", "or", "not", "", "", ""]) if depth else ""
     if word:
         parts = 1 if word == "not" else draw.choice([2, 2, 3])
-        return (word, *[draw_predicate(draw, session, depth - 1) for _ in range(parts)])
-    if draw.random() < 0.04:
-        return (draw.choice(["true", "false"]),)
-    right = draw_sum(draw, session) if draw.random() < 0.4 else [(draw.choice([1, -1]), draw.randint(0, 3), None)]
-    return (draw.choice(["==", "==", *RELATIONS]), draw_sum(draw, session), right)
+        return (word, *[draw_tree(draw, leaf, depth - 1) for _ in range(parts)])
+    return leaf()
+
+
+def draw_literal(draw, session, process, cuts, at):
+    """A comparison that names this process alone. As a rule it doesn't hold at the first of these cuts, and does at the
+    one of this number; or, if there is no number, at few of them."""
+    tries = [draw_comparison(draw, session, [process]) for _ in range(draw.choice([1, 6, 6]))]
+    held = [[holds(session, cut, tree) for cut in cuts] for tree in tries]
+    return min(zip(tries, held), key=lambda it: (at is not None and not it[1][at], it[1][0], sum(it[1])))[0]
+
+
+def draw_row(draw, word, leaves, negated=False):
+    """An `and` or an `or` of these leaves, in groups as they come, and with negations that change the words; it isn't
+    the same then, if leaves are negated."""
+    if draw.random() < 0.1:
+        return ("not", draw_row(draw, word, leaves, not negated))
+    if len(leaves) == 1:
+        return leaves[0]
+    first = draw.randrange(1, len(leaves))
+    parts = [draw_row(draw, word, part, negated) for part in (leaves[:first], leaves[first:])]
+    return (word if not negated else "or" if word == "and" else "and", *parts)
+
+
+def draw_product(draw, leaf):
+    """An `and` of `or`s with about as many terms as there may be, or one with the words exchanged under a `not`."""
+    sizes = draw.choice([[2] * 12, [2] * 12, [4] * 6, [2] * 11, [3, 3, 5, 7, 13], [2] * 13, [2] * 9 + [3, 3]])
+    words = draw.choice([("and", "or"), ("or", "and")])
+    product = (words[0], *[(words[1], *[leaf() for _ in range(size)]) for size in sizes])
+    product = product if words[0] == "and" else ("not", product)
+    return product if draw.random() < 0.5 else ("or", product, leaf())
+
+
+def draw_predicate(draw, session, cuts):
+    """A predicate as a tree: a word with its parts; a comparison's parts are sums of a sign, a factor and a reference,
+    or the factor alone. Many name two processes, and many have comparisons that name one each."""
+    everyone = range(len(session.names))
+    two = draw.sample(everyone, min(2, len(everyone)))
+    kind = draw.choice(["any", "any", "two", "two", "local", "local", "and", "and", "and", "or", "or", "or", "terms",
+                        "terms", "product" if draw.random() < 0.3 else "any"])
+    if kind in ("any", "two"):
+        return draw_tree(draw, lambda: draw_comparison(draw, session, everyone if kind == "any" else two))
+    if kind == "local":
+        return draw_tree(draw, lambda: draw_comparison(draw, session, [draw.choice(everyone)]))
+
+    def literals(processes):
+        at = None if kind == "or" else draw.randrange(1, len(cuts))
+        return [draw_literal(draw, session, process, cuts, at) for process in processes]
+    if kind == "product":
+        return draw_product(draw, lambda: literals([draw.choice(everyone)])[0])
+    busy = sorted(everyone, key=lambda process: (not session.events[process], draw.random()))
+    rows = [literals(draw.sample(busy[:6], min(len(everyone), draw.choice([2, 3, 3, 3, 4])))) for _ in range(3)]
+    if kind == "terms":
+        return draw_row(draw, "or", [draw_row(draw, "and", row) for row in rows[:draw.choice([2, 3])]])
+    return draw_row(draw, kind, rows[0])
 
 
 def draw_session(draw, has_many):
@@ -420,12 +554,12 @@ def draw_session(draw, has_many):
     draw_messages(draw, session)
     if session.places and draw.random() < 0.3:
         muddle(draw, session)
-    counts = [tuple(draw.randint(0, len(events)) for events in session.events) for _ in range(8)]
-    start = tuple(0 for _ in session.names)
+    cuts = [tuple(0 for _ in session.names)]
+    cuts += [tuple(draw.randint(0, len(events)) for events in session.events) for _ in range(8)]
     for name in draw.sample(["p", "q", "a", "both_1"], draw.choice([1, 2, 3])):
-        tries = [draw_predicate(draw, session) for _ in range(draw.choice([1, 3, 6]))]
+        tries = [draw_predicate(draw, session, cuts) for _ in range(draw.choice([1, 3, 6]))]
         session.predicates.append((name, min(tries, key=lambda tree: (
-            holds(session, start, tree), not any(holds(session, cut, tree) for cut in counts)))))
+            holds(session, cuts[0], tree), not any(holds(session, cut, tree) for cut in cuts[1:])))))
     session.width = draw.choice([1, 2, 3, 5, 8, 20, 4096] if has_many else [1, 2, 3, 4, 5, 8, 4096, 4096, 4096])
     return session
 
@@ -563,9 +697,13 @@ def forge(draw, judged):
 
 # The runs.
 
+def stream_names(streams):
+    return [f"stream-{number + 1}" for number in range(len(streams))]
+
+
 def run_files(draw, place, judged, document, streams):
     """Has the session judged from files, and its report and a forged one checked; returns what is found."""
-    names = [f"stream-{number + 1}" for number in range(len(streams))]
+    names = stream_names(streams)
     place.write({"session.json": document, "report": judged.report, **dict(zip(names, streams))})
     status, report = int(judged.cuts is None), judged.report.encode()
     for workers in ("2", "16"):
@@ -579,6 +717,24 @@ def run_files(draw, place, judged, document, streams):
     ran = place.run(["check", "session.json", "forged", *names])
     place.expect(f"check of a forged report\n{forged}", ran, int("bad\n" in finding), finding.encode())
     return finding
+
+
+def run_beyond(draw, place, judged, document, streams):
+    """Has the session judged from files that are there with --beyond-width, with its own width and with width 1, and
+    the reports checked; returns what was unknown without it."""
+    names, found = stream_names(streams), ""
+    narrow = json.dumps({**json.loads(document), "width": 1})
+    for text, width in ((document, judged.session.width), (narrow, 1)):
+        report, lines = judged.reported_beyond(width)
+        place.write({"session.json": text, "report": report})
+        words = ["session.json", *names]
+        words.insert(draw.randint(0, len(words)), "--beyond-width")
+        words = ["judge", "--workers", draw.choice(["1", "2", "16"]), *words]
+        place.expect(" ".join(words) + f" of width {width}", place.run(words), int(judged.cuts is None),
+                     report.encode())
+        place.expect("check", place.run(["check", "session.json", "report", *names]), 0, checked(report.encode()))
+        found += lines
+    return found
 
 
 def tried(program, seed, number):
@@ -596,7 +752,9 @@ def tried(program, seed, number):
             judged = Judged(session)
             status = int(judged.cuts is None)
             place.expect("as a bundle", place.run([], bundle.encode()), status, judged.report.encode())
-            finding = run_files(draw, place, judged, document, streams) if number % 4 == 0 else ""
+            finding = ""
+            for run in (run_files, run_beyond) if number % 4 == 0 else ():
+                finding += run(draw, place, judged, document, streams)
         except Differs as error:
             return place.runs, "", f"{error}\n{bundle}"
         except subprocess.TimeoutExpired:

@@ -21,7 +21,8 @@ HERE = os.path.dirname(os.path.abspath(__file__))
 # It opens, and a read of its first byte fails.
 UNREADABLE = "/proc/self/mem"
 SECONDS = 60
-SESSION = {"name", "document", "streams", "report", "status", "any_order", "as_bundle", "line_ends"}
+SESSION = {"name", "document", "streams", "report", "report_beyond_width", "status", "any_order", "as_bundle",
+           "line_ends"}
 # What a run may say of its output and of its errors, and how that is compared.
 SAYS = {"output": bytes.__eq__, "output_begins": bytes.startswith, "output_has": bytes.__contains__,
         "output_ends": bytes.endswith, "errors": bytes.__eq__, "errors_begin": bytes.startswith}
@@ -130,13 +131,29 @@ def judge(place, case, document, streams, end):
     return names
 
 
+def check(place, report, names):
+    """Has a report of the session checked, which finds all of its evidence good."""
+    place.write({"report": {"bytes": report.decode("latin-1")}})
+    place.expect("check", place.run(["check", "session.json", "report", *names]), 0, checked(report))
+
+
+def judge_beyond(place, case, names):
+    """Judges the session with --beyond-width, and has the report checked."""
+    report = data(case["report_beyond_width"])
+    alone = ["session.json", *names, "--beyond-width"]
+    for words in (alone, ["--beyond-width", "--workers", "3", "session.json", *names]):
+        place.expect(f"judge {' '.join(words)}", place.run(["judge", *words]), case.get("status", 0), report)
+    check(place, report, names)
+
+
 def run_session(place, case):
     """Judges the session as it stands and with each of its line ends, and has its report checked."""
     document, streams, report = data(case["document"]), [data(part) for part in case["streams"]], data(case["report"])
     names = judge(place, case, document, streams, b"\n")
     if names:
-        place.write({"report": {"bytes": report.decode("latin-1")}})
-        place.expect("check", place.run(["check", "session.json", "report", *names]), 0, checked(report))
+        check(place, report, names)
+    if "report_beyond_width" in case:
+        judge_beyond(place, case, names)
     for end in case.get("line_ends", []):
         end = end.encode()
         judge(place, case, document.replace(b"\n", end), [part.replace(b"\n", end) for part in streams], end)

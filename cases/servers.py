@@ -33,6 +33,9 @@ DOCUMENT = (b'{"processes":[{"name":"a","vars":{"x":0}},{"name":"b","vars":{"y":
 OF_A = b'{"process":"a"}\n{"set":{"x":1}}\n{"set":{"x":0}}\n{"end":true}\n'
 OF_B = b'{"process":"b"}\n{"set":{"y":1}}\n{"set":{"y":0}}\n{"end":true}\n'
 REPORT = b"session 2 processes 4 events 0 messages\nboth possibly yes 1,1\nboth definitely no b,b,a,a\n"
+# Of width 1, so that nothing is known without the option.
+NARROW = DOCUMENT[:-1] + b',"width":1}'
+UNKNOWN = b"session 2 processes 4 events 0 messages\nboth possibly unknown 1\nboth definitely unknown 1\n"
 # A message that two processes receive, as version 2 has it.
 BROADCAST = (b'{"processes":[{"name":"a","vars":{"x":0}},{"name":"b","vars":{"y":0}},{"name":"c","vars":{"z":0}}],'
              b'"predicates":[{"name":"lag","text":"a.x == 1 and b.y + c.z == 1"}],"version":2}')
@@ -79,7 +82,7 @@ def two_ports(taken):
 class Server(contextlib.ExitStack):
     """The program as a server on a free port, and the connections to it. All of it ends with the context."""
 
-    def __init__(self, program, folder, document=DOCUMENT, watchers=0, workers=None, taken=()):
+    def __init__(self, program, folder, document=DOCUMENT, watchers=0, workers=None, taken=(), beyond=False):
         super().__init__()
         if document is not None:
             with open(os.path.join(folder, "session.json"), "wb") as file:
@@ -88,6 +91,7 @@ class Server(contextlib.ExitStack):
         self.enter_context(bound)
         words = ["--port", str(self.port), "--watchers", str(watchers)]
         words += ["--workers", str(workers)] if workers else []
+        words += ["--beyond-width"] if beyond else []
         self.process = self.enter_context(subprocess.Popen(
             [program, "serve", "session.json", *words], cwd=folder, stdout=subprocess.PIPE, stderr=subprocess.PIPE))
         self.callback(self.process.kill)
@@ -187,6 +191,14 @@ def cases():
     yield "a message with two receivers, in version 1", three, options, (1, b"refused receivedtwice c#1\n", b"")
     options = {"document": BROADCAST.replace(b":2}", b":3}")}
     yield "another version", nobody, options, (1, b"refused spec version\n", b"")
+    two = clients([OF_A, OF_B], 1)
+    yield "width 1", two, {"document": NARROW, "watchers": 1}, (0, UNKNOWN, b"")
+    options = {"document": NARROW, "watchers": 1, "beyond": True}
+    yield "beyond width 1", two, options, (0, REPORT, b"")
+    yield "beyond width 1, by 4 workers", two, {**options, "workers": 4}, (0, REPORT, b"")
+    options = {"document": BROADCAST[:-1] + b',"width":1}', "beyond": True}
+    undecided = OF_BROADCAST.replace(b"possibly yes 1,0,1", b"possibly unknown 2")
+    yield "beyond width 1, and not decided", three, options, (0, undecided, b"")
     yield "sixteen connections", senders(OF_SIXTEEN), {"document": SIXTEEN}, (0, OF_LAST, b"")
     options = {"document": SIXTEEN, "workers": 4}
     yield "sixteen connections in the other order", senders(OF_SIXTEEN[::-1]), options, (0, OF_LAST, b"")

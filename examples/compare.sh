@@ -1,8 +1,9 @@
 #!/usr/bin/env bash
 # compare.sh [PROGRAM]: runs the program on each example, and compares what it writes and its status with what is
-# stored. Each example is judged from its files, and again as a bundle, and drawn; each finding is what a check writes,
-# and of a refused session or a bad report nothing is drawn. The last line says how many were compared; the status is 1
-# if any differs. PROGRAM is crates/monitor/out/monitor if it isn't given.
+# stored. Each example is judged from its files, and again as a bundle, and drawn; one with a report-beyond-width is
+# judged with --beyond-width too, and drawn by that report. Each finding is what a check writes, and of a refused
+# session or a bad report nothing is drawn. The last line says how many were compared; the status is 1 if any differs.
+# PROGRAM is crates/monitor/out/monitor if it isn't given.
 set -u
 here=$(realpath "$(dirname "$0")")
 program=$(realpath -m "${1:-$here/../crates/monitor/out/monitor}")
@@ -42,6 +43,12 @@ for session in */session.json; do
   compare "$folder as a bundle" "$folder/report" "$wanted" "$?"
 done
 
+for report in */report-beyond-width; do
+  folder=${report%/*}
+  "$program" judge "$folder/session.json" "$folder"/*.stream --beyond-width > "$written"
+  compare "judge $folder --beyond-width" "$report" 0 "$?"
+done
+
 for bundle in */bundle; do
   "$program" < "$bundle" > "$written"
   compare "$bundle" "${bundle%/bundle}/report" 0 "$?"
@@ -58,13 +65,15 @@ done
 
 for session in */session.json; do
   folder=${session%/session.json}
+  report=$folder/report
+  [ -e "$report-beyond-width" ] && report+=-beyond-width
   picture=$folder/picture.svg
   wanted=0
-  if grep -q '^refused ' "$folder/report"; then
+  if grep -q '^refused ' "$report"; then
     picture=/dev/null
     wanted=1
   fi
-  "$program" draw "$session" "$folder/report" "$folder"/*.stream > "$written" 2> /dev/null
+  "$program" draw "$session" "$report" "$folder"/*.stream > "$written" 2> /dev/null
   compare "draw $folder" "$picture" "$wanted" "$?"
 done
 

@@ -1,6 +1,7 @@
 #!/usr/bin/env bash
-# draw.sh [PROGRAM]: draws each example whose session isn't refused again, as picture.svg in its folder. PROGRAM is
-# crates/monitor/out/monitor if it isn't given. The status is 1 if one isn't drawn.
+# draw.sh [PROGRAM]: draws each example whose session isn't refused again, as picture.svg in its folder, by its
+# report-beyond-width if it has one. PROGRAM is crates/monitor/out/monitor if it isn't given. The status is 1 if one
+# isn't drawn.
 set -u
 here=$(realpath "$(dirname "$0")")
 program=$(realpath -m "${1:-$here/../crates/monitor/out/monitor}")
@@ -10,8 +11,10 @@ trap 'rm -f "$drawn"' EXIT
 status=0
 for session in */session.json; do
   folder=${session%/session.json}
-  grep -q '^refused ' "$folder/report" && continue
-  if "$program" draw "$session" "$folder/report" "$folder"/*.stream > "$drawn"; then
+  report=$folder/report
+  [ -e "$report-beyond-width" ] && report+=-beyond-width
+  grep -q '^refused ' "$report" && continue
+  if "$program" draw "$session" "$report" "$folder"/*.stream > "$drawn"; then
     cat "$drawn" > "$folder/picture.svg"
   else
     echo "examples: $folder isn't drawn"

@@ -6,7 +6,7 @@ use Rattle.clap.specs.Walk.{Row, Text, first_of}
 use Rattle.pd_arguments.specs.Arguments.{IsNumberText, IsWorkers, LacksService, LacksWorkers, NamesNumber, NamesService, NamesWorkers}
 use Rattle.pd_arguments.specs.declared.workers.Workers.{Workers}
 
-some_same : {A : Type 0} (a b : A) → Some a ≡ Some b → a ≡ b
+pub some_same : {A : Type 0} (a b : A) → Some a ≡ Some b → a ≡ b
 some_same a b e = cc
 
 pub number_named : (rows : List Row) (id text : Text) → first_of id rows ≡ Some text → (r : Option ℕ)

@@ -1,8 +1,9 @@
 -- What the arguments after the program's name ask for, as the command line's parser takes them.
-use Rattle.std.specs.Prelude.{◌≡◌, ◌≢◌, ◌⊎◌, ◌<◌, ◌≤◌, ◌^◌, ℕ, true, List, [], ◌∷◌, codes, Option, Some, None, Result, IsOkAnd}
+use Rattle.std.specs.Prelude.{◌≡◌, ◌≢◌, ◌⊎◌, ◌↔◌, ◌<◌, ◌≤◌, ◌^◌, ℕ, Bool, true, IsTrue, List, [], ◌∷◌, codes, Option, Some, None, Result, IsOkAnd}
 use Rattle.std.specs.Str.Parse.{IsNumeral, digits_value, without_leading_plus}
 use Rattle.clap.specs.Lexer.{usize_max}
-use Rattle.clap.specs.Words.{App, Row, Rule, Shape, Text, IsAmong, all_of, app_of, fault_of, first_of, new_app, new_rule, subcommand_of, with_rule, with_subcommand}
+use Rattle.clap.specs.Words.{App, Row, Rule, Shape, Text, IsAmong, all_of, app_of, fault_of, first_of, new_app, new_rule, one_of, subcommand_of, with_rule, with_subcommand}
+use Rattle.clap.specs.declared.builder.action.ArgAction.TheVariants.{SetTrue}
 use Rattle.clap.specs.declared.builder.command.Command.{Command}
 use Rattle.clap.specs.declared.builder.value_parser.ValueParser.TheVariants.{Unsigned}
 use Rattle.clap.specs.declared.error.kind.ErrorKind.{ErrorKind}
@@ -48,6 +49,11 @@ watchers_rule = record (number_rule (codes "WATCHERS") (codes "watchers") 0 watc
 abbrev pub workers_rule : Rule
 workers_rule = record (number_rule (codes "WORKERS") (codes "workers") 1 worker_limit) { defaults = codes "1" ∷ [] }
 
+-- the flag that asks for what is decided whatever the width: an option with no value
+abbrev pub beyond_width_rule : Rule
+beyond_width_rule =
+    record (new_rule (codes "BEYOND_WIDTH")) { long = Some (codes "beyond-width"); action = Some SetTrue }
+
 -- the name of a predicate
 abbrev pub predicate_rule : Rule
 predicate_rule = record (new_rule (codes "PREDICATE")) { long = Some (codes "predicate") }
@@ -60,9 +66,10 @@ document_app name = with_rule (new_app name) (required_rule (codes "SPEC"))
 abbrev pub report_app : (name : Text) → App
 report_app name = with_rule (with_rule (document_app name) (required_rule (codes "REPORT"))) stream_rule
 
--- `judge SPEC STREAM... [--workers WORKERS]`
+-- `judge SPEC STREAM... [--workers WORKERS] [--beyond-width]`
 abbrev pub judge_app : App
-judge_app = with_rule (with_rule (document_app (codes "judge")) stream_rule) workers_rule
+judge_app =
+    with_rule (with_rule (with_rule (document_app (codes "judge")) stream_rule) workers_rule) beyond_width_rule
 
 -- `check SPEC REPORT STREAM...`
 abbrev pub check_app : App
@@ -72,9 +79,11 @@ check_app = report_app (codes "check")
 abbrev pub draw_app : App
 draw_app = with_rule (report_app (codes "draw")) predicate_rule
 
--- `serve SPEC --port PORT [--watchers WATCHERS] [--workers WORKERS]`
+-- `serve SPEC --port PORT [--watchers WATCHERS] [--workers WORKERS] [--beyond-width]`
 abbrev pub serve_app : App
-serve_app = with_rule (with_rule (with_rule (document_app (codes "serve")) port_rule) watchers_rule) workers_rule
+serve_app =
+    with_rule (with_rule (with_rule (with_rule (document_app (codes "serve")) port_rule) watchers_rule) workers_rule)
+    beyond_width_rule
 
 -- the program alone: its name isn't among the arguments that are parsed
 abbrev pub plain_shape : Shape
@@ -149,6 +158,15 @@ NamesWorkers rows workers = NamesNumber rows (codes "WORKERS") workers × IsWork
 abbrev pub LacksWorkers : List Row → Type 0
 LacksWorkers rows = ¬ ((workers : ℕ) × NamesWorkers rows workers)
 
+-- The flag of this id is given exactly if the text of its row is "true". The parser puts that there where the flag
+-- stands among the arguments, and "false" where it doesn't.
+abbrev pub SaysFlag : List Row → (id : Text) (is_given : Bool) → Type 0
+SaysFlag rows id is_given = IsTrue is_given ↔ (one_of id rows ≡ Some (codes "true"))
+
+-- what is decided whatever the width is asked for too, exactly if this is true
+abbrev pub SaysBeyondWidth : List Row → (beyond_width : Bool) → Type 0
+SaysBeyondWidth rows beyond_width = SaysFlag rows (codes "BEYOND_WIDTH") beyond_width
+
 -- the name of a session document's file, the port of the streams, and the number of watchers
 pub record NamesService (rows : List Row) (document : Text) (port watchers : ℕ) : Type 0 where
   pub names_document : first_of (codes "SPEC") rows ≡ Some document
@@ -184,15 +202,17 @@ pub data AsksFor (arguments : List Text) : Request → Type 0 where
       → ¬ ((rows : List Row) × AreOf (codes "check") arguments rows)
       → ¬ ((rows : List Row) × AreOf (codes "draw") arguments rows)
       → ¬ ((rows : List Row) × AreOf (codes "serve") arguments rows) → AsksFor arguments JudgeInput
-  of_judge : (rows : List Row) (document : Text) (streams : List Text) (workers : ℕ) → AreTaken arguments
-      → AreOf (codes "judge") arguments rows → NamesSession rows document streams → NamesWorkers rows workers
-      → AsksFor arguments (JudgeFiles document streams)
+  of_judge : (rows : List Row) (document : Text) (streams : List Text) (workers : ℕ) (beyond_width : Bool)
+      → AreTaken arguments → AreOf (codes "judge") arguments rows → NamesSession rows document streams
+      → NamesWorkers rows workers → SaysBeyondWidth rows beyond_width
+      → AsksFor arguments (JudgeFiles beyond_width document streams)
   of_check : (rows : List Row) (document report : Text) (streams : List Text) → AreTaken arguments
       → AreOf (codes "check") arguments rows → NamesSession rows document streams → NamesReport rows report
       → AsksFor arguments (CheckFiles document report streams)
-  of_serve : (rows : List Row) (document : Text) (port watchers workers : ℕ) → AreTaken arguments
-      → AreOf (codes "serve") arguments rows → NamesService rows document port watchers → NamesWorkers rows workers
-      → AsksFor arguments (ServeStreams document port watchers)
+  of_serve : (rows : List Row) (document : Text) (port watchers workers : ℕ) (beyond_width : Bool)
+      → AreTaken arguments → AreOf (codes "serve") arguments rows → NamesService rows document port watchers
+      → NamesWorkers rows workers → SaysBeyondWidth rows beyond_width
+      → AsksFor arguments (ServeStreams beyond_width document port watchers)
   of_help : (kind : ErrorKind) → IsShownKind kind → HasFault arguments kind → AsksFor arguments ShowHelp
   of_fault : (kind : ErrorKind) → ¬ IsShownKind kind → HasFault arguments kind → AsksFor arguments Unclear
   of_missing : (command : Text) (rows : List Row) → TakesStreams command → AreOf command arguments rows

@@ -15,15 +15,16 @@ session_view names = (names.spec.now, map (λ name. name.now) names.streams.item
 -- the arguments ask for this
 abbrev pub IsAsked : List Text → Request → Type 0
 IsAsked arguments Bundle = AsksFor arguments asked.JudgeInput
-IsAsked arguments (Judge names workers) =
-    AsksFor arguments (asked.JudgeFiles (session_view names).0 (session_view names).1)
+IsAsked arguments (Judge judgement) =
+    AsksFor arguments (asked.JudgeFiles judgement.beyond_width (session_view judgement.names).0
+    (session_view judgement.names).1)
 IsAsked arguments (Check report names) =
     AsksFor arguments (asked.CheckFiles (session_view names).0 report.now (session_view names).1)
 IsAsked arguments (Draw report predicate names) =
     AsksToDraw arguments (session_view names).0 report.now (session_view names).1
     (option_map (λ (name : Bor (List ℕ)). name.now) predicate)
 IsAsked arguments (Serve service) =
-    AsksFor arguments (asked.ServeStreams service.spec.now service.port service.watchers)
+    AsksFor arguments (asked.ServeStreams service.beyond_width service.spec.now service.port service.watchers)
 
 -- the same of a request; with none the arguments ask for nothing that can be done
 abbrev pub IsAskedIf : List Text → Option Request → Type 0

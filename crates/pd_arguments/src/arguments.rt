@@ -3,12 +3,12 @@ ghost use Rattle.clap.specs.Matches.{found_of};
 ghost use Rattle.clap.specs.Simple.{app_of, subcommand_of, subcommand_rows_of};
 ghost use Rattle.clap.specs.Values.{kind_of};
 ghost use Rattle.clap.specs.Walk.{Text, rows_of};
-ghost use Rattle.pd_arguments.specs.Arguments.{AreOf, AreTaken, FindsSession, IsErrorOf, IsNumberText, IsPort, NamesNumber, NamesWorkers, monitor_app};
+ghost use Rattle.pd_arguments.specs.Arguments.{AreOf, AreTaken, FindsSession, IsErrorOf, IsNumberText, IsPort, NamesNumber, NamesWorkers, SaysFlag, monitor_app};
 ghost use Rattle.pd_arguments.specs.Views.{IsAsked, IsAskedIf, session_view};
 ghost use Rattle.std.specs.Prelude.{◌≡◌, ◌≢◌, ℕ, IfErr, IfOk, IfSome, List, None, codes, map, option_map};
 
 use super::commands::{PORT_LIMIT, WATCHER_LIMIT, program_command};
-use super::request::{Request, Service, SessionNames};
+use super::request::{Judgement, Request, Service, SessionNames};
 use super::workers::Workers;
 use clap::error::ErrorKind;
 use clap::{ArgMatches, Command, Error};
@@ -45,7 +45,12 @@ fn judge_request<'a>(
     let Some(names) = session_names(alloc, matches)? else {
         return Ok(None);
     };
-    Ok(Some(Request::Judge(names, workers)))
+    let beyond_width = flag_of(matches, "BEYOND_WIDTH");
+    Ok(Some(Request::Judge(Judgement {
+        names,
+        beyond_width,
+        workers,
+    })))
 }
 
 /// What the arguments of `check` ask for, if all names are there.
@@ -118,6 +123,13 @@ fn workers_of(matches: &ArgMatches<'_>) -> Option<Workers>
     Workers::of(number)
 }
 
+/// Whether the flag of this id is given.
+fn flag_of(matches: &ArgMatches<'_>, id: &str) -> bool
+    ensures { SaysFlag (rows_of (found_of matches.now)) id.now result }
+{
+    matches.get_one::<bool>(id).unwrap_or(false)
+}
+
 /// The port of this number, unless it is 0 or the last one.
 fn port_of(number: u64) -> Option<u16>
     ensures same { IfSome result (λ port. port ≡ number) }
@@ -158,6 +170,7 @@ fn serve_request<'a>(matches: &ArgMatches<'a>) -> Option<Request<'a>>
         spec,
         port,
         watchers,
+        beyond_width: flag_of(matches, "BEYOND_WIDTH"),
         workers,
     }))
 }

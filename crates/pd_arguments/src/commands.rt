@@ -2,11 +2,11 @@
 ghost use Rattle.clap.specs.Simple.{app_of};
 ghost use Rattle.clap.specs.Walk.{rule_of};
 ghost use Rattle.clap.specs.declared.builder.command.Command.TheViews.{out-Command};
-ghost use Rattle.pd_arguments.specs.Arguments.{AddsCommand, check_app, document_app, draw_app, judge_app, monitor_app, number_rule, plain_app, port_rule, predicate_rule, report_app, required_rule, serve_app, stream_rule, watchers_rule, workers_rule};
+ghost use Rattle.pd_arguments.specs.Arguments.{AddsCommand, beyond_width_rule, check_app, document_app, draw_app, judge_app, monitor_app, number_rule, plain_app, port_rule, predicate_rule, report_app, required_rule, serve_app, stream_rule, watchers_rule, workers_rule};
 ghost use Rattle.std.specs.Prelude.{◌≡◌, IfOk, false};
 
 use clap::builder::ValueParser;
-use clap::{Arg, Command};
+use clap::{Arg, ArgAction, Command};
 use pd_format::WORKER_LIMIT;
 use std::alloc::{AllocError, Global};
 
@@ -26,6 +26,9 @@ const JUDGE_AFTER: &str =
     "A report is written to the standard output. The status is 0 if the session is judged, 1 if it is refused, \
 also because a stream can't be read, 2 if the arguments are refused, 3 if a file can't be opened, the document \
 can't be read or the output can't be written, and 4 if memory runs out.\n\n\
+An answer is unknown where a level of the lattice has more cuts than the document's width. With --beyond-width \
+predicates that name at most two processes, and those of which each comparison names one process, are answered all \
+the same.\n\n\
 The formats are described in docs/SPECIFICATION.md. An example, at the top of the repository:\n  \
 crates/monitor/out/monitor judge examples/ten-lines/session.json examples/ten-lines/left.stream \
 examples/ten-lines/right.stream";
@@ -68,6 +71,9 @@ const SERVE_AFTER: &str =
 is written to the standard output once all of them have ended and all watchers were answered. The status is 0 if \
 the session is judged, 1 if it is refused, 2 if the arguments are refused, 3 if the document can't be read, a port \
 can't be bound, a stream can't be accepted or the output can't be written, and 4 if memory runs out.\n\n\
+An answer is unknown where a level of the lattice has more cuts than the document's width. With --beyond-width \
+predicates that name at most two processes, and those of which each comparison names one process, are answered all \
+the same.\n\n\
 The formats are described in docs/SPECIFICATION.md. An example, at the top of the repository:\n  \
 crates/monitor/out/monitor serve examples/live/session.json --port 7411\nand then, from another terminal:\n  \
 cat examples/live/left.stream > /dev/tcp/127.0.0.1/7411 & cat examples/live/right.stream > /dev/tcp/127.0.0.1/7411";
@@ -148,6 +154,19 @@ fn workers_option<'a>(alloc: Global) -> Arg<'a>
         )
 }
 
+/// The option that asks for what is decided whatever the width.
+fn beyond_width_option<'a>(alloc: Global) -> Arg<'a>
+    ensures rule { rule_of result ≡ beyond_width_rule }
+    ensures local { result.global ≡ false }
+{
+    Arg::new(alloc, "BEYOND_WIDTH")
+        .long("beyond-width")
+        .action(ArgAction::SetTrue)
+        .help(
+            "Answer predicates whatever the width, as far as they are decided without the levels of the lattice",
+        )
+}
+
 /// The command line of the command of this name, on a session document, with what its help begins and ends with.
 fn document_command<'a>(
     alloc: Global,
@@ -186,7 +205,8 @@ fn judge_command<'a>(alloc: Global) -> Result<Command<'a>, AllocError>
 {
     document_command(alloc, "judge", JUDGE_ABOUT, JUDGE_AFTER)?
         .arg(streams_argument(alloc))?
-        .arg(workers_option(alloc))
+        .arg(workers_option(alloc))?
+        .arg(beyond_width_option(alloc))
 }
 
 /// The command line of a check.
@@ -213,7 +233,8 @@ fn serve_command<'a>(alloc: Global) -> Result<Command<'a>, AllocError>
     document_command(alloc, "serve", SERVE_ABOUT, SERVE_AFTER)?
         .arg(port_option(alloc))?
         .arg(watchers_option(alloc))?
-        .arg(workers_option(alloc))
+        .arg(workers_option(alloc))?
+        .arg(beyond_width_option(alloc))
 }
 
 /// The program's command line without its commands.

@@ -16,5 +16,5 @@ mod request;
 mod workers;
 
 pub use arguments::parse;
-pub use request::{Request, Service, SessionNames};
+pub use request::{Judgement, Request, Service, SessionNames};
 pub use workers::Workers;

@@ -11,6 +11,17 @@ pub struct SessionNames<'a> {
     pub streams: Vec<&'a str>,
 }
 
+/// What a judgement of files is asked for.
+#[derive(Drop)]
+pub struct Judgement<'a> {
+    /// The names of the session's files.
+    pub names: SessionNames<'a>,
+    /// That predicates are answered whatever the width, as far as they are decided without the levels of the lattice.
+    pub beyond_width: bool,
+    /// How many workers share the work.
+    pub workers: Workers,
+}
+
 /// What a server is asked for.
 #[derive(Drop)]
 pub struct Service<'a> {
@@ -20,6 +31,8 @@ pub struct Service<'a> {
     pub port: u16,
     /// How many watchers are accepted on the next port, at most 64.
     pub watchers: u64,
+    /// Whether predicates are answered whatever the width, as far as they are decided without the levels.
+    pub beyond_width: bool,
     /// How many workers share the work.
     pub workers: Workers,
 }
@@ -29,8 +42,8 @@ pub struct Service<'a> {
 pub enum Request<'a> {
     /// To judge the bundle on the input.
     Bundle,
-    /// To judge a session document and streams by this many workers.
-    Judge(SessionNames<'a>, Workers),
+    /// To judge a session document and streams.
+    Judge(Judgement<'a>),
     /// To check the report in the file of this name against a session document and streams.
     Check(&'a str, SessionNames<'a>),
     /// To draw the report in the file of this name with a session document and streams: the evidence of the predicate

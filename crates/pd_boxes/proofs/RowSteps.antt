@@ -1,6 +1,6 @@
 -- The rows of intervals, one count more and one process more.
 use Rattle.std.proofs.Common.{◌≡◌, ℕ, ◌+◌, ◌-◌, ◌<◌, ◌≤◌, Bool, true, false, cond, nat_eq, List, [], ◌∷◌, ◌++◌, length, length-append, get_or, refl, sym, ap, ◌∙◌, subst, inl, inr, ◌⊎◌, arith}
-use Rattle.std.proofs.lemmas.Bool.{cases_lt, eq-eqb, eqb-true}
+use Rattle.std.proofs.lemmas.Bool.{cases_lt, eq-eqb, eqb-true, false≢true}
 use Rattle.std.proofs.lemmas.List.{get_or-append_right, get_or_append_left}
 use Rattle.pd_boxes.specs.Ways.{IsLastGood}
 use Rattle.pd_boxes.specs.Rows.{IsIntervalBefore, IsRow}
@@ -177,3 +177,30 @@ row_ended good last count start leave starts leaves end so_far = record {
   leaves_each = omega (arith, so_far.leaves_each, end);
   each = λ n le. so_far.each n (omega (arith, le, end));
 }
+
+-- a count is good exactly if the last interval before the next one is left there
+pub good_by_leave : (good : ℕ → Bool) (last n leave : ℕ) (starts leaves : List ℕ) → IsRow good last starts leaves
+    → n ≤ last → leave ≡ get_or leaves (n + 1) 0 → nat_eq leave (n + 1) ≡ good n
+good_by_leave good last n leave starts leaves row within there = go (good n) refl (nat_eq leave (n + 1)) refl
+  where
+    is : IsIntervalBefore good (n + 1) (get_or starts (n + 1) 0) (get_or leaves (n + 1) 0)
+    is = row.each (n + 1) (omega (arith, within))
+
+    left_there : leave ≡ n + 1 → good n ≡ true
+    left_there same =
+        let e : get_or leaves (n + 1) 0 - 1 ≡ n = omega (arith, same, there) in
+        ap good (sym e) ∙ is.last.here (omega (arith, same, there))
+
+    left_before : (leave < n + 1) ⊎ (n + 1 ≤ leave) → good n ≡ true → leave ≡ n + 1
+    left_before (inr high) yes_there =
+        let a : get_or leaves (n + 1) 0 ≤ n + 1 = is.last.high in omega (arith, high, there, a)
+    left_before (inl low) yes_there =
+        let bad : good n ≡ false = is.last.passed n (omega (arith, low, there)) (omega arith) in
+        absurd (false≢true (sym bad ∙ yes_there))
+
+    go : (g : Bool) → good n ≡ g → (e : Bool) → nat_eq leave (n + 1) ≡ e → nat_eq leave (n + 1) ≡ good n
+    go true is_good e same =
+        eq-eqb leave (n + 1) (left_before (cases_lt leave (n + 1)) is_good) ∙ sym is_good
+    go false is_bad true same =
+        absurd (false≢true (sym is_bad ∙ left_there (eqb-true leave (n + 1) same)))
+    go false is_bad false same = same ∙ sym is_bad

@@ -11,11 +11,13 @@
 //! - `level`: the level from which on no cut avoids
 //! - `rows`: the intervals of each process, by the count before which one is looked for
 //! - `last`: whether there is a box, looked for from the last intervals on
+//! - `holds`: what keeps the last event of a process from being undone
 //! - `way`: the path of an observation that avoids
 //! - `passage`: the whole
 //! - `laws`: what boxes decide
 #![tactic(auto)]
 
+mod holds;
 mod intervals;
 mod last;
 mod laws;

@@ -1,7 +1,7 @@
 //! The intervals of each process, by the count before which one is looked for.
 ghost use Rattle.pd_boxes.specs.Rows.{AreRows, IsRow};
 ghost use Rattle.pd_model.specs.Events.{event_count};
-ghost use Rattle.std.specs.Prelude.{◌≡◌, ◌+◌, ◌<◌, IfOk, cond, length, nat_eq, slice_index};
+ghost use Rattle.std.specs.Prelude.{◌≡◌, ◌+◌, ◌<◌, ◌≤◌, IfOk, cond, length, nat_eq, slice_index};
 
 use pd_clock::Computation;
 use pd_least::GoodCounts;
@@ -107,4 +107,23 @@ impl Row {
     {
         at(&self.leaves, before)
     }
+}
+
+/// Whether a count of process `p` is good: the last interval before the next count is left there. What is wanted is
+/// there for the contract alone.
+pub(crate) fn is_good_count<G: GoodCounts>(
+    computation: &Computation<'_>,
+    _wanted: &G,
+    rows: &[Row],
+    p: usize,
+    count: u64,
+) -> bool
+    requires rows { AreRows computation.now.events (G.good _wanted.now) rows.now }
+    requires there { p < length computation.now.events }
+    requires within { count ≤ event_count computation.now.events p }
+    ensures { result ≡ G.good _wanted.now p count }
+{
+    computation.limits();
+    let row = &rows[p];
+    row.leave_before(count + 1) == count + 1
 }

@@ -5,6 +5,7 @@ use Rattle.pd_model.specs.Predicates.{Recorded}
 use Rattle.pd_format.specs.Documents.{Document}
 use Rattle.pd_format.specs.OtherTexts.{Checked, Finding, OfSession}
 use Rattle.pd_format.specs.Readings.{Trace}
+use Rattle.pd_format.specs.Documents.{plain}
 use Rattle.pd_format.specs.Reports.{Answer, IsReport, Refusal, Report, Judged, Refused}
 use Rattle.pd_judgement.specs.Findings as findings
 use Rattle.pd_judgement.specs.Findings.{IsAnswersFinding, IsFinding, IsSessionOf}
@@ -13,7 +14,7 @@ use Rattle.pd_check.specs.Found.{IsFoundOf, IsFoundOfRefused, of_refused_session
 
 -- of a refused session
 pub finding_of_refused : (bytes report : List ℕ) (streams : List RawStream) (refusal : Refusal) (claimed : Report)
-    (finding : Finding) → IsReport report claimed → IsJudgement bytes streams (Refused refusal)
+    (finding : Finding) → IsReport report claimed → IsJudgement (plain bytes) streams (Refused refusal)
     → IsFoundOfRefused refusal claimed finding
     → IsFinding bytes report streams finding
 finding_of_refused bytes report streams refusal claimed finding read refused (of_refused_session good right) =

@@ -7,7 +7,7 @@ use Rattle.pd_model.specs.Predicates.{Recorded}
 use Rattle.pd_traces.specs.Views.{computation_view}
 use Rattle.pd_traces.specs.declared.event.Trace.{Trace as Read}
 use Rattle.pd_gather.specs.Views.{traces_view}
-use Rattle.pd_format.specs.Documents.{Document}
+use Rattle.pd_format.specs.Documents.{Document, plain}
 use Rattle.pd_format.specs.OtherTexts.{Finding, NotRead}
 use Rattle.pd_format.specs.Readings.{Trace}
 use Rattle.pd_format.specs.Reports.{IsNoReport, IsReport, Refusal, Refused, Report}
@@ -108,7 +108,7 @@ refusal_stands refusal claimed name finding (of_refused_session good right) = re
 
 pub refusal_drawn : (bytes : List ℕ) (inputs : List (Option (List ℕ))) (never_fails : Bool) (refusal : Refusal)
     (claimed : Report)
-    (name : Option (List ℕ)) (finding : Finding) → IsReportOfInputs bytes inputs never_fails (Refused refusal)
+    (name : Option (List ℕ)) (finding : Finding) → IsReportOfInputs (plain bytes) inputs never_fails (Refused refusal)
     → IsFoundOfRefused refusal claimed finding → (report : List ℕ) → IsReport report claimed
     → IsAgainst bytes report inputs never_fails name finding
 refusal_drawn bytes inputs never_fails refusal claimed name finding refused found report is_report =

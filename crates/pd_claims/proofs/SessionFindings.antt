@@ -4,12 +4,13 @@ use Rattle.std.specs.Prelude.{Bool, Option}
 use Rattle.pd_model.specs.Events.{Computation}
 use Rattle.pd_model.specs.Messages.{HasMessages}
 use Rattle.pd_model.specs.Predicates.{Recorded}
-use Rattle.pd_format.specs.Documents.{Document}
+use Rattle.pd_format.specs.Documents.{Document, plain}
 use Rattle.pd_format.specs.OtherTexts.{Finding, NotRead}
 use Rattle.pd_format.specs.Readings.{Trace}
 use Rattle.pd_format.specs.Reports.{IsNoReport, IsReport, Refusal, Refused, Report}
 use Rattle.pd_judgement.specs.Findings.{of_unread}
 use Rattle.pd_judgement.specs.Judgements.{IsTracesReport}
+use Rattle.pd_judgement.proofs.DocumentsAreSingle.{plainly}
 use Rattle.pd_judgement.proofs.WholeStreams.{all_left_unread, all_unread_given}
 use Rattle.pd_check.specs.Found.{IsFoundOf, IsFoundOfRefused}
 use Rattle.pd_check.proofs.SessionFindings.{finding_of_refused, finding_of_session}
@@ -50,15 +51,16 @@ session_found bytes inputs never_fails document traces recorded messages claimed
 -- a refusal of a session that was read so far
 pub read_report : (bytes : List ℕ) (inputs : List (Option (List ℕ))) (never_fails : Bool) (document : Document)
     (traces : List Trace) (report : Report) → IsRead bytes inputs never_fails document traces
-    → IsTracesReport document traces report → IsReportOfInputs bytes inputs never_fails report
+    → IsTracesReport document traces report → IsReportOfInputs (plain bytes) inputs never_fails report
 read_report bytes inputs never_fails document traces report session right =
-    inputs_report bytes inputs never_fails document session.count session.results report session.is_document
+    inputs_report (plain bytes) inputs never_fails document session.count session.results report
+    (plainly bytes document session.is_document)
     (session.streams, session.are_given, session.comes)
     (traces_report document session.count session.results traces report session.joined right)
 
 -- a refused session
 pub refusal_found : (bytes : List ℕ) (inputs : List (Option (List ℕ))) (never_fails : Bool) (refusal : Refusal)
-    (claimed : Report) (finding : Finding) → IsReportOfInputs bytes inputs never_fails (Refused refusal)
+    (claimed : Report) (finding : Finding) → IsReportOfInputs (plain bytes) inputs never_fails (Refused refusal)
     → IsFoundOfRefused refusal claimed finding → FindsOf bytes claimed inputs never_fails finding
 refusal_found bytes inputs never_fails refusal claimed finding refused found = record {
   streams = refused.streams;

@@ -1,6 +1,7 @@
 //! Checks a report's evidence.
 ghost use Rattle.pd_check.specs.Views.{finding_view};
 ghost use Rattle.pd_claims.specs.Checks.{Finds, FindsOf, good_as};
+ghost use Rattle.pd_format.specs.Documents.{plain};
 ghost use Rattle.pd_judgement.specs.Writes.{IsFindingTextOf, Writes};
 ghost use Rattle.pd_report.specs.Views.{report_view};
 ghost use Rattle.pd_sessions.specs.Ends.{call_end};
@@ -31,7 +32,7 @@ fn find_in_session<S: RandomSource + Threads + Wait + Sync, R: ByteSource + Send
     ensures found { IfOk result (λ finding. FindsOf document.now (report_view claimed.now)
         (map R.remaining streams.items) R.never_fails (finding_view finding)) }
     ensures refused { IfErr result (IsUnanswered
-        (IsReportOfInputs document.now (map R.remaining streams.items) R.never_fails)) }
+        (IsReportOfInputs (plain document.now) (map R.remaining streams.items) R.never_fails)) }
 {
     let session = read_session(rt, alloc, document, streams)?;
     let (computation, messages) = computation_of(rt, alloc, &session.spec, &session.traces)?;

@@ -4,6 +4,7 @@ ghost use Rattle.pd_claims.specs.Drawings.{Draws, DrawsOf, DrawsTraces, IsDrawin
 ghost use Rattle.pd_sessions.specs.SessionReports.{IsReportOfInputs};
 ghost use Rattle.pd_sessions.specs.Unanswered.{IsUnanswered};
 ghost use Rattle.pd_traces.specs.SessionTraces.{AreTraces};
+ghost use Rattle.pd_format.specs.Documents.{plain};
 ghost use Rattle.pd_gather.specs.Views.{traces_view};
 ghost use Rattle.pd_judgement.specs.Judgements.{IsTracesReport};
 ghost use Rattle.pd_judgement.specs.Writes.{Writes};
@@ -78,7 +79,7 @@ fn draw_session<S: RandomSource + Threads + Wait + Sync, R: ByteSource + Send + 
     ensures drawn { IfOk result (DrawsOf document.now (report_view claimed.now)
         (map R.remaining streams.items) R.never_fails (name_view name.entry)) }
     ensures refused { IfErr result (IsUnanswered
-        (IsReportOfInputs document.now (map R.remaining streams.items) R.never_fails)) }
+        (IsReportOfInputs (plain document.now) (map R.remaining streams.items) R.never_fails)) }
 {
     let session = read_session(rt, alloc, document, streams)?;
     let drawn = draw_traces(rt, alloc, &session.spec, claimed, &session.traces, name)?;

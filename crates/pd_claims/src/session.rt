@@ -1,5 +1,6 @@
 //! The session that a report is held against.
 ghost use Rattle.pd_claims.specs.Sessions.{IsRead};
+ghost use Rattle.pd_format.specs.Documents.{plain};
 ghost use Rattle.pd_gather.specs.Views.{traces_view};
 ghost use Rattle.pd_sessions.specs.SessionReports.{IsReportOfInputs};
 ghost use Rattle.pd_sessions.specs.Unanswered.{IsUnanswered};
@@ -35,7 +36,7 @@ pub(crate) fn read_session<T: Threads + Wait + Sync, R: ByteSource + Send + Drop
         (document_view session.spec) (traces_view session.traces.items)) }
     ensures fit { IfOk result (λ session. AreTraces (document_view session.spec).names session.traces.items) }
     ensures refused { IfErr result (IsUnanswered
-        (IsReportOfInputs document.now (map R.remaining streams.items) R.never_fails)) }
+        (IsReportOfInputs (plain document.now) (map R.remaining streams.items) R.never_fails)) }
 {
     let spec = read_document(alloc, document)?;
     let gathered = read_streams(rt, alloc, &spec, streams)?;

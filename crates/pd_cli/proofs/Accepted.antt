@@ -1,7 +1,7 @@
 -- What is left written of streams that were accepted, by what is left written of streams with these bytes.
 use Rattle.std.proofs.Common.{◌≡◌, ℕ, List, [], length, refl, sym, ap, subst, ◌∙◌, Some, None, Option, true, false, arith, inl, inr}
 use Rattle.std.specs.Prelude.{◌⊎◌, All, Bool, IfErr, IfOk, MatchOption, MatchResult, Result, Ok, Err}
-use Rattle.pd_format.specs.Documents.{Document, DocumentFault, IsDocument, IsRefusedDocument}
+use Rattle.pd_format.specs.Documents.{Document, DocumentFault, IsDocument, IsRefusedDocument, Inquiry, inquiry}
 use Rattle.pd_judgement.specs.OneReport.{DocumentNotRefused, OneDocument}
 use Rattle.pd_format.specs.Reports.{Report}
 use Rattle.pd_judgement.specs.Headline.{is_judged}
@@ -73,10 +73,11 @@ refused_unless_memory bytes (kinds.Predicate number error) e h = go (predicate_f
 refused_unless_memory bytes kinds.Version e h = (faults.OtherVersion, h)
 refused_unless_memory bytes kinds.Memory e h = cc
 
-accepted_text : (document : List ℕ) (G : Option (List ℕ) → Type 0) (inputs : List (Option (List ℕ)))
+accepted_text : (beyond : Bool) (document : List ℕ) (G : Option (List ℕ) → Type 0) (inputs : List (Option (List ℕ)))
     (never_fails : Bool) (judged : Option Bool) (text : List ℕ) → AreAccepted document G inputs
-    → IsTextOfStreams document inputs never_fails judged text → IsTextOfAccepted document G never_fails judged text
-accepted_text document G inputs never_fails judged text are is = record {
+    → IsTextOfStreams (inquiry beyond document) inputs never_fails judged text
+    → IsTextOfAccepted (inquiry beyond document) G never_fails judged text
+accepted_text beyond document G inputs never_fails judged text are is = record {
   inputs = inputs;
   accepted = are.accepted;
   one_each = are.one_each;
@@ -93,24 +94,25 @@ of_known document P Q go h = record {
 }
 
 -- what is left by these streams is what is to be left by accepted ones
-pub service_of_judgement : (document : List ℕ) (G : Option (List ℕ) → Type 0) (inputs : List (Option (List ℕ)))
+pub service_of_judgement : (beyond : Bool) (document : List ℕ) (G : Option (List ℕ)
+    → Type 0) (inputs : List (Option (List ℕ)))
     (never_fails : Bool) (MayNotServe : Type 0) (ending : Ending) (old new : Option (List ℕ))
-    → AreAccepted document G inputs → FilesJudgementLeaves (Some document) inputs never_fails ⊥ ending old new
-    → ServiceLeaves (Some document) G never_fails ⊥ MayNotServe ending old new
-service_of_judgement document G inputs never_fails N Success old new are left =
+    → AreAccepted document G inputs → FilesJudgementLeaves beyond (Some document) inputs never_fails ⊥ ending old new
+    → ServiceLeaves beyond (Some document) G never_fails ⊥ MayNotServe ending old new
+service_of_judgement beyond document G inputs never_fails N Success old new are left =
     of_known document _ _ (writes_weaker _ _ Whole old new (λ text.
-    accepted_text document G inputs never_fails (Some true) text are)) left
-service_of_judgement document G inputs never_fails N Negative old new are left =
+    accepted_text beyond document G inputs never_fails (Some true) text are)) left
+service_of_judgement beyond document G inputs never_fails N Negative old new are left =
     of_known document _ _ (writes_weaker _ _ Whole old new (λ text.
-    accepted_text document G inputs never_fails (Some false) text are)) left
-service_of_judgement document G inputs never_fails N Misuse old new are left = left
-service_of_judgement document G inputs never_fails N (Failed MemoryFailure) old new are left = left
-service_of_judgement document G inputs never_fails N (Failed ReadFailure) old new are left = left
-service_of_judgement document G inputs never_fails N (Failed WriteFailure) old new are left =
+    accepted_text beyond document G inputs never_fails (Some false) text are)) left
+service_of_judgement beyond document G inputs never_fails N Misuse old new are left = left
+service_of_judgement beyond document G inputs never_fails N (Failed MemoryFailure) old new are left = left
+service_of_judgement beyond document G inputs never_fails N (Failed ReadFailure) old new are left = left
+service_of_judgement beyond document G inputs never_fails N (Failed WriteFailure) old new are left =
     of_known document _ _ (up_to_weaker _ _ old new
-    (λ text. accepted_text document G inputs never_fails None text are)) left
-service_of_judgement document G inputs never_fails N (Failed BundleFailure) old new are left = left
-service_of_judgement document G inputs never_fails N (Failed NetworkFailure) old new are left = absurd left
+    (λ text. accepted_text beyond document G inputs never_fails None text are)) left
+service_of_judgement beyond document G inputs never_fails N (Failed BundleFailure) old new are left = left
+service_of_judgement beyond document G inputs never_fails N (Failed NetworkFailure) old new are left = absurd left
 
 -- ---- how a session ends
 
@@ -143,58 +145,61 @@ service_outcome (Err fault) result P same holds =
     subst (λ (r : Result Bool ServiceFault). IfOk r P) (sym same) tt
 
 -- the report of a refused document is its refusal
-refused_report : (document : List ℕ) (streams : List RawStream) (report : Report) (fault : DocumentFault)
-    → DocumentNotRefused → IsRefusedDocument document fault → IsJudgement document streams report
+refused_report : (document : Inquiry) (streams : List RawStream) (report : Report) (fault : DocumentFault)
+    → DocumentNotRefused → IsRefusedDocument document.bytes fault → IsJudgement document streams report
     → is_judged report ≡ false
 refused_report document streams report fault not_refused refused (of_refused other _ e) = ap is_judged e
 refused_report document streams report fault not_refused refused (of_read read results is _ _) =
-    absurd (not_refused document read fault is refused)
+    absurd (not_refused document.bytes is.said fault is.read refused)
 
 -- so a document that is refused isn't judged
-pub refused_outcome : (document : List ℕ) (inputs : List (Option (List ℕ))) (never_fails : Bool)
+pub refused_outcome : (beyond : Bool) (document : List ℕ) (inputs : List (Option (List ℕ))) (never_fails : Bool)
     (end : Result Bool EngineFault)
     (old new : Option (List ℕ)) (fault : DocumentFault) → DocumentNotRefused → IsRefusedDocument document fault
-    → FilesJudgementLeaves (Some document) inputs never_fails ⊥ (ending_view end) old new → IfOk end
+    → FilesJudgementLeaves beyond (Some document) inputs never_fails ⊥ (ending_view end) old new → IfOk end
     (λ judged. judged ≡ false)
-refused_outcome document inputs never_fails (Err fault) old new refusal not_refused refused left = tt
-refused_outcome document inputs never_fails (Ok false) old new refusal not_refused refused left = refl
-refused_outcome document inputs never_fails (Ok true) old new refusal not_refused refused left =
+refused_outcome beyond document inputs never_fails (Err fault) old new refusal not_refused refused left = tt
+refused_outcome beyond document inputs never_fails (Ok false) old new refusal not_refused refused left = refl
+refused_outcome beyond document inputs never_fails (Ok true) old new refusal not_refused refused left =
     let text = left.holds.1.is_report_text in
-    let right = subst (λ (d : List ℕ). IsJudgement d left.holds.1.streams text.report) left.whole_document text.right in
-    sym text.said ∙ refused_report document left.holds.1.streams text.report refusal not_refused refused right
+    let right = subst (λ (d : List ℕ). IsJudgement (inquiry beyond d) left.holds.1.streams text.report)
+    left.whole_document text.right in
+    sym text.said ∙ refused_report (inquiry beyond document) left.holds.1.streams text.report refusal not_refused
+    refused right
 
 -- ---- a document that stands in a file
 
-accepted_of_file : (read document : List ℕ) (G : Option (List ℕ) → Type 0) (never_fails : Bool)
+accepted_of_file : (beyond : Bool) (read document : List ℕ) (G : Option (List ℕ) → Type 0) (never_fails : Bool)
     (judged : Option Bool) (text : List ℕ) → SameOutline read document
-    → IsTextOfAccepted read G never_fails judged text → IsTextOfAccepted document G never_fails judged text
-accepted_of_file read document G never_fails judged text same h = record {
+    → IsTextOfAccepted (inquiry beyond read) G never_fails judged text
+    → IsTextOfAccepted (inquiry beyond document) G never_fails judged text
+accepted_of_file beyond read document G never_fails judged text same h = record {
   inputs = h.inputs;
   accepted = h.accepted;
   one_each = λ other is. h.one_each other (same_document document read other (sym same) is);
   none_refused = λ fault refused. h.none_refused fault (same_refusal document read fault (sym same) refused);
-  is_text = same_report_text read document h.inputs never_fails judged text same h.is_text;
+  is_text = same_report_text beyond read document h.inputs never_fails judged text same h.is_text;
 }
 
 -- what is left by the bytes that were read is what is to be left by the file
-pub service_of_file : (file : Option (List ℕ)) (read : List ℕ) (G : Option (List ℕ) → Type 0)
+pub service_of_file : (beyond : Bool) (file : Option (List ℕ)) (read : List ℕ) (G : Option (List ℕ) → Type 0)
     (never_fails : Bool) (MayBeUnread MayNotServe : Type 0) (ending : Ending) (old new : Option (List ℕ))
-    → StandsFor read file → ServiceLeaves (Some read) G never_fails ⊥ MayNotServe ending old new
-    → ServiceLeaves file G never_fails MayBeUnread MayNotServe ending old new
-service_of_file file read G never_fails M N Success old new stands left =
+    → StandsFor read file → ServiceLeaves beyond (Some read) G never_fails ⊥ MayNotServe ending old new
+    → ServiceLeaves beyond file G never_fails MayBeUnread MayNotServe ending old new
+service_of_file beyond file read G never_fails M N Success old new stands left =
     of_document file read _ _ stands (λ document same. writes_weaker _ _ Whole old new (λ text.
-    accepted_of_file read document G never_fails (Some true) text same)) left
-service_of_file file read G never_fails M N Negative old new stands left =
+    accepted_of_file beyond read document G never_fails (Some true) text same)) left
+service_of_file beyond file read G never_fails M N Negative old new stands left =
     of_document file read _ _ stands (λ document same. writes_weaker _ _ Whole old new (λ text.
-    accepted_of_file read document G never_fails (Some false) text same)) left
-service_of_file file read G never_fails M N Misuse old new stands left = left
-service_of_file file read G never_fails M N (Failed MemoryFailure) old new stands left = left
-service_of_file file read G never_fails M N (Failed ReadFailure) old new stands left = absurd left.0
-service_of_file file read G never_fails M N (Failed WriteFailure) old new stands left =
+    accepted_of_file beyond read document G never_fails (Some false) text same)) left
+service_of_file beyond file read G never_fails M N Misuse old new stands left = left
+service_of_file beyond file read G never_fails M N (Failed MemoryFailure) old new stands left = left
+service_of_file beyond file read G never_fails M N (Failed ReadFailure) old new stands left = absurd left.0
+service_of_file beyond file read G never_fails M N (Failed WriteFailure) old new stands left =
     of_document file read _ _ stands (λ document same. up_to_weaker _ _ old new (λ text.
-    accepted_of_file read document G never_fails None text same)) left
-service_of_file file read G never_fails M N (Failed BundleFailure) old new stands left = left
-service_of_file file read G never_fails M N (Failed NetworkFailure) old new stands left = (
+    accepted_of_file beyond read document G never_fails None text same)) left
+service_of_file beyond file read G never_fails M N (Failed BundleFailure) old new stands left = left
+service_of_file beyond file read G never_fails M N (Failed NetworkFailure) old new stands left = (
   left.0,
   of_document file read _ _ stands (λ document same holds.
       (holds.0, same_document read document holds.0 same holds.1)) left.1,

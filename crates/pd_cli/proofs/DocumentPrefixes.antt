@@ -2,8 +2,8 @@
 use Rattle.std.proofs.Common.{◌≡◌, ℕ, ◌+◌, ◌<◌, ◌≤◌, List, length, take, refl, sym, ◌∙◌, ap, arith, Err, inl, inr, ◌⊎◌, length-take}
 use Rattle.std.proofs.lemmas.Bool.{cases_lt, lt-ltb}
 use Rattle.std.proofs.lemmas.List.{take_all}
-use Rattle.std.specs.Prelude.{Option, Bool}
-use Rattle.pd_format.specs.Documents.{Document, DocumentFault, Long, Json, Shape, Processes, Name, NameTwice, Vars, Predicates, Width, OtherVersion, InPredicate, IsDocument, IsRefusedDocument, outline_of_bytes}
+use Rattle.std.specs.Prelude.{Option, Bool, false}
+use Rattle.pd_format.specs.Documents.{Document, DocumentFault, Long, Json, Shape, Processes, Name, NameTwice, Vars, Predicates, Width, OtherVersion, InPredicate, IsDocument, IsInquired, IsRefusedDocument, inquiry, outline_of_bytes}
 use Rattle.pd_format.specs.Limits.{document_byte_limit}
 use Rattle.pd_judgement.specs.Judgements.{IsJudgement, of_refused, of_read, RawStream}
 use Rattle.pd_format.specs.Readings.{Trace}
@@ -26,6 +26,7 @@ same_document a b document e h = record {
       h.initial;
   width = h.width;
   version = h.version;
+  beyond_width = h.beyond_width;
   predicates = h.predicates;
 }
 
@@ -56,12 +57,20 @@ same_refusal a b (InPredicate number inner at) e h =
       none_before = h.none_before;
     }
 
-same_judgement : (a b : List ℕ) (streams : List RawStream) (report : Report) → SameOutline a b
-    → IsJudgement a streams report → IsJudgement b streams report
-same_judgement a b streams report e (of_refused fault refused reported) =
+same_inquired : (beyond : Bool) (a b : List ℕ) (document : Document) → SameOutline a b
+    → IsInquired (inquiry beyond a) document → IsInquired (inquiry beyond b) document
+same_inquired beyond a b document e is = record {
+  said = is.said;
+  read = same_document a b is.said e is.read;
+  is_changed = is.is_changed;
+}
+
+same_judgement : (beyond : Bool) (a b : List ℕ) (streams : List RawStream) (report : Report) → SameOutline a b
+    → IsJudgement (inquiry beyond a) streams report → IsJudgement (inquiry beyond b) streams report
+same_judgement beyond a b streams report e (of_refused fault refused reported) =
     of_refused fault (same_refusal a b fault e refused) reported
-same_judgement a b streams report e (of_read document results read are reported) =
-    of_read document results (same_document a b document e read) are reported
+same_judgement beyond a b streams report e (of_read document results read are reported) =
+    of_read document results (same_inquired beyond a b document e read) are reported
 
 pub same_session : (a b : List ℕ) (streams : List RawStream) (document : Document) (traces : List Trace)
     (messages : ℕ) → SameOutline a b → IsSessionOf a streams document traces messages
@@ -75,30 +84,34 @@ same_session a b streams document traces messages e held = record {
   counted = held.counted;
 }
 
-same_holding : (a b : List ℕ) (streams : List RawStream) (document : Document) (traces : List Trace) → SameOutline a b
-    → HoldsSession a streams document traces → HoldsSession b streams document traces
-same_holding a b streams document traces e held = record {
-  read = same_document a b document e held.read;
+same_holding : (beyond : Bool) (a b : List ℕ) (streams : List RawStream) (document : Document) (traces : List Trace)
+    → SameOutline a b → HoldsSession (inquiry beyond a) streams document traces
+    → HoldsSession (inquiry beyond b) streams document traces
+same_holding beyond a b streams document traces e held = record {
+  read = same_inquired beyond a b document e held.read;
   results = held.results;
   are_results = held.are_results;
   joined = held.joined;
 }
 
-same_truth : (a b : List ℕ) (streams : List RawStream) (report : Report) → SameOutline a b
-    → IsTrueReport a streams report → IsTrueReport b streams report
-same_truth a b streams report e truth = record {
+same_truth : (beyond : Bool) (a b : List ℕ) (streams : List RawStream) (report : Report) → SameOutline a b
+    → IsTrueReport (inquiry beyond a) streams report → IsTrueReport (inquiry beyond b) streams report
+same_truth beyond a b streams report e truth = record {
   agrees = truth.agrees;
   judged = λ document traces holds.
-      truth.judged document traces (same_holding b a streams document traces (sym e) holds);
+      truth.judged document traces (same_holding beyond b a streams document traces (sym e) holds);
   headline = λ document traces holds.
-      truth.headline document traces (same_holding b a streams document traces (sym e) holds);
+      truth.headline document traces (same_holding beyond b a streams document traces (sym e) holds);
+  headline_beyond_width = λ asked document traces holds.
+      truth.headline_beyond_width asked document traces
+      (same_holding beyond b a streams document traces (sym e) holds);
 }
 
 pub same_finding : (a b report : List ℕ) (streams : List RawStream) (finding : Finding) → SameOutline a b
     → IsFinding a report streams finding → IsFinding b report streams finding
 same_finding a b report streams finding e (of_unread line unread) = of_unread line unread
 same_finding a b report streams finding e (of_refused_session claimed refusal good read judged right) =
-    of_refused_session claimed refusal good read (same_judgement a b streams _ e judged) right
+    of_refused_session claimed refusal good read (same_judgement false a b streams _ e judged) right
 same_finding a b report streams finding e (of_refusal refusal document traces messages read held) =
     of_refusal refusal document traces messages read (same_session a b streams document traces messages e held)
 same_finding a b report streams finding e (of_session processes events matched answers document traces messages good
@@ -120,26 +133,29 @@ same_text a b report inputs never_fails good text e h = record {
 }
 
 -- the report of the one is that of the other
-pub same_report_text : (a b : List ℕ) (inputs : List (Option (List ℕ))) (never_fails : Bool) (judged : Option Bool)
-    (text : List ℕ) → SameOutline a b → IsTextOfStreams a inputs never_fails judged text
-    → IsTextOfStreams b inputs never_fails judged text
-same_report_text a b inputs never_fails judged text e h = record {
+pub same_report_text : (beyond : Bool) (a b : List ℕ) (inputs : List (Option (List ℕ))) (never_fails : Bool)
+    (judged : Option Bool) (text : List ℕ) → SameOutline a b
+    → IsTextOfStreams (inquiry beyond a) inputs never_fails judged text
+    → IsTextOfStreams (inquiry beyond b) inputs never_fails judged text
+same_report_text beyond a b inputs never_fails judged text e h = record {
   streams = h.streams;
   are_given = h.are_given;
   is_report_text = record {
     report = h.is_report_text.report;
-    right = same_judgement a b h.streams h.is_report_text.report e h.is_report_text.right;
-    truth = same_truth a b h.streams h.is_report_text.report e h.is_report_text.truth;
+    right = same_judgement beyond a b h.streams h.is_report_text.report e h.is_report_text.right;
+    truth = same_truth beyond a b h.streams h.is_report_text.report e h.is_report_text.truth;
     said = h.is_report_text.said;
     is_text = h.is_report_text.is_text;
   };
 }
 
 -- the truth of the one is that of the other
-pub same_written_truth : (a b : List ℕ) (streams : List RawStream) (IsJudged : Type 0) (old new : Option (List ℕ))
-    → SameOutline a b → WritesTruth a streams IsJudged old new → WritesTruth b streams IsJudged old new
-same_written_truth a b streams IsJudged old new e truth = λ document traces holds.
-    truth document traces (same_holding b a streams document traces (sym e) holds)
+pub same_written_truth : (beyond : Bool) (a b : List ℕ) (streams : List RawStream) (IsJudged : Type 0)
+    (old new : Option (List ℕ)) → SameOutline a b → WritesTruth (inquiry beyond a) streams IsJudged old new
+    → WritesTruth (inquiry beyond b) streams IsJudged old new
+same_written_truth beyond a b streams IsJudged old new e truth = λ document traces holds formed.
+    let here = truth document traces (same_holding beyond b a streams document traces (sym e) holds) formed in
+    (here.0, record { within_width = here.1.within_width; beyond_width = here.1.beyond_width })
 
 -- ---- the first bytes, one more than the limit
 

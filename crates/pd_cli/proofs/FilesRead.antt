@@ -6,6 +6,7 @@ use Rattle.pd_judgement.specs.Judgements.{RawStream}
 use Rattle.pd_format.specs.Limits.{document_byte_limit}
 use Rattle.pd_judgement.specs.Writes.{Whole, Partial, IsGivenAs, IsWholeInput, IsFindingTextOf, IsTextOfStreams, WritesTruth}
 use Rattle.pd_judgement.proofs.Writing.{writes_weaker}
+use Rattle.pd_format.specs.Documents.{inquiry}
 use Rattle.pd_judgement.specs.Statuses.{Ending, Success, Negative, Misuse, Failed, MemoryFailure, ReadFailure, WriteFailure, BundleFailure, NetworkFailure, CheckLeaves, FilesJudgementLeaves, OfDocument, OfFiles, WritesUpTo}
 use Rattle.pd_cli.specs.FileSources.{HasWholeFile, SameOutline, StandsFor}
 use Rattle.pd_cli.proofs.DocumentPrefixes.{outline_of_prefix, same_report_text, same_text, same_written_truth}
@@ -93,11 +94,13 @@ of_file P (Some bytes) left is h = subst (λ (l : Option (List ℕ)). IfSome l P
 
 -- ---- the texts that are owed
 
-report_text_of_files : (read document : List ℕ) (files lefts : List (Option (List ℕ))) (never_fails : Bool)
+report_text_of_files : (beyond : Bool) (read document : List ℕ) (files lefts : List (Option (List ℕ))) (never_fails :
+    Bool)
     (judged : Option Bool) (text : List ℕ) → SameOutline read document → AllZip HasWholeFile files lefts
-    → IsTextOfStreams read lefts never_fails judged text → IsTextOfStreams document files never_fails judged text
-report_text_of_files read document files lefts never_fails judged text same are h =
-    same_report_text read document files never_fails judged text same (record {
+    → IsTextOfStreams (inquiry beyond read) lefts never_fails judged text
+    → IsTextOfStreams (inquiry beyond document) files never_fails judged text
+report_text_of_files beyond read document files lefts never_fails judged text same are h =
+    same_report_text beyond read document files never_fails judged text same (record {
       streams = h.streams;
       are_given = given_as_files never_fails files lefts h.streams are h.are_given;
       is_report_text = h.is_report_text;
@@ -139,24 +142,25 @@ of_document (Some bytes) read P Q stands go h = record {
 }
 
 -- what is left written by the bytes that were read is what is to be left by the files
-pub judgement_of_files : (file : Option (List ℕ)) (read : List ℕ) (files lefts : List (Option (List ℕ)))
+pub judgement_of_files : (beyond : Bool) (file : Option (List ℕ)) (read : List ℕ) (files lefts : List (Option (List ℕ)))
     (never_fails : Bool) (MayBeUnread : Type 0) (ending : Ending) (old new : Option (List ℕ)) → StandsFor read file
-    → AllZip HasWholeFile files lefts → FilesJudgementLeaves (Some read) lefts never_fails ⊥ ending old new
-    → FilesJudgementLeaves file files never_fails MayBeUnread ending old new
-judgement_of_files file read files lefts never_fails M Success old new stands are left =
+    → AllZip HasWholeFile files lefts → FilesJudgementLeaves beyond (Some read) lefts never_fails ⊥ ending old new
+    → FilesJudgementLeaves beyond file files never_fails MayBeUnread ending old new
+judgement_of_files beyond file read files lefts never_fails M Success old new stands are left =
     of_document file read _ _ stands (λ document same. writes_weaker _ _ Whole old new (λ text.
-    report_text_of_files read document files lefts never_fails (Some true) text same are)) left
-judgement_of_files file read files lefts never_fails M Negative old new stands are left =
+    report_text_of_files beyond read document files lefts never_fails (Some true) text same are)) left
+judgement_of_files beyond file read files lefts never_fails M Negative old new stands are left =
     of_document file read _ _ stands (λ document same. writes_weaker _ _ Whole old new (λ text.
-    report_text_of_files read document files lefts never_fails (Some false) text same are)) left
-judgement_of_files file read files lefts never_fails M Misuse old new stands are left = left
-judgement_of_files file read files lefts never_fails M (Failed MemoryFailure) old new stands are left = left
-judgement_of_files file read files lefts never_fails M (Failed ReadFailure) old new stands are left = absurd left.0
-judgement_of_files file read files lefts never_fails M (Failed WriteFailure) old new stands are left =
+    report_text_of_files beyond read document files lefts never_fails (Some false) text same are)) left
+judgement_of_files beyond file read files lefts never_fails M Misuse old new stands are left = left
+judgement_of_files beyond file read files lefts never_fails M (Failed MemoryFailure) old new stands are left = left
+judgement_of_files beyond file read files lefts never_fails M (Failed ReadFailure) old new stands are left = absurd
+    left.0
+judgement_of_files beyond file read files lefts never_fails M (Failed WriteFailure) old new stands are left =
     of_document file read _ _ stands (λ document same. up_to_weaker _ _ old new (λ text.
-    report_text_of_files read document files lefts never_fails None text same are)) left
-judgement_of_files file read files lefts never_fails M (Failed BundleFailure) old new stands are left = left
-judgement_of_files file read files lefts never_fails M (Failed NetworkFailure) old new stands are left = left
+    report_text_of_files beyond read document files lefts never_fails None text same are)) left
+judgement_of_files beyond file read files lefts never_fails M (Failed BundleFailure) old new stands are left = left
+judgement_of_files beyond file read files lefts never_fails M (Failed NetworkFailure) old new stands are left = left
 
 -- files whose bytes are known have readers with these bytes left
 pub lefts_of_known : (files lefts : List (Option (List ℕ))) (known : List (List ℕ)) → AllZip HasWholeFile files lefts
@@ -171,11 +175,13 @@ lefts_of_known files lefts known are same = go lefts known (subst (λ fs. AllZip
     go (l ∷ lefts) (k ∷ known) are = ap₂ (λ x xs. x ∷ xs) are.0 (go lefts known are.1)
 
 -- the truth by the bytes that were read is the truth by the files
-pub truth_of_files : (file : Option (List ℕ)) (read document : List ℕ) (streams : List RawStream) (IsJudged : Type 0)
+pub truth_of_files : (beyond : Bool) (file : Option (List ℕ)) (read document : List ℕ) (streams : List RawStream)
+    (IsJudged : Type 0)
     (old new : Option (List ℕ)) → StandsFor read file → file ≡ Some document
-    → WritesTruth read streams IsJudged old new → WritesTruth document streams IsJudged old new
-truth_of_files file read document streams IsJudged old new stands known truth =
-    same_written_truth read document streams IsJudged old new
+    → WritesTruth (inquiry beyond read) streams IsJudged old new
+    → WritesTruth (inquiry beyond document) streams IsJudged old new
+truth_of_files beyond file read document streams IsJudged old new stands known truth =
+    same_written_truth beyond read document streams IsJudged old new
     (subst (λ (f : Option (List ℕ)). StandsFor read f) known stands) truth
 
 -- ---- a check

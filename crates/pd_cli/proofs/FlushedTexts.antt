@@ -3,6 +3,7 @@ use Rattle.std.proofs.Common.{◌≤◌, ℕ, List, length, None, Some, Option, 
 use Rattle.std.specs.Prelude.{Bool}
 use Rattle.std.specs.Io.KnownBytes.{Keeps}
 use Rattle.pd_judgement.specs.Judgements.{RawStream}
+use Rattle.pd_format.specs.Documents.{Inquiry, plain}
 use Rattle.pd_format.specs.Limits.{report_byte_limit}
 use Rattle.pd_judgement.specs.Statuses.{CheckLeaves, WritesUpTo}
 use Rattle.pd_judgement.specs.Writes.{Whole, Writes, IsFindingTextOf, IsReportTextOf, IsTextOfBundle, IsTextOfStreams, WritesTruth}
@@ -17,20 +18,25 @@ flushed_up_to P Q old middle new weaker written keeps =
     inl (written.0, weaker written.0 written.1, appends_kept old middle new written.0 written.2 keeps)
 
 -- what is true stays true, also if what is said of a judged session is said in other words
-pub flushed_truth : (document : List ℕ) (streams : List RawStream) (Said Other : Type 0)
+pub flushed_truth : (document : Inquiry) (streams : List RawStream) (Said Other : Type 0)
     (old middle new : Option (List ℕ)) → (Said → Other) → WritesTruth document streams Said old middle
     → Keeps middle new → WritesTruth document streams Other old new
 flushed_truth document streams Said Other old middle new other truth keeps = λ read traces holds formed.
     let true_of = truth read traces holds formed in (
       other true_of.0,
-      λ narrow.
-          let written = true_of.1 narrow in
-          (written.0, written.1, appends_kept old middle new written.0 written.2 keeps),
+      record {
+        within_width = λ narrow.
+            let written = true_of.1.within_width narrow in
+            (written.0, written.1, appends_kept old middle new written.0 written.2 keeps);
+        beyond_width = λ asked.
+            let written = true_of.1.beyond_width asked in
+            (written.0, written.1, appends_kept old middle new written.0 written.2 keeps);
+      },
     )
 
 -- ---- nothing is said of a text
 
-unsaid : (document : List ℕ) (streams : List RawStream) (judged : Option Bool) (text : List ℕ)
+unsaid : (document : Inquiry) (streams : List RawStream) (judged : Option Bool) (text : List ℕ)
     → IsReportTextOf document streams judged text → IsReportTextOf document streams None text
 unsaid document streams judged text h = record {
   report = h.report;
@@ -40,7 +46,7 @@ unsaid document streams judged text h = record {
   is_text = h.is_text;
 }
 
-pub unsaid_of_streams : (document : List ℕ) (inputs : List (Option (List ℕ))) (never_fails : Bool)
+pub unsaid_of_streams : (document : Inquiry) (inputs : List (Option (List ℕ))) (never_fails : Bool)
     (judged : Option Bool) (text : List ℕ) → IsTextOfStreams document inputs never_fails judged text
     → IsTextOfStreams document inputs never_fails None text
 unsaid_of_streams document inputs never_fails judged text h = record {
@@ -58,7 +64,7 @@ unsaid_of_bundle input judged text h = record {
   document = h.document;
   streams = h.streams;
   parts = h.parts;
-  is_report_text = unsaid h.document _ judged text h.is_report_text;
+  is_report_text = unsaid (plain h.document) _ judged text h.is_report_text;
 }
 
 pub unsaid_of_finding : (document report : List ℕ) (inputs : List (Option (List ℕ))) (never_fails : Bool)

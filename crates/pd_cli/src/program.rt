@@ -15,7 +15,7 @@ use super::network::Network;
 use super::parser_error::report_parser_error;
 use super::server::serve;
 use super::status::{report_end, report_service_end};
-use pd_arguments::{Request, Service, SessionNames, Workers, parse};
+use pd_arguments::{Judgement, Request, Service, SessionNames, parse};
 use pd_engine::ByteSource;
 use std::alloc::Global;
 use std::io::Write;
@@ -83,7 +83,8 @@ fn run_service<
 ) -> u8
     requires some { 1 ≤ service.now.port }
     requires port { service.now.port ≤ port_limit }
-    ensures { Ends (λ ending. ServiceLeaves (F.bytes_of files.now service.now.spec.now)
+    ensures { Ends (λ ending. ServiceLeaves service.now.beyond_width
+        (F.bytes_of files.now service.now.spec.now)
         (N.may_give network.now service.now.port) N.Connection.never_fails
         (F.always_opens ≡ true → F.File.never_fails ≡ true → ⊥) (N.never_fails ≡ true → ⊥) ending
         (O.contents output.old) (O.contents output.new)) result (E.contents errors.old) (E.contents errors.new) }
@@ -97,17 +98,17 @@ fn run_files<S: RandomSource + Threads + Wait + Sync, F: FileSource, O: Write, E
     rt: &S,
     files: &F,
     alloc: Global,
-    names: &SessionNames<'_>,
-    workers: &Workers,
+    judgement: &Judgement<'_>,
     output: &mut O,
     errors: &mut E,
 ) -> u8
-    ensures { Ends (λ ending. FilesJudgementLeaves (F.bytes_of files.now names.now.spec.now)
-        (map (λ name. F.bytes_of files.now name.now) names.now.streams.items) F.File.never_fails
+    ensures { Ends (λ ending. FilesJudgementLeaves judgement.now.beyond_width
+        (F.bytes_of files.now judgement.now.names.spec.now)
+        (map (λ name. F.bytes_of files.now name.now) judgement.now.names.streams.items) F.File.never_fails
         (F.always_opens ≡ true → F.File.never_fails ≡ true → ⊥) ending (O.contents output.old)
         (O.contents output.new)) result (E.contents errors.old) (E.contents errors.new) }
 {
-    let end = judge_files(rt, files, alloc, names, workers, output);
+    let end = judge_files(rt, files, alloc, judgement, output);
     report_end(&end, errors)
 }
 
@@ -154,9 +155,7 @@ fn run_arguments<
 {
     match parse(alloc, arguments) {
         Ok(Request::Bundle) => run_bundle(rt, alloc, input, output, errors),
-        Ok(Request::Judge(names, workers)) => {
-            run_files(rt, files, alloc, &names, &workers, output, errors)
-        }
+        Ok(Request::Judge(judgement)) => run_files(rt, files, alloc, &judgement, output, errors),
         Ok(Request::Check(report, names)) => {
             run_check(rt, files, alloc, report, &names, output, errors)
         }
@@ -185,7 +184,8 @@ fn without_first(arguments: &[String]) -> &[String]
 /// their report to `output`; `check`, with the names of the files of a session document, a report and one stream or
 /// more, checks that report and writes what is found to `output`; `draw`, with the same names, draws that report and
 /// writes the picture to `output`; `serve`, with the name of a session document's file
-/// and a port, judges streams that come by connections; the help that they ask for is written to `output`,
+/// and a port, judges streams that come by connections; both answer predicates beyond the width where they are decided,
+/// if that is asked for; the help that they ask for is written to `output`,
 /// and what is wrong with them to `errors`. `errors` also has one line for each fault; what of it can't be written is
 /// left off.
 pub fn run<

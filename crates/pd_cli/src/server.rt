@@ -15,7 +15,9 @@ use super::service_fault::ServiceFault;
 use super::session_files::read_document;
 use super::watchers::Watchers;
 use pd_arguments::{Service, Workers};
-use pd_engine::{ByteSource, NoGate, Observer, Spec, SpecFault, judge_watched};
+use pd_engine::{
+    ByteSource, Crew, Inquiry, NoGate, Observer, Spec, SpecFault, judge_inquiry_watched,
+};
 use pd_judgement::one_document;
 use pd_sessions::EngineFault;
 use std::alloc::Global;
@@ -99,8 +101,8 @@ fn service_end(end: Result<bool, EngineFault>) -> Result<bool, ServiceFault>
     }
 }
 
-/// Judges a document's bytes and the streams while the observer runs, writes the report, and flushes the output. It
-/// reports whether the session is judged, and not refused.
+/// Judges a document's bytes, with what is asked beside them, and the streams while the observer runs, writes the
+/// report, and flushes the output. It reports whether the session is judged, and not refused.
 ///
 /// # Errors
 /// `Memory` leaves nothing written. `Write` leaves a part of the report written, or all of it if only the flush failed.
@@ -112,27 +114,20 @@ fn judge_accepted<
 >(
     rt: &S,
     alloc: Global,
-    document: &[u8],
+    inquiry: Inquiry<'_>,
     streams: Vec<R>,
     workers: &Workers,
     observer: &B,
     output: &mut O,
 ) -> Result<bool, EngineFault>
     requires { All (λ stream. R.has_ended stream ≡ false) streams.items }
-    ensures written { FilesJudgementLeaves (Some document.now) (map R.remaining streams.items) R.never_fails ⊥
-        (ending_view result) (O.contents output.old) (O.contents output.new) }
+    ensures written { FilesJudgementLeaves inquiry.entry.beyond_width (Some inquiry.entry.document.now)
+        (map R.remaining streams.items) R.never_fails ⊥ (ending_view result) (O.contents output.old)
+        (O.contents output.new) }
     ensures err { IfErr result (λ fault. (fault ≡ EngineFault.Memory) ⊎ (fault ≡ EngineFault.Write)) }
 {
-    let outcome = judge_watched(
-        rt,
-        alloc,
-        document,
-        streams,
-        workers.count(),
-        &NoGate,
-        observer,
-        output,
-    )?;
+    let crew = Crew::new(rt, workers.count(), &NoGate);
+    let outcome = judge_inquiry_watched(&crew, alloc, inquiry, streams, observer, output)?;
     if output.flush().is_err() {
         return Err(EngineFault::Write);
     }
@@ -148,16 +143,16 @@ fn serve_session<S: RandomSource + Threads + Wait + Sync, N: Network + Sync, O: 
     rt: &S,
     network: &N,
     alloc: Global,
-    document: &[u8],
+    inquiry: Inquiry<'_>,
     spec: &Spec,
     service: &Service<'_>,
     output: &mut O,
 ) -> Result<bool, ServiceFault>
-    requires document { IsDocument document.now (document_view spec.now) }
+    requires document { IsDocument inquiry.document.now (document_view spec.now) }
     requires port { service.now.port ≤ port_limit }
-    ensures written { ServiceLeaves (Some document.now) (N.may_give network.now service.now.port)
-        N.Connection.never_fails ⊥ (N.never_fails ≡ true → ⊥) (service_ending_view result) (O.contents output.old)
-        (O.contents output.new) }
+    ensures written { ServiceLeaves inquiry.entry.beyond_width (Some inquiry.entry.document.now)
+        (N.may_give network.now service.now.port) N.Connection.never_fails ⊥ (N.never_fails ≡ true → ⊥)
+        (service_ending_view result) (O.contents output.old) (O.contents output.new) }
     ensures err { IfErr result (λ fault. (fault ≡ faults.Network) ⊎ (fault ≡ faults.Engine EngineFault.Memory)
         ⊎ (fault ≡ faults.Engine EngineFault.Write)) }
 {
@@ -174,7 +169,7 @@ fn serve_session<S: RandomSource + Threads + Wait + Sync, N: Network + Sync, O: 
     service_end(judge_accepted(
         rt,
         alloc,
-        document,
+        inquiry,
         streams,
         &service.workers,
         &watchers,
@@ -189,17 +184,17 @@ fn serve_session<S: RandomSource + Threads + Wait + Sync, N: Network + Sync, O: 
 fn judge_no_streams<S: RandomSource + Threads + Wait + Sync, N: Network, O: Write>(
     rt: &S,
     alloc: Global,
-    document: &[u8],
+    inquiry: Inquiry<'_>,
     output: &mut O,
 ) -> Result<bool, EngineFault>
-    ensures written { FilesJudgementLeaves (Some document.now) [] N.Connection.never_fails ⊥ (ending_view result)
-        (O.contents output.old) (O.contents output.new) }
+    ensures written { FilesJudgementLeaves inquiry.entry.beyond_width (Some inquiry.entry.document.now) []
+        N.Connection.never_fails ⊥ (ending_view result) (O.contents output.old) (O.contents output.new) }
     ensures err { IfErr result (λ fault. (fault ≡ EngineFault.Memory) ⊎ (fault ≡ EngineFault.Write)) }
 {
     judge_read(
         rt,
         alloc,
-        document,
+        inquiry,
         Vec::<N::Connection>::new(alloc),
         &Workers::one(),
         output,
@@ -234,14 +229,14 @@ fn refuse_document<S: RandomSource + Threads + Wait + Sync, N: Network, O: Write
     rt: &S,
     _network: &N,
     alloc: Global,
-    document: &[u8],
+    inquiry: Inquiry<'_>,
     fault: &SpecFault,
     output: &mut O,
 ) -> Result<bool, ServiceFault>
-    requires { IsFaultOf document.now fault.now }
-    ensures written { (port : ℕ) → ServiceLeaves (Some document.now) (N.may_give _network.now port)
-        N.Connection.never_fails ⊥ (N.never_fails ≡ true → ⊥) (service_ending_view result) (O.contents output.old)
-        (O.contents output.new) }
+    requires { IsFaultOf inquiry.document.now fault.now }
+    ensures written { (port : ℕ) → ServiceLeaves inquiry.entry.beyond_width (Some inquiry.entry.document.now)
+        (N.may_give _network.now port) N.Connection.never_fails ⊥ (N.never_fails ≡ true → ⊥)
+        (service_ending_view result) (O.contents output.old) (O.contents output.new) }
     // Its refusal is the report that is written whole, or the call fails.
     ensures refused { IfOk result (λ judged. judged ≡ false) }
     ensures err { IfErr result (λ fault. (fault ≡ faults.Engine EngineFault.Memory)
@@ -251,7 +246,7 @@ fn refuse_document<S: RandomSource + Threads + Wait + Sync, N: Network, O: Write
     if is_out_of_memory(fault) {
         return Err(ServiceFault::Engine(EngineFault::Memory));
     }
-    service_end(judge_no_streams::<S, N, O>(rt, alloc, document, output))
+    service_end(judge_no_streams::<S, N, O>(rt, alloc, inquiry, output))
 }
 
 /// Opens and reads the document of a session; binds the ports, unless the document is refused; accepts a stream for
@@ -277,14 +272,19 @@ pub(crate) fn serve<
     output: &mut O,
 ) -> Result<bool, ServiceFault>
     requires { service.now.port ≤ port_limit }
-    ensures { ServiceLeaves (F.bytes_of files.now service.now.spec.now) (N.may_give network.now service.now.port)
+    ensures { ServiceLeaves service.now.beyond_width (F.bytes_of files.now service.now.spec.now)
+        (N.may_give network.now service.now.port)
         N.Connection.never_fails (F.always_opens ≡ true → F.File.never_fails ≡ true → ⊥) (N.never_fails ≡ true → ⊥)
         (service_ending_view result) (O.contents output.old) (O.contents output.new) }
 {
     let file = files.open(service.spec)?;
     let document = read_document(alloc, file)?;
-    match Spec::read(alloc, &document) {
-        Ok(spec) => serve_session(rt, network, alloc, &document, &spec, service, output),
-        Err(fault) => refuse_document(rt, network, alloc, &document, &fault, output),
+    let inquiry = Inquiry {
+        document: &document,
+        beyond_width: service.beyond_width,
+    };
+    match Spec::read(alloc, inquiry.document) {
+        Ok(spec) => serve_session(rt, network, alloc, inquiry, &spec, service, output),
+        Err(fault) => refuse_document(rt, network, alloc, inquiry, &fault, output),
     }
 }

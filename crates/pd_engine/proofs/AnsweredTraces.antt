@@ -15,13 +15,13 @@ use Rattle.pd_sessions.specs.Computations.{AreWellFormed}
 -- the report with these answers
 pub answers_report : (document : Document) (traces : List readings.Trace) (recorded : Recorded) (count : ℕ)
     (answers : List reports.Answer) → AreWellFormed document traces recorded count
-    → AllZip (IsAnswered document.names recorded document.width) document.predicates answers
+    → AllZip (IsAnswered document recorded) document.predicates answers
     → IsTracesReport document traces
     (reports.Judged (length document.names) (total recorded.events) count answers)
 answers_report document traces recorded count answers well answered =
-    let zip : AllZip (IsAnswered document.names (judgements.recorded_of document traces) document.width)
+    let zip : AllZip (IsAnswered document (judgements.recorded_of document traces))
     document.predicates answers =
-    subst (λ (r : Recorded). AllZip (IsAnswered document.names r document.width) document.predicates answers)
+    subst (λ (r : Recorded). AllZip (IsAnswered document r) document.predicates answers)
     well.same answered in
     rw (ap (λ (r : Recorded). total r.events) well.same)
     (of_answers count answers well.formed well.counted zip)
@@ -30,7 +30,7 @@ answers_report document traces recorded count answers well answered =
 pub answered_report : (document : Document) (streams : ℕ) (results : List StreamResult) (traces : List readings.Trace)
     (recorded : Recorded) (count processes events : ℕ) (answers : List reports.Answer)
     → session document.names streams results ≡ Ok traces → AreWellFormed document traces recorded count
-    → AllZip (IsAnswered document.names recorded document.width) document.predicates answers
+    → AllZip (IsAnswered document recorded) document.predicates answers
     → processes ≡ length document.names → events ≡ total recorded.events
     → IsReportOfResults document streams results (reports.Judged processes events count answers)
 answered_report document streams results traces recorded count processes events answers joined well answered same_names

@@ -5,10 +5,11 @@ use Rattle.pd_bundle.specs.PartsRead.{AreStreams}
 use Rattle.pd_bundle.specs.Steps.{AreParts}
 use Rattle.pd_bundle.specs.declared.fault.BundleFault.{BundleFault}
 use Rattle.pd_bundle.specs.declared.fault.BundleFault.TheVariants as bundles
-use Rattle.pd_format.specs.Documents.{Document, IsDocument}
+use Rattle.pd_format.specs.Documents.{Document, IsDocument, plain}
 use Rattle.pd_format.specs.Reports.{Report}
 use Rattle.pd_format.specs.Sessions.{StreamResult}
 use Rattle.pd_judgement.specs.Judgements.{IsJudgement, IsReportOfParts, IsReportOfResults, RawStream, ended_streams}
+use Rattle.pd_judgement.proofs.DocumentsAreSingle.{plainly}
 use Rattle.pd_report.specs.Views.{report_view}
 use Rattle.pd_report.specs.declared.report.Report.{Report as Judged}
 use Rattle.pd_sessions.specs.Faults.{engine_bundle_fault}
@@ -29,12 +30,13 @@ streams_read input bytes document count results report is are right = record {
   is_given = are.are_parts.is_given;
   fits = are.are_parts.fits;
   right = subst (λ (all : List (List ℕ)). IsReportOfParts all report) (sym are.are_parts.are_parts)
-      (judged_of_results bytes (ended_streams are.streams) document count results report is are.comes right);
+      (judged_of_results (plain bytes) (ended_streams are.streams) document count results report
+      (plainly bytes document is) are.comes right);
 }
 
 -- the refusal of the document, whatever the streams are
 pub refusal_read : (input : Option (List ℕ)) (bytes : List ℕ) (streams : List (List ℕ)) (report : Report)
-    → AreParts input (bytes ∷ streams) → ((all : List RawStream) → IsJudgement bytes all report)
+    → AreParts input (bytes ∷ streams) → ((all : List RawStream) → IsJudgement (plain bytes) all report)
     → IsReportOfRead input report
 refusal_read input bytes streams report are any = record {
   bundle = are.bundle;

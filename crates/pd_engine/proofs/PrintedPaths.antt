@@ -5,7 +5,10 @@ use Rattle.std.proofs.lemmas.List.{get_or_past, length-map, length-set, reverse-
 use Rattle.std.proofs.lemmas.List.Elements.{All-cons}
 use Rattle.pd_model.specs.Events.{Computation, Event}
 use Rattle.pd_model.specs.Cuts.{full_cut, one_less}
-use Rattle.pd_model.specs.Answers.{IsUndoing, IsPrintedPath, IsDefinitelyAnswer}
+use Rattle.pd_model.specs.Answers.{IsUndoing, IsPrintedPath, IsDefinitelyAnswer, IsExactDefinitely}
+use Rattle.pd_model.specs.Predicates.{Predicate, Recorded, test_of}
+use Rattle.pd_format.specs.Documents.{Document}
+use Rattle.pd_judgement.specs.Judgements.{AnswersDefinitely, definitely_beyond, definitely_within}
 use Rattle.pd_lists.specs.Answers.{definitely_answer_view}
 use Rattle.pd_lists.specs.declared.definitely_answer.DefinitelyAnswer.{DefinitelyAnswer}
 use Rattle.pd_lists.specs.declared.definitely_answer.DefinitelyAnswer.TheVariants.{Yes, No, Unknown}
@@ -42,9 +45,25 @@ path_processes c test path printed =
     (undone_processes c test (length c) (full_cut c) (reverse path)
     (length-map c (λ (events : List Event). length events)) printed.1)
 
-pub answer_reported : (c : Computation) (test : List ℕ → Bool) (width n : ℕ) (answer : DefinitelyAnswer) → length c ≡ n
+-- a path that is printed is of such processes, whichever width it is for
+exactly_reported : (c : Computation) (test : List ℕ → Bool) (n : ℕ) (answer : DefinitelyAnswer) → length c ≡ n
+    → IsExactDefinitely c test (definitely_answer_view answer) → HasProcessesBelow n answer
+exactly_reported c test n (Yes level) e right = tt
+exactly_reported c test n (No path) e right =
+    subst (λ m. All (λ p. p < m) path.items) e (path_processes c test path.items right.1)
+exactly_reported c test n (Unknown level) e right = tt
+
+within_reported : (c : Computation) (test : List ℕ → Bool) (width n : ℕ) (answer : DefinitelyAnswer) → length c ≡ n
     → IsDefinitelyAnswer c test width (definitely_answer_view answer) → HasProcessesBelow n answer
-answer_reported c test width n (Yes level) e right = tt
-answer_reported c test width n (No path) e right =
+within_reported c test width n (Yes level) e right = tt
+within_reported c test width n (No path) e right =
     subst (λ m. All (λ p. p < m) path.items) e (path_processes c test path.items right.2)
-answer_reported c test width n (Unknown level) e right = tt
+within_reported c test width n (Unknown level) e right = tt
+
+pub answer_reported : (document : Document) (r : Recorded) (predicate : Predicate) (n : ℕ) (answer : DefinitelyAnswer)
+    → length r.events ≡ n → AnswersDefinitely document r predicate (definitely_answer_view answer)
+    → HasProcessesBelow n answer
+answer_reported document r predicate n answer e (definitely_beyond asked decided exact) =
+    exactly_reported r.events (test_of r predicate) n answer e exact
+answer_reported document r predicate n answer e (definitely_within undecided right) =
+    within_reported r.events (test_of r predicate) document.width n answer e right

@@ -1,6 +1,7 @@
 -- The text of a session's report is owed, and what is written whole of it is the truth.
 use Rattle.std.proofs.Common.{◌≡◌, ℕ, ◌≤◌, Bool, true, List, length, map, sym, subst, Some, Ok, Err}
 use Rattle.std.specs.Prelude.{Option, IfOk, Result}
+use Rattle.pd_format.specs.Documents.{Inquiry, plain}
 use Rattle.pd_format.specs.Limits.{bundle_byte_limit}
 use Rattle.pd_format.specs.Reports.{Report}
 use Rattle.pd_judgement.specs.Judgements.{IsJudgement, IsReportOfBundle, IsReportOfParts, RawStream, ended_streams}
@@ -18,13 +19,13 @@ use Rattle.pd_engine.proofs.SessionReports.{IsReportOfWhole}
 
 -- ---- what is owed
 
-text_owed : (document : List ℕ) (streams : List RawStream) (report : Report) (judged : Option Bool) (text : List ℕ)
+text_owed : (document : Inquiry) (streams : List RawStream) (report : Report) (judged : Option Bool) (text : List ℕ)
     → IsJudgement document streams report → IsTextAs report judged text → IsReportTextOf document streams judged text
 text_owed document streams report judged text right owed =
     subst (IsReportTextOf document streams judged) (sym owed.is_text)
     (report_text_of document streams report right judged owed.said)
 
-streams_text : (document : List ℕ) (inputs : List (Option (List ℕ))) (never_fails : Bool) (report : Report)
+streams_text : (document : Inquiry) (inputs : List (Option (List ℕ))) (never_fails : Bool) (report : Report)
     (judged : Option Bool)
     (text : List ℕ) → IsReportOfInputs document inputs never_fails report → IsTextAs report judged text
     → IsTextOfStreams document inputs never_fails judged text
@@ -39,7 +40,7 @@ bundle_text : (input : Option (List ℕ)) (bundle : List ℕ) (report : Report) 
     → IsTextAs report judged text → IsTextOfBundle input judged text
 bundle_text input bundle report judged text whole fits right owed =
     let parts = parts_are_some bundle in
-    let here : IsJudgement parts.0 (ended_streams parts.1) report =
+    let here : IsJudgement (plain parts.0) (ended_streams parts.1) report =
     subst (λ (all : List (List ℕ)). IsReportOfParts all report) parts.2 right in
     record {
       bundle = bundle;
@@ -48,12 +49,12 @@ bundle_text input bundle report judged text whole fits right owed =
       document = parts.0;
       streams = parts.1;
       parts = parts.2;
-      is_report_text = text_owed parts.0 (ended_streams parts.1) report judged text here owed;
+      is_report_text = text_owed (plain parts.0) (ended_streams parts.1) report judged text here owed;
     }
 
 -- ---- what is written
 
-pub streams_written : (document : List ℕ) (inputs : List (Option (List ℕ))) (never_fails : Bool) (report : Report)
+pub streams_written : (document : Inquiry) (inputs : List (Option (List ℕ))) (never_fails : Bool) (report : Report)
     (result : Result Outcome EngineFault) (old new : Option (List ℕ))
     → IsReportOfInputs document inputs never_fails report
     → Writes (IsTextAs report (judged_as result)) (call_end result) old new
@@ -64,7 +65,7 @@ streams_written document inputs never_fails report result old new right written 
     (judged_as result) text right owed)
     written
 
-pub whole_written : (document : List ℕ) (inputs : List (Option (List ℕ))) (report : Report)
+pub whole_written : (document : Inquiry) (inputs : List (Option (List ℕ))) (report : Report)
     (result : Result Outcome EngineFault) (old new : Option (List ℕ)) → IsReportOfWhole document inputs report
     → Writes (IsTextAs report (judged_as result)) (call_end result) old new
     → (streams : List (List ℕ)) → inputs ≡ map Some streams
@@ -87,13 +88,13 @@ bundle_written input bundle report result old new whole fits right written =
 -- ---- the truth
 
 -- it is judged, if that is reported
-judged_truth : (document : List ℕ) (streams : List RawStream) (outcome : Outcome) (old new : Option (List ℕ))
+judged_truth : (document : Inquiry) (streams : List RawStream) (outcome : Outcome) (old new : Option (List ℕ))
     → WritesTruth document streams (outcome_view outcome ≡ true) old new
     → WritesTruth document streams (outcome ≡ Judged) old new
 judged_truth document streams outcome old new truth = λ read traces holds well.
     let here = truth read traces holds well in (outcome_judged outcome here.0, here.1)
 
-pub whole_truth : (document : List ℕ) (inputs : List (Option (List ℕ))) (report : Report)
+pub whole_truth : (document : Inquiry) (inputs : List (Option (List ℕ))) (report : Report)
     (result : Result Outcome EngineFault) (old new : Option (List ℕ)) → IsReportOfWhole document inputs report
     → Writes (IsTextAs report (judged_as result)) (call_end result) old new
     → IfOk result (λ outcome. (streams : List (List ℕ)) → inputs ≡ map Some streams
@@ -118,5 +119,5 @@ bundle_truth input bundle report (Ok outcome) old new whole fits right written =
       document = truth.document;
       streams = truth.streams;
       parts = truth.parts;
-      truth = judged_truth truth.document (ended_streams truth.streams) outcome old new truth.truth;
+      truth = judged_truth (plain truth.document) (ended_streams truth.streams) outcome old new truth.truth;
     }

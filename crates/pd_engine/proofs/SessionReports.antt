@@ -2,6 +2,7 @@
 use Rattle.std.proofs.Common.{◌≡◌, ℕ, true, List, map, sym, subst, Some, Option, Ok, Err}
 use Rattle.std.specs.Prelude.{Bool, IfSome, IsErrAnd, Result}
 use Rattle.std.specs.List.{AllZip}
+use Rattle.pd_format.specs.Documents.{Inquiry}
 use Rattle.pd_format.specs.Reports.{Report}
 use Rattle.pd_judgement.specs.Judgements.{IsJudgement, RawStream, ended_streams}
 use Rattle.pd_judgement.specs.Writes.{IsGivenAs}
@@ -21,15 +22,15 @@ refusal_reported (Err u) unanswered P Q f same p =
     subst (IsUnanswered Q) (sym same) (of_given (refused_report unanswered) P Q f p)
 
 -- if the bytes that readers have left are known, the report of a document's bytes and of all these
-abbrev pub IsReportOfWhole : List ℕ → List (Option (List ℕ)) → Report → Type 0
+abbrev pub IsReportOfWhole : Inquiry → List (Option (List ℕ)) → Report → Type 0
 IsReportOfWhole document inputs report =
     (streams : List (List ℕ)) → inputs ≡ map Some streams → IsJudgement document (ended_streams streams) report
 
 -- the report of readers of which no read fails is that of all bytes that they have left
-pub whole_report : (bytes : List ℕ) (inputs : List (Option (List ℕ))) (never_fails : Bool) (report : Report)
-    → never_fails ≡ true → IsReportOfInputs bytes inputs never_fails report → IsReportOfWhole bytes inputs report
-whole_report bytes inputs never_fails report never right = λ streams same.
+pub whole_report : (asked : Inquiry) (inputs : List (Option (List ℕ))) (never_fails : Bool) (report : Report)
+    → never_fails ≡ true → IsReportOfInputs asked inputs never_fails report → IsReportOfWhole asked inputs report
+whole_report asked inputs never_fails report never right = λ streams same.
     let given : AllZip (IsGivenAs never_fails) (map Some streams) right.streams =
     subst (λ (l : List (Option (List ℕ))). AllZip (IsGivenAs never_fails) l right.streams) same right.are_given in
-    subst (λ (all : List RawStream). IsJudgement bytes all report)
+    subst (λ (all : List RawStream). IsJudgement asked all report)
     (given_whole never_fails streams right.streams never given) right.right

@@ -3,3 +3,4 @@ pub mod SessionReports
 pub mod Ends
 pub mod Judging
 pub mod Paths
+pub mod Early

@@ -1,10 +1,8 @@
 //! The answers of a session.
-ghost use Rattle.pd_engine.specs.Paths.{ArePreds, HasProcessesBelow};
+ghost use Rattle.pd_engine.specs.Paths.{HasProcessesBelow};
 ghost use Rattle.pd_format.specs.Names.{name_of_process};
-ghost use Rattle.pd_judgement.specs.Judgements.{IsAnswered, printed_definitely, printed_possibly};
+ghost use Rattle.pd_judgement.specs.Judgements.{AnswersDefinitely, AnswersPossibly, IsAnswered, printed_definitely, printed_possibly};
 ghost use Rattle.pd_lists.specs.Answers.{definitely_answer_view, possibly_answer_view};
-ghost use Rattle.pd_model.specs.Answers.{IsDefinitelyAnswer, IsPossiblyAnswer};
-ghost use Rattle.pd_model.specs.Predicates.{test_of};
 ghost use Rattle.pd_pred.specs.Views.{predicate_view};
 ghost use Rattle.pd_report.specs.Views as views;
 ghost use Rattle.pd_spec.specs.Named.{named_view};
@@ -12,11 +10,12 @@ ghost use Rattle.pd_spec.specs.Views.{document_view};
 ghost use Rattle.std.specs.List.{AllZip};
 ghost use Rattle.std.specs.Prelude.{◌≡◌, ◌<◌, All, IfOk, length, map, string_bytes};
 
+use super::early::all_early;
 use pd_clock::Computation;
 use pd_expand::Crew;
 use pd_level::Gate;
-use pd_lists::{Answers, DefinitelyAnswer, PossiblyAnswer};
-use pd_pred::{Names, Pred};
+use pd_lists::{DefinitelyAnswer, PossiblyAnswer};
+use pd_pred::Names;
 use pd_report::{Answer, Definitely, Possibly};
 use pd_spec::{NamedPred, Spec};
 use pd_walk::answer_all;
@@ -24,7 +23,8 @@ use std::alloc::{AllocError, Global};
 use std::sync::Wait;
 use std::thread::Threads;
 
-/// The answer for each predicate, by one walk, whose lists of cuts the workers share.
+/// The answer for each predicate: those that are decided whatever the width, if the document asks for them, and the
+/// others by one walk, whose lists of cuts the workers share.
 pub(crate) fn answers_of<S: Threads + Wait + Sync, G: Gate + Sync>(
     crew: &Crew<'_, '_, S, G>,
     alloc: Global,
@@ -32,29 +32,21 @@ pub(crate) fn answers_of<S: Threads + Wait + Sync, G: Gate + Sync>(
     computation: &Computation<'_>,
 ) -> Result<Vec<Answer>, AllocError>
     requires names { length computation.now.events ≡ length (document_view spec.now).names }
-    ensures { IfOk result (λ answers. AllZip
-        (IsAnswered (document_view spec.now).names computation.now (document_view spec.now).width)
+    ensures { IfOk result (λ answers. AllZip (IsAnswered (document_view spec.now) computation.now)
         (document_view spec.now).predicates (map views.answer_view answers.items)) }
 {
     let asked = spec.predicates();
-    let preds = preds_of(alloc, asked)?;
-    let found = answer_all(crew, alloc, computation, &preds, spec.width())?;
+    let early = all_early(alloc, spec, computation, asked)?;
+    let found = answer_all(crew, alloc, computation, &early.left, spec.width())?;
     let mut answers = Vec::new(alloc);
     for i in 0..asked.len() {
-        answers.push(answer(alloc, spec, &asked[i], computation, &found[i])?)?;
+        let named = &asked[i];
+        let known = &early.each[i];
+        let possibly = known.possibly(&found);
+        let definitely = known.definitely(&found);
+        answers.push(answer(alloc, spec, named, computation, possibly, definitely)?)?;
     }
     Ok(answers)
-}
-
-/// The predicates without their names.
-fn preds_of(alloc: Global, asked: &[NamedPred]) -> Result<Vec<&Pred>, AllocError>
-    ensures { IfOk result (λ preds. ArePreds asked.now preds.items) }
-{
-    let mut preds = Vec::with_capacity(alloc, asked.len())?;
-    for i in 0..asked.len() {
-        preds.push(&asked[i].pred)?;
-    }
-    Ok(preds)
 }
 
 /// The answer for one predicate as a report gives it.
@@ -63,22 +55,21 @@ fn answer(
     spec: &Spec,
     asked: &NamedPred,
     _computation: &Computation<'_>,
-    found: &Answers,
+    possibly: &PossiblyAnswer,
+    definitely: &DefinitelyAnswer,
 ) -> Result<Answer, AllocError>
     requires names { length _computation.now.events ≡ length (document_view spec.now).names }
-    requires possibly { IsPossiblyAnswer _computation.now.events
-        (test_of _computation.now (predicate_view asked.now.pred)) (document_view spec.now).width
-        (possibly_answer_view found.now.possibly) }
-    requires definitely { IsDefinitelyAnswer _computation.now.events
-        (test_of _computation.now (predicate_view asked.now.pred)) (document_view spec.now).width
-        (definitely_answer_view found.now.definitely) }
-    ensures { IfOk result (λ answer. IsAnswered (document_view spec.now).names _computation.now
-        (document_view spec.now).width (named_view asked.now) (views.answer_view answer)) }
+    requires possibly { AnswersPossibly (document_view spec.now) _computation.now (predicate_view asked.now.pred)
+        (possibly_answer_view possibly.now) }
+    requires definitely { AnswersDefinitely (document_view spec.now) _computation.now (predicate_view asked.now.pred)
+        (definitely_answer_view definitely.now) }
+    ensures { IfOk result (λ answer. IsAnswered (document_view spec.now) _computation.now (named_view asked.now)
+        (views.answer_view answer)) }
 {
     Ok(Answer {
         name: asked.name.clone()?,
-        possibly: possibly_for_report(alloc, &found.possibly)?,
-        definitely: definitely_for_report(alloc, spec.names(), &found.definitely)?,
+        possibly: possibly_for_report(alloc, possibly)?,
+        definitely: definitely_for_report(alloc, spec.names(), definitely)?,
     })
 }
 

@@ -6,7 +6,7 @@ ghost use Rattle.pd_engine.specs.SessionReports.{IsReportOfRead};
 ghost use Rattle.pd_sessions.specs.Unanswered.{IsUnanswered};
 ghost use Rattle.pd_engine.specs.declared.outcome.Outcome.TheVariants as outcomes;
 ghost use Rattle.pd_format.specs.Limits.{worker_limit};
-ghost use Rattle.pd_format.specs.Documents.{IsDocument};
+ghost use Rattle.pd_format.specs.Documents.{IsDocument, plain};
 ghost use Rattle.pd_judgement.specs.Judgements.{IsJudgement, RawStream};
 ghost use Rattle.pd_judgement.specs.Writes.{IsTextOfBundle, IsTooLong, Silent, Writes, WritesTruthOfBundle};
 ghost use Rattle.pd_report.specs.Views.{report_view};
@@ -36,7 +36,7 @@ fn read_kept_document(alloc: Global, kept: &[u8]) -> Result<Spec, Unanswered>
     ensures read { IfOk result (λ spec. (part : List ℕ) → IsKept kept.now part
         → IsDocument part (document_view spec)) }
     ensures refused { IfErr result (IsUnanswered (λ report. (part : List ℕ) → IsKept kept.now part
-        → (streams : List RawStream) → IsJudgement part streams report)) }
+        → (streams : List RawStream) → IsJudgement (plain part) streams report)) }
 {
     if kept.len() > DOCUMENT_BYTE_LIMIT {
         return Err(Unanswered::Refused(of_document(alloc, SpecFault::Long)?));
@@ -83,7 +83,7 @@ fn refusal_report_of<R: ByteSource>(
 ) -> Result<Report, EngineFault>
     requires ready { bundle.old.ended ≡ false → R.has_ended reader.old ≡ false }
     ensures report { IfOk result (λ report. (input : Option (List ℕ)) (document : List ℕ)
-        → IsUnanswered (λ r. (streams : List RawStream) → IsJudgement document streams r) unanswered
+        → IsUnanswered (λ r. (streams : List RawStream) → IsJudgement (plain document) streams r) unanswered
         → HasParts begins input (R.remaining reader.old) (document ∷ []) bundle.old
         → IsReportOfRead input (report_view report)) }
     ensures long { result ≡ Err EngineFault.BundleLong → (input : Option (List ℕ)) (closed : List (List ℕ))

@@ -1,10 +1,12 @@
 //! Judges a session, and writes its report.
 ghost use Rattle.pd_engine.specs.Ends.{IsTextAs, judged_as};
 ghost use Rattle.pd_engine.specs.Judging.{JudgesStreams};
+ghost use Rattle.pd_format.specs.Documents.{plain};
 ghost use Rattle.pd_format.specs.Limits.{worker_limit};
 ghost use Rattle.pd_judgement.specs.Writes.{Writes};
 ghost use Rattle.pd_report.specs.Views.{report_view};
 ghost use Rattle.pd_sessions.specs.Ends.{call_end};
+ghost use Rattle.pd_sessions.specs.Inquiries.{inquiry_view};
 ghost use Rattle.std.specs.Prelude.{◌≡◌, ◌⊎◌, ◌≤◌, All, IfErr, false, map};
 
 use super::Outcome;
@@ -14,7 +16,7 @@ use pd_expand::Crew;
 use pd_gather::{ByteSource, NoObserver, Observer};
 use pd_level::Gate;
 use pd_report::{Report, write};
-use pd_sessions::EngineFault;
+use pd_sessions::{EngineFault, Inquiry};
 use std::alloc::Global;
 use std::io::Write;
 use std::random::RandomSource;
@@ -45,16 +47,16 @@ fn judge_streams<
 >(
     crew: &Crew<'_, '_, S, G>,
     alloc: Global,
-    spec: &[u8],
+    inquiry: Inquiry<'_>,
     readers: Vec<R>,
     observer: Option<&O>,
     writer: &mut W,
 ) -> Result<Outcome, EngineFault>
     requires { All (λ r. R.has_ended r ≡ false) readers.items }
-    ensures { JudgesStreams spec.now (map R.remaining readers.items) R.never_fails result
+    ensures { JudgesStreams (inquiry_view inquiry.entry) (map R.remaining readers.items) R.never_fails result
         (W.contents writer.old) (W.contents writer.new) }
 {
-    let report = streams_report(crew, alloc, spec, readers, observer)?;
+    let report = streams_report(crew, alloc, inquiry, readers, observer)?;
     write_report(alloc, &report, writer)
 }
 
@@ -82,11 +84,46 @@ pub fn judge<
     requires open { All (λ r. R.has_ended r ≡ false) readers.items }
     requires some_workers { 1 ≤ workers }
     requires few_workers { workers ≤ worker_limit }
-    ensures { JudgesStreams spec.now (map R.remaining readers.items) R.never_fails result
+    ensures { JudgesStreams (plain spec.now) (map R.remaining readers.items) R.never_fails result
+        (W.contents writer.old) (W.contents writer.new) }
+{
+    judge_inquiry(
+        rt,
+        alloc,
+        Inquiry::plain(spec),
+        readers,
+        workers,
+        gate,
+        writer,
+    )
+}
+
+/// Judges a session as `judge` does, with what is asked of it beside its document's bytes.
+///
+/// # Errors
+/// As `judge`.
+pub fn judge_inquiry<
+    S: RandomSource + Threads + Wait + Sync,
+    R: ByteSource + Send + Drop,
+    W: Write,
+    G: Gate + Sync,
+>(
+    rt: &S,
+    alloc: Global,
+    inquiry: Inquiry<'_>,
+    readers: Vec<R>,
+    workers: u64,
+    gate: &G,
+    writer: &mut W,
+) -> Result<Outcome, EngineFault>
+    requires open { All (λ r. R.has_ended r ≡ false) readers.items }
+    requires some_workers { 1 ≤ workers }
+    requires few_workers { workers ≤ worker_limit }
+    ensures { JudgesStreams (inquiry_view inquiry.entry) (map R.remaining readers.items) R.never_fails result
         (W.contents writer.old) (W.contents writer.new) }
 {
     let crew = Crew::new(rt, workers, gate);
-    judge_streams(&crew, alloc, spec, readers, None::<&NoObserver>, writer)
+    judge_streams(&crew, alloc, inquiry, readers, None::<&NoObserver>, writer)
 }
 
 /// Judges a session as `judge` does, while the observer watches the streams that are read, on one thread more. It
@@ -115,9 +152,41 @@ pub fn judge_watched<
     requires open { All (λ r. R.has_ended r ≡ false) readers.items }
     requires some_workers { 1 ≤ workers }
     requires few_workers { workers ≤ worker_limit }
-    ensures { JudgesStreams spec.now (map R.remaining readers.items) R.never_fails result
+    ensures { JudgesStreams (plain spec.now) (map R.remaining readers.items) R.never_fails result
         (W.contents writer.old) (W.contents writer.new) }
 {
     let crew = Crew::new(rt, workers, gate);
-    judge_streams(&crew, alloc, spec, readers, Some(observer), writer)
+    judge_inquiry_watched(
+        &crew,
+        alloc,
+        Inquiry::plain(spec),
+        readers,
+        observer,
+        writer,
+    )
+}
+
+/// Judges a session as `judge_watched` does, by this crew, with what is asked of it beside its document's bytes.
+///
+/// # Errors
+/// As `judge_watched`.
+pub fn judge_inquiry_watched<
+    S: RandomSource + Threads + Wait + Sync,
+    R: ByteSource + Send + Drop,
+    W: Write,
+    G: Gate + Sync,
+    O: Observer + Sync,
+>(
+    crew: &Crew<'_, '_, S, G>,
+    alloc: Global,
+    inquiry: Inquiry<'_>,
+    readers: Vec<R>,
+    observer: &O,
+    writer: &mut W,
+) -> Result<Outcome, EngineFault>
+    requires { All (λ r. R.has_ended r ≡ false) readers.items }
+    ensures { JudgesStreams (inquiry_view inquiry.entry) (map R.remaining readers.items) R.never_fails result
+        (W.contents writer.old) (W.contents writer.new) }
+{
+    judge_streams(crew, alloc, inquiry, readers, Some(observer), writer)
 }

@@ -3,11 +3,13 @@
 //! It goes a straight way: the document is read, its streams are read each on its own thread and make a session, the
 //! session's traces make a computation (`pd_sessions`), each predicate is answered, and the answers are the report.
 //! What is written is exactly the text that the definitions give, whole, or the call fails. If no level is over the
-//! width, it tells the truth of each predicate. Only a refused allocation is reported as out of memory.
+//! width, it tells the truth of each predicate; and if that is asked for, it does so of each that is decided without
+//! levels, however wide the session is. Only a refused allocation is reported as out of memory.
 //!
 //! While the streams are read an observer may watch the register of their steps, and write snapshots of it
 //! (`judge_watched`, `write_snapshot`); the report doesn't depend on it.
 //!
+//! - `early`: what is decided of each predicate before the walk
 //! - `answers`: the answers of a session
 //! - `reports`: the report of a session
 //! - `judges`: judges a session, and writes its report
@@ -17,17 +19,19 @@
 
 mod answers;
 mod bundle_judges;
+mod early;
 mod judges;
 mod outcome;
 mod reports;
 
 pub use bundle_judges::judge_bundle;
-pub use judges::{judge, judge_watched};
+pub use judges::{judge, judge_inquiry, judge_inquiry_watched, judge_watched};
 pub use outcome::Outcome;
+pub use pd_expand::Crew;
 pub use pd_gather::{ByteSource, NoObserver, Observer, within_limit};
 pub use pd_level::{Gate, NoGate};
 pub use pd_register::{Register, Row, RowState, Snapshot, Watcher};
 pub use pd_report::{Answer, Definitely, Possibly, Refusal, Report, text};
-pub use pd_sessions::{EngineFault, read_upto, write_snapshot};
+pub use pd_sessions::{EngineFault, Inquiry, read_upto, write_snapshot};
 pub use pd_spec::{Spec, SpecFault};
 pub use reports::report_of;

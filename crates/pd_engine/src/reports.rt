@@ -1,23 +1,26 @@
 //! The report of a session.
+ghost use Rattle.pd_sessions.specs.Inquiries.{inquiry_view};
 ghost use Rattle.pd_sessions.specs.SessionReports.{IsReportOfInputs};
 ghost use Rattle.pd_sessions.specs.Unanswered.{given_report};
 ghost use Rattle.pd_format.specs.Limits.{worker_limit};
 ghost use Rattle.pd_format.specs.Readings as readings;
 ghost use Rattle.pd_format.specs.Sessions.{session};
 ghost use Rattle.pd_gather.specs.Views.{ReadingFits, results_view};
-ghost use Rattle.pd_judgement.specs.Headline.{IsNarrow, ReportAgrees, TellsTruth};
+ghost use Rattle.pd_judgement.specs.Headline.{IsNarrow, ReportAgrees, TellsDecided, TellsTruth};
 ghost use Rattle.pd_judgement.specs.Judgements.{IsReportOfResults, events_of_traces};
 ghost use Rattle.pd_model.specs.Order.{IsWellFormed};
 ghost use Rattle.pd_report.specs.Views.{report_view};
 ghost use Rattle.pd_spec.specs.Views.{document_view};
-ghost use Rattle.std.specs.Prelude.{◌≡◌, ◌≤◌, All, IfOk, IfSome, IsOkUnless, List, Ok, false, map};
+ghost use Rattle.std.specs.Prelude.{◌≡◌, ◌≤◌, All, IfOk, IfSome, IsOkUnless, List, Ok, false, map, true};
 
 use super::answers::answers_of;
 use pd_expand::Crew;
 use pd_gather::{ByteSource, Gathered, Observer, read_streams_watched};
 use pd_level::Gate;
 use pd_report::Report;
-use pd_sessions::{EngineFault, Unanswered, computation_of, read_document, settled, traces_of};
+use pd_sessions::{
+    EngineFault, Inquiry, Unanswered, computation_of, read_inquiry, settled, traces_of,
+};
 use pd_spec::Spec;
 use std::alloc::Global;
 use std::random::RandomSource;
@@ -89,16 +92,24 @@ pub fn report_of<S: RandomSource + Threads + Wait + Sync, G: Gate + Sync>(
         → IsWellFormed (document_view spec.now).version (events_of_traces traces)
         → IsNarrow (events_of_traces traces) (document_view spec.now).width
         → TellsTruth (document_view spec.now) traces (report_view report)) }
+    // However wide it is, it tells the truth of each predicate that is decided whatever the width, if that is asked
+    // for.
+    ensures headline_beyond_width { IfOk result (λ report. (traces : List readings.Trace)
+        → session (document_view spec.now).names gathered.streams (results_view gathered.readings.items) ≡ Ok traces
+        → IsWellFormed (document_view spec.now).version (events_of_traces traces)
+        → (document_view spec.now).beyond_width ≡ true
+        → TellsDecided (document_view spec.now) traces (report_view report)) }
     // The answers for each predicate agree, also with a level over the width.
     ensures agrees { IfOk result (λ report. ReportAgrees (report_view report)) }
     ensures err { IsOkUnless result EngineFault.Memory }
 {
     pd_judgement::headline();
+    pd_judgement::headline_beyond_width();
     pd_judgement::reports_agree();
     report_by(&Crew::new(rt, workers, gate), alloc, spec, gathered)
 }
 
-/// The report of a session of the document in these bytes and of what the streams' readers give, or why it comes to no
+/// The report of a session of an inquiry's document and of what the streams' readers give, or why it comes to no
 /// answers. The observer, if there is one, watches while the streams are read.
 fn session_report<
     S: RandomSource + Threads + Wait + Sync,
@@ -108,20 +119,20 @@ fn session_report<
 >(
     crew: &Crew<'_, '_, S, G>,
     alloc: Global,
-    document: &[u8],
+    inquiry: Inquiry<'_>,
     readers: Vec<R>,
     observer: Option<&O>,
 ) -> Result<Report, Unanswered>
     requires { All (λ r. R.has_ended r ≡ false) readers.items }
     ensures { IfSome (given_report result)
-        (IsReportOfInputs document.now (map R.remaining readers.items) R.never_fails) }
+        (IsReportOfInputs (inquiry_view inquiry.entry) (map R.remaining readers.items) R.never_fails) }
 {
-    let spec = read_document(alloc, document)?;
+    let spec = read_inquiry(alloc, inquiry)?;
     let gathered = read_streams_watched(crew.runtime(), alloc, &spec, readers, observer)?;
     answered(crew, alloc, &spec, gathered)
 }
 
-/// The report of a session of the document in these bytes and of what the streams' readers give: the first refusal, or
+/// The report of a session of an inquiry's document and of what the streams' readers give: the first refusal, or
 /// an answer for each predicate. A read that fails is a fault of its stream. The observer, if there is one, watches
 /// while the streams are read.
 ///
@@ -135,14 +146,15 @@ pub(crate) fn streams_report<
 >(
     crew: &Crew<'_, '_, S, G>,
     alloc: Global,
-    document: &[u8],
+    inquiry: Inquiry<'_>,
     readers: Vec<R>,
     observer: Option<&O>,
 ) -> Result<Report, EngineFault>
     requires { All (λ r. R.has_ended r ≡ false) readers.items }
     ensures given { IfOk result (λ report.
-        IsReportOfInputs document.now (map R.remaining readers.items) R.never_fails (report_view report)) }
+        IsReportOfInputs (inquiry_view inquiry.entry) (map R.remaining readers.items) R.never_fails
+        (report_view report)) }
     ensures err { IsOkUnless result EngineFault.Memory }
 {
-    settled(session_report(crew, alloc, document, readers, observer))
+    settled(session_report(crew, alloc, inquiry, readers, observer))
 }

@@ -4,6 +4,7 @@
 //! - `writers`: a writer that takes pieces until it is full
 //! - `ends`: calls of the engine, and in which word each ends
 //! - `sessions`: a session of two processes, and whose streams are read
+//! - `inquiries`: what is asked of a session beside its document
 //! - `bundles`: bundles from a slow reader that fails, to a writer that is full
 //! - `streams`: streams whose readers wait for one another or fail
 //! - `mixed`: streams of lines in any shape, each in two pieces
@@ -23,6 +24,8 @@ mod checks;
 mod ends;
 #[cfg(test)]
 mod findings;
+#[cfg(test)]
+mod inquiries;
 #[cfg(test)]
 mod limits;
 #[cfg(test)]

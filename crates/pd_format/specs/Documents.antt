@@ -142,6 +142,8 @@ pub record Document : Type 0 where
   pub predicates : List NamedPredicate
   pub width : ℕ
   pub version : Version
+  -- whether a predicate that is decided without levels is answered whatever the width
+  pub beyond_width : Bool
 
 abbrev pub names_of_outline : Outline → List ProcessNames
 names_of_outline outline =
@@ -182,6 +184,7 @@ pub record IsDocument (bytes : List ℕ) (document : Document) : Type 0 where
   pub initial : document.initial ≡ initial_of outline
   pub width : document.width ≡ width_of outline.width
   pub version : version_of outline.version ≡ Some document.version
+  pub beyond_width : document.beyond_width ≡ false
   pub predicates : AllZip (IsNamedPredicate (names_of_outline outline)) outline.predicates document.predicates
 
 -- a text, by the names of the outline, is a predicate
@@ -212,3 +215,29 @@ abbrev pub IsRefusedDocument : List ℕ → DocumentFault → Type 0
 IsRefusedDocument bytes (InPredicate number fault at) = HasRefusedPredicate bytes number fault at
 IsRefusedDocument bytes OtherVersion = HasOtherVersion bytes
 IsRefusedDocument bytes fault = outline_of_bytes bytes ≡ Err fault
+
+-- ---- what is asked beside the document
+
+-- a document's bytes, and what is asked of its session beside them
+pub record Inquiry : Type 0 where
+  pub bytes : List ℕ
+  -- that predicates are answered whatever the width, as far as they are decided without levels
+  pub beyond_width : Bool
+
+abbrev pub inquiry : (beyond_width : Bool) → (bytes : List ℕ) → Inquiry
+inquiry beyond_width bytes = record { bytes = bytes; beyond_width = beyond_width }
+
+-- a document's bytes alone
+abbrev pub plain : List ℕ → Inquiry
+plain bytes = inquiry false bytes
+
+-- the document, changed by what is asked beside it
+abbrev pub changed : (beyond_width : Bool) → Document → Document
+changed false document = document
+changed true document = record document { beyond_width = true }
+
+-- the inquiry is this document: that of its bytes, changed by what is asked beside them
+pub record IsInquired (inquiry : Inquiry) (document : Document) : Type 0 where
+  pub said : Document
+  pub read : IsDocument inquiry.bytes said
+  pub is_changed : document ≡ changed inquiry.beyond_width said

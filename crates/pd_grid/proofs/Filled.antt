@@ -1,5 +1,5 @@
 -- Rows of bits, one bit and one word more at a time.
-use Rattle.std.proofs.Common.{◌≡◌, ◌≢◌, ℕ, ◌+◌, ◌-◌, ◌*◌, ◌/◌, ◌%◌, ◌<◌, ◌≤◌, ◌⊎◌, inl, inr, min, max, Bool, true, false, cond, eqb, leb, not, ◌&&◌, ◌||◌, List, [], ◌∷◌, ◌++◌, length, length-append, get_or, refl, sym, ap, ◌∙◌, subst, arith}
+use Rattle.std.proofs.Common.{◌≡◌, ◌≢◌, ℕ, ◌+◌, ◌-◌, ◌*◌, ◌/◌, ◌%◌, ◌<◌, ◌≤◌, ◌⊎◌, inl, inr, min, max, Bool, true, false, cond, eqb, leb, not, ◌&&◌, ◌||◌, List, [], ◌∷◌, ◌++◌, length, length-append, get_or, refl, sym, ap, ◌∙◌, arith}
 use Rattle.std.proofs.lemmas.Bool.{cases_lt, eq-eqb, le-leb}
 use Rattle.std.proofs.lemmas.Bool.Decides.{eqb_tells, leb_tells}
 use Rattle.std.proofs.lemmas.List.{get_or-append_right, get_or_append_left, get_or_past}
@@ -28,50 +28,6 @@ left_same old new start low j le same = go (cases_lt low j)
     go : (low < j) ⊎ (j ≤ low) → left_of old start low j ≡ left_of new start low j
     go (inl less) = left_high old start low j less ∙ (sym (same less) ∙ sym (left_high new start low j less))
     go (inr ge) = left_low old start low j (omega arith) ∙ sym (left_low new start low j (omega arith))
-
--- ---- one bit more
-
-pub none_filled : (good above has : ℕ → Bool) (start : Bool) (low end : ℕ) → end ≤ low → ((j : ℕ) → has j ≡ false)
-    → IsFilled good above has start low end
-none_filled good above has start low end le none =
-    record { inside = λ j from lt. absurd (omega arith); outside = λ j o. none j }
-
-pub filled_more : (good above old new : ℕ → Bool) (start : Bool) (low d : ℕ) → low ≤ d
-    → IsFilled good above old start low d → ((j : ℕ) → j ≢ d → new j ≡ old j)
-    → new d ≡ (not (good d) && (above d || left_of old start low d)) → IsFilled good above new start low (d + 1)
-filled_more good above old new start low d from filled others here = record { inside = inside; outside = outside }
-  where
-    left : (j : ℕ) → low ≤ j → j ≤ d → left_of old start low j ≡ left_of new start low j
-    left j le most = left_same old new start low j le (λ less. others (j - 1) (λ e. omega arith))
-
-    inside : (j : ℕ) → low ≤ j → j < d + 1 → new j ≡ (not (good j) && (above j || left_of new start low j))
-    inside j le lt = go (cases_lt j d)
-      where
-        go : (j < d) ⊎ (d ≤ j) → new j ≡ (not (good j) && (above j || left_of new start low j))
-        go (inl less) =
-            others j (λ e. omega arith)
-            ∙ (filled.inside j le less
-            ∙ ap (λ (b : Bool). not (good j) && (above j || b)) (left j le (omega arith)))
-        go (inr ge) =
-            let same : d ≡ j = omega arith in
-            subst (λ (k : ℕ). new k ≡ (not (good k) && (above k || left_of new start low k))) same
-            (here ∙ ap (λ (b : Bool). not (good d) && (above d || b)) (left d from (omega arith)))
-
-    outside : (j : ℕ) → (j < low) ⊎ (d + 1 ≤ j) → new j ≡ false
-    outside j (inl less) = others j (λ e. omega arith) ∙ filled.outside j (inl less)
-    outside j (inr le) = others j (λ e. omega arith) ∙ filled.outside j (inr (omega arith))
-
--- the bit that is put, by what it is put for
-pub next_bit : (good above left : Bool) (up before bit new : Bool) → new ≡ bit → bit ≡ (not good && (up || before))
-    → up ≡ above → before ≡ left → new ≡ (not good && (above || left))
-next_bit good above left up before bit new put is same too =
-    put
-    ∙ (is ∙ (ap (λ (b : Bool). not good && (b || before)) same ∙ ap (λ (b : Bool). not good && (above || b)) too))
-
-pub left_next : (has : ℕ → Bool) (start : Bool) (low d : ℕ) → low ≤ d → left_of has start low (d + 1) ≡ has d
-left_next has start low d le =
-    let e : d + 1 - 1 ≡ d = omega arith in
-    left_high has start low (d + 1) (omega arith) ∙ ap has e
 
 -- ---- the words of a row
 

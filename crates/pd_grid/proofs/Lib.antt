@@ -4,6 +4,8 @@ pub mod Bands
 pub mod FirstPairs
 pub mod AvoidingPairs
 pub mod Filled
+pub mod Carries
+pub mod GoodWords
 pub mod RowPairs
 pub mod MostCuts
 pub mod AvoidingLevels

@@ -3,6 +3,7 @@ ghost use Rattle.pd_grid.specs.Rows.{AreUpTo, IsEnd, IsFirstTrue};
 ghost use Rattle.std.specs.Prelude.{◌≤◌, length};
 
 use super::good_pairs::GoodPairs;
+use pd_bits::{BITS, both, least, lowest, words};
 
 /// Where the numbers that are at most `i` end, where those before `from` are. They never fall, so none after it is.
 pub(crate) fn end_of(numbers: &[u64], i: u64, from: usize) -> usize
@@ -22,10 +23,15 @@ pub(crate) fn end_of(numbers: &[u64], i: u64, from: usize) -> usize
 pub(crate) fn first_good<G: GoodPairs>(wanted: &G, i: u64, low: u64, end: u64) -> Option<u64>
     ensures { IsFirstTrue (G.good wanted.now i) low end result }
 {
-    for j in low..end {
-        if wanted.is_good(i, j) {
-            return Some(j);
+    let mut j = low;
+    while j < end {
+        let n = BITS.min(end - j);
+        let word = both(wanted.good_word(i, j, n), lowest(n));
+        words(word);
+        if word != 0 {
+            return Some(j + least(word));
         }
+        j += n;
     }
     None
 }

@@ -4,7 +4,7 @@ ghost use Rattle.pd_grid.specs.Grids.{IsFilled, row_has, word_at};
 ghost use Rattle.std.specs.Prelude.{◌≡◌, ◌≢◌, ◌+◌, ◌<◌, ◌≤◌, ◌&&◌, ◌||◌, ℕ, IfOk, false, not};
 
 use super::good_pairs::GoodPairs;
-use pd_bits::{has, with};
+use pd_bits::{has, lowest, up, with, without};
 use std::alloc::{AllocError, Global};
 
 /// Some counts of the second process, as bits: bit 0 of the first word is that of 64 times the number `first`.
@@ -47,23 +47,37 @@ pub(crate) fn no_row(alloc: Global) -> Row
     }
 }
 
-/// Whether the bit of a count is set: it isn't good, and the one above or the one before is set.
-#[inline(always)]
-fn is_next<G: GoodPairs>(wanted: &G, i: u64, j: u64, above: bool, left: bool) -> bool
-    ensures { result ≡ (not (G.good wanted.now i j) && (above || left)) }
+/// The bits of `free` that are reached: those that are set in `first` too, or of which the one before is reached. The
+/// sum of the two words carries something from a bit to the next one just where the bit is reached.
+fn reached(free: u64, first: u64) -> u64
+    ensures within { (j : ℕ) → has_bit free j ≡ false → has_bit result j ≡ false }
+    ensures lowest { has_bit result 0 ≡ (has_bit free 0 && has_bit first 0) }
+    ensures next { (j : ℕ) → j < 63 → has_bit result (j + 1)
+        ≡ (has_bit free (j + 1) && (has_bit first (j + 1) || has_bit result j)) }
 {
-    (above || left) && !wanted.is_good(i, j)
+    let seeds = free & first;
+    let carried = free ^ seeds ^ free.wrapping_add(seeds);
+    free & (seeds | carried)
 }
 
-/// The word with this bit, which isn't set in it.
-#[inline(always)]
-fn put(word: u64, d: u64, bit: bool) -> u64
-    requires within { d < 64 }
-    requires unset { has_bit word d ≡ false }
-    ensures here { has_bit result d ≡ bit }
-    ensures others { (j : ℕ) → j ≢ d → has_bit result j ≡ has_bit word j }
+/// The word with bit `from` set as well where there is a start.
+fn with_start(word: u64, from: u64, start: bool) -> u64
+    requires { from < 64 }
+    ensures here { has_bit result from ≡ (start || has_bit word from) }
+    ensures others { (j : ℕ) → j ≢ from → has_bit result j ≡ has_bit word j }
 {
-    if bit { with(word, d) } else { word }
+    if start { with(word, from) } else { word }
+}
+
+/// The bits from `from` on, before `to`, that aren't good, and of which the one above or the one before is set, where
+/// `start` says whether the one before the first is.
+fn filled(good: u64, from: u64, to: u64, above: u64, start: bool) -> u64
+    requires order { from < to }
+    requires within { to ≤ 64 }
+    ensures { IsFilled (has_bit good) (has_bit above) (has_bit result) start from to }
+{
+    let span = without(lowest(to), lowest(from));
+    reached(without(span, good), with_start(above, from, start))
 }
 
 /// The bits from `from` on, before `to`, that aren't good, and of which the one above or the one before is set. Bit 0
@@ -82,13 +96,11 @@ fn filled_word<G: GoodPairs>(
     requires room { base + 64 ≤ 18446744073709551615 }
     ensures { IsFilled (λ d. G.good wanted.now i (base + d)) (has_bit above) (has_bit result) start from to }
 {
-    let mut word = 0;
-    let mut left = start;
-    for d in from..to {
-        left = is_next(wanted, i, base + d, has(above, d), left);
-        word = put(word, d, left);
+    if from == to {
+        return 0;
     }
-    word
+    let good = up(wanted.good_word(i, base + from, to - from), from);
+    filled(good, from, to, above, start)
 }
 
 /// The row of count `i` of the first process, below that of one count less: of the counts from `low` on, before `end`,

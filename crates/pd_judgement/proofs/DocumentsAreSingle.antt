@@ -4,7 +4,7 @@ use Rattle.std.specs.Prelude.{Option, Some, None, Ok, Err}
 use Rattle.std.specs.List.{AllZip, AllByRecursion}
 use Rattle.pd_model.specs.Messages.{Version}
 use Rattle.pd_model.specs.Predicates.{Predicate}
-use Rattle.pd_format.specs.Documents.{Outline, Document, NamedPredicate, DocumentFault, Long, Json, Shape, Processes, Name, NameTwice, Vars, Predicates, Width, OtherVersion, InPredicate, IsNamedPredicate, IsDocument, IsSpelled, HasRefusedPredicate, HasOtherVersion, IsRefusedDocument, outline_of_bytes, names_of_outline, initial_of, width_of, version_of}
+use Rattle.pd_format.specs.Documents.{Outline, Document, NamedPredicate, DocumentFault, Long, Json, Shape, Processes, Name, NameTwice, Vars, Predicates, Width, OtherVersion, InPredicate, IsNamedPredicate, IsDocument, IsSpelled, HasRefusedPredicate, HasOtherVersion, IsRefusedDocument, Inquiry, IsInquired, changed, plain, outline_of_bytes, names_of_outline, initial_of, width_of, version_of}
 use Rattle.pd_format.specs.Laws.{AreClear}
 use Rattle.pd_format.specs.Names.{ProcessNames}
 use Rattle.pd_format.specs.PredicateTexts.{PredicateFault, IsPredicate, IsRefusedPredicate}
@@ -54,16 +54,28 @@ one_document_lem bytes a b p q =
     let version : a.version ≡ b.version =
     same_version (version_of p.outline.version) a.version b.version p.version
     (ap (λ (o : Outline). version_of o.version) (sym same) ∙ q.version) in
+    let beyond_width : a.beyond_width ≡ b.beyond_width = p.beyond_width ∙ sym q.beyond_width in
     λ i. record {
       names = names i;
       initial = initial i;
       predicates = predicates i;
       width = width i;
       version = version i;
+      beyond_width = beyond_width i;
     }
   where
     same_version : (said : Option Version) (v w : Version) → said ≡ Some v → said ≡ Some w → v ≡ w
     same_version said v w e f = cc
+
+-- an inquiry is one document
+pub one_inquired : (inquiry : Inquiry) (a b : Document) → IsInquired inquiry a → IsInquired inquiry b → a ≡ b
+one_inquired inquiry a b p q =
+    p.is_changed ∙ (ap (changed inquiry.beyond_width) (one_document_lem inquiry.bytes p.said q.said p.read q.read)
+    ∙ sym q.is_changed)
+
+-- a document of bytes alone
+pub plainly : (bytes : List ℕ) (document : Document) → IsDocument bytes document → IsInquired (plain bytes) document
+plainly bytes document is = record { said = document; read = is; is_changed = refl }
 
 -- ---- a document isn't refused
 

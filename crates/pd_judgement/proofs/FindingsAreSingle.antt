@@ -8,14 +8,14 @@ use Rattle.pd_model.specs.Order.{IsWellFormed}
 use Rattle.pd_model.specs.Predicates.{test_of}
 use Rattle.pd_format.specs.Names.{ProcessNames}
 use Rattle.pd_format.specs.Readings.{Trace}
-use Rattle.pd_format.specs.Documents.{Document, NamedPredicate}
+use Rattle.pd_format.specs.Documents.{Document, NamedPredicate, plain}
 use Rattle.pd_format.specs.Sessions.{SessionFault, StreamResult, session}
 use Rattle.pd_format.specs.Reports.{Possibly, Definitely, Answer, Refusal, Report, Judged, Refused, IsReport}
 use Rattle.pd_judgement.specs.Judgements.{RawStream, AreResultsOf, events_of_traces, recorded_of, IsTracesReport, of_messages, of_cycle, of_answers, IsReportOfSession, IsReportOfResults, IsJudgement, of_refused, of_read}
 use Rattle.pd_format.specs.OtherTexts.{by_test, Checked, NotRead, OfRefusal, OfSession, possibly_verdict, definitely_verdict}
 use Rattle.pd_format.proofs.OneReport.{one_report_of_bytes, stops_at_one_line_lem}
 use Rattle.pd_judgement.specs.Findings.{IsGoodCut, IsGoodPath, IsChecked, IsCheckedFor, IsAnswersFinding, of_other_names, of_verdicts, IsSessionOf, AreCounts, of_unread, of_refused_session, of_refusal, of_session, OneFinding}
-use Rattle.pd_judgement.proofs.DocumentsAreSingle.{one_document_lem, document_not_refused_lem}
+use Rattle.pd_judgement.proofs.DocumentsAreSingle.{one_document_lem, plainly, document_not_refused_lem}
 use Rattle.pd_judgement.proofs.ReceivedSends.{one_count}
 use Rattle.pd_judgement.proofs.ReportsAreSingle.{one_judgement, not_lawful, not_cycle, same_results_report}
 use Rattle.pd_judgement.proofs.StreamResults.{one_list_of_results_lem}
@@ -110,13 +110,14 @@ well_formed_not_refused document traces report refusal well (of_answers messages
 
 -- a well-formed session isn't refused
 session_not_refused : (bytes : List ℕ) (streams : List RawStream) (refusal : Refusal) (document : Document)
-    (traces : List Trace) (messages : ℕ) → IsJudgement bytes streams (Refused refusal)
+    (traces : List Trace) (messages : ℕ) → IsJudgement (plain bytes) streams (Refused refusal)
     → IsSessionOf bytes streams document traces messages → ⊥
 session_not_refused bytes streams refusal document traces messages (of_refused fault refused reported) held =
     document_not_refused_lem bytes document fault held.read refused
 session_not_refused bytes streams refusal document traces messages (of_read other others is are r) held =
     let moved : IsReportOfResults document (length streams) held.results (Refused refusal) =
-    same_results_report bytes streams document other held.results others (Refused refusal) held.read is
+    same_results_report (plain bytes) streams document other held.results others (Refused refusal)
+    (plainly bytes document held.read) is
     held.are_results are r in
     let report : IsTracesReport document traces (Refused refusal) =
     subst (λ s. IsReportOfSession document s (Refused refusal)) held.joined moved in
@@ -127,15 +128,15 @@ session_not_refused bytes streams refusal document traces messages (of_read othe
 -- a refused session has one finding
 one_refused_finding : (bytes report : List ℕ) (streams : List RawStream) (claimed claimed' : Report)
     (refusal refusal' : Refusal) (good good' : Bool)
-    → IsReport report claimed → IsReport report claimed' → IsJudgement bytes streams (Refused refusal)
-    → IsJudgement bytes streams (Refused refusal') → IsTrue good ↔ (claimed ≡ Refused refusal) → IsTrue good'
+    → IsReport report claimed → IsReport report claimed' → IsJudgement (plain bytes) streams (Refused refusal)
+    → IsJudgement (plain bytes) streams (Refused refusal') → IsTrue good ↔ (claimed ≡ Refused refusal) → IsTrue good'
     ↔ (claimed' ≡ Refused refusal')
     → OfRefusal good ≡ OfRefusal good'
 one_refused_finding bytes report streams claimed claimed' refusal refusal' good good' is is' judged judged' right
     right' =
     let reported : claimed' ≡ claimed = one_report_of_bytes report claimed' claimed is' is in
     let judgement : Refused refusal' ≡ Refused refusal =
-    one_judgement bytes streams (Refused refusal') (Refused refusal) judged' judged in
+    one_judgement (plain bytes) streams (Refused refusal') (Refused refusal) judged' judged in
     let moved : IsTrue good' ↔ (claimed ≡ Refused refusal) =
     subst (λ (both : Report × Report). IsTrue good' ↔ (both.0 ≡ both.1)) (λ i. (reported i, judgement i)) right' in
     ap (λ b. OfRefusal b) (same_test good good' right moved)

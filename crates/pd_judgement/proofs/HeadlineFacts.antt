@@ -1,77 +1,25 @@
--- If each level is narrow no answer is unknown, and each is the truth. The answers agree at every width.
-use Rattle.std.proofs.Common.{◌≡◌, ℕ, ◌<◌, ◌≤◌, Bool, List, [], ◌∷◌, length, map, All, Contains, refl, sym, ◌∙◌, subst, inl, inr, ◌⊎◌, ◌↔◌, arith}
+-- If each level is narrow no answer is unknown, and each is the truth; so is what is decided whatever the width, if it
+-- is asked for. The answers agree at every width.
+use Rattle.std.proofs.Common.{◌≡◌, ℕ, Bool, true, List, [], ◌∷◌, map, All, refl, subst, ◌↔◌}
 use Rattle.std.proofs.lemmas.List.Elements.{All-nil, All-cons}
 use Rattle.std.specs.List.{AllZip}
-use Rattle.pd_model.specs.Events.{Computation, Place, Linked}
+use Rattle.pd_model.specs.Events.{Computation, Place}
 use Rattle.pd_model.specs.Messages.{Version, Fault, SendTwice, Orphan, SelfMessage, ReceivedTwice, IsReported, HasLawfulMessages}
 use Rattle.pd_model.specs.Order.{HasNoCycle, IsReportedCycle}
-use Rattle.pd_model.specs.Cuts.{IsOfLevel}
-use Rattle.pd_model.specs.Observations.{IsAvoiding}
 use Rattle.pd_model.specs.Observations as observations
-use Rattle.pd_model.specs.Answers.{LexBelow, IsListOf, MoreThan, PossiblyAnswer, PossiblyYes, PossiblyNo, PossiblyUnknown, DefinitelyAnswer, DefinitelyYes, DefinitelyNo, DefinitelyUnknown, IsPossiblyAnswer, IsDefinitelyAnswer, IsFirstSatisfying, IsLeastFree, IsAvoidingObservation}
-use Rattle.pd_model.specs.Predicates.{test_of}
+use Rattle.pd_model.specs.Answers.{PossiblyAnswer, PossiblyYes, PossiblyNo, PossiblyUnknown, DefinitelyAnswer, DefinitelyYes, DefinitelyNo, DefinitelyUnknown, IsPossiblyAnswer, IsDefinitelyAnswer, IsFirstSatisfying, IsLeastFree, IsAvoidingObservation}
+use Rattle.pd_model.specs.Predicates.{Recorded, test_of}
 use Rattle.pd_format.specs.Names.{ProcessNames, name_of_process}
 use Rattle.pd_format.specs.Readings.{Trace}
 use Rattle.pd_format.specs.Documents.{Document, NamedPredicate}
 use Rattle.pd_format.specs.Reports.{Possibly, Definitely, Answer}
 use Rattle.pd_judgement.specs.Judgements.{events_of_traces, recorded_of, printed_possibly, printed_definitely, IsAnswered, of_messages, of_cycle, of_answers}
-use Rattle.pd_model.proofs.Decisions.{dec_list}
-use Rattle.pd_model.proofs.OneAnswer.{below_rest, ascending_rest, contains_cases, contains_later, lex_asymmetric, lex_irreflexive, definite_is_possible, cut_below_level}
-use Rattle.pd_model.proofs.Paths.{avoiding_level, path_avoids}
-use Rattle.pd_model.proofs.WalkSteps.{not_more}
+use Rattle.pd_model.proofs.OneAnswer.{definite_is_possible, cut_below_level}
+use Rattle.pd_model.proofs.Paths.{path_avoids}
 use Rattle.pd_model.proofs.Stuck.{none_stuck}
-use Rattle.pd_judgement.specs.Headline.{IsNarrow, AnswersAgree, SaysTruly, AnswersTruly, Headline, ReportsAgree}
-
--- An ascending list whose elements all stand in another is no longer than that one.
-pub no_longer : (xs ys : List (List ℕ)) → Linked LexBelow xs → Linked LexBelow ys
-    → ((cut : List ℕ) → Contains xs cut → Contains ys cut) → length xs ≤ length ys
-no_longer [] ys a b within = omega arith
-no_longer (x ∷ xs) [] a b within = let w : Contains [] x = within x (0, omega arith, refl) in let lt : w.0 < 0 =
-    w.1 in absurd (omega arith)
-no_longer (x ∷ xs) (y ∷ ys) a b within =
-    go (no_longer xs ys (ascending_rest x xs a) (ascending_rest y ys b))
-    (no_longer (x ∷ xs) ys a (ascending_rest y ys b)) (dec_list x y)
-  where
-    go : (((cut : List ℕ) → Contains xs cut → Contains ys cut) → length xs ≤ length ys)
-        → (((cut : List ℕ) → Contains (x ∷ xs) cut → Contains ys cut) → length (x ∷ xs) ≤ length ys) → Dec (x ≡ y)
-        → length (x ∷ xs) ≤ length (y ∷ ys)
-    go both one (yes e) = let rest : length xs ≤ length ys = both later in omega arith
-      where
-        later : (cut : List ℕ) → Contains xs cut → Contains ys cut
-        later cut has = pick (contains_cases y cut ys (within cut (contains_later x cut xs has)))
-          where
-            pick : (y ≡ cut) ⊎ Contains ys cut → Contains ys cut
-            pick (inl f) =
-                absurd (lex_irreflexive cut (subst (λ (w : List ℕ). LexBelow w cut) (e
-                ∙ f) (below_rest x cut xs a has)))
-            pick (inr h) = h
-    go both one (no apart) = let rest : length (x ∷ xs) ≤ length ys = one later in omega arith
-      where
-        first : Contains ys x
-        first = pick (contains_cases y x ys (within x (0, omega arith, refl)))
-          where
-            pick : (y ≡ x) ⊎ Contains ys x → Contains ys x
-            pick (inl f) = absurd (apart (sym f))
-            pick (inr h) = h
-
-        later : (cut : List ℕ) → Contains (x ∷ xs) cut → Contains ys cut
-        later cut has = pick (contains_cases x cut xs has) (contains_cases y cut ys (within cut has))
-          where
-            pick : (x ≡ cut) ⊎ Contains xs cut → (y ≡ cut) ⊎ Contains ys cut → Contains ys cut
-            pick here (inr h) = h
-            pick (inl e) there = subst (Contains ys) e first
-            pick (inr h) (inl f) =
-                absurd (lex_asymmetric x y (below_rest x y xs a (subst (Contains xs) (sym f) h))
-                (below_rest y x ys b first))
-
--- what holds of all cuts of a narrow level's list holds of no more than w cuts
-pub not_more_within : (P Q : List ℕ → Type 0) (w : ℕ) (cuts : List (List ℕ)) → IsListOf P cuts → length cuts ≤ w
-    → ((cut : List ℕ) → Q cut → P cut) → ¬ MoreThan w Q
-not_more_within P Q w cuts list le within (some, list', lt) =
-    let n : length some ≤ length cuts =
-    no_longer some cuts list'.ascending list.ascending (λ cut has.
-    (list.just cut).1 (within cut ((list'.just cut).0 has))) in
-    omega arith
+use Rattle.pd_judgement.specs.Headline.{IsNarrow, AnswersAgree, SaysPossibly, SaysDefinitely, SaysTruly, SaysDecided, AnswersTruly, AnswersDecided, Headline, HeadlineBeyondWidth, ReportsAgree}
+use Rattle.pd_judgement.proofs.Answered.{PossiblyAt, possibly_at, DefinitelyAt, definitely_at}
+use Rattle.pd_judgement.proofs.Narrow.{level_is_narrow, avoided_narrowly}
 
 -- ---- what is printed, at every width
 
@@ -103,31 +51,19 @@ level_printed names c test w reported (DefinitelyNo path) e right level said = a
 level_printed names c test w reported (DefinitelyUnknown k) e right level said = absurd (cc)
 
 -- the answers of Possibly and of Definitely agree
-answers_agree : (names : List ProcessNames) (c : Computation) (test : List ℕ → Bool) (w : ℕ) (answer : Answer)
-    → HasNoCycle c → (p : PossiblyAnswer) → answer.possibly ≡ printed_possibly p → IsPossiblyAnswer c test w p
+answers_agree : (names : List ProcessNames) (c : Computation) (test : List ℕ → Bool) (v w : ℕ) (answer : Answer)
+    → HasNoCycle c → (p : PossiblyAnswer) → answer.possibly ≡ printed_possibly p → IsPossiblyAnswer c test v p
     → (d : DefinitelyAnswer) → answer.definitely ≡ printed_definitely names d → IsDefinitelyAnswer c test w d
     → AnswersAgree answer
-answers_agree names c test w answer acyclic p e right d f right' =
+answers_agree names c test v w answer acyclic p e right d f right' =
     record {
       no_clash = λ level said none.
-          no_printed c test w answer.possibly p e right none (definite_is_possible c acyclic test
+          no_printed c test v answer.possibly p e right none (definite_is_possible c acyclic test
           (level_printed names c test w answer.definitely d f right' level said).0);
       below = λ cut level said said'.
-          cut_below_level c acyclic test level cut (cut_printed c test w answer.possibly p e right cut said)
+          cut_below_level c acyclic test level cut (cut_printed c test v answer.possibly p e right cut said)
           (level_printed names c test w answer.definitely d f right' level said').1;
     }
-
--- ---- no answer is unknown
-
-module _ (c : Computation) (test : List ℕ → Bool) (w : ℕ) (narrow : IsNarrow c w) where
-  pub level_is_narrow : (k : ℕ) → ¬ MoreThan w (IsOfLevel c k)
-  level_is_narrow k = let n : (cuts : List (List ℕ)) × IsListOf (IsOfLevel c k) cuts × (length cuts ≤ w) =
-      narrow k in not_more (IsOfLevel c k) w n.0 n.1 n.2
-
-  pub avoided_narrowly : (k : ℕ) → ¬ MoreThan w (IsAvoiding c test k)
-  avoided_narrowly k =
-      let n : (cuts : List (List ℕ)) × IsListOf (IsOfLevel c k) cuts × (length cuts ≤ w) = narrow k in
-      not_more_within (IsOfLevel c k) (IsAvoiding c test k) w n.0 n.1 n.2 (avoiding_level c test k)
 
 -- ---- what is said of Possibly
 
@@ -176,21 +112,55 @@ module _ (names : List ProcessNames) (c : Computation) (test : List ℕ → Bool
 
 -- ---- one answer
 
-pub says_truly : (names : List ProcessNames) (c : Computation) (test : List ℕ → Bool) (w : ℕ) (answer : Answer)
-    → HasNoCycle c → IsNarrow c w → (p : PossiblyAnswer) → answer.possibly ≡ printed_possibly p
-    → IsPossiblyAnswer c test w p → (d : DefinitelyAnswer) → answer.definitely ≡ printed_definitely names d
-    → IsDefinitelyAnswer c test w d → SaysTruly names c test answer
-says_truly names c test w answer acyclic narrow p e right d f right' =
-    record {
-      possibly_yes = possibly_yes_exactly c test w narrow answer.possibly p e right;
-      possibly_no = possibly_no_exactly c test w narrow answer.possibly p e right;
-      definitely_yes = definitely_yes_exactly names c test w narrow answer.definitely d f right';
-      definitely_no = definitely_no_exactly names c test w narrow answer.definitely d f right';
-      cut_satisfies = λ cut said. let i : IsFirstSatisfying c test cut =
-          cut_printed c test w answer.possibly p e right cut said in (i.consistent, i.satisfies);
-      path_avoids = path_printed names c test w narrow answer.definitely d f right';
-      agrees = answers_agree names c test w answer acyclic p e right d f right';
-    }
+says_possibly : (c : Computation) (test : List ℕ → Bool) (w : ℕ) (reported : Possibly) (p : PossiblyAnswer)
+    → IsNarrow c w → reported ≡ printed_possibly p → IsPossiblyAnswer c test w p → SaysPossibly c test reported
+says_possibly c test w reported p narrow e right = record {
+  yes_exactly = possibly_yes_exactly c test w narrow reported p e right;
+  no_exactly = possibly_no_exactly c test w narrow reported p e right;
+  cut_satisfies = λ cut said. let i : IsFirstSatisfying c test cut = cut_printed c test w reported p e right cut said in
+      (i.consistent, i.satisfies);
+}
+
+says_definitely : (names : List ProcessNames) (c : Computation) (test : List ℕ → Bool) (w : ℕ) (reported : Definitely)
+    (d : DefinitelyAnswer) → IsNarrow c w → reported ≡ printed_definitely names d → IsDefinitelyAnswer c test w d
+    → SaysDefinitely names c test reported
+says_definitely names c test w reported d narrow e right = record {
+  yes_exactly = definitely_yes_exactly names c test w narrow reported d e right;
+  no_exactly = definitely_no_exactly names c test w narrow reported d e right;
+  path_avoids = path_printed names c test w narrow reported d e right;
+}
+
+module _ (document : Document) (r : Recorded) (acyclic : HasNoCycle r.events) (asked : NamedPredicate) (answer : Answer)
+    (a : IsAnswered document r asked answer) where
+  p : PossiblyAt document r asked.predicate a.possibly
+  p = possibly_at document r asked.predicate a.possibly a.possibly_right
+
+  d : DefinitelyAt document r asked.predicate a.definitely
+  d = definitely_at document r asked.predicate a.definitely a.definitely_right
+
+  agrees : AnswersAgree answer
+  agrees =
+      answers_agree document.names r.events (test_of r asked.predicate) p.width d.width answer acyclic a.possibly
+      a.possibly_reported p.right a.definitely a.definitely_reported d.right
+
+  says_truly : IsNarrow r.events document.width
+      → SaysTruly document.names r.events (test_of r asked.predicate) answer
+  says_truly narrow = record {
+    possibly = says_possibly r.events (test_of r asked.predicate) p.width answer.possibly a.possibly (p.narrow narrow)
+        a.possibly_reported p.right;
+    definitely = says_definitely document.names r.events (test_of r asked.predicate) d.width answer.definitely
+        a.definitely (d.narrow narrow) a.definitely_reported d.right;
+    agrees = agrees;
+  }
+
+  says_decided : document.beyond_width ≡ true → SaysDecided document.names r asked.predicate answer
+  says_decided beyond = record {
+    possibly = λ decided. says_possibly r.events (test_of r asked.predicate) p.width answer.possibly a.possibly
+        (p.narrow_if_decided beyond decided) a.possibly_reported p.right;
+    definitely = λ decided. says_definitely document.names r.events (test_of r asked.predicate) d.width
+        answer.definitely a.definitely (d.narrow_if_decided beyond decided) a.definitely_reported d.right;
+    agrees = agrees;
+  }
 
 -- ---- the report
 
@@ -211,16 +181,16 @@ all_zip_map R S f [] (y ∷ ys) h = h
 all_zip_map R S f (x ∷ xs) [] h = h
 all_zip_map R S f (x ∷ xs) (y ∷ ys) h = (f x y h.0, all_zip_map R S f xs ys h.1)
 
-answers_truly : (document : Document) (traces : List Trace) → HasNoCycle (events_of_traces traces)
-    → IsNarrow (events_of_traces traces) document.width → (asked : NamedPredicate) (answer : Answer)
-    → IsAnswered document.names (recorded_of document traces) document.width asked answer
-    → AnswersTruly document traces asked answer
-answers_truly document traces acyclic narrow asked answer a = (
-  a.name,
-  says_truly document.names (events_of_traces traces) (test_of (recorded_of document traces) asked.predicate)
-      document.width answer acyclic narrow a.possibly a.possibly_reported a.possibly_right a.definitely
-      a.definitely_reported a.definitely_right,
-)
+module _ (document : Document) (traces : List Trace) (acyclic : HasNoCycle (events_of_traces traces)) where
+  answers_truly : IsNarrow (events_of_traces traces) document.width → (asked : NamedPredicate) (answer : Answer)
+      → IsAnswered document (recorded_of document traces) asked answer → AnswersTruly document traces asked answer
+  answers_truly narrow asked answer a =
+      (a.name, says_truly document (recorded_of document traces) acyclic asked answer a narrow)
+
+  answers_decided : document.beyond_width ≡ true → (asked : NamedPredicate) (answer : Answer)
+      → IsAnswered document (recorded_of document traces) asked answer → AnswersDecided document traces asked answer
+  answers_decided beyond asked answer a =
+      (a.name, says_decided document (recorded_of document traces) acyclic asked answer a beyond)
 
 pub headline_lem : Headline
 headline_lem document traces report formed narrow (of_messages fault r) =
@@ -233,25 +203,35 @@ headline_lem document traces report formed narrow (of_answers messages answers f
       answers = answers;
       reported = refl;
       counted = are;
-      truly = all_zip_map (IsAnswered document.names (recorded_of document traces) document.width)
-          (AnswersTruly document traces) (answers_truly document traces formed.no_cycle narrow) document.predicates
-          answers answered;
+      truly = all_zip_map (IsAnswered document (recorded_of document traces)) (AnswersTruly document traces)
+          (answers_truly document traces formed.no_cycle narrow) document.predicates answers answered;
+    }
+
+pub headline_beyond_width_lem : HeadlineBeyondWidth
+headline_beyond_width_lem document traces report formed beyond (of_messages fault r) =
+    absurd (no_fault document.version (events_of_traces traces) formed.messages fault r)
+headline_beyond_width_lem document traces report formed beyond (of_cycle cycle lawful r) =
+    absurd (no_cycle_reported (events_of_traces traces) formed.no_cycle cycle r)
+headline_beyond_width_lem document traces report formed beyond (of_answers messages answers formed' are answered) =
+    record {
+      messages = messages;
+      answers = answers;
+      reported = refl;
+      counted = are;
+      truly = all_zip_map (IsAnswered document (recorded_of document traces)) (AnswersDecided document traces)
+          (answers_decided document traces formed.no_cycle beyond) document.predicates answers answered;
     }
 
 -- ---- at every width
 
 all_agree : (document : Document) (traces : List Trace) → HasNoCycle (events_of_traces traces)
     → (asked : List NamedPredicate) (answers : List Answer)
-    → AllZip (IsAnswered document.names (recorded_of document traces) document.width) asked answers
-    → All AnswersAgree answers
+    → AllZip (IsAnswered document (recorded_of document traces)) asked answers → All AnswersAgree answers
 all_agree document traces acyclic [] [] each = All-nil AnswersAgree
 all_agree document traces acyclic [] (y ∷ answers) each = absurd each
 all_agree document traces acyclic (x ∷ asked) [] each = absurd each
 all_agree document traces acyclic (x ∷ asked) (y ∷ answers) each =
-    All-cons AnswersAgree y answers
-    (answers_agree document.names (events_of_traces traces) (test_of (recorded_of document traces) x.predicate)
-    document.width y acyclic each.0.possibly each.0.possibly_reported each.0.possibly_right each.0.definitely
-    each.0.definitely_reported each.0.definitely_right)
+    All-cons AnswersAgree y answers (agrees document (recorded_of document traces) acyclic x y each.0)
     (all_agree document traces acyclic asked answers each.1)
 
 pub reports_agree_lem : ReportsAgree

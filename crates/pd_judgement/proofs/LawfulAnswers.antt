@@ -10,13 +10,14 @@ use Rattle.pd_model.proofs.Chains.{event_from_kind}
 use Rattle.pd_model.proofs.Consistency.{process_in_range}
 use Rattle.pd_model.proofs.Counts.{sum_cons}
 use Rattle.pd_model.proofs.PrintedPlaces.{AreShort, count_is_short, path_processes, place_of_fault, fault_is_event, unknown_level, unknown_avoiding_level, free_level}
-use Rattle.pd_format.specs.Documents.{NamedPredicate}
+use Rattle.pd_format.specs.Documents.{Document, NamedPredicate}
 use Rattle.pd_format.specs.Limits.{process_limit, event_limit}
 use Rattle.pd_format.specs.Names.{ProcessNames, name_of_process}
 use Rattle.pd_format.specs.RefusalWords.{named_place, match_refusal}
 use Rattle.pd_format.specs.Reports.{Answer, Fits, IsName, PossiblyIsLawful, DefinitelyIsLawful, AnswerIsLawful, PlaceIsLawful, RefusalIsLawful}
 use Rattle.pd_format.proofs.DocumentParts.{HasName, AsksByName, process_is_named}
 use Rattle.pd_judgement.specs.Judgements.{IsAnswered, printed_possibly, printed_definitely}
+use Rattle.pd_judgement.proofs.Answered.{possibly_at, definitely_at}
 
 -- as many processes as names, few of them, each with few events
 pub record IsSmall (names : List ProcessNames) (c : Computation) : Type 0 where
@@ -191,22 +192,25 @@ definitely_is_lawful names c test w (DefinitelyUnknown k) small right =
     let le : k ≤ total c = unknown_avoiding_level c test w k right in
     omega arith
 
-pub answers_are_lawful : (names : List ProcessNames) (recorded : Recorded) (w : ℕ) (asked : List NamedPredicate)
-    (answers : List Answer) → IsSmall names recorded.events → AllByRecursion AsksByName asked
-    → AllZip (IsAnswered names recorded w) asked answers
+pub answers_are_lawful : (document : Document) (recorded : Recorded) (asked : List NamedPredicate)
+    (answers : List Answer) → IsSmall document.names recorded.events → AllByRecursion AsksByName asked
+    → AllZip (IsAnswered document recorded) asked answers
     → (length answers ≡ length asked) × AllByRecursion AnswerIsLawful answers
-answers_are_lawful names recorded w [] [] small named zipped = (refl, tt)
-answers_are_lawful names recorded w [] (answer ∷ answers) small named zipped = absurd zipped
-answers_are_lawful names recorded w (one ∷ asked) [] small named zipped = absurd zipped
-answers_are_lawful names recorded w (one ∷ asked) (answer ∷ answers) small named zipped =
+answers_are_lawful document recorded [] [] small named zipped = (refl, tt)
+answers_are_lawful document recorded [] (answer ∷ answers) small named zipped = absurd zipped
+answers_are_lawful document recorded (one ∷ asked) [] small named zipped = absurd zipped
+answers_are_lawful document recorded (one ∷ asked) (answer ∷ answers) small named zipped =
     let a = zipped.0 in
-    let rest = answers_are_lawful names recorded w asked answers small named.1 zipped.1 in
+    let p = possibly_at document recorded one.predicate a.possibly a.possibly_right in
+    let d = definitely_at document recorded one.predicate a.definitely a.definitely_right in
+    let rest = answers_are_lawful document recorded asked answers small named.1 zipped.1 in
     let name : IsName answer.name = subst IsName (sym a.name) named.0 in
     let possibly : PossiblyIsLawful answer.possibly =
     subst PossiblyIsLawful (sym a.possibly_reported)
-    (possibly_is_lawful names recorded.events (test_of recorded one.predicate) w a.possibly small a.possibly_right) in
+    (possibly_is_lawful document.names recorded.events (test_of recorded one.predicate) p.width a.possibly small
+    p.right) in
     let definitely : DefinitelyIsLawful answer.definitely =
     subst DefinitelyIsLawful (sym a.definitely_reported)
-    (definitely_is_lawful names recorded.events (test_of recorded one.predicate) w a.definitely small
-    a.definitely_right) in
+    (definitely_is_lawful document.names recorded.events (test_of recorded one.predicate) d.width a.definitely small
+    d.right) in
     (ap suc rest.0, ((name, possibly, definitely), rest.1))

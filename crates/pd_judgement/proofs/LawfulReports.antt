@@ -1,12 +1,12 @@
 -- What is the report of anything is lawful, so it is read from its text.
 use Rattle.std.proofs.Common.{◌≡◌, ℕ, suc, ◌+◌, ◌*◌, ◌<◌, ◌≤◌, List, [], ◌∷◌, length, map, refl, sym, ap, subst, ◌∙◌, length-append, arith, Some, Ok, Err}
-use Rattle.std.specs.Prelude.{Result, IsTrue}
+use Rattle.std.specs.Prelude.{Bool, true, false, Result, IsTrue}
 use Rattle.std.specs.List.{AllByRecursion}
 use Rattle.pd_model.specs.Events.{Place, first_of}
 use Rattle.pd_model.specs.Cuts.{total}
 use Rattle.pd_model.proofs.PrintedPlaces.{AreShort, cycle_events}
 use Rattle.pd_format.specs.Bundles.{parts_of}
-use Rattle.pd_format.specs.Documents.{Document, DocumentFault, IsRefusedDocument, HasRefusedPredicate}
+use Rattle.pd_format.specs.Documents.{Document, DocumentFault, Inquiry, IsInquired, IsRefusedDocument, HasRefusedPredicate, changed, plain}
 use Rattle.pd_format.specs.Documents as documents
 use Rattle.pd_format.specs.Limits.{process_limit, predicate_limit, predicate_byte_limit, event_limit, stream_count_limit}
 use Rattle.pd_format.specs.Lists.{is_one_of}
@@ -147,8 +147,8 @@ traces_report_is_lawful document traces report parts small (of_cycle cycle lawfu
     map_length [] = refl
     map_length (e ∷ places) = ap suc (map_length places)
 traces_report_is_lawful document traces report parts small (of_answers messages answers well are answered) =
-    let a = answers_are_lawful document.names (recorded_of document traces) document.width document.predicates answers
-    small parts.asked answered in
+    let a = answers_are_lawful document (recorded_of document traces) document.predicates answers small
+    parts.asked answered in
     let t : total (events_of_traces traces) ≤ process_limit * event_limit =
     small_total document.names (events_of_traces traces) small in
     let m : messages ≤ process_limit * (event_limit + 1) =
@@ -189,15 +189,32 @@ results_report_is_lawful document streams results report parts are r =
         events_length [] = refl
         events_length (x ∷ t) = ap suc (events_length t)
 
+changed_parts : (beyond_width : Bool) (document : Document) → HasLawfulParts document
+    → HasLawfulParts (changed beyond_width document)
+changed_parts false document parts = parts
+changed_parts true document parts = record {
+  some_process = parts.some_process;
+  few_processes = parts.few_processes;
+  named = parts.named;
+  some_predicate = parts.some_predicate;
+  few_predicates = parts.few_predicates;
+  asked = parts.asked;
+}
+
+inquired_parts : (inquiry : Inquiry) (document : Document) → IsInquired inquiry document → HasLawfulParts document
+inquired_parts inquiry document is =
+    subst HasLawfulParts (sym is.is_changed)
+    (changed_parts inquiry.beyond_width is.said (lawful_parts inquiry.bytes is.said is.read))
+
 pub judgement_is_lawful : JudgementIsLawful
-judgement_is_lawful bytes streams report (of_refused fault refused reported) =
-    subst IsLawful (sym reported) (document_is_lawful bytes fault refused)
-judgement_is_lawful bytes streams report (of_read document results is are r) =
-    results_report_is_lawful document streams results report (lawful_parts bytes document is) are r
+judgement_is_lawful inquiry streams report (of_refused fault refused reported) =
+    subst IsLawful (sym reported) (document_is_lawful inquiry.bytes fault refused)
+judgement_is_lawful inquiry streams report (of_read document results is are r) =
+    results_report_is_lawful document streams results report (inquired_parts inquiry document is) are r
 
 pub report_is_lawful_lem : ReportIsLawful
 report_is_lawful_lem bytes report = go (parts_of bytes)
   where
     go : (parts : List (List ℕ)) → IsReportOfParts parts report → IsLawful report
     go [] r = absurd r
-    go (document ∷ streams) r = judgement_is_lawful document (ended_streams streams) report r
+    go (document ∷ streams) r = judgement_is_lawful (plain document) (ended_streams streams) report r

@@ -1,6 +1,8 @@
 -- The modules of lemmas of this crate.
 pub mod Zipped
 pub mod StreamResults
+pub mod Narrow
+pub mod Answered
 pub mod HeadlineFacts
 pub mod Widths
 pub mod Worked

@@ -6,18 +6,18 @@ use Rattle.pd_model.specs.Events.{Computation, Place}
 use Rattle.pd_model.specs.Messages.{Version, Fault, SendTwice, Orphan, SelfMessage, ReceivedTwice, IsReported, HasLawfulMessages}
 use Rattle.pd_model.specs.Order.{HasNoCycle, IsReportedCycle}
 use Rattle.pd_model.specs.Cuts.{total}
-use Rattle.pd_model.specs.Predicates.{Recorded, test_of}
-use Rattle.pd_model.proofs.OneAnswer.{one_possibly_answer, one_definitely_answer, one_fault}
+use Rattle.pd_model.specs.Predicates.{Recorded}
+use Rattle.pd_model.proofs.OneAnswer.{one_fault}
 use Rattle.pd_model.proofs.Stuck.{one_cycle}
-use Rattle.pd_format.specs.Names.{ProcessNames}
 use Rattle.pd_format.specs.Readings.{Trace}
-use Rattle.pd_format.specs.Documents.{Document, NamedPredicate, IsDocument}
+use Rattle.pd_format.specs.Documents.{Document, NamedPredicate, Inquiry, IsInquired, plain}
 use Rattle.pd_format.specs.Sessions.{SessionFault, StreamResult, session}
 use Rattle.pd_format.specs.Reports.{Answer, Refusal, Report, Judged, Refused, Cycle}
 use Rattle.pd_format.specs.Bundles.{parts_of}
 use Rattle.pd_judgement.specs.Judgements.{events_of_traces, recorded_of, printed_possibly, printed_definitely, IsAnswered, IsTracesReport, of_messages, of_cycle, of_answers, IsReportOfSession, IsReportOfResults, RawStream, AreResultsOf, IsJudgement, of_refused, of_read, ended_streams, IsReportOfParts, IsReportOfBundle}
 use Rattle.pd_format.specs.RefusalWords.{document_refusal, match_refusal, named_place}
-use Rattle.pd_judgement.proofs.DocumentsAreSingle.{one_document_lem, document_not_refused_lem, one_document_fault_lem}
+use Rattle.pd_judgement.proofs.DocumentsAreSingle.{one_inquired, document_not_refused_lem, one_document_fault_lem}
+use Rattle.pd_judgement.proofs.Answered.{one_possibly, one_definitely}
 use Rattle.pd_judgement.proofs.ReceivedSends.{one_count}
 use Rattle.pd_judgement.proofs.StreamResults.{one_list_of_results_lem}
 use Rattle.pd_judgement.proofs.Zipped.{one_zipped}
@@ -36,24 +36,22 @@ not_cycle c cycle none h = let stuck = h.least.0.0 in none stuck.0 stuck.1
 
 -- ---- answers
 
-one_answer : (names : List ProcessNames) (recorded : Recorded) (width : ℕ) (asked : NamedPredicate) (a b : Answer)
-    → IsAnswered names recorded width asked a → IsAnswered names recorded width asked b → a ≡ b
-one_answer names recorded width asked a b p q =
+one_answer : (document : Document) (recorded : Recorded) (asked : NamedPredicate) (a b : Answer)
+    → IsAnswered document recorded asked a → IsAnswered document recorded asked b → a ≡ b
+one_answer document recorded asked a b p q =
     let name : a.name ≡ b.name = p.name ∙ sym q.name in
     let possibly : a.possibly ≡ b.possibly =
-    p.possibly_reported ∙ (ap printed_possibly (one_possibly_answer recorded.events (test_of recorded asked.predicate)
-    width p.possibly q.possibly p.possibly_right q.possibly_right) ∙ sym q.possibly_reported) in
+    p.possibly_reported ∙ (ap printed_possibly (one_possibly document recorded asked.predicate p.possibly q.possibly
+    p.possibly_right q.possibly_right) ∙ sym q.possibly_reported) in
     let definitely : a.definitely ≡ b.definitely =
-    p.definitely_reported ∙ (ap (printed_definitely names)
-    (one_definitely_answer recorded.events (test_of recorded asked.predicate) width p.definitely q.definitely
-    p.definitely_right q.definitely_right) ∙ sym q.definitely_reported) in
+    p.definitely_reported ∙ (ap (printed_definitely document.names)
+    (one_definitely document recorded asked.predicate p.definitely q.definitely p.definitely_right q.definitely_right)
+    ∙ sym q.definitely_reported) in
     λ i. record { name = name i; possibly = possibly i; definitely = definitely i }
 
-one_answer_each : (names : List ProcessNames) (recorded : Recorded) (width : ℕ) (asked : List NamedPredicate)
-    (a b : List Answer)
-    → AllZip (IsAnswered names recorded width) asked a → AllZip (IsAnswered names recorded width) asked b → a ≡ b
-one_answer_each names recorded width =
-    one_zipped (IsAnswered names recorded width) (one_answer names recorded width)
+one_answer_each : (document : Document) (recorded : Recorded) (asked : List NamedPredicate) (a b : List Answer)
+    → AllZip (IsAnswered document recorded) asked a → AllZip (IsAnswered document recorded) asked b → a ≡ b
+one_answer_each document recorded = one_zipped (IsAnswered document recorded) (one_answer document recorded)
 
 -- ---- reports
 
@@ -81,7 +79,7 @@ one_traces_report document traces a b (of_answers messages answers well is each)
     (of_answers messages' answers' well' is' each') =
     let counts : messages ≡ messages' = one_count (events_of_traces traces) messages messages' is is' in
     let same : answers ≡ answers' =
-    one_answer_each document.names (recorded_of document traces) document.width document.predicates answers answers'
+    one_answer_each document (recorded_of document traces) document.predicates answers answers'
     each each' in
     λ i. Judged (length document.names) (total (events_of_traces traces)) (counts i) (same i)
 
@@ -95,30 +93,30 @@ one_report_of_outcomes_lem document streams outcomes a b = go (session document.
     go (Ok traces) p q = one_traces_report document traces a b p q
 
 -- a report by one reading of the document and the streams is the report by any
-pub same_results_report : (bytes : List ℕ) (streams : List RawStream) (document other : Document)
-    (results others : List StreamResult) (report : Report) → IsDocument bytes document → IsDocument bytes other
+pub same_results_report : (inquiry : Inquiry) (streams : List RawStream) (document other : Document)
+    (results others : List StreamResult) (report : Report) → IsInquired inquiry document → IsInquired inquiry other
     → AreResultsOf document.names streams results → AreResultsOf other.names streams others
     → IsReportOfResults other (length streams) others report
     → IsReportOfResults document (length streams) results report
-same_results_report bytes streams document other results others report is is' are are' r =
-    let same : other ≡ document = one_document_lem bytes other document is' is in
+same_results_report inquiry streams document other results others report is is' are are' r =
+    let same : other ≡ document = one_inquired inquiry other document is' is in
     let moved : AreResultsOf document.names streams others =
     subst (λ (d : Document). AreResultsOf d.names streams others) same are' in
     subst (λ (x : List StreamResult). IsReportOfResults document (length streams) x report)
     (one_list_of_results_lem document.names streams others results moved are)
     (subst (λ (d : Document). IsReportOfResults d (length streams) others report) same r)
 
-pub one_judgement : (bytes : List ℕ) (streams : List RawStream) (a b : Report) → IsJudgement bytes streams a
-    → IsJudgement bytes streams b → a ≡ b
-one_judgement bytes streams a b (of_refused f p e) (of_refused g q e') =
-    e ∙ (ap (λ fault. Refused (document_refusal fault)) (one_document_fault_lem bytes f g p q) ∙ sym e')
-one_judgement bytes streams a b (of_refused f p e) (of_read document results q are r) =
-    absurd (document_not_refused_lem bytes document f q p)
-one_judgement bytes streams a b (of_read document results p are r) (of_refused g q e) =
-    absurd (document_not_refused_lem bytes document g p q)
-one_judgement bytes streams a b (of_read document results p are r) (of_read other others q are' s) =
+pub one_judgement : (inquiry : Inquiry) (streams : List RawStream) (a b : Report) → IsJudgement inquiry streams a
+    → IsJudgement inquiry streams b → a ≡ b
+one_judgement inquiry streams a b (of_refused f p e) (of_refused g q e') =
+    e ∙ (ap (λ fault. Refused (document_refusal fault)) (one_document_fault_lem inquiry.bytes f g p q) ∙ sym e')
+one_judgement inquiry streams a b (of_refused f p e) (of_read document results q are r) =
+    absurd (document_not_refused_lem inquiry.bytes q.said f q.read p)
+one_judgement inquiry streams a b (of_read document results p are r) (of_refused g q e) =
+    absurd (document_not_refused_lem inquiry.bytes p.said g p.read q)
+one_judgement inquiry streams a b (of_read document results p are r) (of_read other others q are' s) =
     one_report_of_outcomes_lem document (length streams) results a b r
-    (same_results_report bytes streams document other results others b p q are are' s)
+    (same_results_report inquiry streams document other results others b p q are are' s)
 
 pub one_report_of_bundle_lem : (bytes : List ℕ) (a b : Report) → IsReportOfBundle bytes a → IsReportOfBundle bytes b
     → a ≡ b
@@ -126,7 +124,7 @@ one_report_of_bundle_lem bytes a b = go (parts_of bytes)
   where
     go : (parts : List (List ℕ)) → IsReportOfParts parts a → IsReportOfParts parts b → a ≡ b
     go [] p q = absurd p
-    go (document ∷ streams) p q = one_judgement document (ended_streams streams) a b p q
+    go (document ∷ streams) p q = one_judgement (plain document) (ended_streams streams) a b p q
 
 pub not_judged_and_refused : (bytes : List ℕ) (processes events messages : ℕ) (answers : List Answer)
     (refusal : Refusal) → IsReportOfBundle bytes (Judged processes events messages answers)

@@ -2,6 +2,7 @@
 use Rattle.std.proofs.Common.{◌≡◌, ℕ, Bool, true, false, List, [], ◌∷◌, ◌++◌, refl, sym, ◌∙◌, Some}
 use Rattle.std.specs.Prelude.{Option, IfSome, if◌then◌else◌}
 use Rattle.pd_format.specs.Bundles.{whole_lines, is_separator, onto_part, parts_of_lines, parts_of}
+use Rattle.pd_format.specs.Documents.{Inquiry, plain}
 use Rattle.pd_format.specs.Reports.{Report, report_text}
 use Rattle.pd_judgement.specs.Judgements.{RawStream, IsJudgement, ended_streams}
 use Rattle.pd_judgement.specs.Headline.{is_judged}
@@ -11,7 +12,7 @@ use Rattle.pd_judgement.proofs.TrueReports.{judgement_is_true_lem}
 -- ---- what is owed
 
 -- a right report's text is owed
-pub report_text_of : (document : List ℕ) (streams : List RawStream) (report : Report)
+pub report_text_of : (document : Inquiry) (streams : List RawStream) (report : Report)
     → IsJudgement document streams report → (judged : Option Bool) → IfSome judged (λ j. is_judged report ≡ j)
     → IsReportTextOf document streams judged (report_text report)
 report_text_of document streams report right judged said = record {
@@ -25,20 +26,31 @@ report_text_of document streams report right judged said = record {
 -- ---- what is true
 
 -- a report's text that is written whole is the truth
-pub truth_of_text : (document : List ℕ) (streams : List RawStream) (j : Bool) (old new : Option (List ℕ))
+pub truth_of_text : (document : Inquiry) (streams : List RawStream) (j : Bool) (old new : Option (List ℕ))
     → Writes (IsReportTextOf document streams (Some j)) Whole old new
     → WritesTruth document streams (j ≡ true) old new
 truth_of_text document streams j old new written = λ read traces holds well. (
   sym written.1.said ∙ written.1.truth.judged read traces holds well,
-  λ narrow. (
-    written.0,
-    record {
-      report = written.1.report;
-      truth = written.1.truth.headline read traces holds well narrow;
-      is_text = written.1.is_text;
-    },
-    written.2,
-  ),
+  record {
+    within_width = λ narrow. (
+      written.0,
+      record {
+        report = written.1.report;
+        truth = written.1.truth.headline read traces holds well narrow;
+        is_text = written.1.is_text;
+      },
+      written.2,
+    );
+    beyond_width = λ asked. (
+      written.0,
+      record {
+        report = written.1.report;
+        truth = written.1.truth.headline_beyond_width asked read traces holds well;
+        is_text = written.1.is_text;
+      },
+      written.2,
+    );
+  },
 )
 
 -- so is that of a bundle
@@ -50,7 +62,7 @@ truth_of_bundle_text input j old new written = record {
   document = written.1.document;
   streams = written.1.streams;
   parts = written.1.parts;
-  truth = truth_of_text written.1.document (ended_streams written.1.streams) j old new
+  truth = truth_of_text (plain written.1.document) (ended_streams written.1.streams) j old new
       (written.0, written.1.is_report_text, written.2);
 }
 

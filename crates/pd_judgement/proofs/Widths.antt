@@ -11,7 +11,7 @@ use Rattle.pd_model.proofs.WalkSteps.{not_more}
 use Rattle.pd_judgement.specs.Headline.{IsNarrow, IsTooWide, NarrowOrTooWide}
 
 -- no list of a level above the last has a cut
-none_past : (c : Computation) (k : ℕ) (cuts : List (List ℕ)) → IsListOf (IsOfLevel c k) cuts → total c < k
+pub none_past : (c : Computation) (k : ℕ) (cuts : List (List ℕ)) → IsListOf (IsOfLevel c k) cuts → total c < k
     → length cuts ≡ 0
 none_past c k [] list past = refl
 none_past c k (cut ∷ cuts) list past =

@@ -15,9 +15,10 @@ use Rattle.pd_model.proofs.OneAnswer.{lex_irreflexive}
 use Rattle.pd_model.proofs.Tried.{cycle_of_receipts}
 use Rattle.pd_model.proofs.Walks.{Reached, reached_from_avoiding, avoiding_from_reached, reached_level, reached_fails, reached_consistent}
 use Rattle.pd_model.proofs.WalkSteps.{definitely_free}
-use Rattle.pd_judgement.specs.Judgements.{IsTracesReport, of_answers}
+use Rattle.pd_judgement.specs.Judgements.{possibly_within, definitely_within, IsTracesReport, of_answers}
 use Rattle.pd_judgement.specs.Examples.{OneCutALevel, OneTrueReport, asks_both, message_traces, both_report}
-use Rattle.pd_judgement.proofs.HeadlineFacts.{headline_lem, level_is_narrow, avoided_narrowly}
+use Rattle.pd_judgement.proofs.HeadlineFacts.{headline_lem}
+use Rattle.pd_judgement.proofs.Narrow.{level_is_narrow, avoided_narrowly}
 
 -- ---- the one message
 
@@ -209,10 +210,11 @@ is_report =
         name = refl;
         possibly = PossiblyYes (1 ∷ 1 ∷ []);
         possibly_reported = refl;
-        possibly_right = ((λ k u. level_is_narrow one_message both_are 1 one_cut_a_level k u.wide), first_cut);
+        possibly_right = possibly_within (λ beyond. absurd (cc))
+            ((λ k u. level_is_narrow one_message both_are 1 one_cut_a_level k u.wide), first_cut);
         definitely = DefinitelyYes 2;
         definitely_reported = refl;
-        definitely_right = definitely_at_two;
+        definitely_right = definitely_within (λ beyond. absurd (cc)) definitely_at_two;
       },
       tt,
     )

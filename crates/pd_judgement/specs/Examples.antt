@@ -1,5 +1,5 @@
 -- A small session on which the definitions are tried: one message, and whether both variables can be 1.
-use Rattle.std.specs.Prelude.{List, [], ◌∷◌, codes, pos}
+use Rattle.std.specs.Prelude.{List, [], ◌∷◌, codes, false, pos}
 use Rattle.pd_model.specs.Events.{Send, Receive}
 use Rattle.pd_model.specs.Messages.{One}
 use Rattle.pd_model.specs.Examples.{event, zeros, one_message, both}
@@ -21,6 +21,7 @@ asks_both = record {
   predicates = record { name = codes "both"; predicate = both } ∷ [];
   width = 1;
   version = One;
+  beyond_width = false;
 }
 
 -- the traces of the computation with one message

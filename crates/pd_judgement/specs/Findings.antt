@@ -9,7 +9,7 @@ use Rattle.pd_model.specs.Answers.{IsAvoidingObservation}
 use Rattle.pd_model.specs.Predicates.{test_of}
 use Rattle.pd_format.specs.Names.{ProcessNames, name_of_process}
 use Rattle.pd_format.specs.Readings.{Trace}
-use Rattle.pd_format.specs.Documents.{Document, NamedPredicate, IsDocument}
+use Rattle.pd_format.specs.Documents.{Document, NamedPredicate, IsDocument, plain}
 use Rattle.pd_format.specs.Sessions.{StreamResult, session}
 use Rattle.pd_format.specs.Reports.{Possibly, Definitely, Answer, Refusal, Report, Judged, Refused, IsReport, IsNoReport, spaced}
 use Rattle.pd_judgement.specs.Judgements.{RawStream, AreResultsOf, events_of_traces, recorded_of, IsJudgement}
@@ -83,7 +83,7 @@ AreCounts document traces messages processes events matched = (processes ≡ len
 pub data IsFinding (bytes report : List ℕ) (streams : List RawStream) : Finding → Type 0 where
   of_unread : (line : ℕ) → IsNoReport report line → IsFinding bytes report streams (NotRead line)
   of_refused_session : (claimed : Report) (refusal : Refusal) (good : Bool) → IsReport report claimed
-      → IsJudgement bytes streams (Refused refusal) → (IsTrue good ↔ (claimed ≡ Refused refusal))
+      → IsJudgement (plain bytes) streams (Refused refusal) → (IsTrue good ↔ (claimed ≡ Refused refusal))
       → IsFinding bytes report streams (OfRefusal good)
   of_refusal : (refusal : Refusal) (document : Document) (traces : List Trace) (messages : ℕ)
       → IsReport report (Refused refusal) → IsSessionOf bytes streams document traces messages

@@ -1,15 +1,16 @@
 -- The report that a document and its streams make: the first refusal, or an answer for each predicate.
-use Rattle.std.specs.Prelude.{◌≡◌, ℕ, List, [], ◌∷◌, length, map, Some, Result, Ok, Err}
+use Rattle.std.specs.Prelude.{◌≡◌, ℕ, true, List, [], ◌∷◌, length, map, Some, Result, Ok, Err}
 use Rattle.std.specs.List.{AllZip}
 use Rattle.pd_model.specs.Events.{Computation, Place}
 use Rattle.pd_model.specs.Messages.{Fault, IsReported, HasLawfulMessages, HasMessages}
 use Rattle.pd_model.specs.Order.{IsWellFormed, IsReportedCycle}
 use Rattle.pd_model.specs.Cuts.{total}
-use Rattle.pd_model.specs.Predicates.{Recorded, test_of}
-use Rattle.pd_model.specs.Answers.{PossiblyAnswer, PossiblyYes, PossiblyNo, PossiblyUnknown, IsPossiblyAnswer, DefinitelyAnswer, DefinitelyYes, DefinitelyNo, DefinitelyUnknown, IsDefinitelyAnswer}
+use Rattle.pd_model.specs.Predicates.{Predicate, Recorded, test_of}
+use Rattle.pd_model.specs.Answers.{PossiblyAnswer, PossiblyYes, PossiblyNo, PossiblyUnknown, IsExactPossibly, IsPossiblyAnswer, DefinitelyAnswer, DefinitelyYes, DefinitelyNo, DefinitelyUnknown, IsDefinitelyAnswer, IsExactDefinitely}
+use Rattle.pd_model.specs.Decided.{DecidesDefinitely, DecidesPossibly}
 use Rattle.pd_format.specs.Names.{ProcessNames, name_of_process}
 use Rattle.pd_format.specs.Readings.{Ending, Ended, Trace, result_of, reading}
-use Rattle.pd_format.specs.Documents.{Document, NamedPredicate, DocumentFault, IsDocument, IsRefusedDocument}
+use Rattle.pd_format.specs.Documents.{Document, NamedPredicate, DocumentFault, Inquiry, IsInquired, IsRefusedDocument, plain}
 use Rattle.pd_format.specs.Sessions.{SessionFault, StreamResult, session}
 use Rattle.pd_format.specs.Reports.{Possibly, Definitely, Answer, Report, Judged, Refused}
 use Rattle.pd_format.specs.Reports as reports
@@ -36,17 +37,37 @@ printed_definitely names (DefinitelyYes level) = Definitely.Yes level
 printed_definitely names (DefinitelyNo path) = Definitely.No (map (name_of_process names) path)
 printed_definitely names (DefinitelyUnknown level) = Definitely.Unknown level
 
--- The answer for one predicate: whether some consistent cut satisfies it, and whether every observation passes through
--- such a cut, under this width.
-pub record IsAnswered (names : List ProcessNames) (recorded : Recorded) (width : ℕ) (asked : NamedPredicate)
-    (answer : Answer) : Type 0 where
+-- Whether some consistent cut satisfies a predicate: whatever the width if the document asks for that and the predicate
+-- is one that decides it, and else under the document's width.
+pub data AnswersPossibly (document : Document) (recorded : Recorded) (predicate : Predicate) (answer : PossiblyAnswer) :
+    Type 0 where
+  possibly_beyond : document.beyond_width ≡ true → DecidesPossibly recorded predicate
+      → IsExactPossibly recorded.events (test_of recorded predicate) answer
+      → AnswersPossibly document recorded predicate answer
+  possibly_within : (document.beyond_width ≡ true → ¬ DecidesPossibly recorded predicate)
+      → IsPossiblyAnswer recorded.events (test_of recorded predicate) document.width answer
+      → AnswersPossibly document recorded predicate answer
+
+-- Whether every observation passes through a cut that satisfies a predicate, in the same way.
+pub data AnswersDefinitely (document : Document) (recorded : Recorded) (predicate : Predicate)
+    (answer : DefinitelyAnswer) : Type 0 where
+  definitely_beyond : document.beyond_width ≡ true → DecidesDefinitely recorded predicate
+      → IsExactDefinitely recorded.events (test_of recorded predicate) answer
+      → AnswersDefinitely document recorded predicate answer
+  definitely_within : (document.beyond_width ≡ true → ¬ DecidesDefinitely recorded predicate)
+      → IsDefinitelyAnswer recorded.events (test_of recorded predicate) document.width answer
+      → AnswersDefinitely document recorded predicate answer
+
+-- The answer for one predicate of a document, as a report gives it.
+pub record IsAnswered (document : Document) (recorded : Recorded) (asked : NamedPredicate) (answer : Answer) :
+    Type 0 where
   pub name : answer.name ≡ asked.name
   pub possibly : PossiblyAnswer
   pub possibly_reported : answer.possibly ≡ printed_possibly possibly
-  pub possibly_right : IsPossiblyAnswer recorded.events (test_of recorded asked.predicate) width possibly
+  pub possibly_right : AnswersPossibly document recorded asked.predicate possibly
   pub definitely : DefinitelyAnswer
-  pub definitely_reported : answer.definitely ≡ printed_definitely names definitely
-  pub definitely_right : IsDefinitelyAnswer recorded.events (test_of recorded asked.predicate) width definitely
+  pub definitely_reported : answer.definitely ≡ printed_definitely document.names definitely
+  pub definitely_right : AnswersDefinitely document recorded asked.predicate definitely
 
 -- The report of traces: the first fault of the messages, else the causal cycle, else the answers.
 pub data IsTracesReport (document : Document) (traces : List Trace) : Report → Type 0 where
@@ -57,7 +78,7 @@ pub data IsTracesReport (document : Document) (traces : List Trace) : Report →
       → IsTracesReport document traces (Refused (reports.Cycle (map (named_place document.names) cycle)))
   of_answers : (messages : ℕ) (answers : List Answer)
       → IsWellFormed document.version (events_of_traces traces) → HasMessages (events_of_traces traces) messages
-      → AllZip (IsAnswered document.names (recorded_of document traces) document.width) document.predicates answers
+      → AllZip (IsAnswered document (recorded_of document traces)) document.predicates answers
       → IsTracesReport document traces (Judged (length document.names) (total (events_of_traces traces))
       messages answers)
 
@@ -87,13 +108,13 @@ IsResultOf names stream result = result_of (reading names stream.ending stream.b
 abbrev pub AreResultsOf : List ProcessNames → List RawStream → List StreamResult → Type 0
 AreResultsOf names streams results = AllZip (IsResultOf names) streams results
 
--- the report of a document's bytes and of what the streams reported
-pub data IsJudgement (bytes : List ℕ) (streams : List RawStream) (report : Report) : Type 0 where
-  of_refused : (fault : DocumentFault) → IsRefusedDocument bytes fault → report ≡ Refused (document_refusal fault)
-      → IsJudgement bytes streams report
-  of_read : (document : Document) (results : List StreamResult) → IsDocument bytes document
+-- the report of a document's bytes, with what is asked beside them, and of what the streams reported
+pub data IsJudgement (inquiry : Inquiry) (streams : List RawStream) (report : Report) : Type 0 where
+  of_refused : (fault : DocumentFault) → IsRefusedDocument inquiry.bytes fault
+      → report ≡ Refused (document_refusal fault) → IsJudgement inquiry streams report
+  of_read : (document : Document) (results : List StreamResult) → IsInquired inquiry document
       → AreResultsOf document.names streams results → IsReportOfResults document (length streams) results report
-      → IsJudgement bytes streams report
+      → IsJudgement inquiry streams report
 
 -- a stream with these bytes, to its end
 abbrev pub ended_stream : List ℕ → RawStream
@@ -105,7 +126,7 @@ ended_streams parts = map ended_stream parts
 -- the report of a bundle: its first part is the document, and the others are the streams
 abbrev pub IsReportOfParts : List (List ℕ) → Report → Type 0
 IsReportOfParts [] report = ⊥
-IsReportOfParts (document ∷ streams) report = IsJudgement document (ended_streams streams) report
+IsReportOfParts (document ∷ streams) report = IsJudgement (plain document) (ended_streams streams) report
 
 abbrev pub IsReportOfBundle : List ℕ → Report → Type 0
 IsReportOfBundle bytes report = IsReportOfParts (parts_of bytes) report

@@ -1,12 +1,14 @@
 -- What is the report of anything is lawful, so that it is read from its text.
 use Rattle.std.specs.Prelude.{ℕ, List}
+use Rattle.pd_format.specs.Documents.{Inquiry}
 use Rattle.pd_format.specs.Reports.{Report, IsLawful}
 use Rattle.pd_judgement.specs.Judgements.{RawStream, IsJudgement, IsReportOfBundle}
 
 -- the report of a document's bytes and of streams is lawful
 abbrev pub JudgementIsLawful : Type 0
 JudgementIsLawful =
-    (bytes : List ℕ) (streams : List RawStream) (report : Report) → IsJudgement bytes streams report → IsLawful report
+    (inquiry : Inquiry) (streams : List RawStream) (report : Report) → IsJudgement inquiry streams report
+    → IsLawful report
 
 -- so is the report of a bundle
 abbrev pub ReportIsLawful : Type 0

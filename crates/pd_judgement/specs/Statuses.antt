@@ -1,7 +1,7 @@
 -- How a run of the program ends: its exit status, and what that says of what it leaves on its output and on its errors.
 use Rattle.std.specs.Prelude.{◌≡◌, ◌<◌, ◌≤◌, ◌⊎◌, ⊤, ℕ, true, false, Bool, All, List, [], codes, length, map, Option, Some, None, IfSome}
 use Rattle.std.specs.Io.KnownBytes.{Keeps}
-use Rattle.pd_format.specs.Documents.{Document, DocumentFault, IsDocument, IsRefusedDocument}
+use Rattle.pd_format.specs.Documents.{Document, DocumentFault, IsDocument, IsRefusedDocument, Inquiry, inquiry}
 use Rattle.pd_format.specs.Limits.{report_byte_limit}
 use Rattle.pd_judgement.specs.Writes.{Writes, Whole, Partial, IsWholeInput, IsTextOfBundle, IsTextOfStreams, IsTooLong, IsFindingTextOf}
 
@@ -10,13 +10,14 @@ use Rattle.pd_judgement.specs.Writes.{Writes, Whole, Partial, IsWholeInput, IsTe
 pub data Request : Type 0 where
   -- to judge the bundle on the input
   JudgeInput : Request
-  -- to judge a session document and streams of events, each in a file of this name
-  JudgeFiles : (document : List ℕ) (streams : List (List ℕ)) → Request
+  -- to judge a session document and streams of events, each in a file of this name, and what is decided whatever the
+  -- width beyond it, if that is asked for
+  JudgeFiles : (beyond_width : Bool) (document : List ℕ) (streams : List (List ℕ)) → Request
   -- to check a report by a session document and streams of events, each in a file of this name
   CheckFiles : (document report : List ℕ) (streams : List (List ℕ)) → Request
-  -- to judge a session document, in the file of this name, and streams of events that come by connections to this port;
-  -- and to show meanwhile how far they are read to this many watchers
-  ServeStreams : (document : List ℕ) (port watchers : ℕ) → Request
+  -- to judge a session document, in the file of this name, and streams of events that come by connections to this port,
+  -- in the same way; and to show meanwhile how far they are read to this many watchers
+  ServeStreams : (beyond_width : Bool) (document : List ℕ) (port watchers : ℕ) → Request
   -- to show the help
   ShowHelp : Request
   -- the arguments ask for nothing that can be done
@@ -138,32 +139,36 @@ pub record OfDocument (document : Option (List ℕ)) (P : List ℕ → Type 0) :
   pub whole_document : IsWholeInput document document_bytes
   pub holds : P document_bytes
 
--- The same of a document and of streams that stand in files, which may be such that they can't be opened or read, or
--- not.
-abbrev pub FilesJudgementLeaves : (document : Option (List ℕ)) (streams : List (Option (List ℕ)))
-    (never_fails : Bool) (MayBeUnread : Type 0) → Ending → (old new : Option (List ℕ)) → Type 0
-FilesJudgementLeaves document streams never_fails MayBeUnread Success old new =
-    OfDocument document (λ d. Writes (IsTextOfStreams d streams never_fails (Some true)) Whole old new)
-FilesJudgementLeaves document streams never_fails MayBeUnread Negative old new =
-    OfDocument document (λ d. Writes (IsTextOfStreams d streams never_fails (Some false)) Whole old new)
-FilesJudgementLeaves document streams never_fails MayBeUnread Misuse old new = ⊥
-FilesJudgementLeaves document streams never_fails MayBeUnread (Failed MemoryFailure) old new = Keeps old new
-FilesJudgementLeaves document streams never_fails MayBeUnread (Failed ReadFailure) old new =
+-- The same of a document, with what is asked beside it, and of streams that stand in files, which may be such that they
+-- can't be opened or read, or not.
+abbrev pub FilesJudgementLeaves : (beyond_width : Bool) (document : Option (List ℕ))
+    (streams : List (Option (List ℕ))) (never_fails : Bool) (MayBeUnread : Type 0) → Ending
+    → (old new : Option (List ℕ)) → Type 0
+FilesJudgementLeaves beyond_width document streams never_fails MayBeUnread Success old new =
+    OfDocument document (λ d. Writes (IsTextOfStreams (inquiry beyond_width d) streams never_fails (Some true)) Whole
+    old new)
+FilesJudgementLeaves beyond_width document streams never_fails MayBeUnread Negative old new =
+    OfDocument document (λ d. Writes (IsTextOfStreams (inquiry beyond_width d) streams never_fails (Some false)) Whole
+    old new)
+FilesJudgementLeaves beyond_width document streams never_fails MayBeUnread Misuse old new = ⊥
+FilesJudgementLeaves beyond_width document streams never_fails MayBeUnread (Failed MemoryFailure) old new =
+    Keeps old new
+FilesJudgementLeaves beyond_width document streams never_fails MayBeUnread (Failed ReadFailure) old new =
     MayBeUnread × Keeps old new
-FilesJudgementLeaves document streams never_fails MayBeUnread (Failed WriteFailure) old new =
-    OfDocument document (λ d. WritesUpTo (IsTextOfStreams d streams never_fails None) old new)
-FilesJudgementLeaves document streams never_fails MayBeUnread (Failed BundleFailure) old new = ⊥
-FilesJudgementLeaves document streams never_fails MayBeUnread (Failed NetworkFailure) old new = ⊥
+FilesJudgementLeaves beyond_width document streams never_fails MayBeUnread (Failed WriteFailure) old new =
+    OfDocument document (λ d. WritesUpTo (IsTextOfStreams (inquiry beyond_width d) streams never_fails None) old new)
+FilesJudgementLeaves beyond_width document streams never_fails MayBeUnread (Failed BundleFailure) old new = ⊥
+FilesJudgementLeaves beyond_width document streams never_fails MayBeUnread (Failed NetworkFailure) old new = ⊥
 
 -- The text of the report of a document's bytes and of the streams that accepted connections gave, where a connection
 -- may have left what G holds of, and no read of one ever fails, if that is said. There are as many connections as the
 -- document has processes, and none if it is refused.
-pub record IsTextOfAccepted (document : List ℕ) (G : Option (List ℕ) → Type 0) (never_fails : Bool)
+pub record IsTextOfAccepted (document : Inquiry) (G : Option (List ℕ) → Type 0) (never_fails : Bool)
     (judged : Option Bool) (text : List ℕ) : Type 0 where
   pub inputs : List (Option (List ℕ))
   pub accepted : All G inputs
-  pub one_each : (read : Document) → IsDocument document read → length inputs ≡ length read.names
-  pub none_refused : (fault : DocumentFault) → IsRefusedDocument document fault → inputs ≡ []
+  pub one_each : (read : Document) → IsDocument document.bytes read → length inputs ≡ length read.names
+  pub none_refused : (fault : DocumentFault) → IsRefusedDocument document.bytes fault → inputs ≡ []
   pub is_text : IsTextOfStreams document inputs never_fails judged text
 
 -- the bytes are a document, and aren't refused
@@ -172,19 +177,23 @@ HoldsDocument bytes = (document : Document) × IsDocument bytes document
 
 -- The same of a document that stands in a file, and of streams that come by connections. If a port can't be bound, or a
 -- stream not be accepted: nothing; and that comes only of a document that isn't refused.
-abbrev pub ServiceLeaves : (document : Option (List ℕ)) (G : Option (List ℕ) → Type 0) (never_fails : Bool)
-    (MayBeUnread MayNotServe : Type 0) → Ending → (old new : Option (List ℕ)) → Type 0
-ServiceLeaves document G never_fails MayBeUnread MayNotServe Success old new =
-    OfDocument document (λ d. Writes (IsTextOfAccepted d G never_fails (Some true)) Whole old new)
-ServiceLeaves document G never_fails MayBeUnread MayNotServe Negative old new =
-    OfDocument document (λ d. Writes (IsTextOfAccepted d G never_fails (Some false)) Whole old new)
-ServiceLeaves document G never_fails MayBeUnread MayNotServe Misuse old new = ⊥
-ServiceLeaves document G never_fails MayBeUnread MayNotServe (Failed MemoryFailure) old new = Keeps old new
-ServiceLeaves document G never_fails MayBeUnread MayNotServe (Failed ReadFailure) old new = MayBeUnread × Keeps old new
-ServiceLeaves document G never_fails MayBeUnread MayNotServe (Failed WriteFailure) old new =
-    OfDocument document (λ d. WritesUpTo (IsTextOfAccepted d G never_fails None) old new)
-ServiceLeaves document G never_fails MayBeUnread MayNotServe (Failed BundleFailure) old new = ⊥
-ServiceLeaves document G never_fails MayBeUnread MayNotServe (Failed NetworkFailure) old new =
+abbrev pub ServiceLeaves : (beyond_width : Bool) (document : Option (List ℕ)) (G : Option (List ℕ) → Type 0)
+    (never_fails : Bool) (MayBeUnread MayNotServe : Type 0) → Ending → (old new : Option (List ℕ)) → Type 0
+ServiceLeaves beyond_width document G never_fails MayBeUnread MayNotServe Success old new =
+    OfDocument document (λ d. Writes (IsTextOfAccepted (inquiry beyond_width d) G never_fails (Some true)) Whole
+    old new)
+ServiceLeaves beyond_width document G never_fails MayBeUnread MayNotServe Negative old new =
+    OfDocument document (λ d. Writes (IsTextOfAccepted (inquiry beyond_width d) G never_fails (Some false)) Whole
+    old new)
+ServiceLeaves beyond_width document G never_fails MayBeUnread MayNotServe Misuse old new = ⊥
+ServiceLeaves beyond_width document G never_fails MayBeUnread MayNotServe (Failed MemoryFailure) old new =
+    Keeps old new
+ServiceLeaves beyond_width document G never_fails MayBeUnread MayNotServe (Failed ReadFailure) old new =
+    MayBeUnread × Keeps old new
+ServiceLeaves beyond_width document G never_fails MayBeUnread MayNotServe (Failed WriteFailure) old new =
+    OfDocument document (λ d. WritesUpTo (IsTextOfAccepted (inquiry beyond_width d) G never_fails None) old new)
+ServiceLeaves beyond_width document G never_fails MayBeUnread MayNotServe (Failed BundleFailure) old new = ⊥
+ServiceLeaves beyond_width document G never_fails MayBeUnread MayNotServe (Failed NetworkFailure) old new =
     MayNotServe × OfDocument document HoldsDocument × Keeps old new
 
 -- P holds of the bytes of a document and of those of a report, which are all that their files hold, if that is known,
@@ -240,13 +249,14 @@ MisuseLeaves (Failed NetworkFailure) old new = ⊥
 abbrev pub Leaves : (on : Reliance) (input : Option (List ℕ)) (files : List ℕ → Option (List ℕ))
     (connections : ℕ → Option (List ℕ) → Type 0) → Request → Ending → (old new : Option (List ℕ)) → Type 0
 Leaves on input files connections JudgeInput ending old new = JudgementLeaves input on.input_is_read ending old new
-Leaves on input files connections (JudgeFiles document streams) ending old new =
-    FilesJudgementLeaves (files document) (map files streams) on.files_are_read (FilesMayFail on) ending old new
+Leaves on input files connections (JudgeFiles beyond_width document streams) ending old new =
+    FilesJudgementLeaves beyond_width (files document) (map files streams) on.files_are_read (FilesMayFail on) ending
+    old new
 Leaves on input files connections (CheckFiles document report streams) ending old new =
     CheckLeaves (files document) (files report) (map files streams) on.files_are_read
     (FilesMayFail on ⊎ IsLongReport (files report)) ending old new
-Leaves on input files connections (ServeStreams document port watchers) ending old new =
-    ServiceLeaves (files document) (connections port) on.connections_are_read (FilesMayFail on)
+Leaves on input files connections (ServeStreams beyond_width document port watchers) ending old new =
+    ServiceLeaves beyond_width (files document) (connections port) on.connections_are_read (FilesMayFail on)
     (on.network_serves ≡ true → ⊥) ending old new
 Leaves on input files connections ShowHelp ending old new = HelpLeaves ending old new
 Leaves on input files connections Unclear ending old new = MisuseLeaves ending old new

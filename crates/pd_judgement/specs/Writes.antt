@@ -3,7 +3,7 @@ use Rattle.std.specs.Prelude.{◌≡◌, ◌≢◌, ◌<◌, ◌≤◌, ◌↔�
 use Rattle.std.specs.List.{AllZip}
 use Rattle.std.specs.Io.KnownBytes.{Appends, Keeps}
 use Rattle.pd_model.specs.Order.{IsWellFormed}
-use Rattle.pd_format.specs.Documents.{Document}
+use Rattle.pd_format.specs.Documents.{Document, Inquiry, plain}
 use Rattle.pd_format.specs.Bundles.{parts_of}
 use Rattle.pd_format.specs.Limits.{bundle_byte_limit}
 use Rattle.pd_judgement.specs.Judgements.{RawStream, IsJudgement, ended_stream, ended_streams, events_of_traces}
@@ -11,7 +11,7 @@ use Rattle.pd_format.specs.OtherTexts.{Finding, check_text}
 use Rattle.pd_format.specs.Readings.{Trace, Open, Ended}
 use Rattle.pd_format.specs.Reports.{Report, report_text}
 use Rattle.pd_judgement.specs.Findings.{IsFinding, IsClean}
-use Rattle.pd_judgement.specs.Headline.{HoldsSession, IsNarrow, IsTrueReport, TellsTruth, is_judged}
+use Rattle.pd_judgement.specs.Headline.{HoldsSession, IsNarrow, IsTrueReport, TellsDecided, TellsTruth, is_judged}
 
 -- ---- what is left written
 
@@ -53,9 +53,9 @@ IsWholeInput input bytes = IfSome input (λ left. bytes ≡ left)
 
 -- ---- the texts
 
--- The text of the report of a document's bytes and of streams, which is true. The report is judged or a refusal as
--- said, if anything is said of it.
-pub record IsReportTextOf (document : List ℕ) (streams : List RawStream) (judged : Option Bool) (text : List ℕ) :
+-- The text of the report of a document's bytes, with what is asked beside them, and of streams, which is true. The
+-- report is judged or a refusal as said, if anything is said of it.
+pub record IsReportTextOf (document : Inquiry) (streams : List RawStream) (judged : Option Bool) (text : List ℕ) :
     Type 0 where
   pub report : Report
   pub right : IsJudgement document streams report
@@ -65,7 +65,7 @@ pub record IsReportTextOf (document : List ℕ) (streams : List RawStream) (judg
 
 -- The same of readers of streams with this left, of which no read ever fails, if that is said: of the streams that they
 -- gave.
-pub record IsTextOfStreams (document : List ℕ) (inputs : List (Option (List ℕ))) (never_fails : Bool)
+pub record IsTextOfStreams (document : Inquiry) (inputs : List (Option (List ℕ))) (never_fails : Bool)
     (judged : Option Bool) (text : List ℕ) : Type 0 where
   pub streams : List RawStream
   pub are_given : AllZip (IsGivenAs never_fails) inputs streams
@@ -79,7 +79,7 @@ pub record IsTextOfBundle (input : Option (List ℕ)) (judged : Option Bool) (te
   pub document : List ℕ
   pub streams : List (List ℕ)
   pub parts : parts_of bundle ≡ document ∷ streams
-  pub is_report_text : IsReportTextOf document (ended_streams streams) judged text
+  pub is_report_text : IsReportTextOf (plain document) (ended_streams streams) judged text
 
 -- the bundle that a reader with this left has is too long
 abbrev pub IsTooLong : Option (List ℕ) → Type 0
@@ -105,14 +105,28 @@ pub record IsTrueText (document : Document) (traces : List Trace) (text : List �
   pub truth : TellsTruth document traces report
   pub is_text : text ≡ report_text report
 
--- If a document and streams hold a well-formed session, it is judged; and with no level over the width, what is written
--- is the text of a report that says the truth about each predicate.
-abbrev pub WritesTruth : (document : List ℕ) (streams : List RawStream) (IsJudged : Type 0)
+-- the text of a report that says the truth about each predicate of these traces that is decided whatever the width
+pub record IsDecidedText (document : Document) (traces : List Trace) (text : List ℕ) : Type 0 where
+  pub report : Report
+  pub truth : TellsDecided document traces report
+  pub is_text : text ≡ report_text report
+
+-- What is written of traces that make a well-formed computation: with no level over the width, the text of a report
+-- that says the truth about each predicate; and however wide it is, if that is asked for, that of one that says the
+-- truth about each that is decided.
+pub record WritesTrueTexts (inquiry : Inquiry) (document : Document) (traces : List Trace)
+    (old new : Option (List ℕ)) : Type 0 where
+  pub within_width : IsNarrow (events_of_traces traces) document.width
+      → Writes (IsTrueText document traces) Whole old new
+  pub beyond_width : inquiry.beyond_width ≡ true → Writes (IsDecidedText document traces) Whole old new
+
+-- If a document and streams hold a well-formed session, it is judged, and what is written is true.
+abbrev pub WritesTruth : (inquiry : Inquiry) (streams : List RawStream) (IsJudged : Type 0)
     → (old new : Option (List ℕ)) → Type 0
-WritesTruth bytes streams IsJudged old new =
-    (document : Document) (traces : List Trace) → HoldsSession bytes streams document traces
+WritesTruth inquiry streams IsJudged old new =
+    (document : Document) (traces : List Trace) → HoldsSession inquiry streams document traces
     → IsWellFormed document.version (events_of_traces traces)
-    → IsJudged × (IsNarrow (events_of_traces traces) document.width → Writes (IsTrueText document traces) Whole old new)
+    → IsJudged × WritesTrueTexts inquiry document traces old new
 
 -- the same of the parts of the bundle that a reader with this left gave
 pub record WritesTruthOfBundle (input : Option (List ℕ)) (IsJudged : Type 0) (old new : Option (List ℕ)) : Type 0 where
@@ -121,4 +135,4 @@ pub record WritesTruthOfBundle (input : Option (List ℕ)) (IsJudged : Type 0) (
   pub document : List ℕ
   pub streams : List (List ℕ)
   pub parts : parts_of bundle ≡ document ∷ streams
-  pub truth : WritesTruth document (ended_streams streams) IsJudged old new
+  pub truth : WritesTruth (plain document) (ended_streams streams) IsJudged old new

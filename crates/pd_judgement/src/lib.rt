@@ -8,7 +8,7 @@
 
 ghost use Rattle.pd_judgement.specs.Findings.{CleanIsClean, OneFinding};
 ghost use Rattle.pd_judgement.specs.Examples.{OneCutALevel, OneTrueReport};
-ghost use Rattle.pd_judgement.specs.Headline.{NarrowOrTooWide, Headline, JudgementIsTrue, ReportsAgree};
+ghost use Rattle.pd_judgement.specs.Headline.{NarrowOrTooWide, Headline, HeadlineBeyondWidth, JudgementIsTrue, ReportsAgree};
 ghost use Rattle.pd_judgement.specs.StreamResults.{EndedHaveResults, OneListOfResults};
 ghost use Rattle.pd_judgement.specs.LawfulReports.{JudgementIsLawful, ReportIsLawful};
 ghost use Rattle.pd_judgement.specs.OneReport.{
@@ -69,6 +69,12 @@ pub fn examples()
 /// whether every observation passes through such a cut; and it prints a satisfying cut or an avoiding observation.
 pub fn headline()
     ensures { Headline }
+{}
+
+/// A report of a computation, however wide, says the truth of each predicate that is decided whatever the width, if the
+/// document asks for that.
+pub fn headline_beyond_width()
+    ensures { HeadlineBeyondWidth }
 {}
 
 /// In the report of any traces, at every width, the answers of Possibly and of Definitely agree.

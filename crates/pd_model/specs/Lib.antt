@@ -7,6 +7,7 @@ pub mod Lattice
 pub mod Predicates
 pub mod Observations
 pub mod Answers
+pub mod Decided
 pub mod Laws
 pub mod Examples
 -- Tools of proofs.

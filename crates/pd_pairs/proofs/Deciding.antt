@@ -5,7 +5,8 @@ use Rattle.pd_grid.specs.Pairs.{IsOfPair}
 use Rattle.pd_model.specs.Events.{Computation}
 use Rattle.pd_model.specs.Predicates.{Predicate, Recorded, test_of}
 use Rattle.pd_pairs.specs.Tests.{IsByCounts}
-use Rattle.pd_pairs.specs.Twos.{IsOfTwo, IsPairFor, NamesOnly}
+use Rattle.pd_model.specs.Decided.{IsOfTwo, NamesOnly}
+use Rattle.pd_pairs.specs.Twos.{IsPairFor}
 use Rattle.pd_pairs.specs.declared.pair.Pair.{Pair}
 
 pub of_pair : (r : Recorded) (p q : ℕ) (tree predicate : Predicate) (holds : ℕ → ℕ → Bool) → tree ≡ predicate

@@ -6,7 +6,7 @@ use Rattle.std.proofs.lemmas.Bool.Decides.{nat_tests}
 use Rattle.pd_model.specs.Predicates.{Sign, Plus, Minus, Term, Number, Variable, Times, Recorded, signed, state_at, sum_value, term_value, Comparison, Equals, Differs, IsLess, IsAtMost, IsGreater, IsAtLeast, Compare, compares}
 use Rattle.pd_pairs.specs.Parts.{IsRowOf, number_at, part_value, parts_value, value_after}
 use Rattle.pd_pairs.specs.Tests.{IsByCounts}
-use Rattle.pd_pairs.specs.Twos.{NamePair, NamesPair}
+use Rattle.pd_model.specs.Decided.{NamePair, NamesPair}
 
 -- two numbers compare as their difference does with 0
 pub compares_difference : (comparison : Comparison) (a b d : ℤ) → d ≡ a -ℤ b

@@ -4,3 +4,4 @@ pub mod Values
 pub mod Numbers
 pub mod Differences
 pub mod Deciding
+pub mod Bits

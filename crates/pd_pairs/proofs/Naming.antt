@@ -6,7 +6,8 @@ use Rattle.pd_pred.specs.declared.tree.SignedTerm.{SignedTerm}
 use Rattle.std.specs.Prelude.{Option, Some, None}
 use Rattle.pd_model.specs.Events.{Computation}
 use Rattle.pd_model.specs.Predicates.{Sign, Term, Number, Variable, Times, Predicate, Always, Never, Compare, Not, And, Or}
-use Rattle.pd_pairs.specs.Twos.{AreNamed, IsOfTwo, IsOther, NamePair, NamesOnly, NamesPair}
+use Rattle.pd_model.specs.Decided.{IsOfTwo, NamePair, NamesOnly, NamesPair}
+use Rattle.pd_pairs.specs.Twos.{AreNamed, IsOther}
 use Rattle.pd_pairs.specs.declared.pair.Pair.{Pair}
 
 -- what is one of p and q is one of x and y

@@ -2,7 +2,7 @@
 use Rattle.pd_model.specs.Answers.{IsFirstSatisfying, IsLeastFree, IsPrintedPath}
 use Rattle.pd_model.specs.Observations.{Definitely, Possibly}
 use Rattle.pd_model.specs.Predicates.{Predicate, Recorded, test_of}
-use Rattle.pd_pairs.specs.Twos.{IsOfTwo}
+use Rattle.pd_model.specs.Decided.{IsOfTwo}
 use Rattle.pd_pairs.specs.declared.possibly.FirstOfTwo.{FirstOfTwo}
 use Rattle.pd_pairs.specs.declared.possibly.FirstOfTwo.TheVariants as first
 use Rattle.pd_pairs.specs.declared.definitely.PassageOfTwo.{PassageOfTwo}

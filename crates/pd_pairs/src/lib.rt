@@ -13,6 +13,7 @@
 //! - `names`: which processes a predicate names
 //! - `part`: what a process adds to a sum
 //! - `row`: a row of numbers, one for each count of a process
+//! - `word`: truths of a row of numbers as the bits of a word
 //! - `rows`: a comparison as two rows of numbers
 //! - `test`: the predicate by the counts of its two processes
 //! - `possibly`: the first satisfying cut
@@ -27,6 +28,7 @@ mod possibly;
 mod row;
 mod rows;
 mod test;
+mod word;
 
 pub use definitely::{PassageOfTwo, definitely_of_two};
 pub use possibly::{FirstOfTwo, possibly_of_two};

@@ -1,5 +1,6 @@
 //! Which processes a predicate names.
-ghost use Rattle.pd_pairs.specs.Twos.{IsNamedPair, IsOther, IsPairOf, NamePair, NamesOnly, NamesPair};
+ghost use Rattle.pd_model.specs.Decided.{NamePair, NamesOnly, NamesPair};
+ghost use Rattle.pd_pairs.specs.Twos.{IsNamedPair, IsOther, IsPairOf};
 ghost use Rattle.pd_pred.specs.Trees.{sum_view, term_view, tree_view};
 ghost use Rattle.std.specs.Prelude.{◌≡◌, ◌≢◌, ◌<◌, ◌⊎◌, ℕ};
 

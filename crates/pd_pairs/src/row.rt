@@ -2,24 +2,26 @@
 ghost use Rattle.pd_model.specs.Predicates.{compares};
 ghost use Rattle.pd_pairs.specs.Parts.{IsRowOf, number_at};
 ghost use Rattle.pd_pred.specs.Trees.{comparison_view, sum_view};
-ghost use Rattle.std.specs.Prelude.{◌≡◌, ◌<◌, IfOk, length, pos};
+ghost use Rattle.std.specs.Prelude.{◌≡◌, ◌+◌, ◌<◌, ◌≤◌, ℕ, IfOk, length};
 
 use super::part::difference;
 use pd_clock::Computation;
 use pd_pred::{Comparison, Sum};
 use std::alloc::{AllocError, Global};
 
-/// Whether the number stands in this relation to 0.
-pub(crate) fn holds_at_zero(comparison: Comparison, number: i128) -> bool
-    ensures { result ≡ compares (comparison_view comparison) number (pos 0) }
+/// Whether the one number stands in this relation to the other.
+#[inline(always)]
+pub(crate) fn is_related(comparison: Comparison, left: &i128, right: i128) -> bool
+    ensures { result ≡ compares (comparison_view comparison) left.now right }
 {
+    let left = *left;
     match comparison {
-        Comparison::Equals => number == 0,
-        Comparison::Differs => number != 0,
-        Comparison::IsLess => number < 0,
-        Comparison::IsAtMost => number <= 0,
-        Comparison::IsGreater => number > 0,
-        Comparison::IsAtLeast => number >= 0,
+        Comparison::Equals => left == right,
+        Comparison::Differs => left != right,
+        Comparison::IsLess => left < right,
+        Comparison::IsAtMost => left <= right,
+        Comparison::IsGreater => left > right,
+        Comparison::IsAtLeast => left >= right,
     }
 }
 
@@ -29,6 +31,15 @@ pub(crate) fn number_of(row: &[i128], n: u64) -> i128
 {
     let index = n as usize;
     if index < row.len() { row[index] } else { 0 }
+}
+
+/// The `n` numbers of a row from that of a count on.
+pub(crate) fn numbers_from(row: &[i128], first: u64, n: u64) -> &[i128]
+    requires { first + n ≤ length row.now }
+    ensures count { length result.now ≡ n }
+    ensures each { (k : ℕ) → k < n → number_at result.now k ≡ number_at row.now (first + k) }
+{
+    &row[first as usize..(first + n) as usize]
 }
 
 /// What a process adds to the difference of two sums, by the count of its events. The numbers among the terms are taken

@@ -3,7 +3,8 @@ ghost use Rattle.pd_pairs.specs.Parts.{IsSmall, number_at};
 ghost use Rattle.std.specs.Prelude.{ℕ};
 
 use super::pair::Pair;
-use super::row::{holds_at_zero, number_of, row_of};
+use super::row::{is_related, number_of, numbers_from, row_of};
+use super::word::{below, related_word};
 use pd_clock::Computation;
 use pd_pred::{Comparison, Sum};
 use std::alloc::{AllocError, Global};
@@ -22,9 +23,10 @@ pub(crate) struct Rows {
 impl Rows {
     ghost use Rattle.pd_model.specs.Predicates as model;
     ghost use Rattle.pd_pairs.specs.Tests.{IsByCounts, rows_hold};
-    ghost use Rattle.pd_pairs.specs.Twos.{NamePair};
+    ghost use Rattle.pd_model.specs.Decided.{NamePair};
     ghost use Rattle.pd_pred.specs.Trees.{comparison_view, sum_view};
-    ghost use Rattle.std.specs.Prelude.{◌≡◌, ◌<◌, IfOk, length};
+    ghost use Rattle.pd_bits.specs.Words.{has_bit};
+    ghost use Rattle.std.specs.Prelude.{◌≡◌, ◌+◌, ◌<◌, ◌≤◌, ℕ, IfOk, length};
 
     /// The rows of a comparison that names these two processes alone.
     ///
@@ -59,6 +61,34 @@ impl Rows {
         ensures { result ≡ rows_hold self.now i j }
     {
         let number = number_of(&self.first, i) + number_of(&self.second, j);
-        holds_at_zero(self.comparison, number)
+        is_related(self.comparison, &number, 0)
+    }
+
+    /// The same of `n` counts of the second process, from `j` on: bit `k` is that of `j + k`.
+    pub(crate) fn word(&self, i: u64, j: u64, n: u64) -> u64
+        requires few { n ≤ 64 }
+        requires room { j + n ≤ 18446744073709551615 }
+        ensures { (k : ℕ) → k < n → has_bit result k ≡ rows_hold self.now i (j + k) }
+    {
+        if j + n <= self.second.len() as u64 {
+            let numbers = numbers_from(&self.second, j, n);
+            return related_word(self.comparison, numbers, 0 - number_of(&self.first, i));
+        }
+        self.far_word(i, j, n)
+    }
+
+    /// The same where the second row may end before.
+    fn far_word(&self, i: u64, j: u64, n: u64) -> u64
+        requires few { n ≤ 64 }
+        requires room { j + n ≤ 18446744073709551615 }
+        ensures { (k : ℕ) → k < n → has_bit result k ≡ rows_hold self.now i (j + k) }
+    {
+        let mut word = 0;
+        let mut k = n;
+        while k > 0 {
+            k -= 1;
+            word = below(word, self.hold(i, j + k));
+        }
+        word
     }
 }

@@ -1,11 +1,13 @@
 //! The predicate by the counts of its two processes.
 ghost use Rattle.pd_pairs.specs.Tests.{IsByCounts, pair_holds};
-ghost use Rattle.pd_pairs.specs.Twos.{NamesOnly};
+ghost use Rattle.pd_model.specs.Decided.{NamesOnly};
 ghost use Rattle.pd_pred.specs.Trees.{tree_view};
-ghost use Rattle.std.specs.Prelude.{◌≡◌, ◌<◌, IfOk, length};
+ghost use Rattle.pd_bits.specs.Words.{has_bit};
+ghost use Rattle.std.specs.Prelude.{◌≡◌, ◌+◌, ◌<◌, ◌≤◌, ℕ, IfOk, length};
 
 use super::pair::Pair;
 use super::rows::Rows;
+use pd_bits::{both, either, lowest, without};
 use pd_clock::Computation;
 use pd_grid::GoodPairs;
 use pd_pred::Tree;
@@ -39,11 +41,36 @@ fn holds(test: &PairTest, i: u64, j: u64) -> bool
     }
 }
 
+/// The same at `n` counts of the second process, from `j` on: bit `k` is that of `j + k`.
+fn word(test: &PairTest, i: u64, j: u64, n: u64) -> u64
+    requires few { n ≤ 64 }
+    requires room { j + n ≤ 18446744073709551615 }
+    ensures { (k : ℕ) → k < n → has_bit result k ≡ pair_holds test.now i (j + k) }
+{
+    match test {
+        PairTest::Constant(truth) => if *truth { lowest(n) } else { lowest(0) },
+        PairTest::Compare(rows) => rows.word(i, j, n),
+        PairTest::Not(inner) => without(lowest(n), word(inner, i, j, n)),
+        PairTest::And(left, right) => {
+            let first = word(left, i, j, n);
+            if first == 0 {
+                return 0;
+            }
+            both(first, word(right, i, j, n))
+        }
+        PairTest::Or(left, right) => either(word(left, i, j, n), word(right, i, j, n)),
+    }
+}
+
 impl GoodPairs for PairTest {
     ghost good = { λ test. pair_holds test };
 
     fn is_good(&self, i: u64, j: u64) -> bool {
         holds(self, i, j)
+    }
+
+    fn good_word(&self, i: u64, j: u64, n: u64) -> u64 {
+        word(self, i, j, n)
     }
 }
 

@@ -1,8 +1,8 @@
--- The report of the results that readers gave is that of the document's bytes and of the streams that they gave.
+-- The report of the results that readers gave is that of the document's inquiry and of the streams that they gave.
 use Rattle.std.proofs.Common.{◌≡◌, ℕ, List, sym, subst, Some, None, Option, Ok, Err}
 use Rattle.std.specs.Prelude.{Bool, IfErr, IfSome, IsErrAnd, Result}
 use Rattle.std.specs.List.{AllZip}
-use Rattle.pd_format.specs.Documents.{Document, IsDocument}
+use Rattle.pd_format.specs.Documents.{Document, Inquiry, IsInquired}
 use Rattle.pd_format.specs.Readings.{Trace}
 use Rattle.pd_format.specs.Reports.{Report}
 use Rattle.pd_format.specs.Sessions.{SessionFault, StreamResult, session}
@@ -30,11 +30,11 @@ refusal_given (Err u) unanswered P Q f same p =
 
 -- ---- streams that are read
 
-pub judged_of_results : (bytes : List ℕ) (streams : List RawStream) (document : Document) (count : ℕ)
-    (results : List StreamResult) (report : Report) → IsDocument bytes document
+pub judged_of_results : (inquiry : Inquiry) (streams : List RawStream) (document : Document) (count : ℕ)
+    (results : List StreamResult) (report : Report) → IsInquired inquiry document
     → ComesTo document.names streams count results → IsReportOfResults document count results report
-    → IsJudgement bytes streams report
-judged_of_results bytes streams document count results report is comes right =
+    → IsJudgement inquiry streams report
+judged_of_results inquiry streams document count results report is comes right =
     of_read document comes.given_results is comes.are_results
     (subst (λ (r : Result (List Trace) SessionFault). IsReportOfSession document r report) comes.same_session right)
 
@@ -44,22 +44,22 @@ AreGiven document inputs never_fails count results =
     (streams : List RawStream) × AllZip (IsGivenAs never_fails) inputs streams
     × ComesTo document.names streams count results
 
-pub inputs_report : (bytes : List ℕ) (inputs : List (Option (List ℕ))) (never_fails : Bool) (document : Document)
-    (count : ℕ) (results : List StreamResult) (report : Report) → IsDocument bytes document
+pub inputs_report : (inquiry : Inquiry) (inputs : List (Option (List ℕ))) (never_fails : Bool) (document : Document)
+    (count : ℕ) (results : List StreamResult) (report : Report) → IsInquired inquiry document
     → AreGiven document inputs never_fails count results → IsReportOfResults document count results report
-    → IsReportOfInputs bytes inputs never_fails report
-inputs_report bytes inputs never_fails document count results report is given right = record {
+    → IsReportOfInputs inquiry inputs never_fails report
+inputs_report inquiry inputs never_fails document count results report is given right = record {
   streams = given.0;
   are_given = given.1;
-  right = judged_of_results bytes given.0 document count results report is given.2 right;
+  right = judged_of_results inquiry given.0 document count results report is given.2 right;
 }
 
 -- ---- a document that is refused
 
-pub refused_inputs_report : (bytes : List ℕ) (inputs : List (Option (List ℕ))) (never_fails : Bool)
-    (report : Report) → ((streams : List RawStream) → IsJudgement bytes streams report)
-    → IsReportOfInputs bytes inputs never_fails report
-refused_inputs_report bytes inputs never_fails report any = record {
+pub refused_inputs_report : (inquiry : Inquiry) (inputs : List (Option (List ℕ))) (never_fails : Bool)
+    (report : Report) → ((streams : List RawStream) → IsJudgement inquiry streams report)
+    → IsReportOfInputs inquiry inputs never_fails report
+refused_inputs_report inquiry inputs never_fails report any = record {
   streams = all_left_unread inputs;
   are_given = all_unread_given never_fails inputs;
   right = any (all_left_unread inputs);

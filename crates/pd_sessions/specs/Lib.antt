@@ -1,4 +1,5 @@
 -- The modules of definitions of this crate.
+pub mod Inquiries
 pub mod Refusals
 pub mod Unanswered
 pub mod Computations

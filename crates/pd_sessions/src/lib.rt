@@ -4,6 +4,7 @@
 //! the words of a report. Beside it stand the faults of the engine, a read up to a limit, and the text of what is shown
 //! of the streams while they are read.
 //!
+//! - `inquiry`: a document's bytes, and what is asked beside them
 //! - `document`: reads the document of a session
 //! - `sessions`: the traces of a session
 //! - `computations`: the computation of a session
@@ -18,15 +19,17 @@ mod computations;
 mod document;
 mod fault;
 mod input;
+mod inquiry;
 mod refusal;
 mod sessions;
 mod snapshots;
 mod unanswered;
 
 pub use computations::{build, computation_of, messages_of};
-pub use document::read_document;
+pub use document::{read_document, read_inquiry};
 pub use fault::EngineFault;
 pub use input::read_upto;
+pub use inquiry::Inquiry;
 pub use refusal::of_document;
 pub use sessions::traces_of;
 pub use snapshots::write_snapshot;

@@ -116,6 +116,7 @@ document_of_bytes bytes outline document sound is =
       initial = is.initial;
       width = is.width;
       version = is.version;
+      beyond_width = is.beyond_width;
       predicates =
           is.predicates;
     }

@@ -17,6 +17,7 @@ document_view spec = record {
       map named_view spec.predicates.items;
   width = spec.width;
   version = version_view spec.version;
+  beyond_width = spec.beyond_width;
 }
 
 -- the fault says why the bytes are refused, or that memory ran out

@@ -24,6 +24,7 @@ pub struct Spec {
     predicates: Vec<NamedPred>,
     width: u64,
     version: Version,
+    beyond_width: bool,
     /// What holds of each document: the bounds of its parts, and that their names are names.
     pub ghost sound: { IsSound names (map (λ row. row.items) initial.items)
         (map (λ predicate. string_bytes predicate.name) predicates.items) width },
@@ -48,7 +49,7 @@ fn value_in(row: &[i64], v: usize) -> i64
 
 impl Spec {
     ghost use Rattle.std.specs.Prelude.{Err, IfOk, IfErr, None, [], slice_index_or};
-    ghost use Rattle.pd_format.specs.Documents.{IsDocument, outline_fault};
+    ghost use Rattle.pd_format.specs.Documents.{IsDocument, changed, outline_fault};
     ghost use Rattle.pd_format.specs.Limits.{document_byte_limit};
     ghost use Rattle.pd_format.specs.Names.{vars_of};
     ghost use Rattle.pd_spec.specs.DocumentParts.{IsDocumentOf};
@@ -98,7 +99,21 @@ impl Spec {
             predicates,
             width: width_of(outline.width),
             version,
+            beyond_width: false,
         })
+    }
+
+    /// The document, of which predicates are answered whatever the width where they are decided without levels, if that
+    /// is asked for.
+    pub fn changed(self, beyond_width: bool) -> Spec
+        ensures { document_view result ≡ changed beyond_width (document_view self) }
+    {
+        if !beyond_width {
+            return self;
+        }
+        let mut spec = self;
+        spec.beyond_width = true;
+        spec
     }
 
     /// The processes and their variables.
@@ -150,6 +165,13 @@ impl Spec {
         ensures { version_view result ≡ (document_view self.now).version }
     {
         self.version
+    }
+
+    /// Whether predicates are answered whatever the width where they are decided without levels.
+    pub fn beyond_width(&self) -> bool
+        ensures { result ≡ (document_view self.now).beyond_width }
+    {
+        self.beyond_width
     }
 }
 

@@ -4,6 +4,7 @@ use Rattle.std.specs.Global.{Global}
 use Rattle.std.specs.Prelude.{Bool, true, false, ◌&&◌, ◌||◌, not, cond, Option, Some, Vec, slice_get}
 use Rattle.std.proofs.lemmas.Grind.{flat_map-append}
 use Rattle.std.proofs.lemmas.List.{map-append, take_more}
+use Rattle.std.proofs.lemmas.Option.{slice_get_within}
 use Rattle.pd_model.specs.Predicates.{Predicate, Recorded, And, Or, test_of}
 use Rattle.pd_terms.specs.Rows.{AreOf, IsRowOf, MakesTerms, numbers_view, products, row_holds, term_holds, terms_hold, turned}
 use Rattle.pd_terms.specs.declared.row.TruthRow.{TruthRow}
@@ -218,6 +219,30 @@ made_row r negated predicate rows row is = record {
         go : (a : Bool) → ((a && true) || false) ≡ a
         go true = refl
         go false = refl
+
+-- and an equal comparison after it has the same row
+pub made_known : (r : Recorded) (negated : Bool) (predicate : Predicate) (rows : List TruthRow) (i : ℕ)
+    (row : TruthRow) → slice_get rows i ≡ Some row → IsRowOf r negated predicate row
+    → MakesTerms r negated predicate rows rows ((i ∷ []) ∷ [])
+made_known r negated predicate rows i row at is = record {
+  more = [];
+  is = sym (append-nil rows);
+  within = λ w. w;
+  terms_of = record {
+    speak = one;
+    hold = λ cut fits. go (row_holds (slice_get rows i) cut)
+        ∙ (ap (λ (found : Option TruthRow). row_holds found cut) at ∙ is.holds cut fits);
+  };
+}
+  where
+    one : AreOf rows ((i ∷ []) ∷ [])
+    one zero d lt zero e in_ = slice_get_within rows i row at
+    one zero d lt (suc k) e in_ = absurd (omega arith)
+    one (suc j) d lt k e in_ = absurd (omega arith)
+
+    go : (a : Bool) → ((a && true) || false) ≡ a
+    go true = refl
+    go false = refl
 
 -- what two predicates make, of which a third one, or its opposite, holds where both do
 pub made_both : (r : Recorded) (negated : Bool) (left right both : Predicate) (old mid new : List TruthRow)

@@ -13,8 +13,8 @@ use Rattle.pd_model.specs.Events.{Computation}
 use Rattle.pd_model.specs.Observations.{Possibly}
 use Rattle.pd_model.specs.Predicates.{Predicate, Recorded, Always, Never, Compare, Not, And, Or, test_of}
 use Rattle.pd_terms.specs.Conjunctions.{none_good}
-use Rattle.pd_terms.specs.Locals.{term_count}
-use Rattle.pd_terms.specs.Ors.{IsOr, MakesRows, clause_good}
+use Rattle.pd_model.specs.Decided.{IsOr, term_count}
+use Rattle.pd_terms.specs.Ors.{MakesRows, clause_good}
 use Rattle.pd_terms.specs.Passages.{IsPassageOf}
 use Rattle.pd_terms.specs.declared.row.TruthRow.{TruthRow}
 use Rattle.pd_terms.proofs.Oring.{is_clause_of}

@@ -6,3 +6,5 @@ pub mod Firsts
 pub mod Allowed
 pub mod Oring
 pub mod Conjoining
+pub mod Sharing
+pub mod Changing

@@ -4,7 +4,8 @@ use Rattle.std.proofs.lemmas.List.{get_or_past}
 use Rattle.std.specs.Prelude.{pos, ◌+ℤ◌, ◌*ℤ◌, slice_get, slice_index, slice_index_or, take}
 use Rattle.pd_model.specs.Events.{Event, events_of}
 use Rattle.pd_model.specs.Predicates.{Sign, Term, Number, Variable, Times, Comparison, Compare, Predicate, Recorded, compares, holds_at, last_set_if_there, signed, state_at, sum_value, term_value, test_of}
-use Rattle.pd_terms.specs.Locals.{IsComparisonOf, NameAlone, NamesAlone}
+use Rattle.pd_model.specs.Decided.{NameAlone, NamesAlone}
+use Rattle.pd_terms.specs.Locals.{IsComparisonOf}
 use Rattle.pd_terms.specs.Rows.{DependsOn}
 
 -- states that are the same at the variables of a process give the terms that name it the same value

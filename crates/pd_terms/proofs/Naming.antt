@@ -1,7 +1,8 @@
 -- Which process the sums of a comparison name.
 use Rattle.std.proofs.Common.{◌≡◌, ℕ, List, [], ◌∷◌, Some, None, Option, refl, sym, ap, ◌∙◌, subst}
 use Rattle.pd_model.specs.Predicates.{Sign, Term, Number, Variable, Times}
-use Rattle.pd_terms.specs.Locals.{NameAlone, NameOne, first_named, first_of_both, or_first}
+use Rattle.pd_model.specs.Decided.{NameAlone, NameOne}
+use Rattle.pd_terms.specs.Locals.{first_named, first_of_both, or_first}
 
 or_zero : Option ℕ → ℕ
 or_zero None = 0

@@ -6,7 +6,7 @@ use Rattle.pd_model.specs.Answers.{IsFirstSatisfying}
 use Rattle.pd_model.specs.Events.{Computation}
 use Rattle.pd_model.specs.Observations.{Possibly}
 use Rattle.pd_model.specs.Predicates.{Predicate, Recorded, test_of}
-use Rattle.pd_terms.specs.Locals.{HasFewTerms}
+use Rattle.pd_model.specs.Decided.{HasFewTerms}
 use Rattle.pd_terms.specs.Rows.{term_allows}
 use Rattle.pd_terms.specs.declared.first.ByTerms.{ByTerms}
 use Rattle.pd_terms.specs.declared.first.ByTerms.TheVariants.{Satisfied, Unsatisfied, Undecided}

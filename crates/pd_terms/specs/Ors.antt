@@ -1,23 +1,14 @@
 -- Predicates that are an `or` of comparisons, and what decides Definitely of them.
-use Rattle.std.specs.Prelude.{⊤, ◌≡◌, ℕ, ◌<◌, All, Bool, true, false, ◌&&◌, ◌||◌, nat_eq, not, List, [], ◌∷◌, ◌++◌, length, Some, slice_index_or}
+use Rattle.std.specs.Prelude.{◌≡◌, ℕ, ◌<◌, All, Bool, false, ◌&&◌, ◌||◌, nat_eq, List, [], ◌∷◌, ◌++◌, length, Some, slice_index_or}
 use Rattle.pd_model.specs.Answers.{IsLeastFree}
 use Rattle.pd_model.specs.Cuts.{FitsProcesses}
 use Rattle.pd_model.specs.Observations.{Definitely, Possibly}
-use Rattle.pd_model.specs.Predicates.{Predicate, Always, Never, Compare, Not, And, Or, Recorded, test_of}
-use Rattle.pd_terms.specs.Locals.{IsLocal}
+use Rattle.pd_model.specs.Predicates.{Predicate, Recorded, test_of}
+use Rattle.pd_model.specs.Decided.{IsLocal, IsOr}
 use Rattle.pd_terms.specs.Rows.{row_holds, turned}
 use Rattle.pd_terms.specs.declared.clause.ByClause.{ByClause}
 use Rattle.pd_terms.specs.declared.clause.ByClause.TheVariants.{Passed, Unsatisfied, Undecided}
 use Rattle.pd_terms.specs.declared.row.TruthRow.{TruthRow}
-
--- the predicate, or its opposite where it is negated, is an `or` of comparisons and constants
-abbrev pub IsOr : (negated : Bool) → Predicate → Type 0
-IsOr negated Always = ⊤
-IsOr negated Never = ⊤
-IsOr negated (Compare left comparison right) = ⊤
-IsOr negated (Not inner) = IsOr (not negated) inner
-IsOr negated (And left right) = (negated ≡ true) × IsOr negated left × IsOr negated right
-IsOr negated (Or left right) = (negated ≡ false) × IsOr negated left × IsOr negated right
 
 -- an `or` of comparisons, each of which names one process at most
 abbrev pub IsLocalOr : Predicate → Type 0

@@ -1,13 +1,12 @@
 -- What the terms of a predicate decide of Definitely.
-use Rattle.std.specs.Prelude.{◌≡◌, ◌⊎◌, ℕ, Bool, false, List}
+use Rattle.std.specs.Prelude.{ℕ, Bool, List}
 use Rattle.pd_boxes.specs.declared.passage.Passage.{Passage}
 use Rattle.pd_boxes.specs.declared.passage.Passage.TheVariants as passages
 use Rattle.pd_model.specs.Answers.{IsLeastFree, IsPrintedPath}
 use Rattle.pd_model.specs.Events.{Computation}
-use Rattle.pd_model.specs.Observations.{Definitely, Possibly}
+use Rattle.pd_model.specs.Observations.{Definitely}
 use Rattle.pd_model.specs.Predicates.{Predicate, Recorded, test_of}
-use Rattle.pd_terms.specs.Locals.{HasFewTerms, term_count}
-use Rattle.pd_terms.specs.Ors.{IsOr}
+use Rattle.pd_model.specs.Decided.{IsDecidedByTerms}
 use Rattle.pd_terms.specs.declared.passage.PassageByTerms.{PassageByTerms}
 use Rattle.pd_terms.specs.declared.passage.PassageByTerms.TheVariants.{Passed, Avoided, Undecided}
 
@@ -23,13 +22,6 @@ IsAvoidedAlong c test path = IsPrintedPath c test path × (¬ Definitely c test)
 abbrev pub IsPassageOf : Computation → (List ℕ → Bool) → Passage → Type 0
 IsPassageOf c test (passages.Passed level) = IsPassedFrom c test level
 IsPassageOf c test (passages.Avoided path) = IsAvoidedAlong c test path.items
-
--- Terms decide Definitely of a predicate that has few of them: if no consistent cut satisfies any, if there is a single
--- one, or if each is a comparison, as those of an `or` of comparisons are.
-abbrev pub IsDecidedByTerms : Recorded → Predicate → Type 0
-IsDecidedByTerms r predicate =
-    HasFewTerms predicate
-    × ((¬ Possibly r.events (test_of r predicate)) ⊎ ((term_count false predicate ≡ 1) ⊎ IsOr false predicate))
 
 -- The least level with no avoiding cut; or the path printed of an observation without a satisfying cut; or the
 -- predicate isn't one that its terms decide.

@@ -1,10 +1,12 @@
 //! How terms are made.
 ghost use Rattle.pd_pred.specs.Trees.{tree_view};
-ghost use Rattle.pd_terms.specs.Locals.{IsLocal};
+ghost use Rattle.pd_model.specs.Decided.{IsLocal};
+ghost use Rattle.pd_terms.specs.KnownRows.{AreRowsOf};
 ghost use Rattle.pd_terms.specs.Rows.{MakesTerms, numbers_view, products};
 ghost use Rattle.std.specs.Prelude.{◌≡◌, ◌∷◌, [], ◌++◌, cond, IfOk, map};
 
-use super::row::{TruthRow, row_of};
+use super::known::{Known, row_number};
+use super::row::TruthRow;
 use pd_clock::Computation;
 use pd_pred::Tree;
 use std::alloc::{AllocError, Global};
@@ -20,7 +22,7 @@ fn constant(alloc: Global, truth: bool) -> Result<Vec<Vec<usize>>, AllocError>
     Ok(terms)
 }
 
-/// The one term of a comparison, which is that of the last row.
+/// The one term of a comparison, by the number of its row.
 fn single(alloc: Global, row: usize) -> Result<Vec<Vec<usize>>, AllocError>
     ensures { IfOk result (λ terms. numbers_view terms.items ≡ (row ∷ []) ∷ []) }
 {
@@ -105,37 +107,42 @@ fn joined(
     }
 }
 
-/// The terms of a predicate, or of its opposite where `negated`, by rows that are put after the others.
+/// The terms of a predicate, or of its opposite where `negated`, by rows that are put after the others. Equal
+/// comparisons have one row: `known` has the comparison of each.
 ///
 /// # Errors
 /// An allocation was refused.
-pub(crate) fn build(
+pub(crate) fn build<'a>(
     alloc: Global,
     computation: &Computation<'_>,
-    tree: &Tree,
+    tree: &'a Tree,
     negated: bool,
     rows: &mut Vec<TruthRow>,
+    known: &mut Vec<Known<'a>>,
 ) -> Result<Vec<Vec<usize>>, AllocError>
-    requires { IsLocal (tree_view tree.now) }
-    ensures { IfOk result (λ terms. MakesTerms computation.now negated (tree_view tree.now) rows.old.items
+    requires local { IsLocal (tree_view tree.now) }
+    requires known { AreRowsOf computation.now known.old.items rows.old.items }
+    ensures made { IfOk result (λ terms. MakesTerms computation.now negated (tree_view tree.now) rows.old.items
         rows.new.items (numbers_view terms.items)) }
+    ensures known { IfOk result (λ _. AreRowsOf computation.now known.new.items rows.new.items) }
 {
     match tree {
         Tree::Always => constant(alloc, !negated),
         Tree::Never => constant(alloc, negated),
         Tree::Compare { left, right, .. } => {
-            rows.push(row_of(alloc, computation, tree, left, right, negated)?)?;
-            single(alloc, rows.len() - 1)
+            let wanted = Known { tree, negated };
+            let number = row_number(alloc, computation, wanted, left, right, rows, known)?;
+            single(alloc, number)
         }
-        Tree::Not(inner) => build(alloc, computation, inner, !negated, rows),
+        Tree::Not(inner) => build(alloc, computation, inner, !negated, rows, known),
         Tree::And(left, right) => {
-            let first = build(alloc, computation, left, negated, rows)?;
-            let second = build(alloc, computation, right, negated, rows)?;
+            let first = build(alloc, computation, left, negated, rows, known)?;
+            let second = build(alloc, computation, right, negated, rows, known)?;
             joined(alloc, negated, first, second)
         }
         Tree::Or(left, right) => {
-            let first = build(alloc, computation, left, negated, rows)?;
-            let second = build(alloc, computation, right, negated, rows)?;
+            let first = build(alloc, computation, left, negated, rows, known)?;
+            let second = build(alloc, computation, right, negated, rows, known)?;
             joined(alloc, !negated, first, second)
         }
     }

@@ -1,8 +1,8 @@
 //! Predicates that are an `or` of comparisons, of which no level has to be walked for Definitely.
 ghost use Rattle.pd_pred.specs.Trees.{tree_view};
 ghost use Rattle.pd_pred.specs.Views.{predicate_view};
-ghost use Rattle.pd_terms.specs.Ors.{IsOr, IsRightByClause, MakesRows, row_good};
-ghost use Rattle.pd_terms.specs.Locals.{IsLocal};
+ghost use Rattle.pd_model.specs.Decided.{IsLocal, IsOr};
+ghost use Rattle.pd_terms.specs.Ors.{IsRightByClause, MakesRows, row_good};
 ghost use Rattle.std.specs.Prelude.{◌≡◌, ◌↔◌, IfOk, IsTrue};
 
 use super::local::is_local;
@@ -89,11 +89,11 @@ pub(crate) fn push_rows(
     computation.limits();
     match tree {
         Tree::Always => {
-            rows.push(row_by(alloc, computation, tree, 0, negated)?)?;
+            rows.push(row_by(alloc, computation, tree, &[], 0, negated)?)?;
             Ok(())
         }
         Tree::Never => {
-            rows.push(row_by(alloc, computation, tree, 0, negated)?)?;
+            rows.push(row_by(alloc, computation, tree, &[], 0, negated)?)?;
             Ok(())
         }
         Tree::Compare { left, right, .. } => {

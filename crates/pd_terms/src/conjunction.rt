@@ -1,7 +1,7 @@
 //! Predicates that have one term: an `and` of comparisons, the opposite of an `or` of their opposites.
 ghost use Rattle.pd_model.specs.Predicates.{test_of};
 ghost use Rattle.pd_pred.specs.Views.{predicate_view};
-ghost use Rattle.pd_terms.specs.Locals.{IsLocal, term_count};
+ghost use Rattle.pd_model.specs.Decided.{IsLocal, term_count};
 ghost use Rattle.pd_terms.specs.Passages.{IsPassageOf};
 ghost use Rattle.std.specs.Prelude.{◌≡◌, IfOk, false};
 

@@ -1,6 +1,6 @@
 //! How many terms a predicate has.
 ghost use Rattle.pd_pred.specs.Trees.{tree_view};
-ghost use Rattle.pd_terms.specs.Locals.{term_count};
+ghost use Rattle.pd_model.specs.Decided.{term_count};
 ghost use Rattle.std.specs.Prelude.{◌≡◌, ◌+◌, ◌*◌, cond, min};
 
 use pd_pred::Tree;

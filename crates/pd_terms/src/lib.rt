@@ -9,11 +9,13 @@
 //! ```
 //!
 //! Negations are pushed down to the comparisons. Where a comparison holds is kept in a row, by the counts of its
-//! process; a term is the numbers of its rows.
+//! process; a term is the numbers of its rows. Equal comparisons have one row.
 //!
 //! - `local`: whether each comparison speaks of one process at most
 //! - `count`: how many terms a predicate has
+//! - `changes`: which events change what is true of a comparison
 //! - `row`: where a comparison holds
+//! - `known`: rows that equal comparisons share
 //! - `build`: how terms are made
 //! - `terms`: the terms of a predicate
 //! - `first`: the first satisfying cut, by terms
@@ -24,10 +26,12 @@
 #![tactic(auto)]
 
 mod build;
+mod changes;
 mod clause;
 mod conjunction;
 mod count;
 mod first;
+mod known;
 mod local;
 mod never;
 mod passage;

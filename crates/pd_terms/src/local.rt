@@ -1,6 +1,7 @@
 //! Whether each comparison speaks of one process at most.
 ghost use Rattle.pd_pred.specs.Trees.{sum_view, tree_view};
-ghost use Rattle.pd_terms.specs.Locals.{IsLocal, NameAlone, NameOne, first_named, first_of_both};
+ghost use Rattle.pd_model.specs.Decided.{IsLocal, NameAlone, NameOne};
+ghost use Rattle.pd_terms.specs.Locals.{first_named, first_of_both};
 ghost use Rattle.std.specs.Prelude.{◌≡◌, ◌↔◌, IsTrue};
 
 use pd_pred::{Sum, Term, Tree};

@@ -2,8 +2,8 @@
 ghost use Rattle.pd_model.specs.Observations.{Possibly};
 ghost use Rattle.pd_model.specs.Predicates.{Predicate, Recorded, test_of};
 ghost use Rattle.pd_pred.specs.Views.{predicate_view};
-ghost use Rattle.pd_terms.specs.Locals.{HasFewTerms, term_count};
-ghost use Rattle.pd_terms.specs.Passages.{IsDecidedByTerms, IsPassageOf, IsRightPassage};
+ghost use Rattle.pd_model.specs.Decided.{HasFewTerms, IsDecidedByTerms, term_count};
+ghost use Rattle.pd_terms.specs.Passages.{IsPassageOf, IsRightPassage};
 ghost use Rattle.std.specs.Prelude.{◌≡◌, IfOk, false};
 
 use super::clause::{ByClause, definitely_by_clause};

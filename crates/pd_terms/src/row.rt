@@ -1,11 +1,15 @@
 //! Where a comparison holds.
 ghost use Rattle.pd_model.specs.Cuts.{FitsProcesses, empty_cut};
+ghost use Rattle.pd_model.specs.Events.{event_count};
 ghost use Rattle.pd_model.specs.Predicates.{test_of};
 ghost use Rattle.pd_pred.specs.Trees.{sum_view, tree_view};
-ghost use Rattle.pd_terms.specs.Locals.{IsComparisonOf, NameAlone, NameOne};
+ghost use Rattle.pd_model.specs.Decided.{NameAlone, NameOne};
+ghost use Rattle.pd_terms.specs.Changes.{DependsOnVars};
+ghost use Rattle.pd_terms.specs.Locals.{IsComparisonOf};
 ghost use Rattle.pd_terms.specs.Rows.{DependsOn, IsRowOf, turned};
-ghost use Rattle.std.specs.Prelude.{◌≡◌, ◌⊎◌, ◌<◌, ◌≤◌, ℕ, IfOk, length};
+ghost use Rattle.std.specs.Prelude.{◌≡◌, ◌+◌, ◌⊎◌, ◌<◌, ◌≤◌, ℕ, List, IfOk, length, slice_index};
 
+use super::changes::{has_any_changed, named_vars};
 use super::local::first_of_both;
 use pd_clock::{Computation, Cut};
 use pd_pred::{Sum, Tree};
@@ -61,7 +65,36 @@ fn holds(computation: &Computation<'_>, tree: &Tree, cut: &Cut, negated: bool) -
     tree.holds(&computation.at(cut)) != negated
 }
 
-/// Where a predicate holds that depends on the count of this process alone, or where it doesn't if `negated`.
+/// Whether the predicate, or its opposite where `negated`, holds at a cut of one more than this count of a process, by
+/// whether it did at one of this count: it is looked at anew only if one of these variables has changed.
+fn next_truth(
+    computation: &Computation<'_>,
+    tree: &Tree,
+    cut: &Cut,
+    vars: &[usize],
+    process: usize,
+    count: u64,
+    negated: bool,
+    before: bool,
+) -> bool
+    requires fits { FitsProcesses computation.now.events cut.now }
+    requires within { process < length computation.now.events }
+    requires there { count < event_count computation.now.events process }
+    requires at { slice_index cut.now process ≡ count + 1 }
+    requires vars { DependsOnVars computation.now (tree_view tree.now) process vars.now }
+    requires before { (other : List ℕ) × (slice_index other process ≡ count)
+        × (before ≡ turned negated (test_of computation.now (tree_view tree.now) other)) }
+    ensures { result ≡ turned negated (test_of computation.now (tree_view tree.now) cut.now) }
+{
+    if has_any_changed(computation, vars, process, count) {
+        holds(computation, tree, cut, negated)
+    } else {
+        before
+    }
+}
+
+/// Where a predicate holds that depends on the count of this process alone, or where it doesn't if `negated`. It stays
+/// as it is as long as these variables of the process do.
 ///
 /// # Errors
 /// An allocation was refused.
@@ -69,19 +102,23 @@ pub(crate) fn row_by(
     alloc: Global,
     computation: &Computation<'_>,
     tree: &Tree,
+    vars: &[usize],
     process: usize,
     negated: bool,
 ) -> Result<TruthRow, AllocError>
     requires within { process < length computation.now.events }
     requires depends { DependsOn computation.now (tree_view tree.now) process }
+    requires vars { DependsOnVars computation.now (tree_view tree.now) process vars.now }
     ensures { IfOk result (IsRowOf computation.now negated (tree_view tree.now)) }
 {
     let mut cut = no_events(alloc, computation)?;
     let mut truths = Vec::new(alloc);
-    truths.push(holds(computation, tree, &cut, negated))?;
-    for _n in 0..computation.events(process) {
+    let mut truth = holds(computation, tree, &cut, negated);
+    truths.push(truth)?;
+    for n in 0..computation.events(process) {
         cut.redo(process);
-        truths.push(holds(computation, tree, &cut, negated))?;
+        truth = next_truth(computation, tree, &cut, vars, process, n, negated, truth);
+        truths.push(truth)?;
     }
     Ok(TruthRow { process, truths })
 }
@@ -104,5 +141,6 @@ pub(crate) fn row_of(
     ensures { IfOk result (IsRowOf computation.now negated (tree_view tree.now)) }
 {
     let process = process_of(computation, left, right);
-    row_by(alloc, computation, tree, process, negated)
+    let vars = named_vars(alloc, left, right)?;
+    row_by(alloc, computation, tree, &vars, process, negated)
 }

@@ -1,6 +1,6 @@
 //! The terms of a predicate.
 ghost use Rattle.pd_pred.specs.Views.{predicate_view};
-ghost use Rattle.pd_terms.specs.Locals.{HasFewTerms};
+ghost use Rattle.pd_model.specs.Decided.{HasFewTerms};
 ghost use Rattle.pd_terms.specs.Rows.{AreOf, AreTermsOf, AreWithin, numbers_view, row_allows, term_allows};
 ghost use Rattle.std.specs.Prelude.{◌≡◌, ◌<◌, All, IfOk, IfSome, None, Ok, Some, false, length, slice_get};
 
@@ -67,7 +67,8 @@ impl Terms {
             return Ok(None);
         }
         let mut rows = Vec::new(alloc);
-        let terms = build(alloc, computation, tree, false, &mut rows)?;
+        let mut known = Vec::new(alloc);
+        let terms = build(alloc, computation, tree, false, &mut rows, &mut known)?;
         Ok(Some(Terms { rows, terms }))
     }
 

@@ -1,4 +1,4 @@
--- The names of a session's files and a number of workers ask to judge it.
+-- The names of a session's files and a number of workers ask to judge it, as the flag says.
 use Rattle.std.proofs.Common.{codes, inl, option_map, refl, subst, Option}
 use Rattle.clap.specs.Matches.{found_of}
 use Rattle.clap.specs.Walk.{rows_of}
@@ -22,6 +22,7 @@ returns-in_default-2 c arguments taken are =
 
 pub returns : goal.returns
 returns c arguments taken are =
-    of_judge (rows_of (found_of c.args.matches.now)) _ _ _ taken are
+    of_judge (rows_of (found_of c.args.matches.now)) _ _ _ _ taken are
     (subst (λ (names : Option SessionNames). FindsSession (rows_of (found_of c.args.matches.now))
     (option_map session_view names)) c.in-Some-2.is c.in_ok-names.ensures) c.in-Some.ensures.some
+    c.flag_of-beyond_width.ensures

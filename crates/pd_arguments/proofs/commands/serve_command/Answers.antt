@@ -1,4 +1,4 @@
--- The command has the document, the port, the number of watchers and the number of workers.
+-- The command has the document, the port, the number of watchers, the number of workers and the flag.
 use Rattle.pd_arguments.proofs.Builders.{with_argument, with_last_argument}
 use Rattle.pd_arguments.proofs.commands.serve_command.Goals as goal
 
@@ -8,6 +8,8 @@ returns c =
     (c.port_option.ensures.rule, c.port_option.ensures.local) c.in_ok-arg.ensures in
     let watchers = with_argument _ _ _ _ _ port (c.watchers_option.ensures.rule, c.watchers_option.ensures.local)
     c.in_ok-arg-2.ensures in
-    let both = with_last_argument _ _ c.arg-3.result _ _ watchers
-    (c.workers_option.ensures.rule, c.workers_option.ensures.local) c.arg-3.ensures in
+    let workers = with_argument _ _ _ _ _ watchers (c.workers_option.ensures.rule, c.workers_option.ensures.local)
+    c.in_ok-arg-3.ensures in
+    let both = with_last_argument _ _ c.arg-4.result _ _ workers
+    (c.beyond_width_option.ensures.rule, c.beyond_width_option.ensures.local) c.arg-4.ensures in
     record { app = both.0; local = both.1 }

@@ -36,6 +36,7 @@ loop-alloc-preserved g c = record {
   none =
       one_more (λ q. LeavesNoBox c.args.computation.now.events (g.G.GoodCounts.good c.args.wanted.now) c.args.cut.now q
       → ⊥) c.loop-alloc.p c.loop-alloc.invariant.none (c.leaves_no_box.ensures.no c.loop-alloc-test.true);
+  holds = c.leaves_no_box.ensures.holds_same;
   starts_each = c.leaves_no_box.ensures.starts_same ∙ c.loop-alloc.invariant.starts_each;
   leaves_each = c.leaves_no_box.ensures.leaves_same ∙ c.loop-alloc.invariant.leaves_each;
 }

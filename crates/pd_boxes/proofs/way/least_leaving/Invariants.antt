@@ -1,11 +1,13 @@
 -- What the loop of `least_leaving` keeps.
 use Rattle.std.proofs.Common.{◌≡◌, ◌<◌, ◌-◌, ℕ, length}
 use Rattle.pd_boxes.specs.Boxes.{LeavesNoBox}
+use Rattle.pd_boxes.specs.Holds.{AreHolds}
 use Rattle.pd_boxes.proofs.way.least_leaving.Given as goal
 
 abbrev pub invariant-loop-alloc : goal.invariant-loop-alloc
 invariant-loop-alloc g l = record {
   none : (q : ℕ) → q < l.p → ¬ LeavesNoBox l.computation.events (g.G.GoodCounts.good l.wanted) l.cut q;
+  holds : AreHolds l.computation.events l.cut l.holds;
   starts_each : length l.starts ≡ length l.computation.events;
   leaves_each : length l.leaves ≡ length l.computation.events;
 }

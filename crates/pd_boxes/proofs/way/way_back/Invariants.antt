@@ -1,5 +1,6 @@
 -- What the loop of `way_back` keeps.
-use Rattle.std.proofs.Common.{◌≡◌, length, sum}
+use Rattle.std.proofs.Common.{◌≡◌, ◌<◌, length, sum}
+use Rattle.pd_boxes.specs.Holds.{AreHolds, IsRunDown}
 use Rattle.pd_boxes.specs.Ways.{IsReached}
 use Rattle.pd_boxes.proofs.way.way_back.Given as goal
 
@@ -7,6 +8,9 @@ abbrev pub invariant-loop-events : goal.invariant-loop-events
 invariant-loop-events g l = record {
   number : sum l.cut ≡ l.events;
   reached : IsReached l.computation.events (g.G.GoodCounts.good l.wanted) l.path.items l.cut;
+  there : l.step.process < length l.computation.events;
+  run : IsRunDown l.computation.events l.cut l.step.process l.step.stop;
+  holds : AreHolds l.computation.events l.cut l.holds;
   starts_each : length l.starts ≡ length l.computation.events;
   leaves_each : length l.leaves ≡ length l.computation.events;
 }

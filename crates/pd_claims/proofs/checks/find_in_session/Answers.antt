@@ -1,5 +1,6 @@
 -- What is found of a report by the session, or why it comes to no answers.
 use Rattle.std.proofs.Common.{List, map, subst}
+use Rattle.pd_format.specs.Documents.{plain}
 use Rattle.pd_check.specs.Views.{finding_view}
 use Rattle.pd_traces.specs.declared.event.Trace.{Trace}
 use Rattle.pd_gather.specs.Views.{traces_view}
@@ -20,7 +21,7 @@ returns-in_err-computation-clause-refused g c =
     let document = document_view c.in_ok-session.session.spec in
     let traces = traces_view c.in_ok-session.session.traces.items in
     refusal_given c.from_residual-in_err-computation.result c.in_err-computation.field-0.0
-    (IsTracesReport document traces) (IsReportOfInputs bytes inputs g.R.ByteSource.never_fails)
+    (IsTracesReport document traces) (IsReportOfInputs (plain bytes) inputs g.R.ByteSource.never_fails)
     (λ report right. read_report bytes inputs g.R.ByteSource.never_fails document traces report
     c.in_ok-session.ensures.read right)
     c.from_residual-in_err-computation.ensures.1

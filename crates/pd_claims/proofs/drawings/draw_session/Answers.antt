@@ -1,5 +1,6 @@
 -- What is drawn by the session, or why it comes to no answers.
 use Rattle.std.proofs.Common.{List, map, subst}
+use Rattle.pd_format.specs.Documents.{plain}
 use Rattle.pd_draw.specs.Choices.{name_view}
 use Rattle.pd_traces.specs.declared.event.Trace.{Trace}
 use Rattle.pd_gather.specs.Views.{traces_view}
@@ -21,7 +22,7 @@ returns-in_err-drawn-clause-refused g c =
     let document = document_view c.in_ok-session.session.spec in
     let traces = traces_view c.in_ok-session.session.traces.items in
     refusal_given c.from_residual-in_err-drawn.result c.in_err-drawn.field-0.0
-    (IsTracesReport document traces) (IsReportOfInputs bytes inputs g.R.ByteSource.never_fails)
+    (IsTracesReport document traces) (IsReportOfInputs (plain bytes) inputs g.R.ByteSource.never_fails)
     (λ report right. read_report bytes inputs g.R.ByteSource.never_fails document traces report
     c.in_ok-session.ensures.read right)
     c.from_residual-in_err-drawn.ensures.1

@@ -1,9 +1,11 @@
 -- Why a session comes to no answers before its messages are matched, and what is read of it.
-use Rattle.std.proofs.Common.{List, map}
+use Rattle.std.proofs.Common.{Bool, false, List, map}
+use Rattle.pd_format.specs.Documents.{inquiry, plain}
 use Rattle.pd_format.specs.Reports.{Report}
 use Rattle.pd_gather.specs.Views.{results_view}
 use Rattle.pd_judgement.specs.Judgements.{IsJudgement, IsReportOfResults, RawStream}
 use Rattle.pd_spec.specs.Views.{document_view}
+use Rattle.pd_judgement.proofs.DocumentsAreSingle.{plainly}
 use Rattle.pd_sessions.specs.SessionReports.{IsReportOfInputs}
 use Rattle.pd_sessions.proofs.SessionReports.{inputs_report, refusal_given, refused_inputs_report}
 use Rattle.pd_claims.proofs.session.read_session.Goals as goal
@@ -13,9 +15,11 @@ returns-in_err-spec-clause-refused g c =
     let bytes = c.args.document.now in
     let inputs = map g.R.ByteSource.remaining c.args.streams.items in
     refusal_given c.from_residual.result c.in_err-spec.field-0.0
-    (λ (report : Report). (streams : List RawStream) → IsJudgement bytes streams report)
-    (IsReportOfInputs bytes inputs g.R.ByteSource.never_fails)
-    (refused_inputs_report bytes inputs g.R.ByteSource.never_fails) c.from_residual.ensures.1
+    (λ (report : Report). (beyond_width : Bool) (streams : List RawStream)
+    → IsJudgement (inquiry beyond_width bytes) streams report)
+    (IsReportOfInputs (plain bytes) inputs g.R.ByteSource.never_fails)
+    (λ report any. refused_inputs_report (plain bytes) inputs g.R.ByteSource.never_fails report (any false))
+    c.from_residual.ensures.1
     c.in_err-spec.ensures.refused
 
 pub returns-in_err-traces-clause-refused : goal.returns-in_err-traces-clause-refused
@@ -26,9 +30,9 @@ returns-in_err-traces-clause-refused g c =
     let count = c.in_ok-gathered.gathered.streams in
     let results = results_view c.in_ok-gathered.gathered.readings.items in
     refusal_given c.from_residual-in_err-traces.result c.in_err-traces.field-0.0
-    (IsReportOfResults document count results) (IsReportOfInputs bytes inputs g.R.ByteSource.never_fails)
-    (λ report right. inputs_report bytes inputs g.R.ByteSource.never_fails document count results report
-    c.in_ok-spec.ensures.read
+    (IsReportOfResults document count results) (IsReportOfInputs (plain bytes) inputs g.R.ByteSource.never_fails)
+    (λ report right. inputs_report (plain bytes) inputs g.R.ByteSource.never_fails document count results report
+    (plainly bytes document c.in_ok-spec.ensures.read)
     c.in_ok-gathered.ensures.given right)
     c.from_residual-in_err-traces.ensures.1 c.in_err-traces.ensures.refused
 

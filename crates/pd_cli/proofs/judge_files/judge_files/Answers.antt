@@ -10,7 +10,7 @@ use Rattle.pd_cli.proofs.judge_files.judge_files.Goals as goal
 
 pub returns-clause-written : goal.returns-clause-written
 returns-clause-written g c =
-    let file = g.F.FileSource.bytes_of c.args.files.now c.args.names.now.spec.now in
+    let file = g.F.FileSource.bytes_of c.args.files.now c.args.judgement.now.names.spec.now in
     let left = g.F.File.ByteSource.remaining c.in_ok-spec.spec in
     let lefts = map g.F.File.ByteSource.remaining c.in_ok-streams.streams.items in
     let stands : StandsFor c.deref-2.result.now file =
@@ -20,14 +20,15 @@ returns-clause-written g c =
     let whole = subst (λ (names : List (Bor (List ℕ))). AllZip HasWholeFile
     (map (λ name. g.F.FileSource.bytes_of c.args.files.now name.now) names) lefts) c.deref.ensures.value
     c.in_ok-streams.ensures.whole in
-    judgement_of_files file c.deref-2.result.now _ lefts g.F.File.ByteSource.never_fails
+    judgement_of_files c.args.judgement.now.beyond_width file c.deref-2.result.now _ lefts
+    g.F.File.ByteSource.never_fails
     _ (ending_view c.judge_read.result)
     (g.O.Write.contents c.args.output.now) (g.O.Write.contents c.judge_read.new.output) stands whole
     c.judge_read.ensures.written
 
 pub returns-clause-headline : goal.returns-clause-headline
 returns-clause-headline g c sure =
-    let file = g.F.FileSource.bytes_of c.args.files.now c.args.names.now.spec.now in
+    let file = g.F.FileSource.bytes_of c.args.files.now c.args.judgement.now.names.spec.now in
     let left = g.F.File.ByteSource.remaining c.in_ok-spec.spec in
     let lefts = map g.F.File.ByteSource.remaining c.in_ok-streams.streams.items in
     let stands : StandsFor c.deref-2.result.now file =
@@ -38,6 +39,7 @@ returns-clause-headline g c sure =
     (map (λ name. g.F.FileSource.bytes_of c.args.files.now name.now) names) lefts) c.deref.ensures.value
     c.in_ok-streams.ensures.whole in
     IfOk-weaker c.judge_read.result _ _ (λ judged truth document streams of_document of_streams.
-    truth_of_files file c.deref-2.result.now document (ended_streams streams) (judged ≡ true)
+    truth_of_files c.args.judgement.now.beyond_width file c.deref-2.result.now document (ended_streams streams) (judged
+    ≡ true)
     (g.O.Write.contents c.args.output.now) (g.O.Write.contents c.judge_read.new.output) stands of_document
     (truth streams (lefts_of_known _ lefts streams whole of_streams))) (c.judge_read.ensures.headline sure)

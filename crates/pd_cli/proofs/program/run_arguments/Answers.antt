@@ -36,17 +36,19 @@ returns-in-Ok-Judge g c = record {
     ending = c.run_files.ensures.ending;
     is_status = c.run_files.ensures.is_status;
     output = inr (
-      JudgeFiles (session_view c.in-Ok-Judge.names).0 (session_view c.in-Ok-Judge.names).1,
+      JudgeFiles c.in-Ok-Judge.judgement.beyond_width (session_view c.in-Ok-Judge.judgement.names).0
+          (session_view c.in-Ok-Judge.judgement.names).1,
       subst (IsAsked (map (λ argument. argument.bytes.items) c.args.arguments.now)) c.in-Ok-Judge.field-0-is
           c.in-Ok-Judge.ensures.asked,
       (subst (λ (streams : List (Option (List ℕ))). FilesJudgementLeaves
-          (g.F.FileSource.bytes_of c.args.files.now c.in-Ok-Judge.names.spec.now) streams
+          c.in-Ok-Judge.judgement.beyond_width (g.F.FileSource.bytes_of c.args.files.now
+          c.in-Ok-Judge.judgement.names.spec.now) streams
           g.F.File.ByteSource.never_fails (g.F.FileSource.always_opens ≡ true → g.F.File.ByteSource.never_fails ≡ true
           → ⊥)
           c.run_files.ensures.ending (g.O.Write.contents c.args.output.now)
           (g.O.Write.contents c.run_files.new.output))
           (files_of_names (g.F.FileSource.bytes_of c.args.files.now) (λ (name : Bor (List ℕ)). name.now)
-          c.in-Ok-Judge.names.streams.items) c.run_files.ensures.output),
+          c.in-Ok-Judge.judgement.names.streams.items) c.run_files.ensures.output),
     );
     errors = c.run_files.ensures.errors;
   });
@@ -81,7 +83,8 @@ returns-in-Ok-Serve g c = record {
     ending = c.run_service.ensures.ending;
     is_status = c.run_service.ensures.is_status;
     output = inr (
-      ServeStreams c.in-Ok-Serve.service.spec.now c.in-Ok-Serve.service.port c.in-Ok-Serve.service.watchers,
+      ServeStreams c.in-Ok-Serve.service.beyond_width c.in-Ok-Serve.service.spec.now c.in-Ok-Serve.service.port
+          c.in-Ok-Serve.service.watchers,
       subst (IsAsked (map (λ argument. argument.bytes.items) c.args.arguments.now)) c.in-Ok-Serve.field-0-is
           c.in-Ok-Serve.ensures.asked,
       c.run_service.ensures.output,

@@ -8,14 +8,15 @@ use Rattle.pd_cli.proofs.server.refuse_document.Goals as goal
 
 pub returns-clause-written : goal.returns-clause-written
 returns-clause-written g c port =
-    let document = c.args.document.now in
+    let document = c.args.inquiry.document.now in
     let G = g.N.Network.may_give c.args._network.now port in
     let refused = refused_unless_memory document c.args.fault.now
     (sym c.is_out_of_memory.ensures ∙ c.if-is_out_of_memory.false) c.requires in
-    subst (λ (e : Ending). ServiceLeaves (Some document) G g.N.Connection.ByteSource.never_fails
+    subst (λ (e : Ending). ServiceLeaves c.args.inquiry.beyond_width (Some document) G
+    g.N.Connection.ByteSource.never_fails
     ⊥ (g.N.Network.never_fails ≡ true → ⊥) e (g.O.Write.contents c.args.output.now)
     (g.O.Write.contents c.judge_no_streams.new.output)) (sym c.service_end.ensures.ending)
-    (service_of_judgement document G [] g.N.Connection.ByteSource.never_fails _
+    (service_of_judgement c.args.inquiry.beyond_width document G [] g.N.Connection.ByteSource.never_fails _
     (ending_view c.judge_no_streams.result)
     (g.O.Write.contents c.args.output.now) (g.O.Write.contents c.judge_no_streams.new.output)
     (accepted_of_refused document G refused.0 c.one_document.ensures.not_refused refused.1)
@@ -23,12 +24,13 @@ returns-clause-written g c port =
 
 pub returns-clause-refused : goal.returns-clause-refused
 returns-clause-refused g c =
-    let document = c.args.document.now in
+    let document = c.args.inquiry.document.now in
     let refused = refused_unless_memory document c.args.fault.now
     (sym c.is_out_of_memory.ensures ∙ c.if-is_out_of_memory.false) c.requires in
     service_outcome c.judge_no_streams.result c.service_end.result (λ judged. judged ≡ false)
     c.service_end.ensures.same
-    (refused_outcome document [] g.N.Connection.ByteSource.never_fails c.judge_no_streams.result
+    (refused_outcome c.args.inquiry.beyond_width document [] g.N.Connection.ByteSource.never_fails
+    c.judge_no_streams.result
     (g.O.Write.contents c.args.output.now)
     (g.O.Write.contents c.judge_no_streams.new.output) refused.0 c.one_document.ensures.not_refused refused.1
     c.judge_no_streams.ensures.written)

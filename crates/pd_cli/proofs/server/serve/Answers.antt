@@ -10,11 +10,11 @@ pub returns-in-Ok : goal.returns-in-Ok
 returns-in-Ok g c =
     let file = g.F.FileSource.bytes_of c.args.files.now c.args.service.now.spec.now in
     let left = g.F.File.ByteSource.remaining c.in_ok-file.file in
-    let stands : StandsFor c.deref-in-Ok.result.now file =
-    subst (λ (read : List ℕ). StandsFor read file) (sym c.deref-in-Ok.ensures.value)
+    let stands : StandsFor c.deref.result.now file =
+    subst (λ (read : List ℕ). StandsFor read file) (sym c.deref.ensures.value)
     (of_file (SameOutline c.in_ok-document.document.items) file left c.in_ok-file.ensures.file
     c.in_ok-document.ensures.same) in
-    service_of_file file c.deref-in-Ok.result.now
+    service_of_file c.args.service.now.beyond_width file c.deref.result.now
     (g.N.Network.may_give c.args.network.now c.args.service.now.port) g.N.Connection.ByteSource.never_fails _ _
     (service_ending_view c.serve_session.result)
     (g.O.Write.contents c.args.output.now) (g.O.Write.contents c.serve_session.new.output) stands
@@ -25,11 +25,12 @@ returns g c =
     let G = g.N.Network.may_give c.args.network.now c.args.service.now.port in
     let file = g.F.FileSource.bytes_of c.args.files.now c.args.service.now.spec.now in
     let left = g.F.File.ByteSource.remaining c.in_ok-file.file in
-    let stands : StandsFor c.deref-in-Err.result.now file =
-    subst (λ (read : List ℕ). StandsFor read file) (sym c.deref-in-Err.ensures.value)
+    let stands : StandsFor c.deref.result.now file =
+    subst (λ (read : List ℕ). StandsFor read file) (sym c.deref.ensures.value)
     (of_file (SameOutline c.in_ok-document.document.items) file left c.in_ok-file.ensures.file
     c.in_ok-document.ensures.same) in
-    service_of_file file c.deref-in-Err.result.now G g.N.Connection.ByteSource.never_fails _ _
+    service_of_file c.args.service.now.beyond_width file c.deref.result.now G
+    g.N.Connection.ByteSource.never_fails _ _
     (service_ending_view c.refuse_document.result)
     (g.O.Write.contents c.args.output.now) (g.O.Write.contents c.refuse_document.new.output) stands
     (c.refuse_document.ensures.written c.args.service.now.port)

@@ -16,17 +16,19 @@ returns-clause-written g c =
     let G = g.N.Network.may_give c.args.network.now port in
     let remaining = g.N.Connection.ByteSource.remaining in
     let streams = c.in_ok-streams.streams.items in
-    let document = c.args.document.now in
+    let document = c.args.inquiry.document.now in
     let count : length (map remaining streams) ≡ length (document_view c.args.spec.now).names =
     length-map streams remaining ∙ (c.in_ok-streams.ensures.count ∙ (c.processes.ensures
     ∙ ap (λ (names : List ProcessNames). length names) c.names.ensures)) in
     let given = All-map G remaining streams (c.in_ok-streams.ensures.given port c.in_ok-listener.ensures.on) in
     let are = accepted_of_read document G (map remaining streams) (document_view c.args.spec.now)
     c.one_document.ensures.single c.one_document.ensures.not_refused c.requires.document given count in
-    subst (λ (e : Ending). ServiceLeaves (Some document) G g.N.Connection.ByteSource.never_fails
+    subst (λ (e : Ending). ServiceLeaves c.args.inquiry.beyond_width (Some document) G
+    g.N.Connection.ByteSource.never_fails
     ⊥ (g.N.Network.never_fails ≡ true → ⊥) e (g.O.Write.contents c.args.output.now)
     (g.O.Write.contents c.judge_accepted.new.output)) (sym c.service_end.ensures.ending)
-    (service_of_judgement document G (map remaining streams) g.N.Connection.ByteSource.never_fails _
+    (service_of_judgement c.args.inquiry.beyond_width document G (map remaining streams)
+    g.N.Connection.ByteSource.never_fails _
     (ending_view c.judge_accepted.result)
     (g.O.Write.contents c.args.output.now) (g.O.Write.contents c.judge_accepted.new.output) are
     c.judge_accepted.ensures.written)

@@ -9,5 +9,5 @@ use Rattle.pd_engine.proofs.answers.answers_of.Given as goal
 
 abbrev pub invariant-loop-i : goal.invariant-loop-i
 invariant-loop-i g l =
-    AllZip (IsAnswered (document_view l.spec).names l.computation (document_view l.spec).width)
-    (map named_view (take l.i l.asked)) (map views.answer_view l.answers.items)
+    AllZip (IsAnswered (document_view l.spec) l.computation) (map named_view (take l.i l.asked))
+    (map views.answer_view l.answers.items)

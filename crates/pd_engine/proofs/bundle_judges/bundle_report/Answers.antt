@@ -1,6 +1,7 @@
 -- The report of the parts that were read one after another is the bundle's.
 use Rattle.std.proofs.Common.{ℕ, List, [], ◌∷◌, sym, subst}
 use Rattle.pd_bundle.specs.PartsRead.{IsKept}
+use Rattle.pd_format.specs.Documents.{plain}
 use Rattle.pd_format.specs.Reports.{Report}
 use Rattle.pd_judgement.specs.Judgements.{IsJudgement, RawStream}
 use Rattle.pd_report.specs.declared.report.Report.{Report as Judged}
@@ -40,12 +41,12 @@ returns-clause-report g c =
     let parts = part.goes input [] (c.in_ok-bundle.ensures.fresh input) in
     let kept : IsKept c.deref.result.now part.part =
     subst (λ (kept : List ℕ). IsKept kept part.part) (sym c.deref.ensures.value) part.right in
-    let refused : IsUnanswered (λ report. (streams : List RawStream) → IsJudgement part.part streams report)
+    let refused : IsUnanswered (λ report. (streams : List RawStream) → IsJudgement (plain part.part) streams report)
     c.in-Err.unanswered =
     of_given (refused_report c.in-Err.unanswered)
     (λ (report : Report). (bytes : List ℕ) → IsKept c.deref.result.now bytes → (streams : List RawStream)
-    → IsJudgement bytes streams report)
-    (λ (report : Report). (streams : List RawStream) → IsJudgement part.part streams report)
+    → IsJudgement (plain bytes) streams report)
+    (λ (report : Report). (streams : List RawStream) → IsJudgement (plain part.part) streams report)
     (λ (report : Report) any. any part.part kept) c.in-Err.ensures.refused in
     report_weaker c.refusal_report_of.result (λ (report : Judged) right. right input part.part refused parts)
     c.refusal_report_of.ensures.report

@@ -1,6 +1,7 @@
 -- The refusal of the document is the bundle's report, whatever its other parts are.
 use Rattle.std.proofs.Common.{Bool, true, false, List, [], ◌∷◌, subst}
 use Rattle.pd_bundle.specs.Steps.{HasParts}
+use Rattle.pd_format.specs.Documents.{plain}
 use Rattle.pd_format.specs.Reports.{Report}
 use Rattle.pd_judgement.specs.Judgements.{IsJudgement, RawStream}
 use Rattle.pd_report.specs.Views.{report_view}
@@ -15,7 +16,7 @@ returns-then-begins-clause-report g c = λ input document refused parts.
     let all = c.in_ok-skip_parts.ensures.parts input (document ∷ []) here in
     refusal_read input document all.0 (report_view c.in_ok-report.report) all.2
     (settled_right c.in_ok-report.report c.args.unanswered
-    (λ (report : Report). (streams : List RawStream) → IsJudgement document streams report)
+    (λ (report : Report). (streams : List RawStream) → IsJudgement (plain document) streams report)
     c.in_ok-report.ensures.given refused)
 
 pub returns-clause-report : goal.returns-clause-report
@@ -25,5 +26,5 @@ returns-clause-report g c = λ input document refused parts.
     c.args.bundle.now) c.if-begins.false parts in
     refusal_read input document [] (report_view c.in_ok-report-2.report) here
     (settled_right c.in_ok-report-2.report c.args.unanswered
-    (λ (report : Report). (streams : List RawStream) → IsJudgement document streams report)
+    (λ (report : Report). (streams : List RawStream) → IsJudgement (plain document) streams report)
     c.in_ok-report-2.ensures.given refused)

@@ -1,13 +1,14 @@
 -- What is written is the text of the session's report, and its truth.
 use Rattle.std.proofs.Common.{map}
 use Rattle.pd_report.specs.Views.{report_view}
+use Rattle.pd_sessions.specs.Inquiries.{inquiry_view}
 use Rattle.pd_engine.proofs.ReportTexts.{streams_written, whole_truth, whole_written}
 use Rattle.pd_engine.proofs.SessionReports.{whole_report}
 use Rattle.pd_engine.proofs.judges.judge_streams.Goals as goal
 
 pub returns : goal.returns
 returns g c =
-    let document = c.args.spec.now in
+    let document = inquiry_view c.args.inquiry in
     let inputs = map g.R.ByteSource.remaining c.args.readers.items in
     let report = report_view c.in_ok-report.report in
     let old = g.W.Write.contents c.args.writer.now in

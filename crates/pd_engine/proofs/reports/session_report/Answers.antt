@@ -4,6 +4,7 @@ use Rattle.pd_format.specs.Reports.{Report}
 use Rattle.pd_gather.specs.Views.{results_view}
 use Rattle.pd_judgement.specs.Judgements.{IsJudgement, IsReportOfResults, RawStream}
 use Rattle.pd_spec.specs.Views.{document_view}
+use Rattle.pd_sessions.specs.Inquiries.{inquiry_view}
 use Rattle.pd_sessions.specs.SessionReports.{IsReportOfInputs}
 use Rattle.pd_sessions.specs.Unanswered.{given_report}
 use Rattle.pd_sessions.proofs.SessionReports.{inputs_report, of_given, refused_inputs_report}
@@ -12,12 +13,12 @@ use Rattle.pd_engine.proofs.reports.session_report.Goals as goal
 
 pub returns-in_err-spec : goal.returns-in_err-spec
 returns-in_err-spec g c =
-    let bytes = c.args.document.now in
+    let asked = inquiry_view c.args.inquiry in
     let inputs = map g.R.ByteSource.remaining c.args.readers.items in
     refusal_reported c.from_residual.result c.in_err-spec.field-0.0
-    (λ (report : Report). (streams : List RawStream) → IsJudgement bytes streams report)
-    (IsReportOfInputs bytes inputs g.R.ByteSource.never_fails)
-    (refused_inputs_report bytes inputs g.R.ByteSource.never_fails) c.from_residual.ensures.1
+    (λ (report : Report). (streams : List RawStream) → IsJudgement asked streams report)
+    (IsReportOfInputs asked inputs g.R.ByteSource.never_fails)
+    (refused_inputs_report asked inputs g.R.ByteSource.never_fails) c.from_residual.ensures.1
     c.in_err-spec.ensures.refused
 
 pub returns : goal.returns
@@ -27,8 +28,8 @@ returns g c =
     let count = c.in_ok-gathered.gathered.streams in
     let results = results_view c.in_ok-gathered.gathered.readings.items in
     of_given (given_report c.answered.result) (IsReportOfResults document count results)
-    (IsReportOfInputs c.args.document.now inputs g.R.ByteSource.never_fails)
-    (λ (report : Report) right. inputs_report c.args.document.now inputs
+    (IsReportOfInputs (inquiry_view c.args.inquiry) inputs g.R.ByteSource.never_fails)
+    (λ (report : Report) right. inputs_report (inquiry_view c.args.inquiry) inputs
     g.R.ByteSource.never_fails document count results report
     c.in_ok-spec.ensures.read c.in_ok-gathered.ensures.given right)
     c.answered.ensures

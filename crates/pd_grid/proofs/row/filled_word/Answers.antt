@@ -1,21 +1,18 @@
--- One bit more.
-use Rattle.std.proofs.Common.{◌+◌, sym, ◌∙◌}
+-- The good counts are moved up to where the word's bits begin.
+use Rattle.std.proofs.Common.{◌+◌}
 use Rattle.pd_bits.specs.Words.{has_bit}
-use Rattle.pd_grid.specs.Grids.{left_of}
-use Rattle.pd_grid.proofs.Filled.{filled_more, left_next, next_bit}
+use Rattle.pd_grid.proofs.GoodWords.{filled_by, moved_up, none_filled}
 use Rattle.pd_grid.proofs.row.filled_word.Goals as goal
 
-pub loop-d-preserved : goal.loop-d-preserved
-loop-d-preserved g c =
+pub returns-then-from-to : goal.returns-then-from-to
+returns-then-from-to g c =
+    none_filled (λ d. g.G.GoodPairs.good c.args.wanted.now c.args.i (c.args.base + d)) (has_bit c.args.above)
+    c.args.start c.args.from c.args.to c.if-from-to.true
+
+pub returns : goal.returns
+returns g c =
     let good = g.G.GoodPairs.good c.args.wanted.now c.args.i in
-    record {
-      filled = filled_more (λ d. good (c.args.base + d)) (has_bit c.args.above) (has_bit c.loop-d.word)
-          (has_bit c.put-word.result) c.args.start c.args.from c.loop-d.d c.loop-d.auto.d c.loop-d.invariant.filled
-          c.put-word.ensures.others
-          (next_bit (good (c.args.base + c.loop-d.d)) (has_bit c.args.above c.loop-d.d)
-          (left_of (has_bit c.loop-d.word) c.args.start c.args.from c.loop-d.d) c.has.result c.loop-d.left
-          c.is_next-left.result (has_bit c.put-word.result c.loop-d.d) c.put-word.ensures.here
-          c.is_next-left.ensures c.has.ensures c.loop-d.invariant.left);
-      left = sym c.put-word.ensures.here
-          ∙ sym (left_next (has_bit c.put-word.result) c.args.start c.args.from c.loop-d.d c.loop-d.auto.d);
-    }
+    filled_by (has_bit c.up-good.result) (λ d. good (c.args.base + d)) (has_bit c.args.above)
+    (has_bit c.filled.result) c.args.start c.args.from c.args.to
+    (moved_up good c.good_word.result c.up-good.result c.args.base c.args.from c.args.to c.requires.within
+    c.good_word.ensures c.up-good.ensures.moved) c.filled.ensures

@@ -4,7 +4,8 @@ use Rattle.std.specs.Prelude.{Option, Some}
 use Rattle.pd_model.specs.Predicates as model
 use Rattle.pd_model.specs.Predicates.{Predicate}
 use Rattle.pd_pred.specs.Trees.{sum_view, tree_view}
-use Rattle.pd_pairs.specs.Twos.{IsOther, NamePair, NamesOnly}
+use Rattle.pd_model.specs.Decided.{NamePair, NamesOnly}
+use Rattle.pd_pairs.specs.Twos.{IsOther}
 use Rattle.pd_pairs.proofs.Naming.{other_in, other_last}
 use Rattle.pd_pairs.proofs.names.+other_of.Goals as goal
 

@@ -1,7 +1,7 @@
 -- What the loop over terms keeps: those that are seen name no process but these two.
 use Rattle.std.proofs.Common.{ℕ, drop}
 use Rattle.pd_pred.specs.Trees.{terms_view}
-use Rattle.pd_pairs.specs.Twos.{NamePair}
+use Rattle.pd_model.specs.Decided.{NamePair}
 use Rattle.pd_pairs.proofs.names.other_of_sum.Given as goal
 
 abbrev pub invariant-loop-signed : goal.invariant-loop-signed

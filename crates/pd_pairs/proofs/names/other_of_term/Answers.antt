@@ -2,7 +2,8 @@
 use Rattle.std.proofs.Common.{sym, subst}
 use Rattle.pd_pred.specs.Trees.{term_view}
 use Rattle.pd_pred.specs.declared.tree.Term.{Term}
-use Rattle.pd_pairs.specs.Twos.{IsOther, NamesPair}
+use Rattle.pd_model.specs.Decided.{NamesPair}
+use Rattle.pd_pairs.specs.Twos.{IsOther}
 use Rattle.pd_pairs.proofs.names.other_of_term.Goals as goal
 
 pub returns-in-Variable : goal.returns-in-Variable

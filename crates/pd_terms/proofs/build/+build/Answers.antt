@@ -1,12 +1,11 @@
 -- How the terms of a predicate come from those of its parts.
-use Rattle.std.proofs.Common.{◌≡◌, ◌-◌, List, ℕ, ◌∷◌, [], ◌++◌, length, length-append, refl, sym, ap, ◌∙◌, subst, arith}
+use Rattle.std.proofs.Common.{◌≡◌, List, ℕ, ◌∷◌, [], ◌++◌, refl, sym, ap, ◌∙◌, subst}
 use Rattle.std.proofs.lemmas.Result.{IfOk-weaker}
 use Rattle.std.specs.Prelude.{Bool, true, false, not, cond}
 use Rattle.pd_model.specs.Predicates.{Predicate, And, Or, test_of}
 use Rattle.pd_pred.specs.Trees.{tree_view}
 use Rattle.pd_terms.specs.Rows.{MakesTerms, numbers_view, products, turned}
-use Rattle.pd_terms.specs.declared.row.TruthRow.{TruthRow}
-use Rattle.pd_terms.proofs.Building.{made_constant, made_row, made_and, made_or}
+use Rattle.pd_terms.proofs.Building.{made_constant, made_and, made_or}
 use Rattle.pd_terms.proofs.build.+build.Goals as goal
 
 turned_true : (negated : Bool) → turned negated true ≡ not negated
@@ -17,8 +16,8 @@ turned_false : (negated : Bool) → turned negated false ≡ negated
 turned_false true = refl
 turned_false false = refl
 
-pub returns-in-Always : goal.returns-in-Always
-returns-in-Always t c =
+pub returns-in-Always-clause-made : goal.returns-in-Always-clause-made
+returns-in-Always-clause-made t c =
     IfOk-weaker c.constant.result (λ terms. numbers_view terms.items ≡ cond (not c.args.negated) ([] ∷ []) [])
     (λ terms. MakesTerms c.args.computation.now c.args.negated (tree_view c.args.tree.now) c.args.rows.now.items
     c.args.rows.now.items (numbers_view terms.items))
@@ -29,8 +28,8 @@ returns-in-Always t c =
     (ap tree_view c.in-Always.is) ∙ turned_true c.args.negated)))
     c.constant.ensures
 
-pub returns-in-Never : goal.returns-in-Never
-returns-in-Never t c =
+pub returns-in-Never-clause-made : goal.returns-in-Never-clause-made
+returns-in-Never-clause-made t c =
     IfOk-weaker c.constant-in-Never.result (λ terms. numbers_view terms.items ≡ cond c.args.negated ([] ∷ []) [])
     (λ terms. MakesTerms c.args.computation.now c.args.negated (tree_view c.args.tree.now) c.args.rows.now.items
     c.args.rows.now.items (numbers_view terms.items))
@@ -41,30 +40,17 @@ returns-in-Never t c =
     (ap tree_view c.in-Never.is) ∙ turned_false c.args.negated)))
     c.constant-in-Never.ensures
 
-pub returns-in_ok-push-in-Compare : goal.returns-in_ok-push-in-Compare
-returns-in_ok-push-in-Compare t c =
-    let last : c.len.result - 1 ≡ length c.args.rows.now.items =
-    omega (
-      arith,
-      c.len.ensures,
-      ap (λ (rows : List TruthRow). length rows) c.in_ok-push-in-Compare.ensures.items,
-      length-append c.args.rows.now.items (c.in_ok-row_of-in-Compare.field-0 ∷ []),
-    ) in
-    IfOk-weaker c.single.result (λ terms. numbers_view terms.items ≡ ((c.len.result - 1) ∷ []) ∷ [])
+pub returns-in_ok-number-in-Compare-clause-made : goal.returns-in_ok-number-in-Compare-clause-made
+returns-in_ok-number-in-Compare-clause-made t c =
+    IfOk-weaker c.single.result (λ terms. numbers_view terms.items ≡ (c.in_ok-number-in-Compare.number ∷ []) ∷ [])
     (λ terms. MakesTerms c.args.computation.now c.args.negated (tree_view c.args.tree.now) c.args.rows.now.items
-    c.push.new.self.items (numbers_view terms.items))
+    c.row_number.new.rows.items (numbers_view terms.items))
     (λ terms is. subst (λ (ts : List (List ℕ)). MakesTerms c.args.computation.now c.args.negated
-    (tree_view c.args.tree.now) c.args.rows.now.items c.push.new.self.items ts)
-    (sym (is ∙ ap (λ (i : ℕ). (i ∷ []) ∷ []) last))
-    (subst (λ (rows : List TruthRow). MakesTerms c.args.computation.now c.args.negated (tree_view c.args.tree.now)
-    c.args.rows.now.items rows ((length c.args.rows.now.items ∷ []) ∷ []))
-    (sym c.in_ok-push-in-Compare.ensures.items)
-    (made_row c.args.computation.now c.args.negated (tree_view c.args.tree.now) c.args.rows.now.items
-    c.in_ok-row_of-in-Compare.field-0 c.in_ok-row_of-in-Compare.ensures)))
-    c.single.ensures
+    (tree_view c.args.tree.now) c.args.rows.now.items c.row_number.new.rows.items ts) (sym is)
+    c.in_ok-number-in-Compare.ensures.made) c.single.ensures
 
-pub returns-in_ok-second-in-And : goal.returns-in_ok-second-in-And
-returns-in_ok-second-in-And t c =
+pub returns-in_ok-second-in-And-clause-made : goal.returns-in_ok-second-in-And-clause-made
+returns-in_ok-second-in-And-clause-made t c =
     let same : And (tree_view c.deref-in-And.result.now) (tree_view c.deref-in-And-2.result.now)
     ≡ tree_view c.args.tree.now =
     rw (c.deref-in-And.ensures, c.deref-in-And-2.ensures, c.in-And.is) refl in
@@ -82,11 +68,12 @@ returns-in_ok-second-in-And t c =
     (made_and c.args.computation.now c.args.negated (tree_view c.deref-in-And.result.now)
     (tree_view c.deref-in-And-2.result.now) c.args.rows.now.items c.build-in-And.new.rows.items
     c.build-in-And-2.new.rows.items (numbers_view c.in_ok-first-in-And.first.items)
-    (numbers_view c.in_ok-second-in-And.second.items) c.in_ok-first-in-And.ensures c.in_ok-second-in-And.ensures)))
+    (numbers_view c.in_ok-second-in-And.second.items) c.in_ok-first-in-And.ensures.made
+    c.in_ok-second-in-And.ensures.made)))
     c.joined.ensures
 
-pub returns-in_ok-second-in-Or : goal.returns-in_ok-second-in-Or
-returns-in_ok-second-in-Or t c =
+pub returns-in_ok-second-in-Or-clause-made : goal.returns-in_ok-second-in-Or-clause-made
+returns-in_ok-second-in-Or-clause-made t c =
     let same : Or (tree_view c.deref-in-Or.result.now) (tree_view c.deref-in-Or-2.result.now)
     ≡ tree_view c.args.tree.now =
     rw (c.deref-in-Or.ensures, c.deref-in-Or-2.ensures, c.in-Or.is) refl in
@@ -104,5 +91,6 @@ returns-in_ok-second-in-Or t c =
     (made_or c.args.computation.now c.args.negated (tree_view c.deref-in-Or.result.now)
     (tree_view c.deref-in-Or-2.result.now) c.args.rows.now.items c.build-in-Or.new.rows.items
     c.build-in-Or-2.new.rows.items (numbers_view c.in_ok-first-in-Or.first.items)
-    (numbers_view c.in_ok-second-in-Or.second.items) c.in_ok-first-in-Or.ensures c.in_ok-second-in-Or.ensures)))
+    (numbers_view c.in_ok-second-in-Or.second.items) c.in_ok-first-in-Or.ensures.made
+    c.in_ok-second-in-Or.ensures.made)))
     c.joined-in-Or.ensures

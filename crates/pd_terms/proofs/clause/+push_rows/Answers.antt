@@ -2,7 +2,8 @@
 use Rattle.std.proofs.Common.{◌≡◌, refl, sym, subst}
 use Rattle.pd_model.specs.Predicates.{Predicate, And, Or}
 use Rattle.pd_pred.specs.Trees.{tree_view}
-use Rattle.pd_terms.specs.Ors.{IsOr, MakesRows}
+use Rattle.pd_model.specs.Decided.{IsOr}
+use Rattle.pd_terms.specs.Ors.{MakesRows}
 use Rattle.pd_terms.proofs.Oring.{made_and_rows, made_or_rows}
 use Rattle.pd_terms.proofs.clause.+push_rows.Goals as goal
 

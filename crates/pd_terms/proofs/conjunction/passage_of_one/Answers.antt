@@ -6,7 +6,8 @@ use Rattle.pd_model.specs.Predicates.{Predicate, Recorded, test_of}
 use Rattle.pd_pred.specs.Trees.{tree_view}
 use Rattle.pd_pred.specs.Views.{predicate_view}
 use Rattle.pd_terms.specs.Conjunctions.{none_good}
-use Rattle.pd_terms.specs.Ors.{IsOr, MakesRows}
+use Rattle.pd_model.specs.Decided.{IsOr}
+use Rattle.pd_terms.specs.Ors.{MakesRows}
 use Rattle.pd_terms.specs.Passages.{IsPassageOf}
 use Rattle.pd_terms.specs.declared.row.TruthRow.{TruthRow}
 use Rattle.pd_terms.proofs.Conjoining.{is_conjunction, ok_weaker, opposite_or, passage_for}

@@ -4,7 +4,7 @@ use Rattle.std.specs.Prelude.{IfSome}
 use Rattle.pd_model.specs.Predicates.{test_of}
 use Rattle.pd_pred.specs.Views.{predicate_view}
 use Rattle.pd_terms.specs.FirstCuts.{IsFirstSoFar, goods_of}
-use Rattle.pd_terms.specs.Locals.{HasFewTerms}
+use Rattle.pd_model.specs.Decided.{HasFewTerms}
 use Rattle.pd_terms.specs.Rows.{numbers_view}
 use Rattle.pd_terms.specs.declared.terms.Terms.{Terms}
 use Rattle.pd_terms.proofs.Allowed.{found_good}

@@ -1,7 +1,7 @@
 -- What the loop over terms keeps: those that are seen name no other process.
 use Rattle.std.proofs.Common.{drop}
 use Rattle.pd_pred.specs.Trees.{terms_view}
-use Rattle.pd_terms.specs.Locals.{NameAlone}
+use Rattle.pd_model.specs.Decided.{NameAlone}
 use Rattle.pd_terms.proofs.local.names_no_other.Given as goal
 
 abbrev pub invariant-loop-signed : goal.invariant-loop-signed

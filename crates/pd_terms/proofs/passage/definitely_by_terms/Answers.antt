@@ -4,7 +4,7 @@ use Rattle.std.specs.Prelude.{min}
 use Rattle.pd_model.specs.Predicates.{Predicate}
 use Rattle.pd_pred.specs.Trees.{tree_view}
 use Rattle.pd_pred.specs.Views.{predicate_view}
-use Rattle.pd_terms.specs.Locals.{IsLocal, term_count}
+use Rattle.pd_model.specs.Decided.{IsLocal, term_count}
 use Rattle.pd_terms.proofs.Conjoining.{one_at_least, single}
 use Rattle.pd_terms.proofs.passage.definitely_by_terms.Goals as goal
 

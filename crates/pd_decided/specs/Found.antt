@@ -1,0 +1,20 @@
+-- The answers that are found of predicates that are decided whatever the width.
+use Rattle.std.specs.Prelude.{Option, Some, None}
+use Rattle.pd_lists.specs.Answers.{definitely_answer_view, possibly_answer_view}
+use Rattle.pd_lists.specs.declared.definitely_answer.DefinitelyAnswer.{DefinitelyAnswer}
+use Rattle.pd_lists.specs.declared.possibly_answer.PossiblyAnswer.{PossiblyAnswer}
+use Rattle.pd_model.specs.Answers.{IsExactDefinitely, IsExactPossibly}
+use Rattle.pd_model.specs.Decided.{DecidesDefinitely, DecidesPossibly}
+use Rattle.pd_model.specs.Predicates.{Predicate, Recorded, test_of}
+
+-- Possibly's answer, if the predicate is one that decides it
+abbrev pub FindsPossibly : Recorded → Predicate → Option PossiblyAnswer → Type 0
+FindsPossibly r predicate None = ¬ DecidesPossibly r predicate
+FindsPossibly r predicate (Some answer) =
+    DecidesPossibly r predicate × IsExactPossibly r.events (test_of r predicate) (possibly_answer_view answer)
+
+-- Definitely's answer, if the predicate is one that decides it
+abbrev pub FindsDefinitely : Recorded → Predicate → Option DefinitelyAnswer → Type 0
+FindsDefinitely r predicate None = ¬ DecidesDefinitely r predicate
+FindsDefinitely r predicate (Some answer) =
+    DecidesDefinitely r predicate × IsExactDefinitely r.events (test_of r predicate) (definitely_answer_view answer)

@@ -1,0 +1,2 @@
+-- The answers that are found whatever the width.
+pub mod Found

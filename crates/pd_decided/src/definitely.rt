@@ -1,0 +1,40 @@
+//! Whether every observation passes through a satisfying cut, as far as it is decided whatever the width.
+ghost use Rattle.pd_decided.specs.Found.{FindsDefinitely};
+ghost use Rattle.pd_pred.specs.Views.{predicate_view};
+ghost use Rattle.std.specs.Prelude.{IfOk};
+
+use pd_clock::Computation;
+use pd_lists::DefinitelyAnswer;
+use pd_pairs::{PassageOfTwo, definitely_of_two};
+use pd_pred::Pred;
+use pd_terms::{PassageByTerms, definitely_by_terms};
+use std::alloc::{AllocError, Global};
+
+/// Whether every observation passes through a cut that satisfies the predicate, with the least level that has no
+/// avoiding cut or with the path that is printed of an observation that avoids, whatever the width; or nothing, if the
+/// predicate names more than two processes and isn't one of which its terms decide this. No level is walked.
+///
+/// Source: Garg and Waldecker, Detection of Strong Unstable Predicates in Distributed Programs, 1996.
+///
+/// # Errors
+/// An allocation was refused.
+pub fn definitely_decided(
+    alloc: Global,
+    computation: &Computation<'_>,
+    pred: &Pred,
+) -> Result<Option<DefinitelyAnswer>, AllocError>
+    ensures { IfOk result (FindsDefinitely computation.now (predicate_view pred.now)) }
+{
+    let by_terms = definitely_by_terms(alloc, computation, pred)?;
+    match by_terms {
+        PassageByTerms::Passed(level) => return Ok(Some(DefinitelyAnswer::Yes(level))),
+        PassageByTerms::Avoided(path) => return Ok(Some(DefinitelyAnswer::No(path))),
+        PassageByTerms::Undecided => {}
+    }
+    let of_two = definitely_of_two(alloc, computation, pred)?;
+    match of_two {
+        PassageOfTwo::Passed(level) => Ok(Some(DefinitelyAnswer::Yes(level))),
+        PassageOfTwo::Avoided(path) => Ok(Some(DefinitelyAnswer::No(path))),
+        PassageOfTwo::Undecided => Ok(None),
+    }
+}

@@ -1,0 +1,61 @@
+-- What is decided of predicates before the walk, and which answer is taken.
+use Rattle.std.specs.Borrow.{Bor}
+use Rattle.std.specs.Prelude.{◌≡◌, ◌⊎◌, ℕ, ◌<◌, true, List, ◌++◌, length, slice_index_or, Option, Some, None}
+use Rattle.pd_engine.specs.declared.early.Early.{Early}
+use Rattle.pd_format.specs.Documents.{Document}
+use Rattle.pd_lists.specs.Answers.{definitely_answer_view, possibly_answer_view}
+use Rattle.pd_lists.specs.declared.answers.Answers.{Answers}
+use Rattle.pd_lists.specs.declared.definitely_answer.DefinitelyAnswer.{DefinitelyAnswer}
+use Rattle.pd_lists.specs.declared.possibly_answer.PossiblyAnswer.{PossiblyAnswer}
+use Rattle.pd_model.specs.Answers.{IsExactDefinitely, IsExactPossibly}
+use Rattle.pd_model.specs.Decided.{DecidesDefinitely, DecidesPossibly}
+use Rattle.pd_model.specs.Predicates.{Predicate, Recorded, test_of}
+use Rattle.pd_pred.specs.Views.{predicate_view}
+use Rattle.pd_pred.specs.declared.predicate.Pred.{Pred}
+use Rattle.pd_spec.specs.declared.named.NamedPred.{NamedPred}
+
+-- Possibly's answer for a predicate of the document, if it is decided whatever the width and asked for
+abbrev pub IsEarlyPossibly : Document → Recorded → Predicate → Option PossiblyAnswer → Type 0
+IsEarlyPossibly document r predicate None = document.beyond_width ≡ true → ¬ DecidesPossibly r predicate
+IsEarlyPossibly document r predicate (Some answer) =
+    (document.beyond_width ≡ true) × DecidesPossibly r predicate
+    × IsExactPossibly r.events (test_of r predicate) (possibly_answer_view answer)
+
+-- Definitely's
+abbrev pub IsEarlyDefinitely : Document → Recorded → Predicate → Option DefinitelyAnswer → Type 0
+IsEarlyDefinitely document r predicate None = document.beyond_width ≡ true → ¬ DecidesDefinitely r predicate
+IsEarlyDefinitely document r predicate (Some answer) =
+    (document.beyond_width ≡ true) × DecidesDefinitely r predicate
+    × IsExactDefinitely r.events (test_of r predicate) (definitely_answer_view answer)
+
+-- an answer is left to the walk
+abbrev pub IsLeft : Early → Type 0
+IsLeft early = (early.possibly ≡ None) ⊎ (early.definitely ≡ None)
+
+-- What is decided of a predicate; and if an answer is left to the walk, it stands at this place among those that are.
+pub record IsEarly (document : Document) (r : Recorded) (left : List (Bor Pred)) (named : NamedPred) (early : Early) :
+    Type 0 where
+  pub possibly : IsEarlyPossibly document r (predicate_view named.pred) early.possibly
+  pub definitely : IsEarlyDefinitely document r (predicate_view named.pred) early.definitely
+  pub there : IsLeft early → early.place < length left
+  pub same : IsLeft early → (pred : Bor Pred) → (slice_index_or left early.place pred).now ≡ named.pred
+
+-- predicates were put after others
+abbrev pub GoesOn : (old new : List (Bor Pred)) → Type 0
+GoesOn old new = (more : List (Bor Pred)) × (new ≡ old ++ more)
+
+-- the same of each predicate
+pub record AreEarly (document : Document) (r : Recorded) (asked : List NamedPred) (left : List (Bor Pred))
+    (each : List Early) : Type 0 where
+  pub one_each : length each ≡ length asked
+  pub right : (i : ℕ) (named : NamedPred) (early : Early) → i < length asked
+      → IsEarly document r left (slice_index_or asked i named) (slice_index_or each i early)
+
+-- the answer that is decided, or else that of the walk at this place
+abbrev pub IsPossiblyOf : Option PossiblyAnswer → ℕ → List Answers → PossiblyAnswer → Type 0
+IsPossiblyOf (Some answer) place found taken = taken ≡ answer
+IsPossiblyOf None place found taken = (answers : Answers) → taken ≡ (slice_index_or found place answers).possibly
+
+abbrev pub IsDefinitelyOf : Option DefinitelyAnswer → ℕ → List Answers → DefinitelyAnswer → Type 0
+IsDefinitelyOf (Some answer) place found taken = taken ≡ answer
+IsDefinitelyOf None place found taken = (answers : Answers) → taken ≡ (slice_index_or found place answers).definitely
