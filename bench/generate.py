@@ -1,5 +1,6 @@
 #!/usr/bin/env python3
-"""generate.py NAME [PROCESSES] [--small]: writes a large bundle to standard output, or a small one of the same kind.
+"""generate.py NAME [PROCESSES] [--small] [--files=FOLDER]: writes a large bundle to standard output, or a small one of
+the same kind; or writes its parts into a folder, as `session.json` and a file `NN.stream` for each process.
 
 lattice   6 processes in 30 rounds: 7 local events each, then a message of each to one of them and back; levels of tens
           of thousands of cuts, and one conjunction that no cut satisfies
@@ -21,16 +22,21 @@ wide      8 processes, or 2 to 16 if another number is given, in 8 rounds of as 
           cut satisfies
 lists     8 processes of 20 local events each and no messages; an `or` of 14 sums, which holds unless the processes
           are nearly level, so that the avoiding cuts stand in lists
+leaders   16 processes of 10,000 events each, of which one in fifty is a send; 16 predicates, of which the first asks
+          whether any two lead at once, by an `or` of 120 pairs, and each other one the same of a number that nobody has
+pairs     2 processes of 10,000 events each and no messages; a sum of both that has no such value
 locals    the same lines with each send and receipt replaced by a local event of the same length, for comparison with
           messages
 """
 import json
+import os
 import random
 import sys
 
 
 # Small forms have fewer rounds and events, so that a profiler that is fifty times slower gets through in a second.
 SMALL = "--small" in sys.argv
+FOLDERS = [word.removeprefix("--files=") for word in sys.argv if word.startswith("--files=")]
 
 
 def size(large, small):
@@ -53,7 +59,19 @@ def stream(process, events):
     yield json.dumps({"end": True})
 
 
+def files(folder, head, streams):
+    os.makedirs(folder, exist_ok=True)
+    with open(os.path.join(folder, "session.json"), "w") as out:
+        out.write(head + "\n")
+    for number, lines in enumerate(streams):
+        with open(os.path.join(folder, f"{number:02}.stream"), "w") as out:
+            out.writelines(line + "\n" for line in lines)
+
+
 def bundle(head, streams):
+    if FOLDERS:
+        files(FOLDERS[0], head, streams)
+        return
     out = sys.stdout
     out.write(head + "\n")
     for lines in streams:
@@ -220,6 +238,43 @@ def local(event):
     return json.dumps({"set": {"x": 10 ** (digits - 1)}}) if digits > 0 else "{}".ljust(len(line))
 
 
+def rare_talk(processes, events, line_of, seed):
+    """Runs in which one event in fifty is a send, and a message is received soon after; `line_of` makes the others."""
+    rng = random.Random(seed)
+    lists, arrived, sent = [[] for _ in range(processes)], [[] for _ in range(processes)], 0
+    for _ in range(events):
+        for process in range(processes):
+            if arrived[process] and rng.random() < 0.5:
+                lists[process].append({"recv": arrived[process].pop(0)})
+            elif processes > 1 and rng.random() < 0.02:
+                sent += 1
+                arrived[(process + rng.randrange(1, processes)) % processes].append(f"m{sent}")
+                lists[process].append({"send": f"m{sent}"})
+            else:
+                lists[process].append({"set": line_of(rng)})
+    return lists
+
+
+def leaders():
+    """Few change their role, and all have other things to do."""
+    names = [f"p{k}" for k in range(16)]
+
+    def asked(number):
+        return " or ".join(f"{p}.l=={number} and {q}.l==1" for k, q in enumerate(names) for p in names[k + 1:])
+    head = document([(name, ["l", "n"]) for name in names],
+                    [(f"two{number}", asked(number)) for number in range(1, 17)], size(65536, 256))
+    talks = rare_talk(16, size(10000, 200), lambda rng: {"l": rng.randrange(2)} if rng.random() < 0.1
+                      else {"n": rng.randrange(10)}, 1)
+    bundle(head, [[json.dumps({"process": name}), *map(json.dumps, events), json.dumps({"end": True})]
+                  for name, events in zip(names, talks)])
+
+
+def pairs():
+    names, rng = ["p0", "p1"], random.Random(1)
+    head = document([(name, ["n"]) for name in names], [("sum", "p0.n + p1.n == 25")], 4096)
+    bundle(head, [stream(name, ({"n": rng.randrange(10)} for _ in range(size(10000, 500)))) for name in names])
+
+
 def talkers(line_of):
     """Eight talking processes, each event written by `line_of`; a walk for the predicate ends at the empty cut."""
     names = [f"p{k}" for k in range(8)]
@@ -238,4 +293,4 @@ def locals_alone():
 
 {"lattice": lattice, "several": several, "terms": terms, "streams": streams, "messages": messages,
  "locals": locals_alone, "avoiding": avoiding, "sums": open_sums, "heavy": heavy_sums, "marked": marked_sums,
- "many": many_sums, "wide": wide, "lists": listed_sums}[sys.argv[1]]()
+ "many": many_sums, "wide": wide, "lists": listed_sums, "leaders": leaders, "pairs": pairs}[sys.argv[1]]()

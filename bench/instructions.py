@@ -1,9 +1,10 @@
 #!/usr/bin/env python3
 """instructions.py PROGRAM [LOAD..] [--write] [--beside OTHER]: counts the instructions of the program on small loads.
 
-Each load is the small form of one of `generate.py`, by its words as "wide 9", judged once as a bundle under callgrind
-(`valgrind`), which counts each instruction that is carried out: the count is the same on each machine and however busy
-it is, but for a few in a thousand where a hash of ids has other keys. What is counted is compared with
+Each load is the small form of one of `generate.py`, by its words as "wide 9", judged once as a bundle, or from files
+with `--beyond-width` where it is for that, under callgrind (`valgrind`), which counts each instruction that is carried
+out: the count is the same on each machine and however busy it is, but for a few in a thousand where a hash of ids has
+other keys. What is counted is compared with
 `bench/instructions.json`. A load that takes over a twentieth more fails, with the ten functions that grew most. One
 that takes over a twentieth less is named, so that the stored figures are made again. With --write they are: on purpose,
 since a change of the toolchain or of the code made them other ones. With --beside the same of another program that
@@ -20,7 +21,8 @@ import tempfile
 FOLDER = os.path.dirname(os.path.abspath(__file__))
 STORED = os.path.join(FOLDER, "instructions.json")
 LOADS = ("lattice", "terms", "avoiding", "sums", "marked", "heavy", "many", "lists", "streams", "messages",
-         "several")
+         "several", "leaders", "pairs")
+BEYOND_WIDTH = ("leaders", "pairs")  # judged from files, with that option
 MARGIN = 0.05  # which part of the stored count a load may take more
 SHARE = 0.002  # functions with a smaller part of a load's instructions aren't stored
 POSITION = re.compile(r"(fn|cfn)=\((\d+)\)(?: (.*))?")
@@ -46,10 +48,24 @@ def functions_of(lines):
     return counts
 
 
-def count(program, bundle, folder):
-    """The instructions of a run of the program on a bundle: the sum, and those of each function."""
+def generate(name, folder):
+    """Writes a load, and gives the arguments with which it is judged and the file that is its input."""
+    place = os.path.join(folder, name)
+    words = [sys.executable, os.path.join(FOLDER, "generate.py"), *name.split(), "--small"]
+    if name in BEYOND_WIDTH:
+        subprocess.run([*words, f"--files={place}"], check=True)
+        streams = sorted(file for file in os.listdir(place) if file.endswith(".stream"))
+        files = [os.path.join(place, file) for file in ["session.json", *streams]]
+        return ["judge", *files, "--beyond-width"], os.devnull
+    with open(place, "wb") as file:
+        subprocess.run(words, stdout=file, check=True)
+    return [], place
+
+
+def count(program, arguments, bundle, folder):
+    """The instructions of a run of the program: the sum, and those of each function."""
     out = os.path.join(folder, "callgrind.out")
-    ran = subprocess.run(["valgrind", "--tool=callgrind", f"--callgrind-out-file={out}", *program.split()],
+    ran = subprocess.run(["valgrind", "--tool=callgrind", f"--callgrind-out-file={out}", *program.split(), *arguments],
                          stdin=open(bundle, "rb"), stdout=subprocess.DEVNULL, stderr=subprocess.PIPE, text=True,
                          errors="replace", check=False)
     if not os.path.isfile(out) or ran.returncode not in (0, 1):
@@ -97,14 +113,11 @@ def main():
     failed = []
     with tempfile.TemporaryDirectory() as folder:
         for name in given.loads or LOADS:
-            bundle = os.path.join(folder, name)
-            with open(bundle, "wb") as file:
-                subprocess.run([sys.executable, os.path.join(FOLDER, "generate.py"), *name.split(), "--small"],
-                               stdout=file, check=True)
-            total, counts = count(given.program, bundle, folder)
+            arguments, bundle = generate(name, folder)
+            total, counts = count(given.program, arguments, bundle, folder)
             said, is_over = compare(name, total, counts, stored.get(name))
             if given.beside:
-                said[0] += f", {total / count(given.beside, bundle, folder)[0]:.2f} of the other"
+                said[0] += f", {total / count(given.beside, arguments, bundle, folder)[0]:.2f} of the other"
             print("\n".join(said), flush=True)
             failed += [name] if is_over and not given.write else []
             stored[name] = shared(total, counts)
