@@ -27,8 +27,8 @@ const JUDGE_AFTER: &str =
 also because a stream can't be read, 2 if the arguments are refused, 3 if a file can't be opened, the document \
 can't be read or the output can't be written, and 4 if memory runs out.\n\n\
 An answer is unknown where a level of the lattice has more cuts than the document's width. With --beyond-width \
-predicates that name at most two processes, and those of which each comparison names one process, are answered all \
-the same.\n\n\
+predicates that name at most two processes are answered all the same and, as far as docs/SPECIFICATION.md says, those \
+of which each comparison names one process.\n\n\
 The formats are described in docs/SPECIFICATION.md. An example, at the top of the repository:\n  \
 crates/monitor/out/monitor judge examples/ten-lines/session.json examples/ten-lines/left.stream \
 examples/ten-lines/right.stream";
@@ -72,8 +72,8 @@ is written to the standard output once all of them have ended and all watchers w
 the session is judged, 1 if it is refused, 2 if the arguments are refused, 3 if the document can't be read, a port \
 can't be bound, a stream can't be accepted or the output can't be written, and 4 if memory runs out.\n\n\
 An answer is unknown where a level of the lattice has more cuts than the document's width. With --beyond-width \
-predicates that name at most two processes, and those of which each comparison names one process, are answered all \
-the same.\n\n\
+predicates that name at most two processes are answered all the same and, as far as docs/SPECIFICATION.md says, those \
+of which each comparison names one process.\n\n\
 The formats are described in docs/SPECIFICATION.md. An example, at the top of the repository:\n  \
 crates/monitor/out/monitor serve examples/live/session.json --port 7411\nand then, from another terminal:\n  \
 cat examples/live/left.stream > /dev/tcp/127.0.0.1/7411 & cat examples/live/right.stream > /dev/tcp/127.0.0.1/7411";
