@@ -1,5 +1,5 @@
 #!/usr/bin/env python3
-"""generate.py NAME [PROCESSES] [--small] [--files=FOLDER]: writes a large bundle to standard output, or a small one of
+"""generate.py NAME [NUMBER] [--small] [--files=FOLDER]: writes a large bundle to standard output, or a small one of
 the same kind; or writes its parts into a folder, as `session.json` and a file `NN.stream` for each process.
 
 lattice   6 processes in 30 rounds: 7 local events each, then a message of each to one of them and back; levels of tens
@@ -17,6 +17,7 @@ marked    the same with one part more, which the cut after p0's first event sati
 heavy     6 processes in 8 rounds of 7 local events, levels of tens of thousands of cuts; an `or` of 46 sums that no cut
           satisfies
 many      8 processes in 3 rounds of 3 local events; 16 predicates of 30 sums each that no cut satisfies
+uneven    the same, with one sum in each predicate after the first four
 wide      8 processes, or 2 to 16 if another number is given, in 8 rounds of as many local events as leave the levels
           within the width, with a message from each process to the next one and back after each round; a sum that no
           cut satisfies
@@ -25,6 +26,13 @@ lists     8 processes of 20 local events each and no messages; an `or` of 14 sum
 leaders   16 processes of 10,000 events each, of which one in fifty is a send; 16 predicates, of which the first asks
           whether any two lead at once, by an `or` of 120 pairs, and each other one the same of a number that nobody has
 pairs     2 processes of 10,000 events each and no messages; a sum of both that has no such value
+ors       6 processes in 8 rounds of 6 local events; an `or` of 64 equalities of three terms, or of as many as another
+          number says, which no cut satisfies
+hub       8 processes in 700 rounds, in each of which seven send to the first and are answered; a comparison of two
+          processes that no cut satisfies
+ring      a token that goes 4,900 times round 8 processes, so that each level has one cut; the same comparison
+everyone  16 processes that send a message to each other one, and then receive what all have sent, in 150 rounds; the
+          same comparison, which the first wide level leaves unknown
 locals    the same lines with each send and receipt replaced by a local event of the same length, for comparison with
           messages
 """
@@ -162,6 +170,10 @@ def many_sums():
     rounds(8, size(3, 1), size(3, 1), [(f"q{k}", " or ".join(sums(8, 30, k))) for k in range(16)])
 
 
+def uneven_sums():
+    rounds(8, size(3, 1), size(3, 1), [(f"q{k}", " or ".join(sums(8, 30 if k < 4 else 1, k))) for k in range(16)])
+
+
 def there_and_back(names, number):
     """Of each process the events by which a message goes from the first process to the next one and so on, and back."""
     way = [*names, *names[-2::-1]]
@@ -172,9 +184,12 @@ def there_and_back(names, number):
     return events
 
 
+def given_number(default):
+    return next((int(word) for word in sys.argv[2:] if word.isdigit()), default)
+
+
 def wide():
-    given = [int(word) for word in sys.argv[2:] if word.isdigit()]
-    processes = given[0] if given else 8
+    processes = given_number(8)
     steps = max(steps for steps in range(1, 8) if (steps + 1) ** processes <= 500_000)
     text = " + ".join(f"p{k}.n" for k in range(processes))
     rounds(processes, steps, size(8, 1), [("never", f"{text} == {1000 * processes + 1}")], meet=there_and_back)
@@ -255,6 +270,45 @@ def rare_talk(processes, events, line_of, seed):
     return lists
 
 
+def ors():
+    """Equalities of three terms that are false where all counters are even."""
+    rng = random.Random(9)
+
+    def term():
+        return f"p{rng.randrange(6)}.n"
+    parts = [f"{term()} + {term()} - {term()} == {2 * rng.randrange(900) + 1}" for _ in range(given_number(64))]
+    rounds(6, size(6, 4), size(8, 1), [("never", " or ".join(parts))])
+
+
+# A comparison that no cut satisfies where no process sets anything below 0.
+NEGATIVE = [("never", "p0.n + p3.n == -1")]
+
+
+def hub():
+    rounds(8, 0, size(700, 20), NEGATIVE, meet=lambda names, number: meeting(names, names[0], number, 1))
+
+
+def round_trip(names, number):
+    """Of each process the events with which a token comes from the process before it and goes to the next one."""
+    first = number * len(names)
+    return {name: ([{"recv": f"{first + k}"}] if first + k else []) + [{"send": f"{first + k + 1}"}]
+            for k, name in enumerate(names)}
+
+
+def ring():
+    rounds(8, 0, size(4900, 100), NEGATIVE, meet=round_trip)
+
+
+def to_each_other(names, number):
+    """Of each process the events with which it sends to all others, and then receives what they sent."""
+    return {name: [{"send": f"{number}-{name}-{other}"} for other in names if other != name]
+            + [{"recv": f"{number}-{other}-{name}"} for other in names if other != name] for name in names}
+
+
+def everyone():
+    rounds(16, 0, size(150, 3), NEGATIVE, meet=to_each_other)
+
+
 def leaders():
     """Few change their role, and all have other things to do."""
     names = [f"p{k}" for k in range(16)]
@@ -293,4 +347,5 @@ def locals_alone():
 
 {"lattice": lattice, "several": several, "terms": terms, "streams": streams, "messages": messages,
  "locals": locals_alone, "avoiding": avoiding, "sums": open_sums, "heavy": heavy_sums, "marked": marked_sums,
- "many": many_sums, "wide": wide, "lists": listed_sums, "leaders": leaders, "pairs": pairs}[sys.argv[1]]()
+ "many": many_sums, "uneven": uneven_sums, "wide": wide, "lists": listed_sums, "leaders": leaders, "pairs": pairs,
+ "ors": ors, "hub": hub, "ring": ring, "everyone": everyone}[sys.argv[1]]()

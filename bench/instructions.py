@@ -21,7 +21,7 @@ import tempfile
 FOLDER = os.path.dirname(os.path.abspath(__file__))
 STORED = os.path.join(FOLDER, "instructions.json")
 LOADS = ("lattice", "terms", "avoiding", "sums", "marked", "heavy", "many", "lists", "streams", "messages",
-         "several", "leaders", "pairs")
+         "several", "leaders", "pairs", "wide 8", "wide 16", "hub", "ring")
 BEYOND_WIDTH = ("leaders", "pairs")  # judged from files, with that option
 MARGIN = 0.05  # which part of the stored count a load may take more
 SHARE = 0.002  # functions with a smaller part of a load's instructions aren't stored

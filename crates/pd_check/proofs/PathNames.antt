@@ -1,11 +1,11 @@
 -- The names of processes that a path is printed with.
 use Rattle.std.proofs.Common.{◌≡◌, ◌↔◌, ℕ, zero, suc, ◌+◌, ◌<◌, ◌≤◌, ◌⊎◌, inl, inr, Bool, true, false, IsTrue, None, Some, List, [], ◌∷◌, ◌++◌, length, get_or, map, take, All, refl, sym, ap, ◌∙◌, subst, arith}
-use Rattle.std.specs.Prelude.{String, position, string_bytes}
+use Rattle.std.specs.Prelude.{String, Option, position, string_bytes}
 use Rattle.std.specs.Global.{Global}
 use Rattle.std.specs.List.{position_or_len}
 use Rattle.std.specs.Str.{bytes_eq}
 use Rattle.std.proofs.lemmas.Bool.{cases_lt, lt-ltb, false≢true}
-use Rattle.std.proofs.lemmas.List.{length-map, length-set, map-append}
+use Rattle.std.proofs.lemmas.List.{get_or-map, length-map, length-set, map-append, take_all, take_more}
 use Rattle.std.proofs.lemmas.List.Elements.{All-cons, All-push}
 use Rattle.std.proofs.lemmas.List.Quantifiers.{position-Some}
 use Rattle.std.proofs.lemmas.List.Sums.{fails_before_first}
@@ -18,17 +18,17 @@ use Rattle.pd_judgement.specs.Findings.{IsGoodPath}
 use Rattle.pd_format.specs.Names.{AreDistinct}
 use Rattle.pd_model.specs.Paths.{AvoidsFrom}
 use Rattle.pd_model.proofs.AvoidingPaths.{avoids_here, avoids_on}
+use Rattle.pd_report.specs.Steps.{name_at, names_at, names_view, AreBelow}
 use Rattle.pd_check.specs.Verdicts.{AreNamed}
-use Rattle.pd_check.proofs.Zips.{same_at, taken_more}
 
 nowhere : ProcessNames
 nowhere = record { name = []; vars = [] }
 
-name_at : (names : List ProcessNames) (p : ℕ) (d : ProcessNames) → p < length names
+name_there : (names : List ProcessNames) (p : ℕ) (d : ProcessNames) → p < length names
     → name_of_process names p ≡ (get_or names p d).name
-name_at [] p d lt = absurd (omega arith)
-name_at (process ∷ names) zero d lt = refl
-name_at (process ∷ names) (suc p) d lt = name_at names p d (omega arith)
+name_there [] p d lt = absurd (omega arith)
+name_there (process ∷ names) zero d lt = refl
+name_there (process ∷ names) (suc p) d lt = name_there names p d (omega arith)
 
 -- ---- a name is found
 
@@ -47,7 +47,7 @@ name_unknown : (names : List ProcessNames) (name : List ℕ) (p : ℕ) → proce
     → ¬ (name ≡ name_of_process names p)
 name_unknown names name p none lt same =
     let fails : has_name name (get_or names p nowhere) ≡ false = none_found (has_name name) names p nowhere none lt in
-    let is : (get_or names p nowhere).name ≡ name = sym (same ∙ name_at names p nowhere lt) in
+    let is : (get_or names p nowhere).name ≡ name = sym (same ∙ name_there names p nowhere lt) in
     let passes : has_name name (get_or names p nowhere) ≡ true =
     (bytes_eq-Decides (get_or names p nowhere).name name).1 is in
     false≢true (sym fails ∙ passes)
@@ -57,7 +57,7 @@ name_known : (names : List ProcessNames) (name : List ℕ) (p : ℕ) → process
 name_known names name p found =
     let at = position-Some (has_name name) names p nowhere found in
     let is : (get_or names p nowhere).name ≡ name = (bytes_eq-Decides (get_or names p nowhere).name name).0 at.1 in
-    (at.0, sym (name_at names p nowhere at.0 ∙ is))
+    (at.0, sym (name_there names p nowhere at.0 ∙ is))
 
 -- ---- no two processes have one name
 
@@ -65,7 +65,8 @@ apart : (names : List ProcessNames) (p q : ℕ) → AreDistinct names → p < q 
     → ¬ (name_of_process names p ≡ name_of_process names q)
 apart names p q distinct below lt same =
     let first : p < length names = omega arith in
-    distinct.processes p q nowhere below lt (sym (name_at names p nowhere first) ∙ (same ∙ name_at names q nowhere lt))
+    let same_there = sym (name_there names p nowhere first) ∙ (same ∙ name_there names q nowhere lt) in
+    distinct.processes p q nowhere below lt same_there
 
 same_process : (names : List ProcessNames) (p q : ℕ) → AreDistinct names → p < length names → q < length names
     → name_of_process names p ≡ name_of_process names q → p ≡ q
@@ -102,28 +103,55 @@ same_path names (p ∷ a) (q ∷ b) distinct in_a in_b same =
 -- ---- the path of names
 
 -- one name that isn't found
-pub no_path : (names : List ProcessNames) (reported : List (String Global)) (i : ℕ) (name : String Global)
-    → i < length reported → name ≡ get_or reported i name → process_named names (string_bytes name) ≡ None
-    → (path : List ℕ) → ¬ AreNamed names (map string_bytes reported) path
-no_path names reported i name lt is none path named =
-    let at = same_at string_bytes (name_of_process names) reported path i name 0 named.1 lt in
-    name_unknown names (string_bytes name) (get_or path i 0) none (named.0 i 0 at.0) (ap string_bytes is ∙ at.1)
+pub no_path : (names : List ProcessNames) (reported : List (List ℕ)) (i : ℕ) → i < length reported
+    → process_named names (get_or reported i []) ≡ None → (path : List ℕ) → ¬ AreNamed names reported path
+no_path names reported i lt none path named =
+    let count : length reported ≡ length path = ap length named.1 ∙ length-map path (name_of_process names) in
+    let there : i < length path = omega arith in
+    let is : get_or reported i [] ≡ name_of_process names (get_or path i 0) =
+    ap (λ (ns : List (List ℕ)). get_or ns i []) named.1 ∙ get_or-map (name_of_process names) path i 0 [] there in
+    name_unknown names (get_or reported i []) (get_or path i 0) none (named.0 i 0 there) is
 
 pub nothing_named : (names : List ProcessNames) → AreNamed names [] []
 nothing_named names = ((λ i d lt. absurd (omega arith)), refl)
 
-pub one_more_named : (names : List ProcessNames) (reported : List (String Global)) (i : ℕ) (name : String Global)
-    (path : List ℕ) (p : ℕ) → i < length reported → name ≡ get_or reported i name
-    → process_named names (string_bytes name) ≡ Some p → AreNamed names (map string_bytes (take i reported)) path
-    → AreNamed names (map string_bytes (take (i + 1) reported)) (path ++ p ∷ [])
-one_more_named names reported i name path p lt is found named =
-    let known = name_known names (string_bytes name) p found in (
+pub one_more_named : (names : List ProcessNames) (reported : List (List ℕ)) (i : ℕ) (path : List ℕ) (p : ℕ)
+    → i < length reported → process_named names (get_or reported i []) ≡ Some p
+    → AreNamed names (take i reported) path → AreNamed names (take (i + 1) reported) (path ++ p ∷ [])
+one_more_named names reported i path p lt found named =
+    let known = name_known names (get_or reported i []) p found in (
       All-push (IsThere names) path p named.0 known.0,
-      taken_more string_bytes reported i name lt is
-          ∙ (ap (λ (before : List (List ℕ)). before ++ string_bytes name ∷ []) named.1
+      take_more reported i [] lt
+          ∙ (ap (λ (before : List (List ℕ)). before ++ get_or reported i [] ∷ []) named.1
           ∙ (ap (λ (n : List ℕ). map (name_of_process names) path ++ n ∷ []) known.1
           ∙ sym (map-append (name_of_process names) path (p ∷ [])))),
     )
+
+-- ---- names that are kept once
+
+-- the process of a step's name, if the processes are those of the names that are kept
+pub process_at : (names : List ProcessNames) (kept : List (String Global)) (processes : List (Option ℕ))
+    (steps : List ℕ) (reported : List (List ℕ)) (i : ℕ) (d : Option ℕ) → reported ≡ names_at (names_view kept) steps
+    → processes ≡ map (process_named names) (names_view kept) → AreBelow (length kept) steps → i < length steps
+    → (i < length reported) × (get_or processes (get_or steps i 0) d ≡ process_named names (get_or reported i []))
+process_at names kept processes steps reported i d same found below lt =
+    let step : ℕ = get_or steps i 0 in
+    let there : step < length kept = below i 0 lt in
+    let in_view : step < length (names_view kept) = omega (arith, there, length-map kept string_bytes) in
+    let count : length reported ≡ length steps = ap length same ∙ length-map steps (name_at (names_view kept)) in
+    let is : get_or reported i [] ≡ name_at (names_view kept) step =
+    ap (λ (ns : List (List ℕ)). get_or ns i []) same ∙ get_or-map (name_at (names_view kept)) steps i 0 [] lt in (
+      omega arith,
+      ap (λ (ps : List (Option ℕ)). get_or ps step d) found
+          ∙ get_or-map (process_named names) (names_view kept) step [] d in_view
+          ∙ ap (process_named names) (sym is),
+    )
+
+pub all_steps : (kept : List (List ℕ)) (steps : List ℕ) (reported : List (List ℕ)) (i : ℕ)
+    → reported ≡ names_at kept steps → length steps ≤ i → take i reported ≡ reported
+all_steps kept steps reported i same past =
+    let count : length reported ≡ length steps = ap length same ∙ length-map steps (name_at kept) in
+    take_all i reported (omega arith)
 
 -- ---- paths that avoid
 

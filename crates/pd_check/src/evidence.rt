@@ -2,10 +2,12 @@
 ghost use Rattle.pd_check.specs.Views.{verdicts_view, checked_view, verdict_view};
 ghost use Rattle.pd_check.specs.Verdicts.{IsCheckedBy, IsCutVerdict, IsPathOf, IsPathVerdict};
 ghost use Rattle.pd_judgement.specs.Judgements.{recorded_of};
+ghost use Rattle.pd_format.specs.Names.{process_named};
 ghost use Rattle.pd_format.specs.Readings as readings;
 ghost use Rattle.pd_judgement.specs.Findings.{IsAnswersFinding, IsGoodPath};
 ghost use Rattle.pd_model.specs.Predicates.{test_of};
 ghost use Rattle.pd_pred.specs.Views.{predicate_view};
+ghost use Rattle.pd_report.specs.Steps.{names_view};
 ghost use Rattle.pd_report.specs.Views as views;
 ghost use Rattle.pd_spec.specs.Named.{named_view};
 ghost use Rattle.pd_spec.specs.Views.{document_view};
@@ -16,24 +18,41 @@ use super::verdict::Verdict;
 use pd_clock::{Computation, Cut};
 use pd_evidence::{check_cut, check_path};
 use pd_pred::{Names, Pred};
-use pd_report::{Answer, Definitely, Possibly};
+use pd_report::{Answer, Definitely, Path, Possibly};
 use pd_spec::{NamedPred, Spec};
 use std::alloc::{AllocError, Global};
 
-/// The processes of these names, counted from 0, if each is there.
+/// The process of each of these names, counted from 0, if it is there.
+fn processes_of(
+    alloc: Global,
+    names: &Names,
+    reported: &[String],
+) -> Result<Vec<Option<usize>>, AllocError>
+    ensures { IfOk result (λ processes. processes.items ≡ map (process_named names.now) (names_view reported.now)) }
+{
+    let mut processes = Vec::with_capacity(alloc, reported.len())?;
+    for name in reported {
+        processes.push(names.find(name))?;
+    }
+    Ok(processes)
+}
+
+/// The processes of a path's names, counted from 0, if each is there. A name is looked up once.
 ///
 /// # Errors
 /// Out of memory.
 pub fn path_of(
     alloc: Global,
     names: &Names,
-    reported: &[String],
+    reported: &Path,
 ) -> Result<Option<Vec<usize>>, AllocError>
-    ensures { IfOk result (IsPathOf names.now (map string_bytes reported.now)) }
+    ensures { IfOk result (IsPathOf names.now reported.now) }
 {
-    let mut path = Vec::new(alloc);
-    for name in reported {
-        match names.find(name) {
+    let (kept, steps) = reported.parts();
+    let processes = processes_of(alloc, names, kept)?;
+    let mut path = Vec::with_capacity(alloc, steps.len())?;
+    for &step in steps {
+        match processes[step] {
             Some(p) => path.push(p)?,
             None => return Ok(None),
         }
@@ -66,12 +85,12 @@ fn avoids(
     names: &Names,
     computation: &Computation<'_>,
     pred: &Pred,
-    reported: &[String],
+    reported: &Path,
 ) -> Result<bool, AllocError>
     requires { length computation.now.events ≡ length names.now }
     ensures { IfOk result (λ good. IsTrue good
         ↔ IsGoodPath names.now computation.now.events (test_of computation.now (predicate_view pred.now))
-        (map string_bytes reported.now)) }
+        reported.now) }
 {
     names.differ();
     match path_of(alloc, names, reported)? {

@@ -1,11 +1,14 @@
 -- The answers that are found of predicates that are decided whatever the width.
-use Rattle.std.specs.Prelude.{Option, Some, None}
+use Rattle.std.specs.Global.{Global}
+use Rattle.std.specs.Prelude.{⊤, ℕ, Option, Some, None, Vec}
 use Rattle.pd_lists.specs.Answers.{definitely_answer_view, possibly_answer_view}
 use Rattle.pd_lists.specs.declared.definitely_answer.DefinitelyAnswer.{DefinitelyAnswer}
 use Rattle.pd_lists.specs.declared.possibly_answer.PossiblyAnswer.{PossiblyAnswer}
 use Rattle.pd_model.specs.Answers.{IsExactDefinitely, IsExactPossibly}
 use Rattle.pd_model.specs.Decided.{DecidesDefinitely, DecidesPossibly}
+use Rattle.pd_model.specs.Events.{Computation}
 use Rattle.pd_model.specs.Predicates.{Predicate, Recorded, test_of}
+use Rattle.pd_terms.specs.Passages.{IsPathOfAll}
 
 -- Possibly's answer, if the predicate is one that decides it
 abbrev pub FindsPossibly : Recorded → Predicate → Option PossiblyAnswer → Type 0
@@ -18,3 +21,8 @@ abbrev pub FindsDefinitely : Recorded → Predicate → Option DefinitelyAnswer 
 FindsDefinitely r predicate None = ¬ DecidesDefinitely r predicate
 FindsDefinitely r predicate (Some answer) =
     DecidesDefinitely r predicate × IsExactDefinitely r.events (test_of r predicate) (definitely_answer_view answer)
+
+-- the path printed where no cut satisfies, if it is known
+abbrev pub IsPathIfKnown : Computation → Option (Vec ℕ Global) → Type 0
+IsPathIfKnown c None = ⊤
+IsPathIfKnown c (Some path) = IsPathOfAll c path.items

@@ -1,5 +1,7 @@
 //! Whether every observation passes through a satisfying cut, as far as it is decided whatever the width.
 ghost use Rattle.pd_decided.specs.Found.{FindsDefinitely};
+ghost use Rattle.pd_model.specs.Observations.{Possibly};
+ghost use Rattle.pd_model.specs.Predicates.{test_of};
 ghost use Rattle.pd_pred.specs.Views.{predicate_view};
 ghost use Rattle.std.specs.Prelude.{IfOk};
 
@@ -10,19 +12,21 @@ use pd_pred::Pred;
 use pd_terms::{PassageByTerms, definitely_by_terms};
 use std::alloc::{AllocError, Global};
 
-/// Whether every observation passes through a cut that satisfies the predicate, with the least level that has no
-/// avoiding cut or with the path that is printed of an observation that avoids, whatever the width; or nothing, if the
-/// predicate names more than two processes and isn't one of which its terms decide this. No level is walked.
+/// Whether every observation passes through a cut that satisfies the predicate, if some cut does: with the least level
+/// that has no avoiding cut or with the path that is printed of an observation that avoids, whatever the width; or
+/// nothing, if the predicate names more than two processes and isn't one of which its terms decide this. No level is
+/// walked.
 ///
 /// Source: Garg and Waldecker, Detection of Strong Unstable Predicates in Distributed Programs, 1996.
 ///
 /// # Errors
 /// An allocation was refused.
-pub fn definitely_decided(
+pub(crate) fn definitely_decided(
     alloc: Global,
     computation: &Computation<'_>,
     pred: &Pred,
 ) -> Result<Option<DefinitelyAnswer>, AllocError>
+    requires { Possibly computation.now.events (test_of computation.now (predicate_view pred.now)) }
     ensures { IfOk result (FindsDefinitely computation.now (predicate_view pred.now)) }
 {
     let by_terms = definitely_by_terms(alloc, computation, pred)?;

@@ -1,14 +1,16 @@
 //! The answers for a predicate that are decided whatever the width: by its terms, or by the counts of the two processes
 //! that it names.
 //!
-//! Terms come first, since they take time for the events, and the counts of two processes for their pairs.
+//! Terms come first, since they take time for the events, and the counts of two processes for their pairs. Where no cut
+//! satisfies, the answer for Definitely is known by that, and its path is the same for each predicate.
 //!
 //! - `possibly`: whether some consistent cut satisfies
 //! - `definitely`: whether every observation passes through a satisfying cut
+//! - `both`: both answers
 #![tactic(auto)]
 
+mod both;
 mod definitely;
 mod possibly;
 
-pub use definitely::definitely_decided;
-pub use possibly::possibly_decided;
+pub use both::{Decided, decide};

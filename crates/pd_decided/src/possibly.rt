@@ -17,7 +17,7 @@ use std::alloc::{AllocError, Global};
 ///
 /// # Errors
 /// An allocation was refused.
-pub fn possibly_decided(
+pub(crate) fn possibly_decided(
     alloc: Global,
     computation: &Computation<'_>,
     pred: &Pred,

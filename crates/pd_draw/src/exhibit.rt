@@ -8,7 +8,7 @@ ghost use Rattle.pd_picture.specs.Pictures.{texts_view};
 ghost use Rattle.pd_pred.specs.Views.{predicate_view};
 ghost use Rattle.pd_report.specs.Views as views;
 ghost use Rattle.pd_spec.specs.Named.{named_view};
-ghost use Rattle.std.specs.Prelude.{◌≡◌, IfOk, length, map, string_bytes};
+ghost use Rattle.std.specs.Prelude.{◌≡◌, IfOk, length, string_bytes};
 
 use super::values::value_texts;
 use pd_check::path_of;
@@ -16,7 +16,7 @@ use pd_clock::{Computation, Cut};
 use pd_evidence::through;
 use pd_picture::Evidence;
 use pd_pred::{Names, Pred};
-use pd_report::{Answer, Definitely, Possibly};
+use pd_report::{Answer, Definitely, Path, Possibly};
 use pd_spec::NamedPred;
 use std::alloc::{AllocError, Global};
 
@@ -66,13 +66,12 @@ fn observation_of(
     names: &Names,
     computation: &Computation<'_>,
     pred: &Pred,
-    reported: &[String],
+    reported: &Path,
 ) -> Result<Evidence, AllocError>
     requires good { IsGoodPath names.now computation.now.events (test_of computation.now (predicate_view pred.now))
-        (map string_bytes reported.now) }
+        reported.now }
     requires one_each { length computation.now.events ≡ length names.now }
-    ensures { IfOk result (ShowsPath names.now computation.now (predicate_view pred.now)
-        (map string_bytes reported.now)) }
+    ensures { IfOk result (ShowsPath names.now computation.now (predicate_view pred.now) reported.now) }
 {
     names.differ();
     match path_of(alloc, names, reported)? {

@@ -7,3 +7,4 @@ pub mod Ends
 pub mod Zips
 pub mod WalkAnswers
 pub mod BundleReads
+pub mod PathNames

@@ -4,6 +4,7 @@ ghost use Rattle.pd_format.specs.Names.{name_of_process};
 ghost use Rattle.pd_judgement.specs.Judgements.{AnswersDefinitely, AnswersPossibly, IsAnswered, printed_definitely, printed_possibly};
 ghost use Rattle.pd_lists.specs.Answers.{definitely_answer_view, possibly_answer_view};
 ghost use Rattle.pd_pred.specs.Views.{predicate_view};
+ghost use Rattle.pd_report.specs.Steps.{names_view};
 ghost use Rattle.pd_report.specs.Views as views;
 ghost use Rattle.pd_spec.specs.Named.{named_view};
 ghost use Rattle.pd_spec.specs.Views.{document_view};
@@ -16,7 +17,7 @@ use pd_expand::Crew;
 use pd_level::Gate;
 use pd_lists::{DefinitelyAnswer, PossiblyAnswer};
 use pd_pred::Names;
-use pd_report::{Answer, Definitely, Possibly};
+use pd_report::{Answer, Definitely, Path, Possibly};
 use pd_spec::{NamedPred, Spec};
 use pd_walk::answer_all;
 use std::alloc::{AllocError, Global};
@@ -93,16 +94,25 @@ fn name_of(alloc: Global, names: &Names, p: usize) -> Result<String, AllocError>
     String::from_str(alloc, names.name(p))
 }
 
-/// The names of processes, which are counted from 0.
-fn names_of(alloc: Global, names: &Names, path: &[usize]) -> Result<Vec<String>, AllocError>
-    requires { All (λ p. p < length names.now) path.now }
-    ensures { IfOk result (λ path_names. map string_bytes path_names.items ≡ map (name_of_process names.now) path.now) }
+/// The names of the processes, in order.
+fn all_names(alloc: Global, names: &Names) -> Result<Vec<String>, AllocError>
+    ensures { IfOk result (λ all. names_view all.items ≡ map (λ process. process.name) names.now) }
 {
-    let mut path_names = Vec::new(alloc);
-    for &p in path {
-        path_names.push(name_of(alloc, names, p)?)?;
+    let mut all = Vec::with_capacity(alloc, names.processes())?;
+    for p in 0..names.processes() {
+        all.push(name_of(alloc, names, p)?)?;
     }
-    Ok(path_names)
+    Ok(all)
+}
+
+/// The path of these processes, which are counted from 0.
+fn path_of(alloc: Global, names: &Names, processes: &[usize]) -> Result<Path, AllocError>
+    requires { All (λ p. p < length names.now) processes.now }
+    ensures { IfOk result (λ path. path ≡ map (name_of_process names.now) processes.now) }
+{
+    let all = all_names(alloc, names)?;
+    let steps = processes.to_vec(alloc)?;
+    Ok(Path::new(all, steps))
 }
 
 /// The answer as a report gives it, with an observation by the names of its processes.
@@ -117,7 +127,7 @@ fn definitely_for_report(
 {
     match answer {
         DefinitelyAnswer::Yes(level) => Ok(Definitely::Yes(*level)),
-        DefinitelyAnswer::No(path) => Ok(Definitely::No(names_of(alloc, names, path)?)),
+        DefinitelyAnswer::No(path) => Ok(Definitely::No(path_of(alloc, names, path)?)),
         DefinitelyAnswer::Unknown(level) => Ok(Definitely::Unknown(*level)),
     }
 }

@@ -1,11 +1,12 @@
 //! What is decided of each predicate before the walk.
+ghost use Rattle.pd_decided.specs.Found.{IsPathIfKnown};
 ghost use Rattle.pd_engine.specs.Early.{AreEarly, GoesOn, IsDefinitelyOf, IsEarly, IsEarlyDefinitely, IsEarlyPossibly, IsPossiblyOf};
 ghost use Rattle.pd_pred.specs.Views.{predicate_view};
 ghost use Rattle.pd_spec.specs.Views.{document_view};
 ghost use Rattle.std.specs.Prelude.{◌≡◌, ◌<◌, IfOk, None, length};
 
 use pd_clock::Computation;
-use pd_decided::{definitely_decided, possibly_decided};
+use pd_decided::{Decided, decide};
 use pd_lists::{Answers, DefinitelyAnswer, PossiblyAnswer};
 use pd_pred::Pred;
 use pd_spec::{NamedPred, Spec};
@@ -28,34 +29,29 @@ pub(crate) struct AllEarly<'a> {
     pub(crate) left: Vec<&'a Pred>,
 }
 
-/// Possibly's answer for a predicate, if it is decided whatever the width and the document asks for it.
-fn early_possibly(
+/// The answers for a predicate that are decided whatever the width, if the document asks for them, and none if it
+/// doesn't. The path where no cut satisfies is found once, and is known from then on.
+fn early_answers(
     alloc: Global,
     spec: &Spec,
     computation: &Computation<'_>,
     pred: &Pred,
-) -> Result<Option<PossiblyAnswer>, AllocError>
-    ensures { IfOk result (IsEarlyPossibly (document_view spec.now) computation.now (predicate_view pred.now)) }
+    path: &mut Option<Vec<usize>>,
+) -> Result<Decided, AllocError>
+    requires { IsPathIfKnown computation.now.events path.old }
+    ensures path { IsPathIfKnown computation.now.events path.new }
+    ensures possibly { IfOk result (λ decided.
+        IsEarlyPossibly (document_view spec.now) computation.now (predicate_view pred.now) decided.possibly) }
+    ensures definitely { IfOk result (λ decided.
+        IsEarlyDefinitely (document_view spec.now) computation.now (predicate_view pred.now) decided.definitely) }
 {
     if !spec.beyond_width() {
-        return Ok(None);
+        return Ok(Decided {
+            possibly: None,
+            definitely: None,
+        });
     }
-    possibly_decided(alloc, computation, pred)
-}
-
-/// Definitely's answer, in the same way.
-fn early_definitely(
-    alloc: Global,
-    spec: &Spec,
-    computation: &Computation<'_>,
-    pred: &Pred,
-) -> Result<Option<DefinitelyAnswer>, AllocError>
-    ensures { IfOk result (IsEarlyDefinitely (document_view spec.now) computation.now (predicate_view pred.now)) }
-{
-    if !spec.beyond_width() {
-        return Ok(None);
-    }
-    definitely_decided(alloc, computation, pred)
+    decide(alloc, computation, pred, path)
 }
 
 impl Early {
@@ -89,13 +85,18 @@ fn early_of<'a>(
     spec: &Spec,
     computation: &Computation<'_>,
     asked: &'a NamedPred,
+    path: &mut Option<Vec<usize>>,
     left: &mut Vec<&'a Pred>,
 ) -> Result<Early, AllocError>
+    requires { IsPathIfKnown computation.now.events path.old }
+    ensures path { IsPathIfKnown computation.now.events path.new }
     ensures early { IfOk result (IsEarly (document_view spec.now) computation.now left.new.items asked.now) }
     ensures more { IfOk result (λ _. GoesOn left.old.items left.new.items) }
 {
-    let possibly = early_possibly(alloc, spec, computation, &asked.pred)?;
-    let definitely = early_definitely(alloc, spec, computation, &asked.pred)?;
+    let Decided {
+        possibly,
+        definitely,
+    } = early_answers(alloc, spec, computation, &asked.pred, path)?;
     let place = left.len();
     if possibly.is_none() || definitely.is_none() {
         left.push(&asked.pred)?;
@@ -119,8 +120,9 @@ pub(crate) fn all_early<'a>(
 {
     let mut each = Vec::with_capacity(alloc, asked.len())?;
     let mut left = Vec::new(alloc);
+    let mut path = None;
     for i in 0..asked.len() {
-        each.push(early_of(alloc, spec, computation, &asked[i], &mut left)?)?;
+        each.push(early_of(alloc, spec, computation, &asked[i], &mut path, &mut left)?)?;
     }
     Ok(AllEarly { each, left })
 }

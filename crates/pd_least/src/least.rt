@@ -1,9 +1,9 @@
 //! The least good cut.
 ghost use Rattle.pd_least.specs.LeastCuts.{HasNoGood, IsGood, IsLeastGood};
-ghost use Rattle.pd_least.specs.Raises.{HasNoNext, IsBelowGood, IsNextGood, IsRaised};
+ghost use Rattle.pd_least.specs.Raises.{IsBelowGood, IsRaised};
 ghost use Rattle.pd_match.specs.Views.{place_view};
-ghost use Rattle.pd_model.specs.Events.{IsEvent, event_count};
-ghost use Rattle.std.specs.Prelude.{◌≡◌, ◌<◌, ◌≤◌, ℕ, IfNone, IfOk, IfSome, false, length, slice_index, true};
+ghost use Rattle.pd_model.specs.Events.{IsEvent};
+ghost use Rattle.std.specs.Prelude.{◌≡◌, ◌<◌, ℕ, IfNone, IfOk, IfSome, false, length, slice_index, true};
 
 use super::good_counts::GoodCounts;
 use pd_clock::{Computation, Cut, Place};
@@ -38,8 +38,9 @@ fn go_up<G: GoodCounts>(computation: &Computation<'_>, wanted: &G, counts: &mut 
     ensures none { result ≡ false → HasNoGood computation.now.events (G.good wanted.now) }
     ensures same { length counts.new ≡ length counts.old }
 {
+    computation.limits();
     while let Some(process) = first_bad(wanted, counts) {
-        match next_good(computation, wanted, process, counts[process]) {
+        match wanted.next_good(process, counts[process], computation.events(process)) {
             Some(number) => include(computation, Place { process, number }, counts),
             None => return false,
         }
@@ -57,27 +58,6 @@ fn first_bad<G: GoodCounts>(wanted: &G, counts: &[u64]) -> Option<usize>
     for p in 0..counts.len() {
         if !wanted.is_good(p, counts[p]) {
             return Some(p);
-        }
-    }
-    None
-}
-
-/// The least good count of process `p` from this one on.
-fn next_good<G: GoodCounts>(
-    computation: &Computation<'_>,
-    wanted: &G,
-    p: usize,
-    from: u64,
-) -> Option<u64>
-    requires { p < length computation.now.events }
-    ensures some { IfSome result (IsNextGood (G.good wanted.now p) from) }
-    ensures within { IfSome result (λ count. count ≤ event_count computation.now.events p) }
-    ensures none { IfNone result (HasNoNext (G.good wanted.now p) from (event_count computation.now.events p)) }
-{
-    computation.limits();
-    for count in from..computation.events(p) + 1 {
-        if wanted.is_good(p, count) {
-            return Some(count);
         }
     }
     None

@@ -12,8 +12,10 @@ use Rattle.pd_marks.specs.declared.skips.Skips.{Skips}
 abbrev pub IsSkipped : Skips → ℕ → Type 0
 IsSkipped skips i = (i < length skips.words.now) × IsTrue (has_bit (slice_index skips.words.now i) skips.bit)
 
--- No cut passes the test that has the prefix of a run that is skipped. The bit is one of a word.
+-- No cut passes the test that has the prefix of a run that is skipped. The bit is one of a word. That all are skipped
+-- is said only if each run is.
 pub record HaveNoHits (c : Computation) (test : List ℕ → Bool) (runs : List Run) (skips : Skips) : Type 0 where
   pub few : skips.bit < 64
   pub none : (i x y : ℕ) → i < length runs → IsSkipped skips i
       → FitsProcesses c (cut_at (run_at runs i).prefix x y) → test (cut_at (run_at runs i).prefix x y) ≡ false
+  pub all : IsTrue skips.all → (i : ℕ) → i < length runs → IsSkipped skips i

@@ -67,7 +67,8 @@ pub(crate) fn cut_in<K: Key>(alloc: Global, level: &Whole<K>, i: usize, x: u64) 
     Cut::new(alloc, &counts[..n]).unwrap()
 }
 
-/// The first cut of the level that satisfies, in lexicographic order. It takes no memory.
+/// The first cut of the level that satisfies, in lexicographic order. It takes no memory, and no time if all runs are
+/// skipped.
 pub fn first_hit<K: Key, T: RunTest>(
     alloc: Global,
     level: &Whole<K>,
@@ -83,6 +84,9 @@ pub fn first_hit<K: Key, T: RunTest>(
     ensures none { IfNone result ((cut : List ℕ) → IsOfLevel (T.events test.now) level.now.number cut
         → T.test test.now cut ≡ false) }
 {
+    if skips.are_all() {
+        return None;
+    }
     for i in 0..level.len() {
         match hit_in(level, test, skips, i) {
             Some(x) => return Some(cut_in(alloc, level, i, x)),

@@ -28,6 +28,24 @@ fn find<K: Key>(level: &Whole<K>, key: K, places: &mut [usize], slot: usize) -> 
     None
 }
 
+/// The run with this number: at the place of the hint, or found.
+fn find_near<K: Key>(level: &Whole<K>, key: K, hint: usize) -> Option<usize>
+    requires ascending { KeysAscend level.now.runs }
+    ensures some { IfSome result (λ i. (i < length level.now.runs)
+        × (key_of_run (run_at level.now.runs i) ≡ K.number key)) }
+    ensures none { result ≡ None → (i : ℕ) → i < length level.now.runs
+        → ¬ (key_of_run (run_at level.now.runs i) ≡ K.number key) }
+{
+    if hint < level.len() && run::key(level, hint).is_same(key) {
+        return Some(hint);
+    }
+    let i = place(level, key, hint);
+    if i < level.len() && run::key(level, i).is_same(key) {
+        return Some(i);
+    }
+    None
+}
+
 /// The marks of 64 neighboring cuts of the run with this number.
 fn window_of<K: Key>(
     level: &Whole<K>,
@@ -50,23 +68,15 @@ fn window_of<K: Key>(
 }
 
 /// Of 64 neighboring counts of the last process but one, those at which the run with this number has a mark, or at
-/// one less.
-fn own_window<K: Key>(
-    level: &Whole<K>,
-    marks: &Marks,
-    key: K,
-    x: u64,
-    places: &mut [usize],
-    slot: usize,
-) -> u64
+/// one less. The run may stand at the place of the hint.
+fn own_window<K: Key>(level: &Whole<K>, marks: &Marks, key: K, x: u64, hint: usize) -> u64
     requires ascending { KeysAscend level.now.runs }
     requires shape { IsShaped level.now.runs marks.now }
-    requires kept { slot < length places.old }
     ensures { (j : ℕ) → j < 64 → IsTrue (has_bit result j)
         ↔ HasOwnMark level.now.runs marks.now (K.number key) (x + j) }
 {
     words(0);
-    match find(level, key, places, slot) {
+    match find_near(level, key, hint) {
         Some(i) => {
             let same = marks.window(level, i, x);
             let less = if x == 0 {
@@ -160,10 +170,7 @@ pub(crate) fn parents<K: Key>(
     level.limits();
     let key = run::key(level, i);
     let wanted = lowest(n);
-    let own = both(
-        own_window(before, marks, key, x, places, level.processes() - 1),
-        wanted,
-    );
+    let own = both(own_window(before, marks, key, x, level.from(i)), wanted);
     if own == wanted {
         return own;
     }

@@ -11,22 +11,35 @@ use pd_bits::has;
 pub struct Skips<'a> {
     words: &'a [u16],
     bit: u64,
+    all: bool,
 }
 
 impl<'a> Skips<'a> {
-    /// The runs whose word has this bit, from 0.
-    pub fn new(words: &'a [u16], bit: u64) -> Skips<'a>
+    /// The runs whose word has this bit, from 0, and whether it is known that these are all runs.
+    pub fn new(words: &'a [u16], bit: u64, all: bool) -> Skips<'a>
         ensures words { result.words.now ≡ words.now }
         ensures bit { result.bit ≡ bit }
+        ensures all { result.all ≡ all }
     {
-        Skips { words, bit }
+        Skips { words, bit, all }
     }
 
     /// No run.
     pub fn none() -> Skips<'a>
         ensures { (c : Computation) (test : List ℕ → Bool) (runs : List Run) → HaveNoHits c test runs result }
     {
-        Skips { words: &[], bit: 0 }
+        Skips {
+            words: &[],
+            bit: 0,
+            all: false,
+        }
+    }
+
+    /// Whether it is known that each run is skipped.
+    pub fn are_all(&self) -> bool
+        ensures { result ≡ self.now.all }
+    {
+        self.all
     }
 
     /// Whether the run at this place is skipped.

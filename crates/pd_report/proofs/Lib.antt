@@ -2,6 +2,7 @@
 pub mod Joins
 pub mod Texts
 pub mod Pieces
+pub mod Places
 pub mod Lists
 pub mod LineWords
 pub mod RefusalKinds

@@ -1,4 +1,5 @@
 pub mod Views
+pub mod Steps
 pub mod Reading
 pub mod Pairs
 pub mod Cuts

@@ -16,9 +16,6 @@ use Rattle.std.specs.declared.alloc.Global.{Global}
 use Rattle.std.specs.declared.string.String.{String}
 use denote.Ref.{Bor}
 
-abbrev pub names_view : List (String Global) → List (List ℕ)
-names_view names = map string_bytes names
-
 abbrev pub possibly_view : Possibly → reports.Possibly
 possibly_view (possibly.Yes counts) = reports.Possibly.Yes counts.items
 possibly_view possibly.No = reports.Possibly.No
@@ -26,7 +23,7 @@ possibly_view (possibly.Unknown level) = reports.Possibly.Unknown level
 
 abbrev pub definitely_view : Definitely → reports.Definitely
 definitely_view (definitely.Yes level) = reports.Definitely.Yes level
-definitely_view (definitely.No path) = reports.Definitely.No (names_view path.items)
+definitely_view (definitely.No path) = reports.Definitely.No path
 definitely_view (definitely.Unknown level) = reports.Definitely.Unknown level
 
 abbrev pub answer_view : Answer → reports.Answer

@@ -2,12 +2,13 @@
 ghost use Rattle.pd_format.specs.Reports.{definitely_words, path_text, possibly_words, with_commas, DefinitelyIsLawful, Fits, IsName, PossiblyIsLawful};
 ghost use Rattle.pd_report.specs.Reading.{first_part_view, first_text, second_text, FirstIsLawful, IsFoundAs};
 ghost use Rattle.pd_report.specs.Remaining.{words_left};
-ghost use Rattle.pd_report.specs.Views.{definitely_view, names_view, possibly_view};
+ghost use Rattle.pd_report.specs.Views.{definitely_view, possibly_view};
 ghost use Rattle.std.specs.List.{AllByRecursion};
 ghost use Rattle.std.specs.Prelude.{◌<◌, ◌∷◌, [], decimal, length, map, IfOk};
 
 use super::definitely::Definitely;
-use super::listed::{numbers, path};
+use super::listed::{numbers, path_of};
+use super::path::Path;
 use super::possibly::Possibly;
 use super::remaining::Words;
 use super::words::{is, name, number};
@@ -35,14 +36,14 @@ fn counts(alloc: Global, words: Words<'_>) -> Result<Option<Vec<u64>>, AllocErro
 }
 
 /// A path, in the only word.
-fn only_path(alloc: Global, words: Words<'_>) -> Result<Option<Vec<String>>, AllocError>
-    ensures { IfOk result (IsFoundAs (λ found. names_view found.items) (λ ns. path_text ns ∷ [])
+fn only_path(alloc: Global, words: Words<'_>) -> Result<Option<Path>, AllocError>
+    ensures { IfOk result (IsFoundAs (λ found. found) (λ ns. path_text ns ∷ [])
         (λ ns. AllByRecursion IsName ns) (words_left words.entry)) }
 {
     let Some(word) = words.single() else {
         return Ok(None);
     };
-    path(alloc, word)
+    path_of(alloc, word)
 }
 
 /// Whether a predicate possibly holds.

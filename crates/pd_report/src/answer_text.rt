@@ -1,11 +1,12 @@
 //! The lines of answers.
 ghost use Rattle.pd_format.specs.Reports.{answer_lines, definitely_words, path_text, possibly_words, spaced, text_of_lines};
-ghost use Rattle.pd_report.specs.Views.{answer_view, answers_text, definitely_line, definitely_view, names_view, possibly_line, possibly_view};
+ghost use Rattle.pd_report.specs.Views.{answer_view, answers_text, definitely_line, definitely_view, possibly_line, possibly_view};
 ghost use Rattle.std.specs.Prelude.{◌≡◌, ◌∷◌, ◌++◌, [], OnOk};
 
 use super::answer::Answer;
 use super::definitely::Definitely;
 use super::fields::{push_bytes, push_names, push_number, push_numbers};
+use super::path::Path;
 use super::possibly::Possibly;
 use std::alloc::AllocError;
 
@@ -27,13 +28,14 @@ fn push_possibly(out: &mut Vec<u8>, possibly: &Possibly) -> Result<(), AllocErro
 }
 
 /// Appends a path: names with a comma between each two, or `-` if there is none.
-fn push_path(out: &mut Vec<u8>, path: &[String]) -> Result<(), AllocError>
-    ensures { OnOk result (out.new.items ≡ out.old.items ++ path_text (names_view path.now)) }
+fn push_path(out: &mut Vec<u8>, path: &Path) -> Result<(), AllocError>
+    ensures { OnOk result (out.new.items ≡ out.old.items ++ path_text path.now) }
 {
-    if path.is_empty() {
+    let (names, steps) = path.parts();
+    if steps.is_empty() {
         return push_bytes(out, b"-");
     }
-    push_names(out, path)
+    push_names(out, names, steps)
 }
 
 /// Appends the words for whether a predicate definitely holds.

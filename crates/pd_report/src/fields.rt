@@ -1,7 +1,8 @@
 //! The fields of a line of text.
 ghost use Rattle.pd_format.specs.Reports.{place_text, with_commas};
-ghost use Rattle.pd_report.specs.Views.{names_view, named_places_view};
-ghost use Rattle.std.specs.Prelude.{◌≡◌, ◌++◌, decimal, map, OnErr, OnOk};
+ghost use Rattle.pd_report.specs.Steps.{name_at, names_at, names_view, AreBelow};
+ghost use Rattle.pd_report.specs.Views.{named_places_view};
+ghost use Rattle.std.specs.Prelude.{◌≡◌, ◌<◌, ◌++◌, decimal, length, map, OnErr, OnOk};
 
 use itoa::Buffer;
 use std::alloc::AllocError;
@@ -44,17 +45,31 @@ pub(crate) fn push_numbers(out: &mut Vec<u8>, numbers: &[u64]) -> Result<(), All
     Ok(())
 }
 
-/// Appends names with a comma between each two.
-pub(crate) fn push_names(out: &mut Vec<u8>, names: &[String]) -> Result<(), AllocError>
-    ensures { OnOk result (out.new.items ≡ out.old.items ++ with_commas (names_view names.now)) }
+/// Appends the name at this place.
+fn push_name(out: &mut Vec<u8>, names: &[String], step: usize) -> Result<(), AllocError>
+    requires { step < length names.now }
+    ensures { OnOk result (out.new.items ≡ out.old.items ++ name_at (names_view names.now) step) }
 {
-    let Some((first, others)) = names.split_first() else {
+    push_bytes(out, names[step].as_bytes())?;
+    Ok(())
+}
+
+/// Appends the names at these places, with a comma between each two.
+pub(crate) fn push_names(
+    out: &mut Vec<u8>,
+    names: &[String],
+    steps: &[usize],
+) -> Result<(), AllocError>
+    requires { AreBelow (length names.now) steps.now }
+    ensures { OnOk result (out.new.items ≡ out.old.items ++ with_commas (names_at (names_view names.now) steps.now)) }
+{
+    let Some((first, others)) = steps.split_first() else {
         return Ok(());
     };
-    push_bytes(out, first.as_bytes())?;
-    for name in others {
+    push_name(out, names, *first)?;
+    for step in others {
         push_bytes(out, b",")?;
-        push_bytes(out, name.as_bytes())?;
+        push_name(out, names, *step)?;
     }
     Ok(())
 }

@@ -8,6 +8,7 @@
 //! - `answer`: the answer for one predicate
 //! - `possibly`: whether some consistent cut satisfies it
 //! - `definitely`: whether each observation has a cut that satisfies it
+//! - `path`: the names of the processes of an observation's events, each kept once
 //! - `refusal`: why a session is refused
 //! - `fields`: the fields of a line of text
 //! - `answer_text`: the lines of answers
@@ -36,6 +37,7 @@ mod fault_words;
 mod fields;
 mod listed;
 mod output;
+mod path;
 mod possibly;
 mod read_fault;
 mod reader;
@@ -54,6 +56,7 @@ pub use definitely::Definitely;
 pub use fault::WriteFault;
 pub use fields::{push_bytes, push_number};
 pub use output::{write, write_all, write_all_counted};
+pub use path::Path;
 pub use possibly::Possibly;
 pub use read_fault::ReportFault;
 pub use reader::read;

@@ -2,12 +2,13 @@
 ghost use Rattle.pd_format.specs.Reports.{path_text, place_text, with_commas, Fits, IsName, PlaceIsLawful};
 ghost use Rattle.pd_report.specs.Reading.{IsFoundAs, IsReadAs, IsTextOf};
 ghost use Rattle.pd_report.specs.Remaining.{words_left};
-ghost use Rattle.pd_report.specs.Views.{names_view, named_place_view, named_places_view, place_view};
+ghost use Rattle.pd_report.specs.Views.{named_place_view, named_places_view, place_view};
 ghost use Rattle.std.specs.List.{AllByRecursion};
 ghost use Rattle.std.specs.Prelude.{◌<◌, decimal, length, map, IfOk, MatchBool};
 
+use super::path::Path;
 use super::remaining::Words;
-use super::words::{is, name, number, word_text};
+use super::words::{is, number, word_text};
 use pd_pred::is_name;
 use std::alloc::{AllocError, Global};
 
@@ -36,38 +37,37 @@ pub(crate) fn numbers(alloc: Global, word: &[u8]) -> Result<Option<Vec<u64>>, Al
     all_numbers(alloc, Words::new(word, b','))
 }
 
-/// Names, as the words.
-fn all_names(alloc: Global, words: Words<'_>) -> Result<Option<Vec<String>>, AllocError>
-    ensures { IfOk result (IsFoundAs (λ found. names_view found.items) (map (λ name. name)) (AllByRecursion IsName)
+/// The path of names, as the words.
+fn all_names(alloc: Global, words: Words<'_>) -> Result<Option<Path>, AllocError>
+    ensures { IfOk result (IsFoundAs (λ found. found) (map (λ name. name)) (AllByRecursion IsName)
         (words_left words.entry)) }
 {
-    let mut names = Vec::new(alloc);
+    let mut path = Path::empty(alloc);
     let mut left = words;
     while let Some((word, rest)) = left.split_first() {
-        let Some(name) = name(alloc, word)? else {
+        if !is_name(word) {
             return Ok(None);
-        };
-        names.push(name)?;
+        }
+        path.push(alloc, word)?;
         left = rest;
     }
-    Ok(Some(names))
+    Ok(Some(path))
 }
 
-/// Names, at least one.
-pub(crate) fn names(alloc: Global, word: &[u8]) -> Result<Option<Vec<String>>, AllocError>
-    ensures { IfOk result (IsFoundAs (λ found. names_view found.items) (λ ns. with_commas (map (λ name. name) ns))
-        (λ ns. (0 < length ns) × AllByRecursion IsName ns) word.now) }
+/// The path of names, at least one.
+pub(crate) fn names(alloc: Global, word: &[u8]) -> Result<Option<Path>, AllocError>
+    ensures { IfOk result (IsFoundAs (λ found. found) (λ ns. with_commas (map (λ name. name) ns)) (λ ns. (0 < length ns)
+        × AllByRecursion IsName ns) word.now) }
 {
     all_names(alloc, Words::new(word, b','))
 }
 
 /// A path: names, or `-` if there is none.
-pub(crate) fn path(alloc: Global, word: &[u8]) -> Result<Option<Vec<String>>, AllocError>
-    ensures { IfOk result (IsFoundAs (λ found. names_view found.items) path_text (λ ns. AllByRecursion IsName ns)
-        word.now) }
+pub(crate) fn path_of(alloc: Global, word: &[u8]) -> Result<Option<Path>, AllocError>
+    ensures { IfOk result (IsFoundAs (λ found. found) path_text (λ ns. AllByRecursion IsName ns) word.now) }
 {
     if is(word, "-") {
-        return Ok(Some(Vec::new(alloc)));
+        return Ok(Some(Path::empty(alloc)));
     }
     names(alloc, word)
 }

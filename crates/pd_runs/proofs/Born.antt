@@ -17,6 +17,12 @@ use Rattle.pd_runs.specs.Births.{IsInInterval, IsAlive, IsYoung, IsTop, IsLow, I
 use Rattle.pd_runs.proofs.UndoneEvents.{add_met, kept_by_message, one_send}
 use Rattle.pd_runs.proofs.Ends.{which, at_prefix, at_x, at_y, at_past, length_at, sum_at, less_x, less_y, less_prefix, more_prefix, undo_x, undo_y}
 
+-- the process whose event makes a candidate
+abbrev pub process_of : (c : Computation) (k : ℕ) (new : List ℕ) → IsCandidate c k new → ℕ
+process_of c k new (from_young prefix x y p young at lt met is) = p
+process_of c k new (from_top prefix x y p top at lt message is) = p
+process_of c k new (from_low prefix x y p low lt message is) = p
+
 pub same_prefix : (c : Computation) → HasNoCycle c → (k : ℕ) (prefix : List ℕ) (x y : ℕ) → IsAlive c k prefix
     → IsOfLevel c (k + 1) (cut_at prefix x y) → ((0 < x) × IsOfLevel c k (cut_at prefix (x - 1) y))
     ⊎ ((0 < y) × IsOfLevel c k (cut_at prefix x (y - 1)))
@@ -292,16 +298,35 @@ module _ (c : Computation) (well : IsWalkable c) (k : ℕ) (prefix : List ℕ) (
           ∙ more_other (cut_at prefix x y) p send.process m.3 in
           (i.0, omega arith)
 
-  candidate : IsCandidate c k (cut_at (one_more prefix p) x y)
+  candidate : (new : IsCandidate c k (cut_at (one_more prefix p) x y))
+      × (process_of c k (cut_at (one_more prefix p) x y) new ≡ p)
   candidate =
       go (dec_both (dec_less 0 x) (dec_consistent c (cut_at prefix (x - 1) y)))
       (dec_both (dec_less 0 y) (dec_consistent c (cut_at prefix x (y - 1))))
     where
       go : Dec ((0 < x) × IsConsistent c (cut_at prefix (x - 1) y))
-          → Dec ((0 < y) × IsConsistent c (cut_at prefix x (y - 1))) → IsCandidate c k (cut_at (one_more prefix p) x y)
-      go (yes u) d = from_top prefix x y p (top u) (ok, level) lt (kept_x u.0 u.1) (sym new_is)
-      go (no h) (yes u) = from_low prefix x y p (low u) lt (kept_y u.0 u.1) (sym new_is)
-      go (no g) (no h) = from_young prefix x y p (young g h) (ok, level) lt met (sym new_is)
+          → Dec ((0 < y) × IsConsistent c (cut_at prefix x (y - 1)))
+          → (new : IsCandidate c k (cut_at (one_more prefix p) x y))
+          × (process_of c k (cut_at (one_more prefix p) x y) new ≡ p)
+      go (yes u) d = (from_top prefix x y p (top u) (ok, level) lt (kept_x u.0 u.1) (sym new_is), refl)
+      go (no h) (yes u) = (from_low prefix x y p (low u) lt (kept_y u.0 u.1) (sym new_is), refl)
+      go (no g) (no h) = (from_young prefix x y p (young g h) (ok, level) lt met (sym new_is), refl)
+
+-- it is one by each process whose last event can be undone
+pub candidate_by : (c : Computation) → IsWalkable c → (k : ℕ) (prefix : List ℕ) (x y p : ℕ) → ¬ IsAlive c k prefix
+    → IsOfLevel c (k + 1) (cut_at prefix x y) → 0 < get_or (cut_at prefix x y) p 0
+    → IsConsistent c (one_less (cut_at prefix x y) p)
+    → (new : IsCandidate c k (cut_at prefix x y)) × (process_of c k (cut_at prefix x y) new ≡ p)
+candidate_by c well k prefix x y p dead at has less =
+    let lt : p < length prefix = born_by_prefix c k prefix x y p dead at has less in
+    let n : get_or (cut_at prefix x y) p 0 ≡ get_or prefix p 0 = at_prefix prefix x y p lt in
+    let e : one_more (one_less prefix p) p ≡ prefix = more_less prefix p (omega arith) in
+    let l : length (one_less prefix p) ≡ length prefix = length_less prefix p in
+    subst (λ (xs : List ℕ). (new : IsCandidate c k (cut_at xs x y)) × (process_of c k (cut_at xs x y) new ≡ p)) e
+    (candidate c well k (one_less prefix p) x y p (omega arith)
+    (subst (IsConsistent c) (less_prefix prefix x y p lt) less)
+    (subst (λ (xs : List ℕ). IsOfLevel c (k + 1) (cut_at xs x y)) (sym e) at)
+    (subst (λ (xs : List ℕ). ¬ IsAlive c k xs) (sym e) dead))
 
 pub no_birth_missed : (c : Computation) → IsWalkable c → (k : ℕ) (prefix : List ℕ) (x y : ℕ) → ¬ IsAlive c k prefix
     → IsOfLevel c (k + 1) (cut_at prefix x y) → IsCandidate c k (cut_at prefix x y)
@@ -311,19 +336,10 @@ no_birth_missed c well k prefix x y dead at =
   where
     go : (p : ℕ) × (0 < get_or (cut_at prefix x y) p 0) × IsConsistent c (one_less (cut_at prefix x y) p)
         → IsCandidate c k (cut_at prefix x y)
-    go (p, has, less) =
-        let lt : p < length prefix = born_by_prefix c k prefix x y p dead at has less in
-        let n : get_or (cut_at prefix x y) p 0 ≡ get_or prefix p 0 = at_prefix prefix x y p lt in
-        let e : one_more (one_less prefix p) p ≡ prefix = more_less prefix p (omega arith) in
-        let l : length (one_less prefix p) ≡ length prefix = length_less prefix p in
-        subst (λ (xs : List ℕ). IsCandidate c k (cut_at xs x y)) e
-        (candidate c well k (one_less prefix p) x y p (omega arith)
-        (subst (IsConsistent c) (less_prefix prefix x y p lt) less)
-        (subst (λ (xs : List ℕ). IsOfLevel c (k + 1) (cut_at xs x y)) (sym e) at)
-        (subst (λ (xs : List ℕ). ¬ IsAlive c k xs) (sym e) dead))
+    go (p, has, less) = (candidate_by c well k prefix x y p dead at has less).0
 
 -- an event whose send is the last event of its process in the cut has its need met there
-met_by_last : (c : Computation) → HasOneSend c → (cut : List ℕ) (q n : ℕ) (e : Place) → get_or cut q 0 ≡ n
+pub met_by_last : (c : Computation) → HasOneSend c → (cut : List ℕ) (q n : ℕ) (e : Place) → get_or cut q 0 ≡ n
     → IsMessage c (place q n) e → IsMetAt c cut e
 met_by_last c single cut q n e at m = (
   event_from_kind c e (Receive m.0) m.2,

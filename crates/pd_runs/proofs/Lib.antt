@@ -23,6 +23,7 @@ pub mod Growing
 pub mod CutKeys
 pub mod Pushing
 pub mod KeyLists
+pub mod LastMakers
 pub mod Merging
 pub mod FirstLevel
 pub mod Collecting

@@ -1,64 +1,68 @@
 -- The runs of the next level, as they are put together from the runs of a level and its births.
-use Rattle.std.proofs.Common.{◌≡◌, ℕ, ◌+◌, ◌-◌, ◌/◌, ◌%◌, ◌^◌, ◌<◌, ◌≤◌, List, [], ◌∷◌, ◌++◌, length, get_or, map, take, sum, Contains, refl, sym, ap, ◌∙◌, subst, inl, inr, ◌⊎◌, below_more, arith}
+use Rattle.std.proofs.Common.{◌≡◌, ℕ, ◌+◌, ◌-◌, ◌/◌, ◌%◌, ◌^◌, ◌<◌, ◌≤◌, List, [], ◌∷◌, ◌++◌, length, get_or, map, take, sum, Contains, sym, ap, ◌∙◌, subst, inl, inr, ◌⊎◌, below_more, arith}
 use Rattle.std.specs.Prelude.{IfSome, None, Option, Some}
 use Rattle.std.proofs.lemmas.Bool.{cases_lt}
 use Rattle.std.proofs.lemmas.List.{take_all}
 use Rattle.std.proofs.lemmas.List.Elements.{Contains-append_left, Contains-push, Contains-push_cases, Contains-get_or}
 use Rattle.pd_format.specs.Limits.{event_limit}
-use Rattle.pd_keys.specs.Keys.{Ascending, count_base, digits, key_of}
-use Rattle.pd_keys.proofs.Keys.{length-digits}
+use Rattle.pd_keys.specs.Keys.{Ascending, count_base, digits}
 use Rattle.pd_model.specs.Events.{Computation, event_count}
-use Rattle.pd_model.specs.Cuts.{IsConsistent, IsOfLevel}
+use Rattle.pd_model.specs.Cuts.{IsOfLevel}
 use Rattle.pd_neighbors.specs.Neighbors.{cut_at}
 use Rattle.pd_runs.specs.Births.{IsWalkable, IsAlive, IsYoung, IsCandidate}
 use Rattle.pd_runs.specs.WholeLevels.{Run, HasRun, IsRunOf, IsWhole, IsMovedTo, IsBornBeside, IsNextRuns, IsMadeAt}
-use Rattle.pd_runs.specs.KeptRuns.{run_view, level_of, IsKept, AddsBirths, IsPushed, IsBornRun, gone, moved}
+use Rattle.pd_runs.specs.KeptRuns.{run_view, level_of, IsBirth, IsKept, AddsBirths, IsPushed, IsBornRun, gone, moved}
 use Rattle.pd_runs.specs.Levels.{IsKeptLevel, IsWholeLevel, whole_view, runs_view, keys_of, prefix_key}
-use Rattle.pd_runs.specs.Kept.{KeyedRun}
+use Rattle.pd_runs.specs.Kept.{KeyedBirth, KeyedRun, cuts_of}
+use Rattle.pd_runs.specs.Points.{IsFound}
 use Rattle.pd_runs.proofs.Ascending.{nothing_in_empty}
-use Rattle.pd_runs.proofs.Born.{candidates_are_cuts}
-use Rattle.pd_runs.proofs.CutKeys.{cut_back, cut_below}
 use Rattle.pd_runs.proofs.Flags.{none_skipped}
+use Rattle.pd_runs.proofs.Growing.{found_more}
 use Rattle.pd_runs.proofs.KeyLists.{contains_at, map_push, in_map, from_map, prefix_more, ascending_push, HasKey, run_of_key, key_of_run, runs_in_order, length-keys}
+use Rattle.pd_runs.proofs.LastMakers.{births_below, level_with_births}
 use Rattle.pd_runs.proofs.NextRuns.{dead_without_run, next_whole}
 use Rattle.pd_runs.proofs.PointFacts.{split_digits}
 use Rattle.pd_runs.proofs.Pushing.{moved_level}
 use Rattle.pd_runs.proofs.RunCuts.{same_parts}
-use Rattle.pd_runs.proofs.RunFlags.{ends_of_run, candidates_in_runs}
+use Rattle.pd_runs.proofs.RunFlags.{ends_of_run}
 
--- the level that is gone on from
+-- the level that is gone on from, with the numbers of its births
 pub record IsGiven (room : ℕ) (c : Computation) (k : ℕ) (olds : List KeyedRun) (births : List ℕ) : Type 0 where
   pub small : (q : ℕ) → event_count c q ≤ event_limit
   pub walkable : IsWalkable c
   pub kept : IsKeptLevel room (length c) k olds births
-  pub level : IsWholeLevel c (whole_view (length c) k olds births)
+  pub whole : IsWhole c k (runs_view (length c - 2) olds)
+  pub born : (cut : List ℕ) → Contains (map (digits (length c)) births) cut → IsOfLevel c (k + 1) cut
+  pub all : (cut : List ℕ) → IsCandidate c k cut → Contains (map (digits (length c)) births) cut
 
-pub given_by : (room : ℕ) (c : Computation) (k : ℕ) (olds : List KeyedRun) (births : List ℕ)
-    → ((q : ℕ) → event_count c q ≤ event_limit) → IsWalkable c → IsKeptLevel room (length c) k olds births
-    → IsWholeLevel c (whole_view (length c) k olds births) → IsGiven room c k olds births
+pub given_by : (room : ℕ) (c : Computation) (k : ℕ) (olds : List KeyedRun) (births : List KeyedBirth)
+    → ((q : ℕ) → event_count c q ≤ event_limit) → IsWalkable c → IsKeptLevel room (length c) k olds (cuts_of births)
+    → IsWholeLevel c (whole_view (length c) k olds births) → IsGiven room c k olds (cuts_of births)
 given_by room c k olds births small walkable kept level = record {
   small = small;
   walkable = walkable;
   kept = kept;
-  level = level;
+  whole = level.whole;
+  born = level.born;
+  all = level.all;
 }
 
 -- So far: runs and births of the next level, of which all keys are below the floor.
-pub record IsMade (c : Computation) (k : ℕ) (olds : List KeyedRun) (runs : List KeyedRun) (born : List ℕ) (floor : ℕ)
-    : Type 0 where
+pub record IsMade (c : Computation) (k : ℕ) (olds : List KeyedRun) (runs : List KeyedRun) (born : List KeyedBirth)
+    (floor : ℕ) : Type 0 where
   pub keys : Ascending (keys_of runs)
   pub below : (run : KeyedRun) → Contains runs run → run.key < floor
   pub kept : (run : KeyedRun) → Contains runs run → IsKept (length c - 2) (k + 1) run
   pub made : (run : KeyedRun) → Contains runs run
       → ((old : Run) × Contains (runs_view (length c - 2) olds) old × IsMovedTo c k old (run_view (length c - 2) run)
       × (run.lo ≤ run.hi)) ⊎ IsBornBeside c k (runs_view (length c - 2) olds) (run_view (length c - 2) run)
-  pub just : (z : ℕ) → Contains born z → (cut : List ℕ) × IsOfLevel c (k + 1 + 1) cut × (z ≡ key_of cut)
+  pub just : (z : KeyedBirth) → Contains born z → IsBirth c (k + 1 + 1) z
   pub all : (run : KeyedRun) → Contains runs run → (p : ℕ) (cut : List ℕ) → p < length c - 2
-      → IsMadeAt c (k + 1) (run_view (length c - 2) run) p cut → Contains born (key_of cut)
+      → IsMadeAt c (k + 1) (run_view (length c - 2) run) p cut → IsFound c born cut p
 
 -- So far: the first i runs have moved, and the first j births are put beside them.
 pub record IsGoing (c : Computation) (k : ℕ) (olds : List KeyedRun) (births : List ℕ) (i j : ℕ) (runs : List KeyedRun)
-    (born : List ℕ) (floor : ℕ) : Type 0 where
+    (born : List KeyedBirth) (floor : ℕ) : Type 0 where
   pub in_olds : i ≤ length olds
   pub in_births : j ≤ length births
   pub made : IsMade c k olds runs born floor
@@ -74,7 +78,7 @@ pub record IsGoing (c : Computation) (k : ℕ) (olds : List KeyedRun) (births : 
 -- The same while births are gone through. The bar is one above the last prefix that was born, or 0; where the floor is
 -- above that, it is so by a run that has moved.
 pub record IsMerging (c : Computation) (k : ℕ) (olds : List KeyedRun) (births : List ℕ) (i j : ℕ) (runs : List KeyedRun)
-    (born : List ℕ) (bar : ℕ) : Type 0 where
+    (born : List KeyedBirth) (bar : ℕ) : Type 0 where
   pub floor : ℕ
   pub going : IsGoing c k olds births i j runs born floor
   pub least : bar ≤ floor
@@ -124,10 +128,10 @@ module _ (room : ℕ) (c : Computation) (k : ℕ) (olds : List KeyedRun) (births
       → IsRunOf c (level_of (length c - 2) run) (run_view (length c - 2) run)
   old_run run has =
       subst (λ (j : ℕ). IsRunOf c j (run_view (length c - 2) run)) (sym (given.kept.kept run has).level)
-      (given.level.whole.each (run_view (length c - 2) run) (in_map (run_view (length c - 2)) olds run has))
+      (given.whole.each (run_view (length c - 2) run) (in_map (run_view (length c - 2)) olds run has))
 
   pub birth_cut : (z : ℕ) → Contains births z → IsOfLevel c (k + 1) (digits (length c) z)
-  birth_cut z has = given.level.born (digits (length c) z) (in_map (digits (length c)) births z has)
+  birth_cut z has = given.born (digits (length c) z) (in_map (digits (length c)) births z has)
 
   pub birth_parts : (z : ℕ) → Contains births z → (prefix_key z < count_base ^ (length c - 2))
       × (cut_at (digits (length c - 2) (prefix_key z)) (z / count_base % count_base) (z % count_base)
@@ -151,7 +155,7 @@ module _ (room : ℕ) (c : Computation) (k : ℕ) (olds : List KeyedRun) (births
       (cut_at (digits (length c - 2) (prefix_key z)) (z / count_base % count_base) (z % count_base)) =
       subst (IsOfLevel c (k + 1)) (sym (birth_parts z has).1) (birth_cut z has) in
       let dead : ¬ IsAlive c k (digits (length c - 2) (prefix_key z)) =
-      dead_without_run c k (runs_view (length c - 2) olds) given.level.whole
+      dead_without_run c k (runs_view (length c - 2) olds) given.whole
       (digits (length c - 2) (prefix_key z)) (no_old z has none) in
       subst (λ (j : ℕ). IsYoung c j (digits (length c - 2) (prefix_key z))) (sym (birth_cut z has).1) record {
         alive = (z / count_base % count_base, (z % count_base, at));
@@ -180,8 +184,8 @@ module _ (room : ℕ) (c : Computation) (k : ℕ) (olds : List KeyedRun) (births
   }
 
   -- a run is added above the floor
-  made_push : (runs : List KeyedRun) (born : List ℕ) (floor : ℕ) → IsMade c k olds runs born floor
-      → (run : KeyedRun) (new_born : List ℕ) → floor ≤ run.key → IsKept (length c - 2) (k + 1) run
+  made_push : (runs : List KeyedRun) (born : List KeyedBirth) (floor : ℕ) → IsMade c k olds runs born floor
+      → (run : KeyedRun) (new_born : List KeyedBirth) → floor ≤ run.key → IsKept (length c - 2) (k + 1) run
       → ((old : Run) × Contains (runs_view (length c - 2) olds) old × IsMovedTo c k old (run_view (length c - 2) run)
       × (run.lo ≤ run.hi)) ⊎ IsBornBeside c k (runs_view (length c - 2) olds) (run_view (length c - 2) run)
       → AddsBirths c (k + 1) run born new_born → IsMade c k olds (runs ++ run ∷ []) new_born (run.key + 1)
@@ -218,14 +222,13 @@ module _ (room : ℕ) (c : Computation) (k : ℕ) (olds : List KeyedRun) (births
           × IsMovedTo c k old (run_view (length c - 2) s) × (s.lo ≤ s.hi))
           ⊎ IsBornBeside c k (runs_view (length c - 2) olds) (run_view (length c - 2) s)) e made
 
-      just : (z : ℕ) → Contains born z ⊎ ((cut : List ℕ) × IsOfLevel c (k + 1 + 1) cut × (z ≡ key_of cut))
-          → (cut : List ℕ) × IsOfLevel c (k + 1 + 1) cut × (z ≡ key_of cut)
+      just : (z : KeyedBirth) → Contains born z ⊎ IsBirth c (k + 1 + 1) z → IsBirth c (k + 1 + 1) z
       just z (inl has) = g.just z has
       just z (inr w) = w
 
       all : (r : KeyedRun) → Contains runs r ⊎ (run ≡ r) → (p : ℕ) (cut : List ℕ) → p < length c - 2
-          → IsMadeAt c (k + 1) (run_view (length c - 2) r) p cut → Contains new_born (key_of cut)
-      all r (inl has) p cut lt at = adds.kept (key_of cut) (g.all r has p cut lt at)
+          → IsMadeAt c (k + 1) (run_view (length c - 2) r) p cut → IsFound c new_born cut p
+      all r (inl has) p cut lt at = found_more c born new_born cut p adds.kept (g.all r has p cut lt at)
       all r (inr e) p cut lt at =
           adds.all p cut lt (subst (λ (s : KeyedRun). IsMadeAt c (k + 1) (run_view (length c - 2) s) p cut) (sym e) at)
 
@@ -240,7 +243,7 @@ module _ (room : ℕ) (c : Computation) (k : ℕ) (olds : List KeyedRun) (births
   birth_here j lt = Contains-get_or births j 0 lt
 
   -- a birth is passed over whose prefix has a run already
-  pub going_skip : (i j : ℕ) (runs : List KeyedRun) (born : List ℕ) (floor : ℕ)
+  pub going_skip : (i j : ℕ) (runs : List KeyedRun) (born : List KeyedBirth) (floor : ℕ)
       → IsGoing c k olds births i j runs born floor → j < length births
       → HasKey runs (prefix_key (get_or births j 0)) ⊎ HasKey olds (prefix_key (get_or births j 0))
       → IsGoing c k olds births i (j + 1) runs born floor
@@ -265,7 +268,7 @@ module _ (room : ℕ) (c : Computation) (k : ℕ) (olds : List KeyedRun) (births
       seen z (inr e) = subst (λ (y : ℕ). HasKey runs (prefix_key y) ⊎ HasKey olds (prefix_key y)) e there
 
   -- a birth between the runs has no run
-  pub no_key : (i j : ℕ) (runs : List KeyedRun) (born : List ℕ) (floor : ℕ)
+  pub no_key : (i j : ℕ) (runs : List KeyedRun) (born : List KeyedBirth) (floor : ℕ)
       → IsGoing c k olds births i j runs born floor → j < length births
       → (i < length olds → prefix_key (get_or births j 0) < get_or (keys_of olds) i 0)
       → ¬ HasKey olds (prefix_key (get_or births j 0))
@@ -296,11 +299,12 @@ module _ (room : ℕ) (c : Computation) (k : ℕ) (olds : List KeyedRun) (births
               absurd (omega arith)
 
   -- a birth is put beside the runs
-  pub going_push : (i j : ℕ) (runs : List KeyedRun) (born : List ℕ) (floor : ℕ)
+  pub going_push : (i j : ℕ) (runs : List KeyedRun) (born : List KeyedBirth) (floor : ℕ)
       → IsGoing c k olds births i j runs born floor → j < length births
       → floor ≤ prefix_key (get_or births j 0)
       → (i < length olds → prefix_key (get_or births j 0) < get_or (keys_of olds) i 0)
-      → (new_runs : List KeyedRun) (new_born : List ℕ) → IsBornRun c (get_or births j 0) runs born new_runs new_born
+      → (new_runs : List KeyedRun) (new_born : List KeyedBirth)
+      → IsBornRun c (get_or births j 0) runs born new_runs new_born
       → IsGoing c k olds births i (j + 1) new_runs new_born (prefix_key (get_or births j 0) + 1)
   going_push i j runs born floor g lt above before new_runs new_born b =
       subst (λ (rs : List KeyedRun). IsGoing c k olds births i (j + 1) rs new_born (prefix_key (get_or births j 0) + 1))
@@ -357,10 +361,11 @@ module _ (room : ℕ) (c : Computation) (k : ℕ) (olds : List KeyedRun) (births
       seen z (inr e) = inl (b.run, Contains-push runs b.run, key_is ∙ ap prefix_key e)
 
   -- a run is moved
-  pub going_move : (i j : ℕ) (runs : List KeyedRun) (born : List ℕ) (floor : ℕ)
+  pub going_move : (i j : ℕ) (runs : List KeyedRun) (born : List KeyedBirth) (floor : ℕ)
       → IsGoing c k olds births i j runs born floor → (old : KeyedRun) → i < length olds → get_or olds i old ≡ old
       → get_or (keys_of olds) i 0 ≡ old.key
-      → (j < length births → old.key < prefix_key (get_or births j 0)) → (new_runs : List KeyedRun) (new_born : List ℕ)
+      → (j < length births → old.key < prefix_key (get_or births j 0))
+      → (new_runs : List KeyedRun) (new_born : List KeyedBirth)
       → IsPushed c old runs born new_runs new_born
       → IsGoing c k olds births (i + 1) j new_runs new_born (old.key + 1)
   going_move i j runs born floor g old lt here key_is after new_runs new_born pushed = go pushed
@@ -414,7 +419,7 @@ module _ (room : ℕ) (c : Computation) (k : ℕ) (olds : List KeyedRun) (births
       go : IsPushed c old runs born new_runs new_born
           → IsGoing c k olds births (i + 1) j new_runs new_born (old.key + 1)
       go (gone none is_runs same_born) =
-          subst (λ (bs : List ℕ). IsGoing c k olds births (i + 1) j new_runs bs (old.key + 1)) (sym same_born)
+          subst (λ (bs : List KeyedBirth). IsGoing c k olds births (i + 1) j new_runs bs (old.key + 1)) (sym same_born)
           (subst (λ (r : List KeyedRun). IsGoing c k olds births (i + 1) j r born (old.key + 1)) (sym is_runs) record {
             in_olds = omega arith;
             in_births = g.in_births;
@@ -480,7 +485,7 @@ module _ (room : ℕ) (c : Computation) (k : ℕ) (olds : List KeyedRun) (births
           lift z (inr h) = inr h
 
   -- why a birth is passed over: the floor is above it, or it meets a run
-  pub met_already : (i j : ℕ) (runs : List KeyedRun) (born : List ℕ) (floor : ℕ)
+  pub met_already : (i j : ℕ) (runs : List KeyedRun) (born : List KeyedBirth) (floor : ℕ)
       → IsGoing c k olds births i j runs born floor → j < length births
       → (prefix_key (get_or births j 0) < floor)
       ⊎ ((i < length olds) × (prefix_key (get_or births j 0) ≡ get_or (keys_of olds) i 0))
@@ -497,10 +502,11 @@ module _ (room : ℕ) (c : Computation) (k : ℕ) (olds : List KeyedRun) (births
   pub merging_start : IsMerging c k olds births 0 0 [] [] 0
   merging_start = record { floor = 0; going = going_start; least = omega arith; most = inl (omega arith) }
 
-  pub merging_move : (i j : ℕ) (runs : List KeyedRun) (born : List ℕ) (bar : ℕ)
+  pub merging_move : (i j : ℕ) (runs : List KeyedRun) (born : List KeyedBirth) (bar : ℕ)
       → IsMerging c k olds births i j runs born bar → (old : KeyedRun) → i < length olds → get_or olds i old ≡ old
       → get_or (keys_of olds) i 0 ≡ old.key
-      → (j < length births → old.key < prefix_key (get_or births j 0)) → (new_runs : List KeyedRun) (new_born : List ℕ)
+      → (j < length births → old.key < prefix_key (get_or births j 0))
+      → (new_runs : List KeyedRun) (new_born : List KeyedBirth)
       → IsPushed c old runs born new_runs new_born → IsMerging c k olds births (i + 1) j new_runs new_born bar
   merging_move i j runs born bar m old lt here key_is after new_runs new_born pushed = record {
     floor = old.key + 1;
@@ -510,10 +516,11 @@ module _ (room : ℕ) (c : Computation) (k : ℕ) (olds : List KeyedRun) (births
     most = inr (i, omega arith, ap (λ (x : ℕ). x + 1) (sym key_is));
   }
 
-  pub merging_push : (i j : ℕ) (runs : List KeyedRun) (born : List ℕ) (bar : ℕ)
+  pub merging_push : (i j : ℕ) (runs : List KeyedRun) (born : List KeyedBirth) (bar : ℕ)
       → IsMerging c k olds births i j runs born bar → j < length births → bar ≤ prefix_key (get_or births j 0)
       → (i < length olds → prefix_key (get_or births j 0) < get_or (keys_of olds) i 0)
-      → (new_runs : List KeyedRun) (new_born : List ℕ) → IsBornRun c (get_or births j 0) runs born new_runs new_born
+      → (new_runs : List KeyedRun) (new_born : List KeyedBirth)
+      → IsBornRun c (get_or births j 0) runs born new_runs new_born
       → IsMerging c k olds births i (j + 1) new_runs new_born (prefix_key (get_or births j 0) + 1)
   merging_push i j runs born bar m lt above before new_runs new_born b = record {
     floor = prefix_key (get_or births j 0) + 1;
@@ -528,7 +535,7 @@ module _ (room : ℕ) (c : Computation) (k : ℕ) (olds : List KeyedRun) (births
       low (inr (n, less, e)) =
           let p : get_or (keys_of olds) n 0 < prefix_key (get_or births j 0) = m.going.past n less lt in omega arith
 
-  pub merging_skip : (i j : ℕ) (runs : List KeyedRun) (born : List ℕ) (bar : ℕ)
+  pub merging_skip : (i j : ℕ) (runs : List KeyedRun) (born : List KeyedBirth) (bar : ℕ)
       → IsMerging c k olds births i j runs born bar → j < length births
       → (prefix_key (get_or births j 0) < bar)
       ⊎ ((i < length olds) × (prefix_key (get_or births j 0) ≡ get_or (keys_of olds) i 0))
@@ -547,7 +554,7 @@ module _ (room : ℕ) (c : Computation) (k : ℕ) (olds : List KeyedRun) (births
       wider (inl less) = let b : bar ≤ m.floor = m.least in inl (omega arith)
       wider (inr met) = inr met
 
-  module _ (runs : List KeyedRun) (born : List ℕ) (floor : ℕ)
+  module _ (runs : List KeyedRun) (born : List KeyedBirth) (floor : ℕ)
       (g : IsGoing c k olds births (length olds) (length births) runs born floor) where
     each : (new : Run) → Contains (runs_view (length c - 2) runs) new
         → ((run : Run) × Contains (runs_view (length c - 2) olds) run × IsMovedTo c k run new × (new.lo ≤ new.hi))
@@ -573,7 +580,7 @@ module _ (room : ℕ) (c : Computation) (k : ℕ) (olds : List KeyedRun) (births
     all_born prefix x y candidate =
         let w : (z : ℕ) × Contains births z × (digits (length c) z ≡ cut_at prefix x y) =
         from_map (digits (length c)) births (cut_at prefix x y)
-        (given.level.all (cut_at prefix x y) candidate) in
+        (given.all (cut_at prefix x y) candidate) in
         let whole : take (length births) births ≡ births = take_all (length births) births (omega arith) in
         let same = same_parts (digits (length c - 2) (prefix_key w.0)) prefix (w.0 / count_base % count_base)
         (w.0 % count_base) x y
@@ -587,7 +594,7 @@ module _ (room : ℕ) (c : Computation) (k : ℕ) (olds : List KeyedRun) (births
             (run_of_key (length c - 2) runs key has)
         go key same (inr (old, has, e)) =
             let ends = ends_of_run c k (run_view (length c - 2) old)
-            (given.level.whole.each (run_view (length c - 2) old) (in_map (run_view (length c - 2)) olds old has)) in
+            (given.whole.each (run_view (length c - 2) old) (in_map (run_view (length c - 2)) olds old has)) in
             let alive : IsAlive c k (digits (length c - 2) old.key) = (old.lo, ends.0.inside) in
             absurd (none_skipped c given.walkable.no_cycle k prefix x y candidate
             (subst (λ (p : List ℕ). IsAlive c k p) (ap (digits (length c - 2)) e ∙ same) alive))
@@ -603,53 +610,22 @@ module _ (room : ℕ) (c : Computation) (k : ℕ) (olds : List KeyedRun) (births
     whole_next : IsWhole c (k + 1) (runs_view (length c - 2) runs)
     whole_next =
         next_whole c given.walkable k (runs_view (length c - 2) olds) (runs_view (length c - 2) runs)
-        given.level.whole next_runs
+        given.whole next_runs
 
     pub some_cut : (run : KeyedRun) → Contains runs run → run.lo ≤ run.hi
     some_cut run has =
         (whole_next.each (run_view (length c - 2) run) (in_map (run_view (length c - 2)) runs run has)).some
 
-    module _ (sorted : List ℕ) (there : (z : ℕ) → Contains born z → Contains sorted z)
-        (back : (z : ℕ) → Contains sorted z → Contains born z) where
+    module _ (sorted : List KeyedBirth) (there : (z : KeyedBirth) → Contains born z → Contains sorted z)
+        (back : (z : KeyedBirth) → Contains sorted z → Contains born z) where
       pub ended_level : IsWholeLevel c (whole_view (length c) (k + 1) runs sorted)
-      ended_level = record {
-        processes = refl;
-        two = given.kept.two;
-        whole = whole_next;
-        born = λ cut has. cuts cut (from_map (digits (length c)) sorted cut has);
-        all = all;
-      }
-        where
-          cuts : (cut : List ℕ) → (z : ℕ) × Contains sorted z × (digits (length c) z ≡ cut)
-              → IsOfLevel c (k + 1 + 1) cut
-          cuts cut (z, has, e) =
-              let w : (other : List ℕ) × IsOfLevel c (k + 1 + 1) other × (z ≡ key_of other) =
-              g.made.just z (back z has) in
-              let same : digits (length c) z ≡ w.0 =
-              ap (digits (length c)) w.2 ∙ cut_back c w.0 given.small w.1.0 in
-              subst (IsOfLevel c (k + 1 + 1)) (sym same ∙ e) w.1
+      ended_level =
+          level_with_births c given.small given.walkable given.kept.two (k + 1) runs whole_next born sorted g.made.just
+          g.made.all there back
 
-          all : (cut : List ℕ) → IsCandidate c (k + 1) cut → Contains (map (digits (length c)) sorted) cut
-          all cut candidate =
-              let w = (candidates_in_runs c given.walkable.no_cycle (k + 1) (runs_view (length c - 2) runs) whole_next
-              cut).0 candidate in
-              let v : (r : KeyedRun) × Contains runs r × (run_view (length c - 2) r ≡ w.0) =
-              from_map (run_view (length c - 2)) runs w.0 w.1 in
-              let size : length (digits (length c - 2) v.0.key) ≡ length c - 2 =
-              length-digits (length c - 2) v.0.key in
-              let same_size : length w.0.prefix ≡ length (digits (length c - 2) v.0.key) =
-              ap (λ (r : Run). length r.prefix) (sym v.2) in
-              let lt : w.2.0 < length w.0.prefix = w.2.1 in
-              let has : Contains born (key_of cut) =
-              g.made.all v.0 v.1 w.2.0 cut (omega arith)
-              (subst (λ (r : Run). IsMadeAt c (k + 1) r w.2.0 cut) (sym v.2) w.2.2) in
-              let ok : IsConsistent c cut = (candidates_are_cuts c given.walkable (k + 1) cut candidate).0 in
-              subst (λ (other : List ℕ). Contains (map (digits (length c)) sorted) other)
-              (cut_back c cut given.small ok)
-              (in_map (digits (length c)) sorted (key_of cut) (there (key_of cut) has))
-
-      pub ended_kept : ((i j : ℕ) → i ≤ j → j < length sorted → get_or sorted i 0 ≤ get_or sorted j 0)
-          → IsKeptLevel room (length c) (k + 1) runs sorted
+      pub ended_kept : ((i j : ℕ) → i ≤ j → j < length (cuts_of sorted)
+          → get_or (cuts_of sorted) i 0 ≤ get_or (cuts_of sorted) j 0)
+          → IsKeptLevel room (length c) (k + 1) runs (cuts_of sorted)
       ended_kept ascends = record {
         few = given.kept.few;
         two = given.kept.two;
@@ -657,8 +633,7 @@ module _ (room : ℕ) (c : Computation) (k : ℕ) (olds : List KeyedRun) (births
         kept = g.made.kept;
         some = some_cut;
         sorted = ascends;
-        below = λ z has.
-            let w : (other : List ℕ) × IsOfLevel c (k + 1 + 1) other × (z ≡ key_of other) =
-            g.made.just z (back z has) in
-            subst (λ (x : ℕ). x < count_base ^ length c) (sym w.2) (cut_below c w.0 given.small w.1.0);
+        below =
+            births_below c given.small given.walkable given.kept.two (k + 1) runs whole_next born sorted g.made.just
+            g.made.all there back;
       }

@@ -1,7 +1,7 @@
 -- What is pushed where a run is moved or born.
 use Rattle.std.proofs.Common.{◌≡◌, ℕ, suc, ◌+◌, ◌-◌, ◌<◌, ◌≤◌, Bool, true, List, length, get_or, sum, Contains, sym, ap, ◌∙◌, subst, inl, inr, ◌⊎◌, ◌↔◌, arith}
 use Rattle.std.specs.Prelude.{Some, None}
-use Rattle.pd_keys.specs.Keys.{digits, key_of}
+use Rattle.pd_keys.specs.Keys.{digits}
 use Rattle.pd_keys.proofs.Keys.{length-digits}
 use Rattle.pd_model.specs.Events.{Computation, place}
 use Rattle.pd_model.specs.Messages.{IsMessage}
@@ -9,12 +9,13 @@ use Rattle.pd_model.specs.Order.{HasNoCycle}
 use Rattle.pd_model.specs.Cuts.{IsConsistent, IsOfLevel, one_more}
 use Rattle.pd_model.proofs.Counts.{sum_more}
 use Rattle.pd_neighbors.specs.Neighbors.{cut_at}
-use Rattle.pd_runs.specs.Births.{IsYoung, IsTop, IsLow, IsMetAt, IsReceivedBelow, next_of}
+use Rattle.pd_runs.specs.Births.{IsYoung, IsTop, IsLow, IsMetAt, IsReceivedBelow, IsUndoable, next_of}
 use Rattle.pd_runs.specs.Runs.{IsInterval}
-use Rattle.pd_runs.specs.Points.{IsWanted, GrowsBy, GrowsIf}
+use Rattle.pd_runs.specs.Points.{IsFound, IsWanted, GrowsBy, GrowsIf, birth_of}
 use Rattle.pd_runs.specs.WholeLevels.{rest_at, IsRunOf, IsMadeAt, if_young, if_top, if_low}
-use Rattle.pd_runs.specs.KeptRuns.{run_view, level_of, IsMoved, GrowsAtEnds, AddsBirths}
-use Rattle.pd_runs.specs.Kept.{KeyedRun}
+use Rattle.pd_runs.specs.KeptRuns.{run_view, level_of, IsBirth, IsMoved, GrowsAtEnds, AddsBirths}
+use Rattle.pd_runs.specs.Kept.{KeyedBirth, KeyedRun}
+use Rattle.pd_runs.proofs.Growing.{found_more}
 use Rattle.pd_runs.proofs.NextRuns.{moved_interval}
 use Rattle.pd_runs.proofs.RunCuts.{length_cut, sum_cut, x_at, y_at}
 use Rattle.pd_runs.proofs.RunFlags.{flags_of_moved}
@@ -67,7 +68,7 @@ more_level c run p x two lt le ok =
 
 module _ (c : Computation) (acyclic : HasNoCycle c) (two : 2 ≤ length c) (old new : KeyedRun) (at_top at_low : Bool)
     (r : IsRunOf c (level_of (length c - 2) old) (run_view (length c - 2) old))
-    (m : IsMoved c old new at_top at_low) (born new_born : List ℕ)
+    (m : IsMoved c old new at_top at_low) (born new_born : List KeyedBirth)
     (g : GrowsAtEnds c new at_top at_low born new_born) where
   prefix_size : length (digits (length c - 2) new.key) ≡ length c - 2
   prefix_size = length-digits (length c - 2) new.key
@@ -89,28 +90,30 @@ module _ (c : Computation) (acyclic : HasNoCycle c) (two : 2 ≤ length c) (old 
       flags_of_moved c acyclic (level_of (length c - 2) old) (run_view (length c - 2) old)
       (run_view (length c - 2) new) r m.moved m.some
 
-  just : (z : ℕ) → Contains new_born z → Contains born z
-      ⊎ ((cut : List ℕ) × IsOfLevel c (level_of (length c - 2) old + 1 + 1) cut × (z ≡ key_of cut))
+  just : (z : KeyedBirth) → Contains new_born z
+      → Contains born z ⊎ IsBirth c (level_of (length c - 2) old + 1 + 1) z
   just z has = go (g.just z has)
     where
       go : Contains born z ⊎ ((p x : ℕ) × (p < length c - 2) × (x ≤ new.rest)
           × IsConsistent c (one_more (cut_at (digits (length c - 2) new.key) x (new.rest - x)) p)
-          × (z ≡ key_of (one_more (cut_at (digits (length c - 2) new.key) x (new.rest - x)) p)))
-          → Contains born z
-          ⊎ ((cut : List ℕ) × IsOfLevel c (level_of (length c - 2) old + 1 + 1) cut × (z ≡ key_of cut))
+          × IsUndoable c (one_more (cut_at (digits (length c - 2) new.key) x (new.rest - x)) p) p
+          × (z ≡ birth_of (one_more (cut_at (digits (length c - 2) new.key) x (new.rest - x)) p) p))
+          → Contains born z ⊎ IsBirth c (level_of (length c - 2) old + 1 + 1) z
       go (inl there) = inl there
-      go (inr (p, x, lt, le, ok, is)) =
+      go (inr (p, x, lt, le, ok, undo, is)) =
           inr (
             one_more (cut_at (digits (length c - 2) new.key) x (new.rest - x)) p,
             subst (λ (k : ℕ). IsOfLevel c (k + 1) (one_more (cut_at (digits (length c - 2) new.key) x (new.rest - x))
                 p))
                 (moved_level c old new at_top at_low m) (more_level c new p x two lt le ok),
-            is,
+            ap (λ (birth : KeyedBirth). birth.cut) is,
+            subst (λ (birth : KeyedBirth). IsUndoable c
+                (one_more (cut_at (digits (length c - 2) new.key) x (new.rest - x)) p) birth.by) (sym is) undo,
           )
 
   all : (p : ℕ) (cut : List ℕ) → p < length c - 2
       → IsMadeAt c (level_of (length c - 2) old + 1) (run_view (length c - 2) new) p cut
-      → Contains new_born (key_of cut)
+      → IsFound c new_born cut p
   all p cut lt (if_young young single met is) = absurd (flags.0 young)
   all p cut lt (if_top top message is) =
       let w = flags.1.0 top in
@@ -134,7 +137,7 @@ module _ (c : Computation) (acyclic : HasNoCycle c) (two : 2 ≤ length c) (old 
       (next_of (cut_at (digits (length c - 2) new.key) new.hi (new.rest - new.hi)) p)) (sym count)
       (subst (λ (q : ℕ). IsMessage c (place q new.hi)
       (next_of (cut_at (digits (length c - 2) new.key) new.hi (new.rest - new.hi)) p)) prefix_size here) in
-      subst (λ (z : ℕ). Contains new_born z) (sym (ap key_of (is ∙ ap (λ (at : List ℕ). one_more at p) same)))
+      subst (λ (at : List ℕ). IsFound c new_born at p) (sym (is ∙ ap (λ (at : List ℕ). one_more at p) same))
       (g.top (m.top w.0 sends) p lt wanted)
   all p cut lt (if_low low message is) =
       let w = (flags.2 (rest_at (level_of (length c - 2) old + 1) (run_view (length c - 2) new) - new.lo)).0 low in
@@ -168,7 +171,7 @@ module _ (c : Computation) (acyclic : HasNoCycle c) (two : 2 ≤ length c) (old 
       (next_of (cut_at (digits (length c - 2) new.key) new.lo (new.rest - new.lo)) p)) (sym count)
       (subst (λ (q : ℕ). IsMessage c (place q (new.rest - new.lo))
       (next_of (cut_at (digits (length c - 2) new.key) new.lo (new.rest - new.lo)) p)) last here) in
-      subst (λ (z : ℕ). Contains new_born z) (sym (ap key_of (is ∙ ap (λ (at : List ℕ). one_more at p) same)))
+      subst (λ (at : List ℕ). IsFound c new_born at p) (sym (is ∙ ap (λ (at : List ℕ). one_more at p) same))
       (g.low (m.low w.0 sends) p lt wanted)
 
   pub births_of_moved : AddsBirths c (level_of (length c - 2) old + 1) new born new_born
@@ -176,48 +179,51 @@ module _ (c : Computation) (acyclic : HasNoCycle c) (two : 2 ≤ length c) (old 
 
 -- the births at both ends of a run
 pub grow_ends : (c : Computation) (run : KeyedRun) (at_top at_low : Bool) (p q : ℕ) → p ≡ length c - 2
-    → q ≡ length c - 1 → run.lo ≤ run.hi → run.hi ≤ run.rest → (old mid new : List ℕ)
+    → q ≡ length c - 1 → run.lo ≤ run.hi → run.hi ≤ run.rest → (old mid new : List KeyedBirth)
     → GrowsIf c (cut_at (digits (length c - 2) run.key) run.hi (run.rest - run.hi)) at_top p (length c - 2) old mid
     → GrowsIf c (cut_at (digits (length c - 2) run.key) run.lo (run.rest - run.lo)) at_low q (length c - 2) mid new
     → GrowsAtEnds c run at_top at_low old new
 grow_ends c run at_top at_low p q p_is q_is some within old mid new first second = record {
   kept = λ z has. second.kept z (first.kept z has);
   just = λ z has. from z (second.just z has);
-  top = λ is r lt wanted. second.kept
-      (key_of (one_more (cut_at (digits (length c - 2) run.key) run.hi (run.rest - run.hi)) r))
+  top = λ is r lt wanted. found_more c mid new
+      (one_more (cut_at (digits (length c - 2) run.key) run.hi (run.rest - run.hi)) r) r second.kept
       (first.all is r lt (subst (λ (s : ℕ).
       IsWanted c (cut_at (digits (length c - 2) run.key) run.hi (run.rest - run.hi)) (Some s) r) (sym p_is) wanted));
   low = λ is r lt wanted. second.all is r lt (subst (λ (s : ℕ).
       IsWanted c (cut_at (digits (length c - 2) run.key) run.lo (run.rest - run.lo)) (Some s) r) (sym q_is) wanted);
 }
   where
-    Made : ℕ → Type 0
+    Made : KeyedBirth → Type 0
     Made z =
         (r x : ℕ) × (r < length c - 2) × (x ≤ run.rest)
         × IsConsistent c (one_more (cut_at (digits (length c - 2) run.key) x (run.rest - x)) r)
-        × (z ≡ key_of (one_more (cut_at (digits (length c - 2) run.key) x (run.rest - x)) r))
+        × IsUndoable c (one_more (cut_at (digits (length c - 2) run.key) x (run.rest - x)) r) r
+        × (z ≡ birth_of (one_more (cut_at (digits (length c - 2) run.key) x (run.rest - x)) r) r)
 
-    earlier : (z : ℕ) → Contains old z
+    earlier : (z : KeyedBirth) → Contains old z
         ⊎ ((r : ℕ) × (r < length c - 2)
         × IsConsistent c (one_more (cut_at (digits (length c - 2) run.key) run.hi (run.rest - run.hi)) r)
-        × (z ≡ key_of (one_more (cut_at (digits (length c - 2) run.key) run.hi (run.rest - run.hi)) r)))
+        × IsUndoable c (one_more (cut_at (digits (length c - 2) run.key) run.hi (run.rest - run.hi)) r) r
+        × (z ≡ birth_of (one_more (cut_at (digits (length c - 2) run.key) run.hi (run.rest - run.hi)) r) r))
         → Contains old z ⊎ Made z
     earlier z (inl has) = inl has
-    earlier z (inr (r, lt, ok, is)) = inr (r, run.hi, lt, within, ok, is)
+    earlier z (inr (r, lt, ok, undo, is)) = inr (r, run.hi, lt, within, ok, undo, is)
 
-    from : (z : ℕ) → Contains mid z
+    from : (z : KeyedBirth) → Contains mid z
         ⊎ ((r : ℕ) × (r < length c - 2)
         × IsConsistent c (one_more (cut_at (digits (length c - 2) run.key) run.lo (run.rest - run.lo)) r)
-        × (z ≡ key_of (one_more (cut_at (digits (length c - 2) run.key) run.lo (run.rest - run.lo)) r)))
+        × IsUndoable c (one_more (cut_at (digits (length c - 2) run.key) run.lo (run.rest - run.lo)) r) r
+        × (z ≡ birth_of (one_more (cut_at (digits (length c - 2) run.key) run.lo (run.rest - run.lo)) r) r))
         → Contains old z ⊎ Made z
     from z (inl has) = earlier z (first.just z has)
-    from z (inr (r, lt, ok, is)) = inr (r, run.lo, lt, omega arith, ok, is)
+    from z (inr (r, lt, ok, undo, is)) = inr (r, run.lo, lt, omega arith, ok, undo, is)
 
 -- the births of a run that is born itself
 pub births_of_born : (c : Computation) → 2 ≤ length c → (k key x y : ℕ)
     → IsConsistent c (cut_at (digits (length c - 2) key) x y)
     → sum (cut_at (digits (length c - 2) key) x y) ≡ k → IsYoung c k (digits (length c - 2) key)
-    → (old new : List ℕ) → GrowsBy c (cut_at (digits (length c - 2) key) x y) None (length c - 2) old new
+    → (old new : List KeyedBirth) → GrowsBy c (cut_at (digits (length c - 2) key) x y) None (length c - 2) old new
     → AddsBirths c k (record { key = key; lo = x; hi = x; rest = x + y }) old new
 births_of_born c two k key x y ok level young old new g = record {
   kept = g.kept;
@@ -231,12 +237,13 @@ births_of_born c two k key x y ok level young old new g = record {
     total : sum (digits (length c - 2) key) + (x + y) ≡ k
     total = sym (sum_cut (digits (length c - 2) key) x y) ∙ level
 
-    just : (z : ℕ) → Contains old z
+    just : (z : KeyedBirth) → Contains old z
         ⊎ ((p : ℕ) × (p < length c - 2) × IsConsistent c (one_more (cut_at (digits (length c - 2) key) x y) p)
-        × (z ≡ key_of (one_more (cut_at (digits (length c - 2) key) x y) p)))
-        → Contains old z ⊎ ((cut : List ℕ) × IsOfLevel c (k + 1) cut × (z ≡ key_of cut))
+        × IsUndoable c (one_more (cut_at (digits (length c - 2) key) x y) p) p
+        × (z ≡ birth_of (one_more (cut_at (digits (length c - 2) key) x y) p) p))
+        → Contains old z ⊎ IsBirth c (k + 1) z
     just z (inl has) = inl has
-    just z (inr (p, lt, more, is)) =
+    just z (inr (p, lt, more, undo, is)) =
         let y_is : x + y - x ≡ y = omega arith in
         let same : cut_at (digits (length c - 2) key) x (x + y - x) ≡ cut_at (digits (length c - 2) key) x y =
         ap (λ (v : ℕ). cut_at (digits (length c - 2) key) x v) y_is in
@@ -250,12 +257,14 @@ births_of_born c two k key x y ok level young old new g = record {
               (subst (λ (j : ℕ). IsOfLevel c (j + 1) (one_more (cut_at (digits (length c - 2) key) x (x + y - x)) p))
               total
               made),
-          is,
+          ap (λ (birth : KeyedBirth). birth.cut) is,
+          subst (λ (birth : KeyedBirth). IsUndoable c (one_more (cut_at (digits (length c - 2) key) x y) p) birth.by)
+              (sym is) undo,
         )
 
     all : (p : ℕ) (cut : List ℕ) → p < length c - 2
         → IsMadeAt c k (run_view (length c - 2) (record { key = key; lo = x; hi = x; rest = x + y })) p cut
-        → Contains new (key_of cut)
+        → IsFound c new cut p
     all p cut lt (if_young _ single met is) =
         let many : length (digits (length c - 2) key) ≡ length c - 2 = length-digits (length c - 2) key in
         let size : length (cut_at (digits (length c - 2) key) x y) ≡ length (digits (length c - 2) key) + 2 =
@@ -269,7 +278,7 @@ births_of_born c two k key x y ok level young old new g = record {
         subst (λ (at : List ℕ). IsMetAt c at (next_of at p)) same met in
         let more : IsConsistent c (one_more (cut_at (digits (length c - 2) key) x y) p) =
         add_met c (cut_at (digits (length c - 2) key) x y) p ok (omega arith) met'.0 met'.1 in
-        subst (λ (z : ℕ). Contains new z) (sym (ap key_of (is ∙ ap (λ (at : List ℕ). one_more at p) same)))
+        subst (λ (at : List ℕ). IsFound c new at p) (sym (is ∙ ap (λ (at : List ℕ). one_more at p) same))
         (g.all p lt more)
     all p cut lt (if_top t message is) = absurd (young.before t.before.0 t.before.2 (t.before.1, t.before.4.inside))
     all p cut lt (if_low l message is) = absurd (young.before l.before.0 l.before.1 (x, l.before.2.inside))

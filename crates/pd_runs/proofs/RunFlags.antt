@@ -6,9 +6,9 @@ use Rattle.pd_model.specs.Order.{HasNoCycle}
 use Rattle.pd_model.specs.Cuts.{IsOfLevel, one_more}
 use Rattle.pd_neighbors.specs.Neighbors.{cut_at}
 use Rattle.pd_runs.proofs.RunCuts.{sum_cut}
-use Rattle.pd_runs.specs.Births.{IsAlive, IsYoung, IsGreatest, IsLeast, IsTop, IsLow, IsReceivedBelow, IsMetAt, next_of, IsCandidate, from_young, from_top, from_low}
-use Rattle.pd_runs.proofs.Born.{born_single}
-use Rattle.pd_runs.proofs.Flags.{first_is_young, ends_of_interval}
+use Rattle.pd_runs.specs.Births.{IsAlive, IsYoung, IsGreatest, IsLeast, IsTop, IsLow, IsReceivedBelow, IsMetAt, IsUndoable, IsWalkable, next_of, IsCandidate, from_young, from_top, from_low}
+use Rattle.pd_runs.proofs.Born.{born_single, candidate_by, candidates_are_cuts, process_of}
+use Rattle.pd_runs.proofs.Flags.{first_is_young, ends_of_interval, has_prefix, none_skipped}
 use Rattle.pd_runs.specs.WholeLevels.{Run, IsRunOf, IsWhole, IsMovedTo, IsBornBeside, IsMadeAt, if_young, if_top, if_low, least_cut, greatest_cut}
 use Rattle.pd_runs.proofs.LevelCuts.{run_of_cut}
 use Rattle.pd_runs.proofs.NextRuns.{moved_interval, dead_without_run}
@@ -167,6 +167,10 @@ at_parts : (F : List ℕ → ℕ → ℕ → Type 0) (prefix other : List ℕ) (
 at_parts F prefix other x u y v p e f h =
     subst (λ (n : ℕ). F other u n) f (subst (λ (n : ℕ). F other n y) e (subst (λ (q : List ℕ). F q x y) p h))
 
+-- a candidate that process p makes at one of the runs
+abbrev pub IsMadeBy : Computation → ℕ → List Run → List ℕ → ℕ → Type 0
+IsMadeBy c k runs new p = (run : Run) × Contains runs run × (p < length run.prefix) × IsMadeAt c k run p new
+
 module _ (c : Computation) (acyclic : HasNoCycle c) (k : ℕ) (runs : List Run) (whole : IsWhole c k runs) (new : List ℕ)
   where
     abbrev Made : Type 0
@@ -187,11 +191,11 @@ module _ (c : Computation) (acyclic : HasNoCycle c) (k : ℕ) (runs : List Run) 
         IsLow c k prefix x y × (p < length prefix) × IsMessage c (place (suc (length prefix)) y)
         (next_of (cut_at prefix x y) p) × (new ≡ one_more (cut_at prefix x y) p)
 
-    made : IsCandidate c k new → Made
+    pub made : (candidate : IsCandidate c k new) → IsMadeBy c k runs new (process_of c k new candidate)
     made (from_young prefix x y p young level lt met e) = go (run_of_cut c k runs whole prefix x y level)
       where
         go : (sum prefix + (x + y) ≡ k) × ((run : Run) × Contains runs run × (run.prefix ≡ prefix) × (run.lo ≤ x)
-            × (x ≤ run.hi)) → Made
+            × (x ≤ run.hi)) → IsMadeBy c k runs new p
         go (s, (run, has, same, low, high)) =
             let ends : Ends c k run = ends_of_run c k run (whole.each run has) in
             let total : sum run.prefix ≡ sum prefix = ap sum same in
@@ -202,11 +206,11 @@ module _ (c : Computation) (acyclic : HasNoCycle c) (k : ℕ) (runs : List Run) 
             let w : Young p run.prefix run.lo ((k - sum run.prefix) - run.lo) =
             at_parts (Young p) prefix run.prefix x run.lo y ((k - sum run.prefix) - run.lo) (sym same) a (omega arith)
             (young, level, lt, met, e) in
-            (run, has, (p, w.2, if_young w.0 (sym a ∙ b) w.3 w.4))
+            (run, has, w.2, if_young w.0 (sym a ∙ b) w.3 w.4)
     made (from_top prefix x y p top level lt message e) = go (run_of_cut c k runs whole prefix x y level)
       where
         go : (sum prefix + (x + y) ≡ k) × ((run : Run) × Contains runs run × (run.prefix ≡ prefix) × (run.lo ≤ x)
-            × (x ≤ run.hi)) → Made
+            × (x ≤ run.hi)) → IsMadeBy c k runs new p
         go (s, (run, has, same, low, high)) =
             let ends : Ends c k run = ends_of_run c k run (whole.each run has) in
             let total : sum run.prefix ≡ sum prefix = ap sum same in
@@ -215,11 +219,11 @@ module _ (c : Computation) (acyclic : HasNoCycle c) (k : ℕ) (runs : List Run) 
             let w : Top p run.prefix run.hi ((k - sum run.prefix) - run.hi) =
             at_parts (Top p) prefix run.prefix x run.hi y ((k - sum run.prefix) - run.hi) (sym same) a (omega arith)
             (top, lt, message, e) in
-            (run, has, (p, w.1, if_top w.0 w.2 w.3))
+            (run, has, w.1, if_top w.0 w.2 w.3)
     made (from_low prefix x y p low lt message e) = go (run_of_cut c k runs whole prefix x y low.beside)
       where
         go : (sum prefix + (x + y) ≡ k) × ((run : Run) × Contains runs run × (run.prefix ≡ prefix) × (run.lo ≤ x)
-            × (x ≤ run.hi)) → Made
+            × (x ≤ run.hi)) → IsMadeBy c k runs new p
         go (s, (run, has, same, least, most)) =
             let ends : Ends c k run = ends_of_run c k run (whole.each run has) in
             let total : sum run.prefix ≡ sum prefix = ap sum same in
@@ -228,7 +232,7 @@ module _ (c : Computation) (acyclic : HasNoCycle c) (k : ℕ) (runs : List Run) 
             let w : Low p run.prefix run.lo ((k - sum run.prefix) - run.lo) =
             at_parts (Low p) prefix run.prefix x run.lo y ((k - sum run.prefix) - run.lo) (sym same) a (omega arith)
             (low, lt, message, e) in
-            (run, has, (p, w.1, if_low w.0 w.2 w.3))
+            (run, has, w.1, if_low w.0 w.2 w.3)
 
     unmade : (run : Run) (p : ℕ) → Contains runs run → p < length run.prefix → IsMadeAt c k run p new
         → IsCandidate c k new
@@ -243,4 +247,28 @@ module _ (c : Computation) (acyclic : HasNoCycle c) (k : ℕ) (runs : List Run) 
         from_low run.prefix run.lo ((k - sum run.prefix) - run.lo) p low lt message e
 
     pub candidates_in_runs : IsCandidate c k new ↔ Made
-    candidates_in_runs = (made, λ w. unmade w.0 w.2.0 w.1 w.2.1 w.2.2)
+    candidates_in_runs = (
+      λ candidate.
+          let w : IsMadeBy c k runs new (process_of c k new candidate) = made candidate in
+          (w.0, w.1, (process_of c k new candidate, w.2, w.3)),
+      λ w. unmade w.0 w.2.0 w.1 w.2.1 w.2.2,
+    )
+
+-- it is made by each process whose last event can be undone
+pub made_by_each : (c : Computation) → IsWalkable c → 2 ≤ length c → (k : ℕ) (runs : List Run) → IsWhole c k runs
+    → (cut : List ℕ) → IsCandidate c k cut → (q : ℕ) → IsUndoable c cut q → IsMadeBy c k runs cut q
+made_by_each c well two k runs whole cut candidate q is =
+    let at : IsOfLevel c (k + 1) cut = candidates_are_cuts c well k cut candidate in
+    go at (has_prefix c cut at.0 two)
+  where
+    go : IsOfLevel c (k + 1) cut → (prefix : List ℕ) × (x y : ℕ) × (cut ≡ cut_at prefix x y)
+        → IsMadeBy c k runs cut q
+    go at (prefix, x, y, e) =
+        let undo : IsUndoable c (cut_at prefix x y) q = subst (λ (xs : List ℕ). IsUndoable c xs q) e is in
+        let w : (new : IsCandidate c k (cut_at prefix x y)) × (process_of c k (cut_at prefix x y) new ≡ q) =
+        candidate_by c well k prefix x y q
+        (none_skipped c well.no_cycle k prefix x y (subst (IsCandidate c k) e candidate))
+        (subst (IsOfLevel c (k + 1)) e at) undo.some undo.less in
+        subst (λ (xs : List ℕ). IsMadeBy c k runs xs q) (sym e)
+        (subst (λ (p : ℕ). IsMadeBy c k runs (cut_at prefix x y) p) w.1
+        (made c well.no_cycle k runs whole (cut_at prefix x y) w.0))

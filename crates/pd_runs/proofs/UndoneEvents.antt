@@ -2,12 +2,12 @@
 use Rattle.std.proofs.Common.{◌≡◌, ◌≢◌, ℕ, ◌+◌, ◌<◌, ◌≤◌, List, length, get_or, sym, ap, ◌∙◌, subst, inl, inr, ◌⊎◌, arith}
 use Rattle.std.proofs.lemmas.Bool.{cases_eq, cases_lt}
 use Rattle.pd_model.specs.Events.{Computation, Place, place, IsEvent, IsBefore, event_count}
-use Rattle.pd_runs.specs.Births.{HasOneSend}
+use Rattle.pd_runs.specs.Births.{HasOneSend, IsUndoable}
 use Rattle.pd_model.specs.Messages.{IsMessage}
 use Rattle.pd_model.specs.Cuts.{Includes, IsConsistent, one_more, one_less}
 use Rattle.pd_model.proofs.Chains.{same_place, step_happens}
-use Rattle.pd_model.proofs.Consistency.{closed_from_messages, dec_message}
-use Rattle.pd_model.proofs.Counts.{more_same, more_other, less_same, less_other, less_le}
+use Rattle.pd_model.proofs.Consistency.{closed_from_messages, dec_consistent, dec_message}
+use Rattle.pd_model.proofs.Counts.{more_same, more_other, less_more, less_same, less_other, less_le}
 use Rattle.pd_model.proofs.Steps.{fits_less, fits_more}
 
 -- An event whose sends are in consistent counts can be added.
@@ -141,3 +141,42 @@ one_send c single s t r m n before = never t (subst (λ (e : Place). IsBefore e 
     never : (e : Place) → ¬ IsBefore e e
     never e (inl lt) = absurd (omega arith)
     never e (inr (same, lt)) = absurd (omega arith)
+
+-- an event that is added can be undone
+pub added_undoable : (c : Computation) (cut : List ℕ) (p : ℕ) → IsConsistent c cut → p < length c
+    → IsUndoable c (one_more cut p) p
+added_undoable c cut p ok lt =
+    let size : length cut ≡ length c = ok.fits.one_each in
+    let at : get_or (one_more cut p) p 0 ≡ get_or cut p 0 + 1 = more_same cut p (omega arith) in
+    record {
+      within = lt;
+      some = omega arith;
+      less = subst (IsConsistent c) (sym (less_more cut p (omega arith))) ok;
+    }
+
+-- the last event of q still can be, if the event that is added doesn't receive what it sends
+pub still_undoable : (c : Computation) (cut : List ℕ) (p q : ℕ) → q ≢ p → p < length cut → IsUndoable c cut q
+    → IsConsistent c (one_more cut p)
+    → ¬ IsMessage c (place q (get_or cut q 0)) (place p (get_or cut p 0 + 1)) → IsUndoable c (one_more cut p) q
+still_undoable c cut p q apart lt is ok none =
+    record { within = is.within; some = some; less = go (dec_consistent c (one_less (one_more cut p) q)) }
+  where
+    at_q : get_or (one_more cut p) q 0 ≡ get_or cut q 0
+    at_q = more_other cut p q apart
+
+    at_p : get_or (one_more cut p) p 0 ≡ get_or cut p 0 + 1
+    at_p = more_same cut p lt
+
+    some : 0 < get_or (one_more cut p) q 0
+    some = let has : 0 < get_or cut q 0 = is.some in omega (arith, at_q)
+
+    both : IsConsistent c (one_less (one_less (one_more cut p) p) q)
+    both = subst (λ (xs : List ℕ). IsConsistent c (one_less xs q)) (sym (less_more cut p lt)) is.less
+
+    go : Dec (IsConsistent c (one_less (one_more cut p) q)) → IsConsistent c (one_less (one_more cut p) q)
+    go (yes less) = less
+    go (no never) =
+        let m : IsMessage c (place q (get_or (one_more cut p) q 0)) (place p (get_or (one_more cut p) p 0)) =
+        kept_by_message c (one_more cut p) p q apart ok (omega (arith, at_p)) some both never in
+        absurd (none (subst (λ (n : ℕ). IsMessage c (place q n) (place p (get_or cut p 0 + 1))) at_q
+        (subst (λ (n : ℕ). IsMessage c (place q (get_or (one_more cut p) q 0)) (place p n)) at_p m)))

@@ -4,7 +4,7 @@ use Rattle.std.specs.Prelude.{◌≡◌, ℕ, suc, ◌+◌, ◌<◌, ◌≤◌, 
 use Rattle.pd_model.specs.Events.{Computation, Place, place, IsEvent}
 use Rattle.pd_model.specs.Messages.{IsMessage}
 use Rattle.pd_model.specs.Order.{HasNoCycle}
-use Rattle.pd_model.specs.Cuts.{Includes, IsOfLevel, one_more}
+use Rattle.pd_model.specs.Cuts.{Includes, IsConsistent, IsOfLevel, one_less, one_more}
 use Rattle.pd_neighbors.specs.Neighbors.{cut_at}
 
 -- each receipt has one send
@@ -79,3 +79,13 @@ pub data IsCandidate (c : Computation) (k : ℕ) (new : List ℕ) : Type 0 where
   from_low : (prefix : List ℕ) (x y p : ℕ) → IsLow c k prefix x y → p < length prefix
       → IsMessage c (place (suc (length prefix)) y) (next_of (cut_at prefix x y) p)
       → new ≡ one_more (cut_at prefix x y) p → IsCandidate c k new
+
+-- the last event of process q in the cut can be undone
+pub record IsUndoable (c : Computation) (cut : List ℕ) (q : ℕ) : Type 0 where
+  pub within : q < length c
+  pub some : 0 < slice_index cut q
+  pub less : IsConsistent c (one_less cut q)
+
+-- so can that of a process after p: the cut is made by an event of that one, too
+abbrev pub IsMadeLater : Computation → List ℕ → ℕ → Type 0
+IsMadeLater c cut p = (q : ℕ) × (p < q) × IsUndoable c cut q

@@ -4,9 +4,9 @@ use Rattle.pd_keys.specs.Keys.{count_base, digits, key_of}
 use Rattle.pd_model.specs.Events.{Computation, place}
 use Rattle.pd_model.specs.Cuts.{IsConsistent, IsOfLevel, one_more}
 use Rattle.pd_neighbors.specs.Neighbors.{cut_at}
-use Rattle.pd_runs.specs.Births.{IsReceivedBelow}
-use Rattle.pd_runs.specs.Kept.{KeyedRun}
-use Rattle.pd_runs.specs.Points.{IsWanted}
+use Rattle.pd_runs.specs.Births.{IsReceivedBelow, IsUndoable}
+use Rattle.pd_runs.specs.Kept.{KeyedBirth, KeyedRun}
+use Rattle.pd_runs.specs.Points.{IsFound, IsWanted, birth_of}
 use Rattle.pd_runs.specs.WholeLevels.{Run, IsMovedTo, IsMadeAt}
 
 -- the run, where the prefix has n counts
@@ -34,31 +34,36 @@ pub record IsMoved (c : Computation) (old new : KeyedRun) (at_top at_low : Bool)
 
 -- The new list has what the old one has, and beside that only cuts that one more event makes of a cut at an end of the
 -- run: all that receive what the last event there sends, at the ends that are flagged.
-pub record GrowsAtEnds (c : Computation) (run : KeyedRun) (at_top at_low : Bool) (old new : List ℕ) : Type 0 where
-  pub kept : (z : ℕ) → Contains old z → Contains new z
-  pub just : (z : ℕ) → Contains new z → Contains old z
-      ⊎ ((p x : ℕ) × (p < length c - 2) × (x ≤ run.rest)
-      × IsConsistent c (one_more (cut_at (digits (length c - 2) run.key) x (run.rest - x)) p)
-      × (z ≡ key_of (one_more (cut_at (digits (length c - 2) run.key) x (run.rest - x)) p)))
-  pub top : IsTrue at_top → (p : ℕ) → p < length c - 2
-      → IsWanted c (cut_at (digits (length c - 2) run.key) run.hi (run.rest - run.hi)) (Some (length c - 2)) p
-      → Contains new (key_of (one_more (cut_at (digits (length c - 2) run.key) run.hi (run.rest - run.hi)) p))
-  pub low : IsTrue at_low → (p : ℕ) → p < length c - 2
-      → IsWanted c (cut_at (digits (length c - 2) run.key) run.lo (run.rest - run.lo)) (Some (length c - 1)) p
-      → Contains new (key_of (one_more (cut_at (digits (length c - 2) run.key) run.lo (run.rest - run.lo)) p))
+pub record GrowsAtEnds (c : Computation) (run : KeyedRun) (at_top at_low : Bool) (old new : List KeyedBirth) : Type 0
+  where
+    pub kept : (z : KeyedBirth) → Contains old z → Contains new z
+    pub just : (z : KeyedBirth) → Contains new z → Contains old z
+        ⊎ ((p x : ℕ) × (p < length c - 2) × (x ≤ run.rest)
+        × IsConsistent c (one_more (cut_at (digits (length c - 2) run.key) x (run.rest - x)) p)
+        × IsUndoable c (one_more (cut_at (digits (length c - 2) run.key) x (run.rest - x)) p) p
+        × (z ≡ birth_of (one_more (cut_at (digits (length c - 2) run.key) x (run.rest - x)) p) p))
+    pub top : IsTrue at_top → (p : ℕ) → p < length c - 2
+        → IsWanted c (cut_at (digits (length c - 2) run.key) run.hi (run.rest - run.hi)) (Some (length c - 2)) p
+        → IsFound c new (one_more (cut_at (digits (length c - 2) run.key) run.hi (run.rest - run.hi)) p) p
+    pub low : IsTrue at_low → (p : ℕ) → p < length c - 2
+        → IsWanted c (cut_at (digits (length c - 2) run.key) run.lo (run.rest - run.lo)) (Some (length c - 1)) p
+        → IsFound c new (one_more (cut_at (digits (length c - 2) run.key) run.lo (run.rest - run.lo)) p) p
 
--- The new list has what the old one has, and beside that only cuts of the next level: all candidates that are made at
--- this run of level k.
-pub record AddsBirths (c : Computation) (k : ℕ) (run : KeyedRun) (old new : List ℕ) : Type 0 where
-  pub kept : (z : ℕ) → Contains old z → Contains new z
-  pub just : (z : ℕ) → Contains new z
-      → Contains old z ⊎ ((cut : List ℕ) × IsOfLevel c (k + 1) cut × (z ≡ key_of cut))
+-- the birth is a cut of level k, and the last event there of the process that made it can be undone
+abbrev pub IsBirth : Computation → ℕ → KeyedBirth → Type 0
+IsBirth c k birth = (cut : List ℕ) × IsOfLevel c k cut × (birth.cut ≡ key_of cut) × IsUndoable c cut birth.by
+
+-- The new list has what the old one has, and beside that only births of the next level: all candidates that are made at
+-- this run of level k and aren't left out.
+pub record AddsBirths (c : Computation) (k : ℕ) (run : KeyedRun) (old new : List KeyedBirth) : Type 0 where
+  pub kept : (z : KeyedBirth) → Contains old z → Contains new z
+  pub just : (z : KeyedBirth) → Contains new z → Contains old z ⊎ IsBirth c (k + 1) z
   pub all : (p : ℕ) (cut : List ℕ) → p < length c - 2 → IsMadeAt c k (run_view (length c - 2) run) p cut
-      → Contains new (key_of cut)
+      → IsFound c new cut p
 
 -- What is pushed where a run is moved: nothing, if it is empty one level on; or the run, and its births.
-pub data IsPushed (c : Computation) (old : KeyedRun) (runs : List KeyedRun) (born : List ℕ) (new_runs : List KeyedRun)
-    (new_born : List ℕ) : Type 0 where
+pub data IsPushed (c : Computation) (old : KeyedRun) (runs : List KeyedRun) (born : List KeyedBirth)
+    (new_runs : List KeyedRun) (new_born : List KeyedBirth) : Type 0 where
   gone : ((new : Run) → IsMovedTo c (level_of (length c - 2) old) (run_view (length c - 2) old) new
       → ¬ (new.lo ≤ new.hi)) → new_runs ≡ runs → new_born ≡ born → IsPushed c old runs born new_runs new_born
   moved : (new : KeyedRun) (top low : Bool) → IsMoved c old new top low → new_runs ≡ runs ++ new ∷ []
@@ -66,8 +71,8 @@ pub data IsPushed (c : Computation) (old : KeyedRun) (runs : List KeyedRun) (bor
       → IsPushed c old runs born new_runs new_born
 
 -- what is pushed where a prefix is born with the cut of this key
-pub record IsBornRun (c : Computation) (cut : ℕ) (runs : List KeyedRun) (born : List ℕ) (new_runs : List KeyedRun)
-    (new_born : List ℕ) : Type 0 where
+pub record IsBornRun (c : Computation) (cut : ℕ) (runs : List KeyedRun) (born : List KeyedBirth)
+    (new_runs : List KeyedRun) (new_born : List KeyedBirth) : Type 0 where
   pub run : KeyedRun
   pub key : run.key ≡ cut / count_base / count_base
   pub single : run.lo ≡ run.hi

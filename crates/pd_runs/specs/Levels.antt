@@ -3,38 +3,43 @@ use Rattle.std.specs.Prelude.{◌≡◌, ℕ, ◌+◌, ◌-◌, ◌/◌, ◌^◌
 use Rattle.pd_keys.specs.Keys.{Ascending, count_base, digits}
 use Rattle.pd_model.specs.Events.{Computation}
 use Rattle.pd_model.specs.Cuts.{IsOfLevel}
-use Rattle.pd_runs.specs.Births.{IsCandidate}
-use Rattle.pd_runs.specs.Kept.{KeyedRun}
+use Rattle.pd_runs.specs.Births.{IsCandidate, IsUndoable}
+use Rattle.pd_runs.specs.Kept.{KeyedBirth, KeyedRun, cuts_of}
 use Rattle.pd_runs.specs.KeptRuns.{IsKept, run_view}
 use Rattle.pd_runs.specs.WholeLevels.{IsWhole, Run, count_of_runs}
 
--- The number of a level and its runs. Beside them stand the cuts with which the prefixes of the next level are born.
+-- The number of a level and its runs. Beside them stand the cuts with which the prefixes of the next level are born,
+-- and the same as they are kept, each with the process whose event made it.
 pub record WholeLevel : Type 0 where
   pub processes : ℕ
   pub number : ℕ
   pub runs : List Run
   pub born : List (List ℕ)
+  pub births : List KeyedBirth
 
 -- The level has all cuts of its number of events, and the births of the next one: cuts of that, among them each
--- candidate.
+-- candidate. In each the event that made it can be undone.
 pub record IsWholeLevel (c : Computation) (level : WholeLevel) : Type 0 where
   pub processes : level.processes ≡ length c
   pub two : 2 ≤ length c
   pub whole : IsWhole c level.number level.runs
   pub born : (cut : List ℕ) → Contains level.born cut → IsOfLevel c (level.number + 1) cut
   pub all : (cut : List ℕ) → IsCandidate c level.number cut → Contains level.born cut
+  pub undoable : (birth : KeyedBirth) → Contains level.births birth
+      → IsUndoable c (digits level.processes birth.cut) birth.by
 
 -- the runs that are kept
 abbrev pub runs_view : ℕ → List KeyedRun → List Run
 runs_view n runs = map (run_view n) runs
 
-abbrev pub whole_view : ℕ → ℕ → List KeyedRun → List ℕ → WholeLevel
-whole_view processes number runs born =
+abbrev pub whole_view : ℕ → ℕ → List KeyedRun → List KeyedBirth → WholeLevel
+whole_view processes number runs births =
     record {
       processes = processes;
       number = number;
       runs = runs_view (processes - 2) runs;
-      born = map (digits processes) born;
+      born = map (digits processes) (cuts_of births);
+      births = births;
     }
 
 -- the keys of the prefixes

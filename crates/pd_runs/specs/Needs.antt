@@ -1,10 +1,10 @@
 -- What an event needs of a cut, and what is looked up of a computation.
-use Rattle.std.specs.Prelude.{◌≡◌, ◌↔◌, ℕ, ◌+◌, ◌-◌, ◌<◌, ◌≤◌, Bool, false, IsTrue, List, length, slice_index, slice_index_or, Vec}
+use Rattle.std.specs.Prelude.{◌≡◌, ◌↔◌, ℕ, ◌+◌, ◌-◌, ◌<◌, ◌≤◌, IsTrue, List, length, slice_index, slice_index_or, Vec}
 use Rattle.std.specs.Global.{Global}
+use Rattle.pd_bits.specs.Words.{has_bit}
 use Rattle.pd_model.specs.Events.{Computation, Place, place, event_count}
 use Rattle.pd_model.specs.Messages.{IsMessage}
 use Rattle.pd_model.specs.Cuts.{IsConsistent, one_more}
-use Rattle.pd_runs.specs.Births.{IsReceivedBelow}
 use Rattle.pd_runs.specs.declared.need.Need.{Need}
 
 -- The event that comes after the first n ones of process p can be added to a cut with these exactly if the cut has the
@@ -27,15 +27,16 @@ pub record AreNeeds (c : Computation) (n : ℕ) (rows : List (Vec Need Global)) 
   pub each : (p : ℕ) (none : Vec Need Global) → p < n
       → HasNeeds c p (event_count c p + 1) (slice_index_or rows p none).items
 
--- Of process q there is a mark for each number of events. It is set where the last of these is a send that one of the
--- first n processes receives.
-pub record MarksSends (c : Computation) (n q : ℕ) (marks : List Bool) : Type 0 where
-  pub same : length marks ≡ event_count c q + 1
-  pub covers : (number : ℕ) → IsReceivedBelow c n (place q number) → IsTrue (slice_index_or marks number false)
+-- Of process q there is a word for each number of events. Each of the first n processes that receives the last of these
+-- has its bit in it.
+pub record HasReceivers (c : Computation) (n q : ℕ) (words : List ℕ) : Type 0 where
+  pub same : length words ≡ event_count c q + 1
+  pub covers : (p m number : ℕ) → p < n → IsMessage c (place q number) (place p m)
+      → IsTrue (has_bit (slice_index_or words number 0) p)
 
 -- what is looked up of a computation of two processes or more
-pub record IsSteps (c : Computation) (needs : List (Vec Need Global)) (sends_x sends_y : List Bool) : Type 0 where
+pub record IsSteps (c : Computation) (needs : List (Vec Need Global)) (x_words y_words : List ℕ) : Type 0 where
   pub two : 2 ≤ length c
   pub each : AreNeeds c (length c) needs
-  pub x : MarksSends c (length c - 2) (length c - 2) sends_x
-  pub y : MarksSends c (length c - 2) (length c - 1) sends_y
+  pub x : HasReceivers c (length c - 2) (length c - 2) x_words
+  pub y : HasReceivers c (length c - 2) (length c - 1) y_words

@@ -5,8 +5,8 @@ use Rattle.pd_model.specs.Events.{Computation, place}
 use Rattle.pd_model.specs.Messages.{IsMessage}
 use Rattle.pd_model.specs.Cuts.{IsConsistent, one_more}
 use Rattle.pd_neighbors.specs.Neighbors.{cut_at}
-use Rattle.pd_runs.specs.Births.{next_of}
-use Rattle.pd_runs.specs.Kept.{KeyedCut}
+use Rattle.pd_runs.specs.Births.{IsMadeLater, IsUndoable, next_of}
+use Rattle.pd_runs.specs.Kept.{KeyedBirth, KeyedCut}
 
 -- the cut, where the prefix has n counts
 abbrev pub point_cut : ℕ → KeyedCut → List ℕ
@@ -17,17 +17,27 @@ abbrev pub IsWanted : Computation → List ℕ → Option ℕ → ℕ → Type 0
 IsWanted c cut None p = IsConsistent c (one_more cut p)
 IsWanted c cut (Some q) p = IsMessage c (place q (slice_index cut q)) (next_of cut p)
 
+-- the birth of this cut by process p
+abbrev pub birth_of : List ℕ → ℕ → KeyedBirth
+birth_of cut p = record { cut = key_of cut; by = p }
+
+-- it is in the list, or left out, since a process after p makes the cut too
+abbrev pub IsFound : Computation → List KeyedBirth → List ℕ → ℕ → Type 0
+IsFound c births cut p = Contains births (birth_of cut p) ⊎ IsMadeLater c cut p
+
 -- The new list has what the old one has, and beside that only cuts that one more event of one of the first n processes
--- makes of this one: all that are wanted.
-pub record GrowsBy (c : Computation) (cut : List ℕ) (by : Option ℕ) (n : ℕ) (old new : List ℕ) : Type 0 where
-  pub kept : (z : ℕ) → Contains old z → Contains new z
-  pub just : (z : ℕ) → Contains new z
-      → Contains old z ⊎ ((p : ℕ) × (p < n) × IsConsistent c (one_more cut p) × (z ≡ key_of (one_more cut p)))
-  pub all : (p : ℕ) → p < n → IsWanted c cut by p → Contains new (key_of (one_more cut p))
+-- makes of this one: all that are wanted and aren't left out.
+pub record GrowsBy (c : Computation) (cut : List ℕ) (by : Option ℕ) (n : ℕ) (old new : List KeyedBirth) : Type 0 where
+  pub kept : (z : KeyedBirth) → Contains old z → Contains new z
+  pub just : (z : KeyedBirth) → Contains new z → Contains old z
+      ⊎ ((p : ℕ) × (p < n) × IsConsistent c (one_more cut p) × IsUndoable c (one_more cut p) p
+      × (z ≡ birth_of (one_more cut p) p))
+  pub all : (p : ℕ) → p < n → IsWanted c cut by p → IsFound c new (one_more cut p) p
 
 -- the same for what the last event of process q sends, where it is asked for
-pub record GrowsIf (c : Computation) (cut : List ℕ) (wanted : Bool) (q n : ℕ) (old new : List ℕ) : Type 0 where
-  pub kept : (z : ℕ) → Contains old z → Contains new z
-  pub just : (z : ℕ) → Contains new z
-      → Contains old z ⊎ ((p : ℕ) × (p < n) × IsConsistent c (one_more cut p) × (z ≡ key_of (one_more cut p)))
-  pub all : IsTrue wanted → (p : ℕ) → p < n → IsWanted c cut (Some q) p → Contains new (key_of (one_more cut p))
+pub record GrowsIf (c : Computation) (cut : List ℕ) (wanted : Bool) (q n : ℕ) (old new : List KeyedBirth) : Type 0 where
+  pub kept : (z : KeyedBirth) → Contains old z → Contains new z
+  pub just : (z : KeyedBirth) → Contains new z → Contains old z
+      ⊎ ((p : ℕ) × (p < n) × IsConsistent c (one_more cut p) × IsUndoable c (one_more cut p) p
+      × (z ≡ birth_of (one_more cut p) p))
+  pub all : IsTrue wanted → (p : ℕ) → p < n → IsWanted c cut (Some q) p → IsFound c new (one_more cut p) p

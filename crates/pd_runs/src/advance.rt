@@ -2,7 +2,7 @@
 ghost use Rattle.pd_keys.specs.Keys.{count_base, digits};
 ghost use Rattle.pd_model.specs.Cuts.{IsConsistent};
 ghost use Rattle.pd_neighbors.specs.Neighbors.{cut_at};
-ghost use Rattle.pd_runs.specs.Births.{IsYoung};
+ghost use Rattle.pd_runs.specs.Births.{IsUndoable, IsYoung};
 ghost use Rattle.pd_runs.specs.KeptRuns.{GrowsAtEnds, IsBornRun, IsKept, IsMoved, IsPushed, level_of, run_view};
 ghost use Rattle.pd_runs.specs.WholeLevels.{IsMovedTo, IsRunOf, Run};
 ghost use Rattle.std.specs.Prelude.{◌-◌, ◌/◌, ◌^◌, ◌<◌, ◌≤◌, IfNone, IfOk, IfSome, length, sum};
@@ -11,6 +11,7 @@ use super::Steps;
 use super::birth::{add_births, add_births_if};
 use super::births::Births;
 use super::kept::KeptRun;
+use super::kept_birth::KeptBirth;
 use super::point::{Point, can_add, point_of};
 use pd_keys::Key;
 use std::alloc::AllocError;
@@ -23,8 +24,8 @@ pub(crate) struct Moved<K: Key> {
     pub(crate) low: bool,
 }
 
-/// The run one level on, if it isn't empty there.
-fn move_run<K: Key>(steps: &Steps<'_, '_>, run: &KeptRun<K>) -> Option<Moved<K>>
+/// The run one level on, if it isn't empty there. It stands at place `from` now.
+fn move_run<K: Key>(steps: &Steps<'_, '_>, run: &KeptRun<K>, from: u32) -> Option<Moved<K>>
     requires few { length steps.now ≤ K.room }
     requires kept { IsKept (length steps.now - 2) (level_of (length steps.now - 2) run.now) run.now }
     requires run { IsRunOf steps.now (level_of (length steps.now - 2) run.now)
@@ -61,6 +62,7 @@ fn move_run<K: Key>(steps: &Steps<'_, '_>, run: &KeptRun<K>) -> Option<Moved<K>>
         lo,
         hi,
         rest,
+        from,
     };
     Some(Moved { run, top, low })
 }
@@ -100,10 +102,12 @@ fn add_births_of<K: Key>(
     Ok(())
 }
 
-/// Adds the run one level on, if it isn't empty there, and the births that are searched for at its ends.
+/// Adds the run one level on, if it isn't empty there, and the births that are searched for at its ends. It stands at
+/// place `from` now.
 pub(crate) fn push_moved<K: Key>(
     steps: &Steps<'_, '_>,
     run: &KeptRun<K>,
+    from: u32,
     runs: &mut Vec<KeptRun<K>>,
     born: &mut Births<K>,
 ) -> Result<(), AllocError>
@@ -114,7 +118,7 @@ pub(crate) fn push_moved<K: Key>(
     ensures { IfOk result (λ _. IsPushed steps.now run.now runs.old.items born.old runs.new.items born.new) }
 {
     steps.limits();
-    match move_run(steps, run) {
+    match move_run(steps, run, from) {
         Some(next) => {
             add_births_of(steps, &next.run, next.top, next.low, born)?;
             runs.push(next.run)?;
@@ -124,29 +128,33 @@ pub(crate) fn push_moved<K: Key>(
     }
 }
 
-/// Adds the run of a cut whose prefix is born with it, and the births that are searched for at it.
+/// Adds the run of a cut whose prefix is born with it, and the births that are searched for at it. In the level before
+/// it would stand at place `from`.
 pub(crate) fn push_born<K: Key>(
     steps: &Steps<'_, '_>,
-    cut: K,
+    birth: KeptBirth<K>,
+    from: u32,
     runs: &mut Vec<KeptRun<K>>,
     born: &mut Births<K>,
 ) -> Result<(), AllocError>
     requires few { length steps.now ≤ K.room }
-    requires below { K.number cut < count_base ^ length steps.now }
-    requires cut { IsConsistent steps.now (digits (length steps.now) (K.number cut)) }
-    requires young { IsYoung steps.now (sum (digits (length steps.now) (K.number cut)))
-        (digits (length steps.now - 2) (K.number cut / count_base / count_base)) }
+    requires below { K.number birth.cut < count_base ^ length steps.now }
+    requires cut { IsConsistent steps.now (digits (length steps.now) (K.number birth.cut)) }
+    requires latest { IsUndoable steps.now (digits (length steps.now) (K.number birth.cut)) birth.by }
+    requires young { IsYoung steps.now (sum (digits (length steps.now) (K.number birth.cut)))
+        (digits (length steps.now - 2) (K.number birth.cut / count_base / count_base)) }
     ensures { IfOk result (λ _.
-        IsBornRun steps.now (K.number cut) runs.old.items born.old runs.new.items born.new) }
+        IsBornRun steps.now (K.number birth.cut) runs.old.items born.old runs.new.items born.new) }
 {
     steps.limits();
-    let point = point_of(cut, steps.prefix() + 2);
+    let point = point_of(birth.cut, steps.prefix() + 2);
     runs.push(KeptRun {
         key: point.key,
         lo: point.x,
         hi: point.x,
         rest: point.x + point.y,
+        from,
     })?;
-    add_births(steps, &point, None, born)?;
+    add_births(steps, &point, None, birth.by, born)?;
     Ok(())
 }

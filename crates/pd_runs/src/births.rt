@@ -1,25 +1,29 @@
 //! The births that are collected for the next level.
 ghost use Rattle.pd_runs.specs.Collected.{HasOneMore, IsSortedOf};
-ghost use Rattle.std.specs.Prelude.{◌≡◌, [], IfOk, map};
+ghost use Rattle.pd_runs.specs.Kept.{birth_view, births_view};
+ghost use Rattle.std.specs.Prelude.{◌≡◌, [], IfOk};
 
+use super::kept_birth::{KeptBirth, order};
 use pd_keys::Key;
 use std::alloc::{AllocError, Global};
 use std::marker::Model;
 
 /// Births of the next level, in a list for each process that has one event more in them. If cuts are met in ascending
-/// order, each list ascends, so that few long runs are merged when all are sorted.
+/// order, each list ascends, so that few long runs are merged when all are sorted. The list of the greatest process is
+/// the first one: of equal cuts that one's comes first, so that a prefix is born by the greatest that makes its cut.
 #[derive(Drop)]
 pub(crate) struct Births<K: Key> {
-    lists: Vec<Vec<K>>,
+    lists: Vec<Vec<KeptBirth<K>>>,
 }
 
 impl<K: Key> Model for Births<K> {
     ghost use Rattle.pd_runs.specs.Collected.{births_in};
-    ghost use Rattle.std.specs.Prelude.{◌<◌, ℕ, List, length};
+    ghost use Rattle.pd_runs.specs.Kept.{KeyedBirth, birth_view};
+    ghost use Rattle.std.specs.Prelude.{◌<◌, List, length};
 
-    ghost Value = { List ℕ };
+    ghost Value = { List KeyedBirth };
 
-    ghost view = { λ b. births_in K.number b.lists.items };
+    ghost view = { λ b. births_in (birth_view K.number) b.lists.items };
 
     ghost invariant = { λ b. 0 < length b.lists.items };
 }
@@ -40,24 +44,25 @@ impl<K: Key> Births<K> {
         Ok(Births { lists })
     }
 
-    /// Adds a birth by one more event of process `p`, from 0. A process without a list of its own shares the last one.
+    /// Adds a birth. A process without a list of its own shares the last one.
     ///
     /// # Errors
     /// An allocation was refused.
-    pub(crate) fn push(&mut self, p: usize, cut: K) -> Result<(), AllocError>
-        ensures { IfOk result (λ _. HasOneMore self.old (K.number cut) self.new) }
+    pub(crate) fn push(&mut self, birth: KeptBirth<K>) -> Result<(), AllocError>
+        ensures { IfOk result (λ _. HasOneMore self.old (birth_view K.number birth) self.new) }
     {
-        let place = p.min(self.lists.len() - 1);
-        self.lists[place].push(cut)?;
+        let last = self.lists.len() - 1;
+        let place = last - birth.by.min(last);
+        self.lists[place].push(birth)?;
         Ok(())
     }
 
-    /// All of them, ascending.
+    /// All of them, their cuts ascending.
     ///
     /// # Errors
     /// An allocation was refused.
-    pub(crate) fn sorted(self, alloc: Global) -> Result<Vec<K>, AllocError>
-        ensures { IfOk result (λ all. IsSortedOf self (map K.number all.items)) }
+    pub(crate) fn sorted(self, alloc: Global) -> Result<Vec<KeptBirth<K>>, AllocError>
+        ensures { IfOk result (λ all. IsSortedOf self (births_view K.number all.items)) }
     {
         let mut count: usize = 0;
         for k in 0..self.lists.len() {
@@ -67,7 +72,7 @@ impl<K: Key> Births<K> {
         for i in 0..self.lists.len() {
             all.extend_from_slice(&self.lists[i])?;
         }
-        K::sort(&mut all)?;
+        all.sort_by(|a, b| order(a, b))?;
         Ok(all)
     }
 }

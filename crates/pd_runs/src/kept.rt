@@ -12,6 +12,8 @@ pub(crate) struct KeptRun<K: Key> {
     pub(crate) hi: u32,
     /// The sum of the last two counts.
     pub(crate) rest: u32,
+    /// Where the run of the same prefix stands in the level before, or would stand. It is a hint: nothing rests on it.
+    pub(crate) from: u32,
 }
 
 impl<K: Key> Model for KeptRun<K> {

@@ -23,6 +23,7 @@
 //! - `need`: what an event needs before a cut can have it
 //! - `point`: a cut by the key of its prefix, and which events can be added to it
 //! - `kept`: a run as it is kept
+//! - `kept_birth`: a birth as it is kept
 //! - `advance`: a run one level on
 //! - `birth`: the cuts that one more event of a process of the prefix makes
 //! - `births`: the births that are collected for the next level
@@ -32,6 +33,7 @@ mod advance;
 mod birth;
 mod births;
 mod kept;
+mod kept_birth;
 pub mod laws;
 mod need;
 mod point;

@@ -28,7 +28,7 @@ impl<K: Key> Model for Point<K> {
 }
 
 /// The count of process `q` in a cut with this many counts before the last two.
-fn count<K: Key>(point: &Point<K>, prefix: usize, q: usize) -> u64
+pub(crate) fn count<K: Key>(point: &Point<K>, prefix: usize, q: usize) -> u64
     requires few { prefix ≤ K.room }
     requires below { point.now.key < count_base ^ prefix }
     requires within { q < prefix + 2 }

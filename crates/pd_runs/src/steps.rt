@@ -1,24 +1,27 @@
 //! What the walk over whole levels looks up in a computation.
+ghost use Rattle.pd_bits.specs.Words.{has_bit};
 ghost use Rattle.pd_format.specs.Limits.{event_limit, process_limit};
 ghost use Rattle.pd_model.specs.Events.{event_count, place};
 ghost use Rattle.pd_runs.specs.Births.{IsReceivedBelow, IsWalkable};
-ghost use Rattle.pd_runs.specs.Needs.{AreNeeds, HasNeeds, IsNeed, MarksSends};
+ghost use Rattle.pd_model.specs.Messages.{IsMessage};
+ghost use Rattle.pd_runs.specs.Needs.{AreNeeds, HasNeeds, HasReceivers, IsNeed};
 ghost use Rattle.pd_runs.specs.declared.need.Need.{Need};
-ghost use Rattle.std.specs.Prelude.{◌≡◌, ◌+◌, ◌-◌, ◌<◌, ◌≤◌, ℕ, false, IfOk, IsTrue, Some, length, slice_get, slice_index_or};
+ghost use Rattle.std.specs.Prelude.{◌≡◌, ◌+◌, ◌-◌, ◌<◌, ◌≤◌, ℕ, IfOk, IsTrue, Some, length, slice_get, slice_index_or};
 
 use super::need::{Need, need_after};
+use pd_bits::{BITS, lowest, with, words};
 use pd_clock::Computation;
 use std::alloc::{AllocError, Global};
 use std::marker::Model;
 
 /// What the walk over whole levels looks up in a computation of two processes or more: the need of each event, and
-/// which events of the last two processes are sends that a process of the prefix receives.
+/// which processes of the prefix receive an event of the last two processes, a bit for each.
 #[derive(Drop)]
 pub struct Steps<'a, 'b> {
     computation: &'a Computation<'b>,
     needs: Vec<Vec<Need>>,
-    sends_x: Vec<bool>,
-    sends_y: Vec<bool>,
+    receivers_x: Vec<u64>,
+    receivers_y: Vec<u64>,
 }
 
 impl<'a, 'b> Model for Steps<'a, 'b> {
@@ -30,7 +33,7 @@ impl<'a, 'b> Model for Steps<'a, 'b> {
     ghost view = { λ s. s.computation.now.events };
 
     ghost invariant = { λ s.
-        IsSteps s.computation.now.events s.needs.items s.sends_x.items s.sends_y.items };
+        IsSteps s.computation.now.events s.needs.items s.receivers_x.items s.receivers_y.items };
 }
 
 /// The needs of the events of process `p`, and the one after the last.
@@ -62,43 +65,57 @@ fn needs_of_all(alloc: Global, computation: &Computation<'_>) -> Result<Vec<Vec<
     Ok(rows)
 }
 
-/// Marks the events of process `q` that are needed by those of a row.
-fn mark_needed(row: &[Need], q: usize, marks: &mut Vec<bool>)
-    ensures len { length marks.new.items ≡ length marks.old.items }
-    ensures kept { (n : ℕ) → IsTrue (slice_index_or marks.old.items n false)
-        → IsTrue (slice_index_or marks.new.items n false) }
+/// Sets bit `p` in the word of this number.
+fn set_receiver(receivers: &mut Vec<u64>, number: usize, p: usize)
+    requires few { p < process_limit }
+    requires within { number < length receivers.old.items }
+    ensures len { length receivers.new.items ≡ length receivers.old.items }
+    ensures kept { (n j : ℕ) → IsTrue (has_bit (slice_index_or receivers.old.items n 0) j)
+        → IsTrue (has_bit (slice_index_or receivers.new.items n 0) j) }
+    ensures set { IsTrue (has_bit (slice_index_or receivers.new.items number 0) p) }
+{
+    receivers[number] = with(receivers[number], p as u64);
+}
+
+/// Sets bit `p` in the words of the events of process `q` that are needed by those of a row, which is that of `p`.
+fn add_receiver(row: &[Need], p: usize, q: usize, receivers: &mut Vec<u64>)
+    requires { p < process_limit }
+    ensures len { length receivers.new.items ≡ length receivers.old.items }
+    ensures kept { (n j : ℕ) → IsTrue (has_bit (slice_index_or receivers.old.items n 0) j)
+        → IsTrue (has_bit (slice_index_or receivers.new.items n 0) j) }
     ensures needed { (i : ℕ) (need : Need) → slice_get row.now i ≡ Some need → need.process ≡ q
-        → need.number < length marks.old.items → IsTrue (slice_index_or marks.new.items need.number false) }
+        → need.number < length receivers.old.items
+        → IsTrue (has_bit (slice_index_or receivers.new.items need.number 0) p) }
 {
     for i in 0..row.len() {
         let number = row[i].number as usize;
-        if row[i].process as usize == q && number < marks.len() {
-            marks[number] = true;
+        if row[i].process as usize == q && number < receivers.len() {
+            set_receiver(receivers, number, p);
         }
     }
 }
 
-/// For process `q` a mark for each number of events: whether the last of these is a send that one of the first `prefix`
-/// processes receives. It may be set for others too.
-fn sends_of(
+/// For process `q` a word for each number of events, with a bit for each process of the prefix: it is set if that one
+/// receives the last of these.
+fn receivers_of(
     alloc: Global,
     computation: &Computation<'_>,
     needs: &[Vec<Need>],
     q: usize,
-) -> Result<Vec<bool>, AllocError>
+) -> Result<Vec<u64>, AllocError>
     requires needs { AreNeeds computation.now.events (length computation.now.events) needs.now }
     requires two { 2 ≤ length computation.now.events }
     requires within { q < length computation.now.events }
-    ensures { IfOk result (λ marks.
-        MarksSends computation.now.events (length computation.now.events - 2) q marks.items) }
+    ensures { IfOk result (λ receivers.
+        HasReceivers computation.now.events (length computation.now.events - 2) q receivers.items) }
 {
     computation.limits();
     let count = computation.events(q) as usize;
-    let mut marks = vec![in alloc; false; count + 1]?;
+    let mut receivers = vec![in alloc; 0; count + 1]?;
     for p in 0..computation.processes() - 2 {
-        mark_needed(&needs[p], q, &mut marks);
+        add_receiver(&needs[p], p, q, &mut receivers);
     }
-    Ok(marks)
+    Ok(receivers)
 }
 
 impl<'a, 'b> Steps<'a, 'b> {
@@ -112,13 +129,13 @@ impl<'a, 'b> Steps<'a, 'b> {
     {
         let needs = needs_of_all(alloc, computation)?;
         let processes = computation.processes();
-        let sends_x = sends_of(alloc, computation, &needs, processes - 2)?;
-        let sends_y = sends_of(alloc, computation, &needs, processes - 1)?;
+        let receivers_x = receivers_of(alloc, computation, &needs, processes - 2)?;
+        let receivers_y = receivers_of(alloc, computation, &needs, processes - 1)?;
         Ok(Steps {
             computation,
             needs,
-            sends_x,
-            sends_y,
+            receivers_x,
+            receivers_y,
         })
     }
 
@@ -151,6 +168,25 @@ impl<'a, 'b> Steps<'a, 'b> {
         self.needs[p][count as usize]
     }
 
+    /// The processes of the prefix that may receive event `number` of the last process but one, a bit for each. Those
+    /// that do have theirs.
+    pub(crate) fn receivers_x(&self, number: u64) -> u64
+        requires { number ≤ event_count self.now (length self.now - 2) }
+        ensures { (p n : ℕ) → p < length self.now - 2
+            → IsMessage self.now (place (length self.now - 2) number) (place p n) → IsTrue (has_bit result p) }
+    {
+        self.receivers_x[number as usize]
+    }
+
+    /// The same of the last process.
+    pub(crate) fn receivers_y(&self, number: u64) -> u64
+        requires { number ≤ event_count self.now (length self.now - 1) }
+        ensures { (p n : ℕ) → p < length self.now - 2
+            → IsMessage self.now (place (length self.now - 1) number) (place p n) → IsTrue (has_bit result p) }
+    {
+        self.receivers_y[number as usize]
+    }
+
     /// Whether event `number` of the last process but one may be a send that a process of the prefix receives. Where it
     /// is one, the answer is yes.
     pub(crate) fn may_send_x(&self, number: u64) -> bool
@@ -158,7 +194,9 @@ impl<'a, 'b> Steps<'a, 'b> {
         ensures { IsReceivedBelow self.now (length self.now - 2) (place (length self.now - 2) number)
             → IsTrue result }
     {
-        self.sends_x[number as usize]
+        let receivers = self.receivers_x(number);
+        words(receivers);
+        receivers != 0
     }
 
     /// The same of the last process.
@@ -167,6 +205,25 @@ impl<'a, 'b> Steps<'a, 'b> {
         ensures { IsReceivedBelow self.now (length self.now - 2) (place (length self.now - 1) number)
             → IsTrue result }
     {
-        self.sends_y[number as usize]
+        let receivers = self.receivers_y(number);
+        words(receivers);
+        receivers != 0
+    }
+
+    /// The processes of the prefix that may receive event `number` of process `q`, a bit for each. Those that do have
+    /// theirs, and all have it if `q` isn't one of the last two.
+    pub(crate) fn receivers(&self, q: usize, number: u64) -> u64
+        requires { number ≤ event_count self.now q }
+        ensures { (p n : ℕ) → p < length self.now - 2 → IsMessage self.now (place q number) (place p n)
+            → IsTrue (has_bit result p) }
+    {
+        self.limits();
+        if q == self.prefix() {
+            return self.receivers_x(number);
+        }
+        if q == self.prefix() + 1 {
+            return self.receivers_y(number);
+        }
+        lowest(BITS)
     }
 }

@@ -2,16 +2,17 @@
 ghost use Rattle.pd_format.specs.Limits.{process_limit};
 ghost use Rattle.pd_keys.specs.Keys.{AreDigits, key_of};
 ghost use Rattle.pd_neighbors.specs.Neighbors.{cut_at};
-ghost use Rattle.pd_runs.specs.Kept.{KeyedRun};
+ghost use Rattle.pd_runs.specs.Kept.{KeyedRun, births_view, cuts_of};
 ghost use Rattle.pd_runs.specs.Levels.{IsKeptLevel, IsWholeLevel, cut_count, keys_of, runs_view, whole_view};
 ghost use Rattle.pd_runs.specs.WholeLevels.{Run, rest_at};
-ghost use Rattle.std.specs.Prelude.{◌≡◌, ◌+◌, ◌<◌, ◌≤◌, ◌==◌, ◌↔◌, ℕ, Contains, IfOk, IfSome, IsTrue, length, map, slice_get, slice_index};
+ghost use Rattle.std.specs.Prelude.{◌≡◌, ◌+◌, ◌<◌, ◌≤◌, ◌==◌, ◌↔◌, ℕ, Contains, IfOk, IfSome, IsTrue, length, slice_get, slice_index};
 
 use super::Steps;
 use super::advance::{push_born, push_moved};
 use super::birth::add_births;
 use super::births::Births;
 use super::kept::KeptRun;
+use super::kept_birth::KeptBirth;
 use super::point::Point;
 use pd_keys::Key;
 use std::alloc::{AllocError, Global};
@@ -24,18 +25,20 @@ pub struct Whole<K: Key> {
     number: u64,
     cuts: u64,
     runs: Vec<KeptRun<K>>,
-    born: Vec<K>,
+    born: Vec<KeptBirth<K>>,
 }
 
 impl<K: Key> Model for Whole<K> {
+    ghost use Rattle.pd_runs.specs.Kept.{births_view, cuts_of};
     ghost use Rattle.pd_runs.specs.Levels.{IsKeptLevel, WholeLevel, cut_count, runs_view, whole_view};
-    ghost use Rattle.std.specs.Prelude.{◌≡◌, ◌-◌, map};
+    ghost use Rattle.std.specs.Prelude.{◌≡◌, ◌-◌};
 
     ghost Value = { WholeLevel };
 
-    ghost view = { λ w. whole_view w.processes w.number w.runs.items (map K.number w.born.items) };
+    ghost view = { λ w. whole_view w.processes w.number w.runs.items (births_view K.number w.born.items) };
 
-    ghost invariant = { λ w. IsKeptLevel K.room w.processes w.number w.runs.items (map K.number w.born.items)
+    ghost invariant = { λ w.
+        IsKeptLevel K.room w.processes w.number w.runs.items (cuts_of (births_view K.number w.born.items))
         × (w.cuts ≡ cut_count (runs_view (w.processes - 2) w.runs.items))
         × K.fits w.processes };
 }
@@ -85,6 +88,11 @@ fn is_above<K: Key>(prefix: K, last: Option<K>) -> bool
     }
 }
 
+/// A place as a hint. Beyond what has room in it, it hints at nothing.
+fn hint(place: usize) -> u32 {
+    u32::try_from(place).unwrap_or(u32::MAX)
+}
+
 /// The level after the one of these runs and births. Each run moves, and beside them stand the births whose prefix has
 /// no run yet: each prefix is born with the first of its births.
 fn next_level<K: Key>(
@@ -92,13 +100,13 @@ fn next_level<K: Key>(
     steps: &Steps<'_, '_>,
     number: u64,
     olds: &[KeptRun<K>],
-    births: &[K],
+    births: &[KeptBirth<K>],
 ) -> Result<Whole<K>, AllocError>
     requires room { number < 18446744073709551615 }
     requires fits { K.fits (length steps.now) }
-    requires kept { IsKeptLevel K.room (length steps.now) number olds.now (map K.number births.now) }
+    requires kept { IsKeptLevel K.room (length steps.now) number olds.now (cuts_of (births_view K.number births.now)) }
     requires level { IsWholeLevel steps.now
-        (whole_view (length steps.now) number olds.now (map K.number births.now)) }
+        (whole_view (length steps.now) number olds.now (births_view K.number births.now)) }
     ensures level { IfOk result (IsWholeLevel steps.now) }
     ensures number { IfOk result (λ next. next.number ≡ number + 1) }
 {
@@ -109,18 +117,18 @@ fn next_level<K: Key>(
     let mut last = None;
     let mut i = 0;
     for j in 0..births.len() {
-        let prefix = births[j].without_two();
+        let prefix = births[j].cut.without_two();
         while is_run_below(olds, i, prefix) {
-            push_moved(steps, &olds[i], &mut runs, &mut born)?;
+            push_moved(steps, &olds[i], hint(i), &mut runs, &mut born)?;
             i += 1;
         }
         if is_above(prefix, last) && is_below_run(prefix, olds, i) {
-            push_born(steps, births[j], &mut runs, &mut born)?;
+            push_born(steps, births[j], hint(i), &mut runs, &mut born)?;
             last = Some(prefix);
         }
     }
     while i < olds.len() {
-        push_moved(steps, &olds[i], &mut runs, &mut born)?;
+        push_moved(steps, &olds[i], hint(i), &mut runs, &mut born)?;
         i += 1;
     }
     let born = born.sorted(alloc)?;
@@ -152,13 +160,14 @@ impl<K: Key> Whole<K> {
             lo: 0,
             hi: 0,
             rest: 0,
+            from: 0,
         })?;
         let empty = Point {
             key: K::none(),
             x: 0,
             y: 0,
         };
-        add_births(steps, &empty, None, &mut born)?;
+        add_births(steps, &empty, None, 0, &mut born)?;
         let born = born.sorted(alloc)?;
         Ok(Whole {
             processes: others + 2,
@@ -259,6 +268,15 @@ impl<K: Key> Whole<K> {
     {
         let run = &self.runs[i];
         run.key.digit(self.processes - 2, p)
+    }
+
+    /// A hint at the place of the run with the prefix of run `i` in the level before, if that has it: the key there has
+    /// to be compared.
+    pub fn from(&self, i: usize) -> usize
+        requires { i < length self.now.runs }
+    {
+        let run = &self.runs[i];
+        run.from as usize
     }
 
     /// How many processes there are.

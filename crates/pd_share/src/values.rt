@@ -3,6 +3,7 @@ ghost use Rattle.std.specs.Prelude.{◌≡◌, ◌<◌, ℕ, All, IfOk, IfSome, 
 
 use crate::found::{Found, find_drawn};
 use std::alloc::{AllocError, Global};
+use std::mem;
 use std::sync::atomic::AtomicUsize;
 use std::thread::{Threads, map_indices};
 
@@ -36,68 +37,81 @@ fn find_all<R: Threads + Sync, X: Send + Drop, F: Fn(usize) -> X + Sync>(
 }
 
 /// Puts what was found in its place.
-fn put<X: Copy + Drop, F: Fn(usize) -> X>(_work: &F, found: &[Found<X>], values: &mut [Option<X>])
-    requires found { All (λ f. (f.number < length values.old) × F.post _work.now f.number f.value) found.now }
+fn put<X: Drop, F: Fn(usize) -> X>(_work: &F, found: Vec<Found<X>>, values: &mut [Option<X>])
+    requires found { All (λ f. (f.number < length values.old) × F.post _work.now f.number f.value) found.items }
     requires values { (i : ℕ) → IfSome (slice_index_or values.old i None) (F.post _work.now i) }
     ensures one_each { length values.new ≡ length values.old }
     ensures values { (i : ℕ) → IfSome (slice_index_or values.new i None) (F.post _work.now i) }
 {
-    for k in 0..found.len() {
-        values[found[k].number] = Some(found[k].value);
+    let mut found = found;
+    while let Some(next) = found.pop() {
+        let Found { number, value } = next;
+        values[number] = Some(value);
     }
 }
 
 /// Nothing found, this many times.
-fn nothing<X: Copy + Drop>(alloc: Global, count: usize) -> Result<Vec<Option<X>>, AllocError>
-    ensures { IfOk result (λ values. (length values.items ≡ count)
-        × ((i : ℕ) → slice_index_or values.items i None ≡ None)) }
+fn nothing<X: Drop>(alloc: Global, count: usize) -> Result<Vec<Option<X>>, AllocError>
+    ensures { IfOk result (λ values. (length values.items ≡ count) × All (λ value. value ≡ None) values.items) }
 {
-    vec![in alloc; None; count]
+    let mut values = Vec::with_capacity(alloc, count)?;
+    for _ in 0..count {
+        values.push(None)?;
+    }
+    Ok(values)
 }
 
 /// Puts what each thread found in its place.
 ///
 /// # Errors
 /// An allocation was refused in one of them.
-fn put_all<X: Copy + Drop, F: Fn(usize) -> X>(
+fn put_all<X: Drop, F: Fn(usize) -> X>(
     work: &F,
-    parts: &[Result<Vec<Found<X>>, AllocError>],
+    parts: Vec<Result<Vec<Found<X>>, AllocError>>,
     values: &mut [Option<X>],
 ) -> Result<(), AllocError>
     requires parts { All (λ part. IfOk part (λ found.
-        All (λ f. (f.number < length values.old) × F.post work.now f.number f.value) found.items)) parts.now }
+        All (λ f. (f.number < length values.old) × F.post work.now f.number f.value) found.items)) parts.items }
     requires values { (i : ℕ) → IfSome (slice_index_or values.old i None) (F.post work.now i) }
     ensures one_each { length values.new ≡ length values.old }
     ensures values { (i : ℕ) → IfSome (slice_index_or values.new i None) (F.post work.now i) }
 {
-    for t in 0..parts.len() {
-        match &parts[t] {
-            Ok(found) => put(work, found, values),
-            Err(AllocError) => return Err(AllocError),
-        }
+    let mut parts = parts;
+    while let Some(part) = parts.pop() {
+        put(work, part?, values);
     }
     Ok(())
 }
 
+/// What stands in a place, or, if nothing does, what is found of its number now.
+fn value_there<X: Drop, F: Fn(usize) -> X>(work: &F, place: Option<X>, i: usize) -> X
+    requires accepts { F.pre work.now i }
+    requires place { IfSome place (F.post work.now i) }
+    ensures { F.post work.now i result }
+{
+    match place {
+        Some(value) => value,
+        None => work(i),
+    }
+}
+
 /// What stands in each place, or, if nothing does, what is found of its number now.
-fn values_there<X: Copy + Drop, F: Fn(usize) -> X>(
+fn values_there<X: Drop, F: Fn(usize) -> X>(
     alloc: Global,
     work: &F,
-    values: &[Option<X>],
+    values: &mut [Option<X>],
 ) -> Result<Vec<X>, AllocError>
-    requires accepts { (i : ℕ) → i < length values.now → F.pre work.now i }
-    requires values { (i : ℕ) → IfSome (slice_index_or values.now i None) (F.post work.now i) }
-    ensures one_each { IfOk result (λ all. length all.items ≡ length values.now) }
-    ensures values { IfOk result (λ all. (i : ℕ) (d : X) → i < length values.now
+    requires accepts { (i : ℕ) → i < length values.old → F.pre work.now i }
+    requires values { (i : ℕ) → IfSome (slice_index_or values.old i None) (F.post work.now i) }
+    ensures one_each { IfOk result (λ all. length all.items ≡ length values.old) }
+    ensures values { IfOk result (λ all. (i : ℕ) (d : X) → i < length values.old
         → F.post work.now i (slice_index_or all.items i d)) }
 {
-    let mut all = Vec::with_capacity(alloc, values.len())?;
-    for i in 0..values.len() {
-        let value = match values[i] {
-            Some(value) => value,
-            None => work(i),
-        };
-        all.push(value)?;
+    let count = values.len();
+    let mut all = Vec::with_capacity(alloc, count)?;
+    for i in 0..count {
+        let place = mem::replace(&mut values[i], None);
+        all.push(value_there(work, place, i))?;
     }
     Ok(all)
 }
@@ -106,7 +120,7 @@ fn values_there<X: Copy + Drop, F: Fn(usize) -> X>(
 ///
 /// # Errors
 /// An allocation was refused.
-pub fn values_of<R: Threads + Sync, X: Copy + Send + Drop, F: Fn(usize) -> X + Sync>(
+pub fn values_of<R: Threads + Sync, X: Send + Drop, F: Fn(usize) -> X + Sync>(
     rt: &R,
     threads: usize,
     alloc: Global,
@@ -120,6 +134,6 @@ pub fn values_of<R: Threads + Sync, X: Copy + Send + Drop, F: Fn(usize) -> X + S
 {
     let parts = find_all(rt, threads, alloc, count, work)?;
     let mut values = nothing(alloc, count)?;
-    put_all(work, &parts, values.as_mut_slice())?;
-    values_there(alloc, work, &values)
+    put_all(work, parts, values.as_mut_slice())?;
+    values_there(alloc, work, values.as_mut_slice())
 }

@@ -29,6 +29,11 @@ IsWordOf tests prefix word =
 pub record IsWordOfRun (tests : List CompiledView) (level : WholeLevel) (i word : ℕ) : Type 0 where
   pub is : IsWordOf tests (run_at level.runs i).prefix word
 
+-- each bit that is set in the last number is set in all words
+abbrev pub AreInAll : List ℕ → ℕ → Type 0
+AreInAll words bits =
+    (q i : ℕ) → IsTrue (has_bit bits q) → i < length words → IsTrue (has_bit (slice_index words i) q)
+
 -- a word for each run
 pub record AreSkipped (tests : List CompiledView) (level : WholeLevel) (words : List ℕ) : Type 0 where
   pub one_each : length words ≡ length level.runs

@@ -38,25 +38,21 @@ pub(crate) fn are_many<K: Key>(
     tests: &[Compiled<'_, '_>],
     before: &Whole<K>,
     level: &Whole<K>,
-    places: &[usize],
-) -> bool
-    requires { length places.now ≡ length level.now.runs }
-{
+) -> bool {
     let mut born: u64 = 0;
     for i in 0..level.len() {
-        if is_born(before, places[i], level, i) {
+        if is_born(before, level, i) {
             born = born.saturating_add(1);
         }
     }
     weight(tests).saturating_mul(born) >= SHARED_COMPARISONS
 }
 
-/// The word of run `i`: that of the run at this place in the level before, if that has its prefix.
+/// The word of run `i`: that of the run with its prefix in the level before, or one that is asked.
 fn word_there<K: Key>(
     tests: &[Compiled<'_, '_>],
     before: &Whole<K>,
     skipped: &SkippedRuns,
-    at: usize,
     level: &Whole<K>,
     i: usize,
 ) -> u16
@@ -67,7 +63,7 @@ fn word_there<K: Key>(
     requires within { i < length level.now.runs }
     ensures { IsWordOfRun tests.now level.now i result }
 {
-    match kept(tests, before, skipped, at, level, i) {
+    match kept(tests, before, skipped, level, i) {
         Some(word) => word,
         None => asked_once(tests, level, i),
     }
@@ -82,13 +78,11 @@ pub(crate) fn words_by_threads<R: Threads + Sync, K: Key + Sync>(
     before: &Whole<K>,
     skipped: &SkippedRuns,
     level: &Whole<K>,
-    places: &[usize],
 ) -> Result<Vec<u16>, AllocError>
     requires before { IsSomeLevel before.now }
     requires level { IsSomeLevel level.now }
     requires processes { before.now.processes ≡ level.now.processes }
     requires skipped { AreSkipped tests.now before.now skipped.now }
-    requires places { length places.now ≡ length level.now.runs }
     ensures { IfOk result (λ words. AreSkipped tests.now level.now words.items) }
 {
     let words = values_of(
@@ -100,9 +94,9 @@ pub(crate) fn words_by_threads<R: Threads + Sync, K: Key + Sync>(
             requires { IsSomeLevel before.now × IsSomeLevel level.now
                 × (before.now.processes ≡ level.now.processes)
                 × AreSkipped tests.now before.now skipped.now
-                × (length places.now ≡ length level.now.runs) × (i < length level.now.runs) }
+                × (i < length level.now.runs) }
             ensures { IsWordOfRun tests.entry.now level.entry.now i result }
-        { word_there(tests, before, skipped, places[i], level, i) },
+        { word_there(tests, before, skipped, level, i) },
     )?;
     Ok(words)
 }

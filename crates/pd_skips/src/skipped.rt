@@ -2,13 +2,14 @@
 ghost use Rattle.pd_marks.specs.RunPlaces.{key_of_run, run_at};
 ghost use Rattle.pd_marks.specs.Skips.{HaveNoHits};
 ghost use Rattle.pd_model.specs.Predicates.{test_of};
-ghost use Rattle.pd_skips.specs.SkippedRuns.{AreSkipped, IsSomeLevel, IsWordOf};
+ghost use Rattle.pd_skips.specs.SkippedRuns.{AreInAll, AreSkipped, IsSomeLevel, IsWordOf};
 ghost use Rattle.pd_runs.specs.Levels.{WholeLevel};
 ghost use Rattle.pd_tables.specs.Views.{CompiledView};
 ghost use Rattle.std.specs.Prelude.{◌≡◌, ◌<◌, ◌≤◌, ℕ, IfOk, IfSome, List, length, slice_index, slice_index_or};
 
 use super::asked::{BITS, asked};
 use super::by_threads::{are_many, may_be_many, words_by_threads};
+use pd_bits::{both, has, lowest};
 use pd_format::PROCESS_LIMIT;
 use pd_keys::Key;
 use pd_marks::Skips;
@@ -19,18 +20,22 @@ use std::marker::Model;
 use std::thread::Threads;
 
 /// A word for each run of a whole level: bit `q` is set only if predicate `q` holds at no cut with the run's prefix.
-/// The first 16 predicates have a bit.
+/// The first 16 predicates have a bit. Beside the words stand the bits that all of them have.
 #[derive(Drop)]
 pub struct SkippedRuns {
     words: Vec<u16>,
+    in_all: u64,
 }
 
 impl Model for SkippedRuns {
+    ghost use Rattle.pd_skips.specs.SkippedRuns.{AreInAll};
     ghost use Rattle.std.specs.Prelude.{ℕ, List};
 
     ghost Value = { List ℕ };
 
     ghost view = { λ r. r.words.items };
+
+    ghost invariant = { λ r. AreInAll r.words.items r.in_all };
 }
 
 /// The number whose digits are the counts of the prefix of run `i`.
@@ -41,34 +46,19 @@ fn key<K: Key>(level: &Whole<K>, i: usize) -> K
     level.key(i)
 }
 
-/// The place of the first run from `at` on whose number isn't below `key`, or how many runs there are.
-fn place_from<K: Key>(level: &Whole<K>, sought: K, at: usize) -> usize
-    ensures beyond { result < length level.now.runs → K.number sought ≤ key_of_run (run_at level.now.runs result) }
-    ensures below { (j : ℕ) → at ≤ j → j < result → j < length level.now.runs
-        → key_of_run (run_at level.now.runs j) < K.number sought }
-    ensures within { result ≤ length level.now.runs }
-{
-    for j in at..level.len() {
-        if !key(level, j).is_below(sought) {
-            return j;
-        }
-    }
-    level.len()
-}
-
-/// Whether the run at this place in the level before, if there is one, has another prefix than run `i`.
-pub(crate) fn is_born<K: Key>(before: &Whole<K>, at: usize, level: &Whole<K>, i: usize) -> bool
+/// Whether the level before has no run with the prefix of run `i` at the place that this one hints at.
+pub(crate) fn is_born<K: Key>(before: &Whole<K>, level: &Whole<K>, i: usize) -> bool
     requires { i < length level.now.runs }
 {
+    let at = level.from(i);
     at >= before.len() || !key(before, at).is_same(key(level, i))
 }
 
-/// The word of the run at this place in the level before, if that has the prefix of run `i`.
+/// The word of the run with the prefix of run `i` in the level before, if that is at the place that run `i` hints at.
 pub(crate) fn kept<K: Key>(
     _tests: &[Compiled<'_, '_>],
     before: &Whole<K>,
     skipped: &SkippedRuns,
-    at: usize,
     level: &Whole<K>,
     i: usize,
 ) -> Option<u16>
@@ -81,18 +71,18 @@ pub(crate) fn kept<K: Key>(
 {
     before.limits();
     level.limits();
+    let at = level.from(i);
     if at < before.len() && key(before, at).is_same(key(level, i)) {
         return Some(skipped.word(at));
     }
     None
 }
 
-/// The word of run `i`: that of the run at this place in the level before, if that has its prefix.
+/// The word of run `i`: that of the run with its prefix in the level before, or one that is asked.
 fn word_after<K: Key>(
     tests: &[Compiled<'_, '_>],
     before: &Whole<K>,
     skipped: &SkippedRuns,
-    at: usize,
     level: &Whole<K>,
     i: usize,
     counts: &mut [u64],
@@ -105,27 +95,10 @@ fn word_after<K: Key>(
     requires room { level.now.processes ≤ length counts.old }
     ensures { IsWordOf tests.now (run_at level.now.runs i).prefix result }
 {
-    match kept(tests, before, skipped, at, level, i) {
+    match kept(tests, before, skipped, level, i) {
         Some(word) => word,
         None => asked(tests, level, i, counts),
     }
-}
-
-/// For each run of the level the place of its prefix in the level before, if that has it.
-fn places_of<K: Key>(
-    alloc: Global,
-    before: &Whole<K>,
-    level: &Whole<K>,
-) -> Result<Vec<usize>, AllocError>
-    ensures { IfOk result (λ places. length places.items ≡ length level.now.runs) }
-{
-    let mut places = Vec::with_capacity(alloc, level.len())?;
-    let mut at = 0;
-    for i in 0..level.len() {
-        at = place_from(before, key(level, i), at);
-        places.push(at)?;
-    }
-    Ok(places)
 }
 
 /// The words of the runs, one after the other.
@@ -145,15 +118,32 @@ fn words_in_turn<K: Key>(
     level.limits();
     let mut words = Vec::with_capacity(alloc, level.len())?;
     let mut counts = [0; PROCESS_LIMIT];
-    let mut at = 0;
     for i in 0..level.len() {
-        at = place_from(before, key(level, i), at);
-        words.push(word_after(tests, before, skipped, at, level, i, &mut counts))?;
+        words.push(word_after(tests, before, skipped, level, i, &mut counts))?;
     }
     Ok(words)
 }
 
+/// The bits that all words have, of those that a word has room for.
+fn common(words: &[u16]) -> u64
+    ensures { AreInAll words.now result }
+{
+    let mut bits = lowest(BITS as u64);
+    for i in 0..words.len() {
+        bits = both(bits, u64::from(words[i]));
+    }
+    bits
+}
+
 impl SkippedRuns {
+    /// The runs that are skipped by these words.
+    fn new(words: Vec<u16>) -> SkippedRuns
+        ensures { result ≡ words.items }
+    {
+        let in_all = common(&words);
+        SkippedRuns { words, in_all }
+    }
+
     /// The word of run `i`.
     fn word(&self, i: usize) -> u16
         requires { i < length self.now }
@@ -180,7 +170,7 @@ impl SkippedRuns {
         for i in 0..level.len() {
             words.push(asked(tests, level, i, &mut counts))?;
         }
-        Ok(SkippedRuns { words })
+        Ok(SkippedRuns::new(words))
     }
 
     /// The skipped of the next level, from those of a level. Only the runs with a new prefix are asked: by at most
@@ -204,16 +194,13 @@ impl SkippedRuns {
         ensures { IfOk result (AreSkipped tests.now level.now) }
     {
         if threads > 1 && may_be_many(tests, level) {
-            let places = places_of(alloc, before, level)?;
-            if are_many(tests, before, level, &places) {
-                let words = words_by_threads(
-                    rt, threads, alloc, tests, before, skipped, level, &places,
-                )?;
-                return Ok(SkippedRuns { words });
+            if are_many(tests, before, level) {
+                let words = words_by_threads(rt, threads, alloc, tests, before, skipped, level)?;
+                return Ok(SkippedRuns::new(words));
             }
         }
         let words = words_in_turn(alloc, tests, before, skipped, level)?;
-        Ok(SkippedRuns { words })
+        Ok(SkippedRuns::new(words))
     }
 
     /// The runs that predicate `q` needn't be evaluated at. From predicate 16 on that is none.
@@ -225,7 +212,7 @@ impl SkippedRuns {
             result }
     {
         if q < BITS {
-            return Skips::new(&self.words, q as u64);
+            return Skips::new(&self.words, q as u64, has(self.in_all, q as u64));
         }
         Skips::none()
     }

@@ -236,3 +236,13 @@ pub may_at : (columns across down base reach both : Bool) → both ≡ (base || 
 may_at true across down base reach both is base_is reached holds = is ∙ ap (λ (t : Bool). t || reach) base_is
 may_at false across down base reach both is base_is reached holds =
     is ∙ ap (λ (t : Bool). t || reach) base_is ∙ reached holds
+
+-- ---- what the prefix makes true
+
+-- where each bit of a word stands for a truth, all of them are true if all bits are set
+pub all_known : (n : ℕ) (word truths : ℕ → Bool) → ((j : ℕ) → word j ≡ true → truths j ≡ true)
+    → all_below n word ≡ true → all_below n truths ≡ true
+all_known n word truths known all = all_below_all n truths (λ j lt. known j (all_below_true n word all j lt))
+
+pub known_at : (columns across down : Bool) → columns ≡ true → ((columns || across) || down) ≡ true
+known_at columns across down is = ap (λ (t : Bool). (t || across) || down) is

@@ -8,3 +8,4 @@ pub mod Comparisons
 pub mod Differences
 pub mod Compiles
 pub mod Conjunctions
+pub mod Chains

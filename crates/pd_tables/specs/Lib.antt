@@ -4,5 +4,6 @@ pub mod Parts
 pub mod Tables
 pub mod Rows
 pub mod Clauses
+pub mod Series
 pub mod Nodes
 pub mod Views

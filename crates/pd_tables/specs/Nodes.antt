@@ -7,7 +7,8 @@ use Rattle.pd_neighbors.specs.Neighbors.{cut_at}
 use Rattle.pd_tables.specs.Zero.{joined, turned}
 use Rattle.pd_tables.specs.Tables.{linear_holds}
 use Rattle.pd_tables.specs.Clauses.{clauses_hold}
-use Rattle.pd_tables.specs.declared.node.Node.{Node, Constant, Compare, Conjunction, Direct, And', Or'}
+use Rattle.pd_tables.specs.Series.{series_holds}
+use Rattle.pd_tables.specs.declared.node.Node.{Node, Constant, Compare, Several, Conjunction, Direct, And', Or'}
 use Rattle.pd_tables.specs.declared.compile.Rest.{Rest}
 use Rattle.pd_tables.specs.declared.join.Head.{Head}
 use Rattle.pd_tables.specs.declared.join.Head.TheVariants.{Alone, Chain, Other}
@@ -15,6 +16,7 @@ use Rattle.pd_tables.specs.declared.join.Head.TheVariants.{Alone, Chain, Other}
 abbrev pub node_holds : Recorded → Node → List ℕ → ℕ → ℕ → Bool
 node_holds r (Constant truth) prefix x y = truth
 node_holds r (Compare linear) prefix x y = linear_holds linear prefix x y
+node_holds r (Several series) prefix x y = series_holds series prefix x y
 node_holds r (Conjunction clauses) prefix x y = clauses_hold clauses prefix x y
 node_holds r (Direct tree negated) prefix x y = turned negated (test_of r (tree_view tree.now) (cut_at prefix x y))
 node_holds r (And' p left q right) prefix x y = node_holds r left prefix x y && node_holds r right prefix x y

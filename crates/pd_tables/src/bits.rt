@@ -1,6 +1,7 @@
 //! Truths that are put into a word.
 ghost use Rattle.pd_bits.specs.Words.{has_bit};
 ghost use Rattle.pd_tables.specs.Rows.{all_below};
+ghost use Rattle.pd_tables.specs.Zero.{joined, turned};
 ghost use Rattle.std.specs.Prelude.{◌≡◌, ◌≢◌, ◌<◌, ◌≤◌, ℕ, false};
 
 /// The bits with bit `j` for the truth.
@@ -23,6 +24,31 @@ pub(crate) fn all_or_none(truth: bool, n: u64) -> u64
         pd_bits::lowest(n)
     } else {
         pd_bits::lowest(0)
+    }
+}
+
+/// The bits that both words have, or one of them.
+pub(crate) fn joined_words(is_and: bool, first: u64, second: u64) -> u64
+    ensures { (j : ℕ) → has_bit result j ≡ joined is_and (has_bit first j) (has_bit second j) }
+{
+    if is_and {
+        pd_bits::both(first, second)
+    } else {
+        pd_bits::either(first, second)
+    }
+}
+
+/// The word, or those of the lowest `n` bits that it doesn't have where `negated`.
+pub(crate) fn turned_word(negated: bool, word: u64, n: u64) -> u64
+    requires few { n ≤ 64 }
+    requires beyond { (j : ℕ) → n ≤ j → has_bit word j ≡ false }
+    ensures within { (j : ℕ) → j < n → has_bit result j ≡ turned negated (has_bit word j) }
+    ensures beyond { (j : ℕ) → n ≤ j → has_bit result j ≡ false }
+{
+    if negated {
+        pd_bits::without(pd_bits::lowest(n), word)
+    } else {
+        word
     }
 }
 

@@ -10,7 +10,7 @@ use super::row::ClauseRow;
 use std::alloc::{AllocError, Global};
 
 /// How many clauses a conjunction has at most.
-const CLAUSE_LIMIT: u64 = 64;
+pub(crate) const CLAUSE_LIMIT: u64 = 64;
 
 /// Up to 64 clauses. Each is true at a cut if one of the processes makes it true with its count. The first processes
 /// have a column only if a clause speaks of them.
@@ -207,6 +207,9 @@ impl Clauses {
         ensures beyond { (j : ℕ) → n ≤ j → has_bit result j ≡ false }
     {
         let base = self.base(prefix);
+        if has_lowest(base, self.count) {
+            return pd_bits::lowest(n);
+        }
         if !self.may_hold(base) {
             return pd_bits::lowest(0);
         }
@@ -222,5 +225,12 @@ impl Clauses {
         ensures { result ≡ false → (x y : ℕ) → clauses_hold self.now prefix.now x y ≡ false }
     {
         self.may_hold(self.base(prefix))
+    }
+
+    /// Whether it is sure that all clauses are true at each cut with this prefix.
+    pub(crate) fn must(&self, prefix: &[u64]) -> bool
+        ensures { result ≡ true → (x y : ℕ) → clauses_hold self.now prefix.now x y ≡ true }
+    {
+        has_lowest(self.base(prefix), self.count)
     }
 }

@@ -5,8 +5,10 @@ ghost use Rattle.pd_neighbors.specs.Neighbors.{cut_at};
 ghost use Rattle.pd_pred.specs.Views.{predicate_view};
 ghost use Rattle.std.specs.Prelude.{◌≡◌, ℕ, ◌-◌, ◌<◌, ◌≤◌, IfNone, IfOk, IfSome, false, length};
 
+use super::bits::turned_word;
 use super::compile::{Rest, compile};
-use super::node::{Node, holds, mask, may};
+use super::form::is_better_negated;
+use super::node::{Node, holds, mask, may, must};
 use super::size::comparisons;
 use pd_clock::Computation;
 use pd_neighbors::RunTest;
@@ -14,11 +16,12 @@ use pd_pred::Pred;
 use std::alloc::{AllocError, Global};
 use std::marker::Model;
 
-/// A predicate compiled for a computation.
+/// A predicate compiled for a computation. The node is that of its opposite where `negated`.
 #[derive(Drop)]
 pub struct Compiled<'a, 'b> {
     computation: &'a Computation<'b>,
     pred: &'a Pred,
+    negated: bool,
     node: Node<'a>,
 }
 
@@ -36,7 +39,7 @@ impl<'a, 'b> Model for Compiled<'a, 'b> {
 
     ghost view = { λ c. record { recorded = c.computation.now; predicate = predicate_view c.pred.now } };
 
-    ghost invariant = { λ c. IsCompiled c.computation.now false (predicate_view c.pred.now) c.node };
+    ghost invariant = { λ c. IsCompiled c.computation.now c.negated (predicate_view c.pred.now) c.node };
 }
 
 impl<'a, 'b> Compiled<'a, 'b> {
@@ -60,10 +63,12 @@ impl<'a, 'b> Compiled<'a, 'b> {
             is_and: true,
             node: Node::Constant(true),
         };
-        let node = compile(alloc, computation, pred.tree(), false, none, room)?;
+        let negated = is_better_negated(pred.tree());
+        let node = compile(alloc, computation, pred.tree(), negated, none, room)?;
         Ok(Compiled {
             computation,
             pred,
+            negated,
             node,
         })
     }
@@ -77,7 +82,7 @@ impl<'a, 'b> Compiled<'a, 'b> {
         let Some((prefix, x, y)) = last_two(counts) else {
             return false;
         };
-        holds(&self.node, self.computation, prefix, x, y)
+        holds(&self.node, self.computation, prefix, x, y) != self.negated
     }
 
     /// Whether the predicate may hold at some cut with these counts of the first processes. False is certain. It takes
@@ -86,7 +91,11 @@ impl<'a, 'b> Compiled<'a, 'b> {
         ensures { result ≡ false → (x y : ℕ) → FitsProcesses self.now.recorded.events (cut_at prefix.now x y)
             → test_of self.now.recorded self.now.predicate (cut_at prefix.now x y) ≡ false }
     {
-        may(&self.node, prefix)
+        if self.negated {
+            !must(&self.node, prefix)
+        } else {
+            may(&self.node, prefix)
+        }
     }
 
     /// How many comparisons are made at a cut, at most the greatest `u64`. It is a measure of the time that an
@@ -112,6 +121,10 @@ impl RunTest for Compiled<'_, '_> {
     ghost test = { λ c. test_of c.recorded c.predicate };
 
     fn mask(&self, prefix: &[u64], x: u64, y: u64, n: u64) -> u64 {
-        mask(&self.node, self.computation, prefix, x, y, n)
+        turned_word(
+            self.negated,
+            mask(&self.node, self.computation, prefix, x, y, n),
+            n,
+        )
     }
 }

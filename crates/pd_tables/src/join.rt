@@ -2,11 +2,14 @@
 ghost use Rattle.pd_model.specs.Predicates.{Recorded};
 ghost use Rattle.pd_tables.specs.Clauses.{clauses_hold};
 ghost use Rattle.pd_tables.specs.Nodes.{head_holds, node_holds};
+ghost use Rattle.pd_tables.specs.Tables.{linear_holds};
 ghost use Rattle.pd_tables.specs.Zero.{joined};
 ghost use Rattle.std.specs.Prelude.{◌≡◌, ℕ, IfOk, IfSome, List};
 
 use super::clauses::Clauses;
+use super::linear::Linear;
 use super::node::Node;
+use super::series::Series;
 use std::alloc::{AllocError, Global};
 
 /// What a chain of parts weighs, more than a comparison by tables.
@@ -37,7 +40,7 @@ fn constant(node: &Node<'_>) -> Option<bool>
     }
 }
 
-/// Both predicates, or one of them.
+/// Both predicates, or one of them, as a node over both.
 fn pair<'a>(
     alloc: Global,
     is_and: bool,
@@ -56,12 +59,54 @@ fn pair<'a>(
     }
 }
 
+/// A comparison by tables joined with a predicate. Comparisons that are joined in one way stand in one list.
+fn with_linear<'a>(
+    alloc: Global,
+    is_and: bool,
+    first: Linear,
+    right: Node<'a>,
+) -> Result<Node<'a>, AllocError>
+    ensures { IfOk result (λ node. (r : Recorded) (prefix : List ℕ) (x y : ℕ) → node_holds r node prefix x y
+        ≡ joined is_and (linear_holds first prefix x y) (node_holds r right.entry prefix x y)) }
+{
+    match right {
+        Node::Compare(second) => {
+            let series = Series::two(alloc, is_and, first, second)?;
+            Ok(Node::Several(series))
+        }
+        Node::Several(series) => if series.is_and == is_and {
+            let series = series.with(first)?;
+            Ok(Node::Several(series))
+        } else {
+            pair(alloc, is_and, Node::Compare(first), Node::Several(series))
+        },
+        right => pair(alloc, is_and, Node::Compare(first), right),
+    }
+}
+
+/// Both predicates, or one of them: the first one is asked first.
+fn in_turn<'a>(
+    alloc: Global,
+    is_and: bool,
+    left: Node<'a>,
+    right: Node<'a>,
+) -> Result<Node<'a>, AllocError>
+    ensures { IfOk result (λ node. (r : Recorded) (prefix : List ℕ) (x y : ℕ) → node_holds r node prefix x y
+        ≡ joined is_and (node_holds r left.entry prefix x y) (node_holds r right.entry prefix x y)) }
+{
+    match left {
+        Node::Compare(linear) => with_linear(alloc, is_and, linear, right),
+        left => pair(alloc, is_and, left, right),
+    }
+}
+
 /// How much work the predicate is. What may stop early weighs more than one comparison.
 fn weight(node: &Node<'_>) -> usize {
     match node {
         Node::Constant(_) => 0,
         Node::Conjunction(_) => 0,
         Node::Compare(linear) => linear.weight(),
+        Node::Several(_) => CHAIN_WEIGHT,
         Node::And(_, _) | Node::Or(_, _) => CHAIN_WEIGHT,
         Node::Direct { .. } => DIRECT_WEIGHT,
     }
@@ -78,9 +123,9 @@ fn in_order<'a>(
         ≡ joined is_and (node_holds r left.entry prefix x y) (node_holds r right.entry prefix x y)) }
 {
     if weight(&right) < weight(&left) {
-        pair(alloc, is_and, right, left)
+        in_turn(alloc, is_and, right, left)
     } else {
-        pair(alloc, is_and, left, right)
+        in_turn(alloc, is_and, left, right)
     }
 }
 

@@ -26,9 +26,18 @@
 //! (a.n > 1 or b.n == 4) and c.n > 0    is    A[count of a] | B[count of b] | C[count of c]  ==  0b11
 //! ```
 //!
+//! An `or` of `and`s of such comparisons is the opposite of an `and` of clauses. So the opposite of a predicate is
+//! compiled if it has fewer parts, as its tree says, and the bits of its masks are turned. `may` then asks whether the
+//! opposite holds at each cut with these first counts.
+//!
+//! ```text
+//! a.n > 1 and b.n == 4 or c.n > 0    is    not ((a.n <= 1 or b.n != 4) and c.n <= 0)
+//! ```
+//!
 //! Negations are pushed down to the comparisons. A comparison whose least and greatest sums decide it is a constant,
 //! and constants go. Parts that are joined in one way stand in a chain to the right: its clauses are asked first, then
-//! the other parts in turn, and of the last two the lighter one.
+//! the other parts in turn, and of the last two the lighter one. Comparisons by tables that follow one another in a
+//! chain stand in one list.
 //!
 //! No number of a table is further from 0 than 2^59, so that no sum wraps. A comparison whose numbers are larger, for
 //! which there is no room, or which speaks of a process that isn't there, is evaluated as its text spells it, in 128
@@ -37,6 +46,7 @@
 //! - `compiled`: the compiled predicate that callers see
 //! - `node`: its tree, the masks of runs, and whether a prefix may satisfy
 //! - `compile`: how the tree is made
+//! - `form`: whether a predicate or its opposite is compiled
 //! - `join`: two predicates joined, with clauses as one conjunction
 //! - `clauses`: a conjunction of clauses
 //! - `clause`: a comparison that depends on one process as a clause
@@ -48,6 +58,7 @@
 //! - `table`: a number for each count of a process
 //! - `zero`: how a sum is compared with 0
 //! - `run_state`: the state at a cut of a run
+//! - `series`: a chain of comparisons by tables
 //! - `size`: how many comparisons a compiled predicate has
 //! - `bits`: truths that are put into a word
 #![tactic(auto)]
@@ -59,12 +70,14 @@ mod clause_column;
 mod clauses;
 mod compile;
 mod compiled;
+mod form;
 mod join;
 mod linear;
 mod node;
 mod parts;
 mod row;
 mod run_state;
+mod series;
 mod size;
 mod table;
 mod zero;

@@ -37,6 +37,7 @@ impl Linear {
     ghost use Rattle.std.specs.Prelude.{◌≡◌, ℕ, ◌+◌, ◌-◌, ◌*◌, ◌<◌, ◌≤◌, ◌+ℤ◌, List, IfSome, false, true};
 
     /// The constant and what the first processes add.
+    #[inline(always)]
     fn base(&self, prefix: &[u64]) -> i64
         ensures value { result ≡ self.now.constant +ℤ columns_value self.now.columns.items prefix.now }
         ensures small { unsigned_abs result ≤ (process_limit + 1) * part_limit }
@@ -66,7 +67,27 @@ impl Linear {
         self.holds(self.base(prefix), x, y)
     }
 
+    /// `mask` where the constant and the first processes add up to `base`.
+    #[inline(never)]
+    fn mask_after(&self, base: i64, x: u64, y: u64, n: u64) -> u64
+        requires base { unsigned_abs base ≤ (process_limit + 1) * part_limit }
+        requires few { n ≤ 64 }
+        requires low { x ≤ event_limit }
+        requires down { n ≤ y + 1 }
+        ensures within { (prefix : List ℕ) → base ≡ self.now.constant +ℤ columns_value self.now.columns.items prefix
+            → (j : ℕ) → j < n → has_bit result j ≡ linear_holds self.now prefix (x + j) (y - j) }
+        ensures beyond { (j : ℕ) → n ≤ j → has_bit result j ≡ false }
+    {
+        let mut mask = pd_bits::lowest(0);
+        for j in 0..n {
+            let truth = self.holds(base, x + j, y - j);
+            mask = put(mask, j, truth);
+        }
+        mask
+    }
+
     /// Of which of `n` neighboring cuts the comparison holds: bit `j` is that of the cut with `x + j` and `y - j`.
+    #[inline(always)]
     pub(crate) fn mask(&self, prefix: &[u64], x: u64, y: u64, n: u64) -> u64
         requires few { n ≤ 64 }
         requires low { x ≤ event_limit }
@@ -78,12 +99,7 @@ impl Linear {
         if let Some(truth) = self.decided_after(base) {
             return all_or_none(truth, n);
         }
-        let mut mask = pd_bits::lowest(0);
-        for j in 0..n {
-            let truth = self.holds(base, x + j, y - j);
-            mask = put(mask, j, truth);
-        }
-        mask
+        self.mask_after(base, x, y, n)
     }
 
     /// Whether the comparison may hold at some cut with this prefix.
@@ -97,8 +113,20 @@ impl Linear {
         }
     }
 
+    /// Whether it is sure that the comparison holds at each cut with this prefix.
+    pub(crate) fn must(&self, prefix: &[u64]) -> bool
+        ensures { result ≡ true → (x y : ℕ) → linear_holds self.now prefix.now x y ≡ true }
+    {
+        let base = self.base(prefix);
+        match self.decided_after(base) {
+            Some(truth) => truth,
+            None => false,
+        }
+    }
+
     /// Whether the comparison holds at each cut where the constant and the first processes add up to `base`, or at
     /// none; nothing if neither is sure.
+    #[inline(always)]
     fn decided_after(&self, base: i64) -> Option<bool>
         requires { unsigned_abs base ≤ (process_limit + 1) * part_limit }
         ensures { IfSome result (λ truth. (prefix : List ℕ) (x y : ℕ)

@@ -5,6 +5,7 @@ ghost use Rattle.pd_model.specs.Predicates.{test_of};
 ghost use Rattle.pd_pred.specs.Trees.{tree_view};
 ghost use Rattle.pd_tables.specs.Clauses.{clauses_hold};
 ghost use Rattle.pd_tables.specs.Nodes.{node_holds};
+ghost use Rattle.pd_tables.specs.Series.{series_holds};
 ghost use Rattle.pd_tables.specs.Tables.{linear_holds};
 ghost use Rattle.pd_tables.specs.Zero.{turned};
 ghost use Rattle.pd_model.specs.Predicates.{Recorded};
@@ -15,6 +16,7 @@ use super::bits::{all_or_none, put};
 use super::clauses::Clauses;
 use super::linear::Linear;
 use super::run_state::RunState;
+use super::series::Series;
 use pd_clock::Computation;
 use pd_pred::Tree;
 
@@ -25,6 +27,8 @@ pub(crate) enum Node<'a> {
     Constant(bool),
     /// A comparison by tables.
     Compare(Linear),
+    /// A chain of comparisons by tables.
+    Several(Series),
     /// Clauses that are all true.
     Conjunction(Clauses),
     /// A part that is evaluated as its text spells it, or its opposite.
@@ -55,6 +59,7 @@ pub(crate) fn mask(
     match node {
         Node::Constant(truth) => all_or_none(*truth, n),
         Node::Compare(linear) => linear_mask(linear, computation, prefix, x, y, n),
+        Node::Several(series) => series_mask(series, computation, prefix, x, y, n),
         Node::Conjunction(clauses) => conjunction_mask(clauses, computation, prefix, x, y, n),
         Node::Direct { tree, negated } => direct_mask(tree, *negated, computation, prefix, x, y, n),
         Node::And(left, right) => {
@@ -93,6 +98,26 @@ fn linear_mask(
 {
     computation.limits();
     linear.mask(prefix, x, y, n)
+}
+
+/// `mask` of a chain of comparisons by tables.
+fn series_mask(
+    series: &Series,
+    computation: &Computation<'_>,
+    prefix: &[u64],
+    x: u64,
+    y: u64,
+    n: u64,
+) -> u64
+    requires some { 1 ≤ n }
+    requires few { n ≤ 64 }
+    requires down { n ≤ y + 1 }
+    requires fits { (j : ℕ) → j < n → FitsProcesses computation.now.events (cut_at prefix.now (x + j) (y - j)) }
+    ensures within { (j : ℕ) → j < n → has_bit result j ≡ series_holds series.now prefix.now (x + j) (y - j) }
+    ensures beyond { (j : ℕ) → n ≤ j → has_bit result j ≡ false }
+{
+    computation.limits();
+    series.mask(prefix, x, y, n)
 }
 
 /// `mask` of clauses.
@@ -156,6 +181,7 @@ pub(crate) fn holds(
     match node {
         Node::Constant(truth) => *truth,
         Node::Compare(linear) => linear.holds_at(prefix, x, y),
+        Node::Several(series) => series.holds_at(prefix, x, y),
         Node::Conjunction(clauses) => conjunction_holds(clauses, computation, prefix, x, y),
         Node::Direct { tree, negated } => tree.holds(&RunState::new(computation, prefix, x, y))
             != *negated,
@@ -190,9 +216,25 @@ pub(crate) fn may(node: &Node<'_>, prefix: &[u64]) -> bool
     match node {
         Node::Constant(truth) => *truth,
         Node::Compare(linear) => linear.may(prefix),
+        Node::Several(series) => series.may(prefix),
         Node::Conjunction(clauses) => clauses.may(prefix),
         Node::Direct { .. } => true,
         Node::And(left, right) => may(left, prefix) && may(right, prefix),
         Node::Or(left, right) => may(left, prefix) || may(right, prefix),
+    }
+}
+
+/// Whether it is sure that the predicate holds at each cut with this prefix.
+pub(crate) fn must(node: &Node<'_>, prefix: &[u64]) -> bool
+    ensures { result ≡ true → (r : Recorded) (x y : ℕ) → node_holds r node.now prefix.now x y ≡ true }
+{
+    match node {
+        Node::Constant(truth) => *truth,
+        Node::Compare(linear) => linear.must(prefix),
+        Node::Several(series) => series.must(prefix),
+        Node::Conjunction(clauses) => clauses.must(prefix),
+        Node::Direct { .. } => false,
+        Node::And(left, right) => must(left, prefix) && must(right, prefix),
+        Node::Or(left, right) => must(left, prefix) || must(right, prefix),
     }
 }

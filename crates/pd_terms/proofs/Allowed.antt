@@ -11,6 +11,7 @@ use Rattle.std.specs.Prelude.{Bool, IfNone, IfSome, Vec, true, false, ◌&&◌, 
 use Rattle.pd_least.specs.LeastCuts.{IsGood}
 use Rattle.pd_terms.specs.FirstCuts.{goods_of}
 use Rattle.pd_terms.specs.Rows.{AreTermsOf, AreWithin, numbers_view, row_allows, row_holds, term_allows, term_holds, terms_hold}
+use Rattle.pd_terms.specs.Truths.{truth_at}
 use Rattle.pd_terms.specs.declared.row.TruthRow.{TruthRow}
 use Rattle.pd_terms.specs.declared.terms.Terms.{Terms}
 
@@ -37,14 +38,14 @@ allows_each (Some row) cut some within = (λ holds p lt. go p holds (eqb_tells r
         → ((nat_eq row.process p ≡ true) × (row.process ≡ p)) ⊎ ((nat_eq row.process p ≡ false) × (row.process ≢ p))
         → row_allows (Some row) p (slice_index cut p) ≡ true
     go p holds (inl w) =
-        ap (λ (b : Bool). cond b (get_or row.truths.items (slice_index cut p) false) true) w.0
-        ∙ (ap (λ (q : ℕ). get_or row.truths.items (slice_index cut q) false) (sym w.1) ∙ holds)
-    go p holds (inr w) = ap (λ (b : Bool). cond b (get_or row.truths.items (slice_index cut p) false) true) w.0
+        ap (λ (b : Bool). cond b (truth_at row.words.items (slice_index cut p)) true) w.0
+        ∙ (ap (λ (q : ℕ). truth_at row.words.items (slice_index cut q)) (sym w.1) ∙ holds)
+    go p holds (inr w) = ap (λ (b : Bool). cond b (truth_at row.words.items (slice_index cut p)) true) w.0
 
     back : ((p : ℕ) → p < length cut → row_allows (Some row) p (slice_index cut p) ≡ true)
         → row_holds (Some row) cut ≡ true
     back all =
-        sym (ap (λ (b : Bool). cond b (get_or row.truths.items (slice_index cut row.process) false) true)
+        sym (ap (λ (b : Bool). cond b (truth_at row.words.items (slice_index cut row.process)) true)
         (eq-eqb row.process row.process refl)) ∙ all row.process (within row refl)
 
 -- so does a term

@@ -8,3 +8,5 @@ pub mod Oring
 pub mod Conjoining
 pub mod Sharing
 pub mod Changing
+pub mod RowSteps
+pub mod TruthSteps

@@ -7,6 +7,7 @@ use Rattle.pd_clause.specs.Clauses.{IsClause}
 use Rattle.pd_model.specs.Predicates.{Predicate, Recorded, And, Or, test_of}
 use Rattle.pd_terms.specs.Ors.{MakesRows, clause_good, row_good, rows_hold}
 use Rattle.pd_terms.specs.Rows.{IsRowOf, row_holds, turned}
+use Rattle.pd_terms.specs.Truths.{truth_at}
 use Rattle.pd_terms.specs.declared.row.TruthRow.{TruthRow}
 use Rattle.pd_terms.proofs.Building.{all_head, all_tail, append_one, not_and}
 
@@ -54,7 +55,7 @@ rows_to (row ∷ rows) cut within holds =
   where
     good_here : row_holds (Some row) cut ≡ true → row_good row row.process (get_or cut row.process 0) ≡ true
     good_here here =
-        ap (λ (b : Bool). b && get_or row.truths.items (get_or cut row.process 0) false)
+        ap (λ (b : Bool). b && truth_at row.words.items (get_or cut row.process 0))
         (eq-eqb row.process row.process refl) ∙ here
 
     go : (rows_hold rows cut ≡ true → (p : ℕ) × (p < length cut) × (clause_good rows p (get_or cut p 0) ≡ true))
@@ -82,12 +83,12 @@ rows_from (row ∷ rows) cut p good =
         → ((nat_eq row.process p ≡ true) × (row.process ≡ p)) ⊎ ((nat_eq row.process p ≡ false) × (row.process ≢ p))
         → row_holds (Some row) cut ≡ true
     holds_here here (inl w) =
-        let both : (nat_eq row.process p ≡ true) × (get_or row.truths.items (get_or cut p 0) false ≡ true) =
-        and_split (nat_eq row.process p) (get_or row.truths.items (get_or cut p 0) false) here in
-        ap (λ (q : ℕ). get_or row.truths.items (get_or cut q 0) false) w.1 ∙ both.1
+        let both : (nat_eq row.process p ≡ true) × (truth_at row.words.items (get_or cut p 0) ≡ true) =
+        and_split (nat_eq row.process p) (truth_at row.words.items (get_or cut p 0)) here in
+        ap (λ (q : ℕ). truth_at row.words.items (get_or cut q 0)) w.1 ∙ both.1
     holds_here here (inr w) =
-        let both : (nat_eq row.process p ≡ true) × (get_or row.truths.items (get_or cut p 0) false ≡ true) =
-        and_split (nat_eq row.process p) (get_or row.truths.items (get_or cut p 0) false) here in
+        let both : (nat_eq row.process p ≡ true) × (truth_at row.words.items (get_or cut p 0) ≡ true) =
+        and_split (nat_eq row.process p) (truth_at row.words.items (get_or cut p 0)) here in
         absurd (false≢true (sym w.0 ∙ both.0))
 
     go : (clause_good rows p (get_or cut p 0) ≡ true → rows_hold rows cut ≡ true)

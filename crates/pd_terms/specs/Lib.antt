@@ -1,5 +1,6 @@
 -- Which predicates have terms, what terms mean, and what they decide.
 pub mod Locals
+pub mod Truths
 pub mod Rows
 pub mod KnownRows
 pub mod Changes

@@ -1,11 +1,12 @@
 -- Predicates that are an `or` of comparisons, and what decides Definitely of them.
-use Rattle.std.specs.Prelude.{◌≡◌, ℕ, ◌<◌, All, Bool, false, ◌&&◌, ◌||◌, nat_eq, List, [], ◌∷◌, ◌++◌, length, Some, slice_index_or}
+use Rattle.std.specs.Prelude.{◌≡◌, ℕ, ◌<◌, All, Bool, false, ◌&&◌, ◌||◌, nat_eq, List, [], ◌∷◌, ◌++◌, length, Some}
 use Rattle.pd_model.specs.Answers.{IsLeastFree}
 use Rattle.pd_model.specs.Cuts.{FitsProcesses}
 use Rattle.pd_model.specs.Observations.{Definitely, Possibly}
 use Rattle.pd_model.specs.Predicates.{Predicate, Recorded, test_of}
 use Rattle.pd_model.specs.Decided.{IsLocal, IsOr}
 use Rattle.pd_terms.specs.Rows.{row_holds, turned}
+use Rattle.pd_terms.specs.Truths.{truth_at}
 use Rattle.pd_terms.specs.declared.clause.ByClause.{ByClause}
 use Rattle.pd_terms.specs.declared.clause.ByClause.TheVariants.{Passed, Unsatisfied, Undecided}
 use Rattle.pd_terms.specs.declared.row.TruthRow.{TruthRow}
@@ -21,7 +22,7 @@ rows_hold (row ∷ rows) cut = row_holds (Some row) cut || rows_hold rows cut
 
 -- the comparison speaks of process p, and holds at this count of it
 abbrev pub row_good : TruthRow → ℕ → ℕ → Bool
-row_good row p count = nat_eq row.process p && slice_index_or row.truths.items count false
+row_good row p count = nat_eq row.process p && truth_at row.words.items count
 
 -- the count of a process is good for some comparison
 abbrev pub clause_good : List TruthRow → ℕ → ℕ → Bool

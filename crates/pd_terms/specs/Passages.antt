@@ -4,7 +4,7 @@ use Rattle.pd_boxes.specs.declared.passage.Passage.{Passage}
 use Rattle.pd_boxes.specs.declared.passage.Passage.TheVariants as passages
 use Rattle.pd_model.specs.Answers.{IsLeastFree, IsPrintedPath}
 use Rattle.pd_model.specs.Events.{Computation}
-use Rattle.pd_model.specs.Observations.{Definitely}
+use Rattle.pd_model.specs.Observations.{Definitely, Possibly}
 use Rattle.pd_model.specs.Predicates.{Predicate, Recorded, test_of}
 use Rattle.pd_model.specs.Decided.{IsDecidedByTerms}
 use Rattle.pd_terms.specs.declared.passage.PassageByTerms.{PassageByTerms}
@@ -17,6 +17,10 @@ IsPassedFrom c test level = IsLeastFree c test level × Definitely c test
 -- this is the path printed of an observation without a satisfying cut
 abbrev pub IsAvoidedAlong : Computation → (List ℕ → Bool) → List ℕ → Type 0
 IsAvoidedAlong c test path = IsPrintedPath c test path × (¬ Definitely c test)
+
+-- of each predicate that no consistent cut satisfies, this is that path
+abbrev pub IsPathOfAll : Computation → List ℕ → Type 0
+IsPathOfAll c path = (test : List ℕ → Bool) → ¬ Possibly c test → IsAvoidedAlong c test path
 
 -- one of both
 abbrev pub IsPassageOf : Computation → (List ℕ → Bool) → Passage → Type 0

@@ -1,8 +1,9 @@
 -- Terms by the counts of processes.
-use Rattle.std.specs.Prelude.{◌≡◌, ℕ, ◌<◌, All, Bool, true, false, ◌&&◌, ◌||◌, cond, nat_eq, not, List, [], ◌∷◌, ◌++◌, flat_map, length, map, Option, Some, None, Vec, slice_get, slice_index, slice_index_or}
+use Rattle.std.specs.Prelude.{◌≡◌, ℕ, ◌<◌, All, Bool, true, false, ◌&&◌, ◌||◌, cond, nat_eq, not, List, [], ◌∷◌, ◌++◌, flat_map, length, map, Option, Some, None, Vec, slice_get, slice_index}
 use Rattle.pd_model.specs.Cuts.{FitsProcesses}
 use Rattle.pd_model.specs.Predicates.{Predicate, Recorded, test_of}
 use Rattle.std.specs.Global.{Global}
+use Rattle.pd_terms.specs.Truths.{truth_at}
 use Rattle.pd_terms.specs.declared.row.TruthRow.{TruthRow}
 
 -- the truth, or its opposite
@@ -12,7 +13,7 @@ turned negated truth = cond negated (not truth) truth
 -- whether a comparison holds at a cut, by the count of one process; no comparison holds nowhere
 abbrev pub row_holds : Option TruthRow → List ℕ → Bool
 row_holds None cut = false
-row_holds (Some row) cut = slice_index_or row.truths.items (slice_index cut row.process) false
+row_holds (Some row) cut = truth_at row.words.items (slice_index cut row.process)
 
 -- all comparisons of a term, given by the numbers of their rows, hold at a cut
 abbrev pub term_holds : List TruthRow → List ℕ → List ℕ → Bool
@@ -27,7 +28,7 @@ terms_hold rows (term ∷ terms) cut = term_holds rows term cut || terms_hold ro
 -- the count of a process is good for a comparison: it speaks of another one, or holds there
 abbrev pub row_allows : Option TruthRow → ℕ → ℕ → Bool
 row_allows None p count = false
-row_allows (Some row) p count = cond (nat_eq row.process p) (slice_index_or row.truths.items count false) true
+row_allows (Some row) p count = cond (nat_eq row.process p) (truth_at row.words.items count) true
 
 -- the count of a process is good for all comparisons of a term
 abbrev pub term_allows : List TruthRow → List ℕ → ℕ → ℕ → Bool

@@ -7,6 +7,7 @@ ghost use Rattle.std.specs.Prelude.{◌≡◌, ◌↔◌, IfOk, IsTrue};
 
 use super::local::is_local;
 use super::row::{TruthRow, row_by, row_of};
+use super::truths::truth_at;
 use pd_clause::free_level;
 use pd_clock::Computation;
 use pd_least::GoodCounts;
@@ -37,10 +38,7 @@ fn is_row_good(row: &TruthRow, process: usize, count: u64) -> bool
     if row.process != process {
         return false;
     }
-    match row.truths.get(count as usize) {
-        Some(truth) => *truth,
-        None => false,
-    }
+    truth_at(&row.words, count)
 }
 
 impl GoodCounts for Clause {

@@ -14,6 +14,7 @@
 //! - `local`: whether each comparison speaks of one process at most
 //! - `count`: how many terms a predicate has
 //! - `changes`: which events change what is true of a comparison
+//! - `truths`: truths by count, as the bits of words
 //! - `row`: where a comparison holds
 //! - `known`: rows that equal comparisons share
 //! - `build`: how terms are made
@@ -37,8 +38,10 @@ mod never;
 mod passage;
 mod row;
 mod terms;
+mod truths;
 
 pub use clause::{ByClause, definitely_by_clause};
 pub use first::{ByTerms, possibly_by_terms};
+pub use never::path_of_all;
 pub use passage::{PassageByTerms, definitely_by_terms};
 pub use terms::{TERM_LIMIT, Term, Terms};

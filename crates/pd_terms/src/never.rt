@@ -1,7 +1,6 @@
 //! The path of an observation where no cut satisfies.
-ghost use Rattle.pd_model.specs.Observations.{Possibly};
-ghost use Rattle.pd_terms.specs.Passages.{IsPassageOf};
-ghost use Rattle.std.specs.Prelude.{ℕ, Bool, IfOk, List};
+ghost use Rattle.pd_terms.specs.Passages.{IsPathOfAll};
+ghost use Rattle.std.specs.Prelude.{IfOk};
 
 use pd_boxes::{Passage, definitely_all_good};
 use pd_clock::Computation;
@@ -21,18 +20,18 @@ impl GoodCounts for NoCount {
     }
 }
 
-/// What the observations of a computation pass through of which no cut satisfies: each avoids, and the path is that of
-/// the one that is printed.
+/// The path that is printed of an observation where no consistent cut satisfies: each avoids, whatever the predicate.
 ///
 /// # Errors
 /// An allocation was refused.
-pub(crate) fn avoided_by_all(
-    alloc: Global,
-    computation: &Computation<'_>,
-) -> Result<Passage, AllocError>
-    ensures { IfOk result (λ passage. (test : List ℕ → Bool) → (¬ Possibly computation.now.events test)
-        → IsPassageOf computation.now.events test passage) }
+pub fn path_of_all(alloc: Global, computation: &Computation<'_>) -> Result<Vec<usize>, AllocError>
+    ensures { IfOk result (λ path. IsPathOfAll computation.now.events path.items) }
 {
     computation.limits();
-    definitely_all_good(alloc, computation, &NoCount)
+    let passage = definitely_all_good(alloc, computation, &NoCount)?;
+    match passage {
+        Passage::Avoided(path) => Ok(path),
+        // some cut would satisfy
+        Passage::Passed(_) => Ok(Vec::new(alloc)),
+    }
 }

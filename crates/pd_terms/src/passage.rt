@@ -9,9 +9,7 @@ ghost use Rattle.std.specs.Prelude.{◌≡◌, IfOk, false};
 use super::clause::{ByClause, definitely_by_clause};
 use super::conjunction::passage_of_one;
 use super::count::count;
-use super::first::{ByTerms, possibly_by_terms};
 use super::local::is_local;
-use super::never::avoided_by_all;
 use super::terms::TERM_LIMIT;
 use pd_boxes::Passage;
 use pd_clock::Computation;
@@ -42,17 +40,8 @@ fn decided(passage: Passage) -> PassageByTerms
     }
 }
 
-/// The answer where no consistent cut satisfies.
-fn avoided(alloc: Global, computation: &Computation<'_>) -> Result<PassageByTerms, AllocError>
-    ensures { IfOk result (λ answer. (predicate : Predicate) → HasFewTerms predicate
-        → (¬ Possibly computation.now.events (test_of computation.now predicate))
-        → IsRightPassage computation.now predicate answer) }
-{
-    let passage = avoided_by_all(alloc, computation)?;
-    Ok(decided(passage))
-}
-
-/// The answer of a predicate that has few terms, but several: by a clause, or if no consistent cut satisfies.
+/// The answer of a predicate that has few terms, but several, if some consistent cut satisfies: by a clause, if it is
+/// one.
 fn passage_of_several(
     alloc: Global,
     computation: &Computation<'_>,
@@ -60,25 +49,22 @@ fn passage_of_several(
 ) -> Result<PassageByTerms, AllocError>
     requires few { HasFewTerms (predicate_view pred.now) }
     requires several { ¬ (term_count false (predicate_view pred.now) ≡ 1) }
+    requires satisfied { Possibly computation.now.events (test_of computation.now (predicate_view pred.now)) }
     ensures { IfOk result (IsRightPassage computation.now (predicate_view pred.now)) }
 {
     let by_clause = definitely_by_clause(alloc, computation, pred)?;
     match by_clause {
-        ByClause::Passed(level) => return Ok(PassageByTerms::Passed(level)),
-        ByClause::Unsatisfied => return avoided(alloc, computation),
-        ByClause::Undecided => {}
-    }
-    let by_terms = possibly_by_terms(alloc, computation, pred)?;
-    match by_terms {
-        ByTerms::Unsatisfied => avoided(alloc, computation),
-        ByTerms::Satisfied(_) | ByTerms::Undecided => Ok(PassageByTerms::Undecided),
+        ByClause::Passed(level) => Ok(PassageByTerms::Passed(level)),
+        // the first of both would say that no cut satisfies
+        ByClause::Unsatisfied | ByClause::Undecided => Ok(PassageByTerms::Undecided),
     }
 }
 
-/// Whether every observation passes through a cut that satisfies a predicate, whatever the width, if each of its
-/// comparisons speaks of one process at most and it has no more than `TERM_LIMIT` terms: with the least level that has
-/// no avoiding cut, or with the path that is printed of an observation that passes through none. It is decided if no
-/// consistent cut satisfies, if there is one term, or if the predicate is an `or` of comparisons. No level is walked.
+/// Whether every observation passes through a cut that satisfies a predicate that some consistent cut satisfies,
+/// whatever the width, if each of its comparisons speaks of one process at most and it has no more than `TERM_LIMIT`
+/// terms: with the least level that has no avoiding cut, or with the path that is printed of an observation that passes
+/// through none. It is decided if there is one term, or if the predicate is an `or` of comparisons. No level is walked.
+/// Where no consistent cut satisfies, `path_of_all` gives the path.
 ///
 /// Source: Garg and Waldecker, Detection of Strong Unstable Predicates in Distributed Programs, 1996.
 ///
@@ -89,6 +75,7 @@ pub fn definitely_by_terms(
     computation: &Computation<'_>,
     pred: &Pred,
 ) -> Result<PassageByTerms, AllocError>
+    requires { Possibly computation.now.events (test_of computation.now (predicate_view pred.now)) }
     ensures { IfOk result (IsRightPassage computation.now (predicate_view pred.now)) }
 {
     let tree = pred.tree();

@@ -7,10 +7,12 @@ ghost use Rattle.pd_model.specs.Decided.{NameAlone, NameOne};
 ghost use Rattle.pd_terms.specs.Changes.{DependsOnVars};
 ghost use Rattle.pd_terms.specs.Locals.{IsComparisonOf};
 ghost use Rattle.pd_terms.specs.Rows.{DependsOn, IsRowOf, turned};
-ghost use Rattle.std.specs.Prelude.{◌≡◌, ◌+◌, ◌⊎◌, ◌<◌, ◌≤◌, ℕ, List, IfOk, length, slice_index};
+ghost use Rattle.std.specs.Prelude.{◌≡◌, ◌⊎◌, ◌<◌, ◌≤◌, ℕ, IfOk, length, slice_index};
 
-use super::changes::{has_any_changed, named_vars};
+use super::changes::{named_vars, next_change};
 use super::local::first_of_both;
+use super::truths::{no_truths, put_run};
+use pd_bits::BITS;
 use pd_clock::{Computation, Cut};
 use pd_pred::{Sum, Tree};
 use std::alloc::{AllocError, Global};
@@ -19,7 +21,7 @@ use std::alloc::{AllocError, Global};
 #[derive(Drop)]
 pub(crate) struct TruthRow {
     pub(crate) process: usize,
-    pub(crate) truths: Vec<bool>,
+    pub(crate) words: Vec<u64>,
 }
 
 /// The process on whose count a comparison depends: the one that it names, or the first if it names none that is there.
@@ -49,14 +51,6 @@ fn zeros(alloc: Global, computation: &Computation<'_>) -> Result<Vec<u64>, Alloc
     vec![in alloc; 0; computation.processes()]
 }
 
-/// The cut with no event.
-fn no_events(alloc: Global, computation: &Computation<'_>) -> Result<Cut, AllocError>
-    ensures { IfOk result (λ cut. cut ≡ empty_cut computation.now.events) }
-{
-    let counts = zeros(alloc, computation)?;
-    Cut::new(alloc, &counts)
-}
-
 /// Whether the predicate, or its opposite where `negated`, holds at a cut.
 fn holds(computation: &Computation<'_>, tree: &Tree, cut: &Cut, negated: bool) -> bool
     requires { FitsProcesses computation.now.events cut.now }
@@ -65,36 +59,32 @@ fn holds(computation: &Computation<'_>, tree: &Tree, cut: &Cut, negated: bool) -
     tree.holds(&computation.at(cut)) != negated
 }
 
-/// Whether the predicate, or its opposite where `negated`, holds at a cut of one more than this count of a process, by
-/// whether it did at one of this count: it is looked at anew only if one of these variables has changed.
-fn next_truth(
+/// Whether the predicate, or its opposite where `negated`, holds at the cut of these counts, with this one for a
+/// process.
+fn truth_with(
+    alloc: Global,
     computation: &Computation<'_>,
     tree: &Tree,
-    cut: &Cut,
-    vars: &[usize],
+    negated: bool,
+    counts: &mut [u64],
     process: usize,
     count: u64,
-    negated: bool,
-    before: bool,
-) -> bool
-    requires fits { FitsProcesses computation.now.events cut.now }
+) -> Result<bool, AllocError>
     requires within { process < length computation.now.events }
-    requires there { count < event_count computation.now.events process }
-    requires at { slice_index cut.now process ≡ count + 1 }
-    requires vars { DependsOnVars computation.now (tree_view tree.now) process vars.now }
-    requires before { (other : List ℕ) × (slice_index other process ≡ count)
-        × (before ≡ turned negated (test_of computation.now (tree_view tree.now) other)) }
-    ensures { result ≡ turned negated (test_of computation.now (tree_view tree.now) cut.now) }
+    requires fits { FitsProcesses computation.now.events counts.old }
+    requires there { count ≤ event_count computation.now.events process }
+    ensures truth { IfOk result (λ truth. truth
+        ≡ turned negated (test_of computation.now (tree_view tree.now) counts.new)) }
+    ensures fits { FitsProcesses computation.now.events counts.new }
+    ensures at { slice_index counts.new process ≡ count }
 {
-    if has_any_changed(computation, vars, process, count) {
-        holds(computation, tree, cut, negated)
-    } else {
-        before
-    }
+    counts[process] = count;
+    let cut = Cut::new(alloc, counts)?;
+    Ok(holds(computation, tree, &cut, negated))
 }
 
 /// Where a predicate holds that depends on the count of this process alone, or where it doesn't if `negated`. It stays
-/// as it is as long as these variables of the process do.
+/// as it is as long as these variables of the process do, so it is looked at once for each time that they change.
 ///
 /// # Errors
 /// An allocation was refused.
@@ -111,16 +101,26 @@ pub(crate) fn row_by(
     requires vars { DependsOnVars computation.now (tree_view tree.now) process vars.now }
     ensures { IfOk result (IsRowOf computation.now negated (tree_view tree.now)) }
 {
-    let mut cut = no_events(alloc, computation)?;
-    let mut truths = Vec::new(alloc);
-    let mut truth = holds(computation, tree, &cut, negated);
-    truths.push(truth)?;
-    for n in 0..computation.events(process) {
-        cut.redo(process);
-        truth = next_truth(computation, tree, &cut, vars, process, n, negated, truth);
-        truths.push(truth)?;
+    computation.limits();
+    let mut counts = zeros(alloc, computation)?;
+    let end = computation.events(process) + 1;
+    let mut words = no_truths(alloc, (end / BITS) as usize + 1)?;
+    let mut from = 0;
+    while from < end {
+        let to = next_change(computation, vars, process, from, end);
+        let truth = truth_with(
+            alloc,
+            computation,
+            tree,
+            negated,
+            &mut counts,
+            process,
+            from,
+        )?;
+        put_run(&mut words, from, to, truth);
+        from = to;
     }
-    Ok(TruthRow { process, truths })
+    Ok(TruthRow { process, words })
 }
 
 /// Where a comparison holds that names one process at most, or where it doesn't if `negated`. The sums are those of the

@@ -1,13 +1,16 @@
 //! The terms of a predicate.
+ghost use Rattle.pd_bits.specs.Words.{has_bit};
 ghost use Rattle.pd_pred.specs.Views.{predicate_view};
 ghost use Rattle.pd_model.specs.Decided.{HasFewTerms};
 ghost use Rattle.pd_terms.specs.Rows.{AreOf, AreTermsOf, AreWithin, numbers_view, row_allows, term_allows};
-ghost use Rattle.std.specs.Prelude.{◌≡◌, ◌<◌, All, IfOk, IfSome, None, Ok, Some, false, length, slice_get};
+ghost use Rattle.std.specs.Prelude.{◌≡◌, ◌+◌, ◌*◌, ◌<◌, ℕ, All, IfOk, IfSome, None, Ok, Some, false, length, slice_get};
 
 use super::build::build;
 use super::count::count;
 use super::local::is_local;
 use super::row::TruthRow;
+use super::truths::word_at;
+use pd_bits::{BITS, both, down, has, least, lowest, words};
 use pd_clock::Computation;
 use pd_least::GoodCounts;
 use pd_pred::Pred;
@@ -32,17 +35,14 @@ pub struct Term<'a> {
     ghost sound: { All (λ i. i < length rows.now) numbers.now },
 }
 
-/// Whether a count of a process is good for a comparison.
-fn allows(row: &TruthRow, process: usize, count: u64) -> bool
-    ensures { result ≡ row_allows (Some row.now) process count }
+/// Which of the 64 counts of a word are good for a comparison, of a process.
+fn allowed(row: &TruthRow, process: usize, number: u64) -> u64
+    ensures { (j : ℕ) → j < 64 → has_bit result j ≡ row_allows (Some row.now) process (number * 64 + j) }
 {
     if row.process != process {
-        return true;
+        return lowest(BITS);
     }
-    match row.truths.get(count as usize) {
-        Some(truth) => *truth,
-        None => false,
-    }
+    word_at(&row.words, number)
 }
 
 impl Terms {
@@ -92,15 +92,41 @@ impl Terms {
     }
 }
 
+impl Term<'_> {
+    /// Which of the 64 counts of the word with this number are good for all comparisons, of a process.
+    fn word(&self, process: usize, number: u64) -> u64
+        ensures { (j : ℕ) → j < 64 → has_bit result j
+            ≡ term_allows self.now.rows.now self.now.numbers.now process (number * 64 + j) }
+    {
+        let mut word = lowest(BITS);
+        for &i in self.numbers {
+            word = both(word, allowed(&self.rows[i], process, number));
+        }
+        word
+    }
+}
+
 impl GoodCounts for Term<'_> {
     ghost good = { λ t. term_allows t.rows.now t.numbers.now };
 
     fn is_good(&self, process: usize, count: u64) -> bool {
-        for &i in self.numbers {
-            if !allows(&self.rows[i], process, count) {
-                return false;
+        has(self.word(process, count / BITS), count % BITS)
+    }
+
+    fn next_good(&self, process: usize, from: u64, last: u64) -> Option<u64> {
+        let mut at = from;
+        while at <= last {
+            let low = at % BITS;
+            let whole = self.word(process, at / BITS);
+            words(whole);
+            let word = down(whole, low);
+            words(word);
+            if word != 0 {
+                let next = at + least(word);
+                return if next <= last { Some(next) } else { None };
             }
+            at += BITS - low;
         }
-        true
+        None
     }
 }

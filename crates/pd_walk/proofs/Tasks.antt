@@ -4,9 +4,12 @@ use Rattle.pd_model.specs.Predicates.{Recorded}
 use Rattle.pd_runs.specs.Levels.{WholeLevel}
 use Rattle.pd_tables.specs.Views.{CompiledView}
 use Rattle.pd_walk.specs.Rounds.{IsBeforeRound, IsNextOfWhole}
+use Rattle.pd_walk.specs.Seen.{IsSeen, IsSeenAt}
 use Rattle.pd_walk.specs.Stages.{IsOpenBelow, OneStands}
 use Rattle.pd_walk.specs.Tasks.{IsBeforeTask, IsTaskOf, StandsAt, task_events, task_test}
+use Rattle.pd_walk.specs.Turns.{IsSeenIn}
 use Rattle.pd_walk.specs.declared.round.Round.{Round}
+use Rattle.pd_walk.specs.declared.seen.Seen.{Seen}
 use Rattle.pd_walk.specs.declared.stage.Stage.{Stage}
 use Rattle.pd_walk.specs.declared.task.Task.{Task}
 
@@ -35,6 +38,25 @@ module _ {K : Type 0} (round : Round K) (i : ℕ) (task : Task K) (of : IsTaskOf
       (subst (λ (g : ℕ). OneStands (get_or round.tests.now i test) round.width g task.level.now stage) of.gap
       (subst (λ (w : ℕ). OneStands (get_or round.tests.now i test) w task.gap task.level.now stage) of.width
       (subst (λ (t : CompiledView). OneStands t task.width task.gap task.level.now stage) (of.test test) stands)))
+
+  -- what was seen of predicate i was seen of the task
+  pub seen_at : (stage : Stage) (seen : Seen) → IsSeenIn round i stage seen → IsSeenAt task stage seen
+  seen_at stage seen is =
+      subst (λ (t : CompiledView). IsSeen t task.width task.gap task.level.now stage seen) (sym (of.test task.test.now))
+      (subst (λ (w : ℕ). IsSeen (get_or round.tests.now i task.test.now) w task.gap task.level.now stage seen)
+      (sym of.width)
+      (subst (λ (g : ℕ). IsSeen (get_or round.tests.now i task.test.now) round.width g task.level.now stage seen)
+      (sym of.gap)
+      (subst (λ (l : WholeLevel). IsSeen (get_or round.tests.now i task.test.now) round.width round.gap l stage seen)
+      (sym of.level) (is task.test.now))))
+
+  -- and the other way round
+  pub seen_in : (stage : Stage) (seen : Seen) → IsSeenAt task stage seen → IsSeenIn round i stage seen
+  seen_in stage seen is test =
+      subst (λ (l : WholeLevel). IsSeen (get_or round.tests.now i test) round.width round.gap l stage seen) of.level
+      (subst (λ (g : ℕ). IsSeen (get_or round.tests.now i test) round.width g task.level.now stage seen) of.gap
+      (subst (λ (w : ℕ). IsSeen (get_or round.tests.now i test) w task.gap task.level.now stage seen) of.width
+      (subst (λ (t : CompiledView). IsSeen t task.width task.gap task.level.now stage seen) (of.test test) is)))
 
   -- below level 0 there is no cut
   pub open_at_first : round.level.now.number ≡ 0

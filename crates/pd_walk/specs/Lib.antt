@@ -1,4 +1,5 @@
 pub mod Rounds
+pub mod Seen
 pub mod Stages
 pub mod Tasks
 pub mod Turns

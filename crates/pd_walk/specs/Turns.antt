@@ -1,40 +1,31 @@
 -- The predicates' turns in a round.
-use Rattle.std.specs.Prelude.{◌≡◌, ℕ, ◌<◌, List, false, length, slice_index_or}
+use Rattle.std.specs.Prelude.{◌≡◌, ℕ, ◌<◌, IfOk, List, None, Option, Result, Some, length, slice_index_or}
 use Rattle.pd_runs.specs.Levels.{WholeLevel}
 use Rattle.pd_tables.specs.Views.{CompiledView}
+use Rattle.pd_walk.specs.Seen.{IsSeen}
 use Rattle.pd_walk.specs.Stages.{OneStands}
 use Rattle.pd_walk.specs.declared.round.Round.{Round}
+use Rattle.pd_walk.specs.declared.seen.Seen.{Seen}
 use Rattle.pd_walk.specs.declared.stage.Stage.{Stage}
-use Rattle.pd_walk.specs.declared.turns.Turn.{Turn}
 
--- a turn for each of these stages, which it holds
-pub record AreTurnsOf (stages : List Stage) (turns : List Turn) : Type 0 where
-  pub one_each : length turns ≡ length stages
-  pub same : (i : ℕ) (turn : Turn) (stage : Stage) → i < length stages
-      → (slice_index_or turns i turn).stage ≡ slice_index_or stages i stage
+-- this is known of predicate i after this level
+abbrev pub IsKnown : {K : Type 0} → Round K → WholeLevel → ℕ → Stage → Type 0
+IsKnown round level i stage = (test : CompiledView)
+    → OneStands (slice_index_or round.tests.now i test) round.width round.gap level stage
 
--- what stands after this level, the one before, is in the turn of predicate i
-abbrev pub IsReady : {K : Type 0} → Round K → WholeLevel → ℕ → Turn → Type 0
-IsReady round before i turn = (test : CompiledView)
-    → OneStands (slice_index_or round.tests.now i test) round.width round.gap before turn.stage
+-- this was seen of predicate i at the round's level, if that was known of it before
+abbrev pub IsSeenIn : {K : Type 0} → Round K → ℕ → Stage → Seen → Type 0
+IsSeenIn round i stage seen = (test : CompiledView)
+    → IsSeen (slice_index_or round.tests.now i test) round.width round.gap round.level.now stage seen
 
--- what stands after the round's level is in the turn of predicate i, unless an allocation was refused
-abbrev pub IsTaken : {K : Type 0} → Round K → ℕ → Turn → Type 0
-IsTaken round i turn = turn.refused ≡ false → (test : CompiledView)
-    → OneStands (slice_index_or round.tests.now i test) round.width round.gap round.level.now turn.stage
+-- the same, or nothing was seen of it, and what is known stands after this level, the one before
+abbrev pub IsDrawn : {K : Type 0} → Round K → WholeLevel → ℕ → Stage → Option Seen → Type 0
+IsDrawn round before i stage None = IsKnown round before i stage
+IsDrawn round before i stage (Some seen) = IsSeenIn round i stage seen
 
--- each turn holds what stands after this level, the one before
-abbrev pub AreReady : {K : Type 0} → Round K → WholeLevel → List Turn → Type 0
-AreReady round before turns = (i : ℕ) (turn : Turn) → i < length turns
-    → IsReady round before i (slice_index_or turns i turn)
-
--- each turn is taken
-abbrev pub AreTaken : {K : Type 0} → Round K → List Turn → Type 0
-AreTaken round turns = (i : ℕ) (turn : Turn) → i < length turns → IsTaken round i (slice_index_or turns i turn)
-
--- no allocation was refused in these turns, and the stages are those that they held
-pub record AreHandedBack (turns : List Turn) (stages : List Stage) : Type 0 where
-  pub one_each : length turns ≡ length stages
-  pub none_refused : (i : ℕ) (turn : Turn) → i < length turns → (slice_index_or turns i turn).refused ≡ false
-  pub same : (i : ℕ) (turn : Turn) (stage : Stage) → i < length turns
-      → slice_index_or stages i stage ≡ (slice_index_or turns i turn).stage
+-- the same of each predicate, unless an allocation was refused
+pub record AreDrawn {K E : Type 0} (round : Round K) (before : WholeLevel) (stages : List Stage)
+    (drawn : List (Result (Option Seen) E)) : Type 0 where
+  pub one_each : length drawn ≡ length stages
+  pub each : (i : ℕ) (d : Result (Option Seen) E) (stage : Stage) → i < length stages
+      → IfOk (slice_index_or drawn i d) (IsDrawn round before i (slice_index_or stages i stage))

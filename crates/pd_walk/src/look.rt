@@ -1,15 +1,17 @@
 //! How a predicate goes on from one level to the next.
 ghost use Rattle.pd_lists.specs.Answers.{possibly_answer_view};
-ghost use Rattle.pd_lists.specs.Splits.{IsSplitBelow};
 ghost use Rattle.pd_marks.specs.Marks.{IsMarking};
 ghost use Rattle.pd_model.specs.Answers.{IsFirstSatisfying, IsPossiblyAnswer};
 ghost use Rattle.pd_model.specs.Cuts.{IsOfLevel};
 ghost use Rattle.pd_model.specs.Walks.{NoneBelow};
+ghost use Rattle.pd_walk.specs.Seen.{IsSeenAt};
 ghost use Rattle.pd_walk.specs.Stages.{IsOpenBelow};
+ghost use Rattle.pd_walk.specs.declared.seen.Seen.TheVariants.{Next};
 ghost use Rattle.pd_walk.specs.declared.stage.Stage.TheVariants.{Open};
 ghost use Rattle.pd_walk.specs.Tasks.{IsBeforeTask, IsTask, StandsAt, task_events, task_test};
 ghost use Rattle.std.specs.Prelude.{◌≡◌, ◌+◌, ℕ, IfNone, IfOk, IfSome, List, false, true};
 
+use super::seen::Seen;
 use super::settle::settle;
 use super::stage::Stage;
 use super::task::Task;
@@ -146,48 +148,72 @@ fn possibly_at<T: Threads + Sync, K: LevelKey + Send + Sync>(
     }
 }
 
-/// What is known of a predicate after the next level, if these are the marks of the level before it.
-fn look_marked<T: Threads + Sync, K: LevelKey + Send + Sync>(
+/// What is seen of a predicate at the next level, if this was known of it before.
+pub(crate) fn see<T: Threads + Sync, K: LevelKey + Send + Sync>(
     rt: &T,
     alloc: Global,
     task: &Task<'_, '_, '_, K>,
     before: &Whole<K>,
-    split: Split,
-    marks: &Marks,
-) -> Result<Stage, AllocError>
+    stage: &Stage,
+) -> Result<Seen, AllocError>
     requires task { IsTask task.now }
     requires before { IsBeforeTask before.now task.now }
-    requires split { IsSplitBelow (task_events task.now) (task_test task.now) task.now.width task.now.gap
-        task.now.level.now.number split }
-    requires marks { IsMarking (task_events task.now) (task_test task.now) before.now marks.now }
-    ensures { IfOk result (StandsAt task.now task.now.level.now) }
+    requires stands { StandsAt task.now before.now stage.now }
+    ensures { IfOk result (IsSeenAt task.now stage.now) }
 {
-    let marks = next_of(rt, alloc, task, before, marks)?;
-    settle(alloc, task, split, marks)
+    match stage {
+        Stage::Open => match look_open(rt, alloc, task)? {
+            Some(next) => Ok(Seen::First(next)),
+            None => Ok(Seen::Nothing),
+        },
+        Stage::Marked { split: _, marks } => {
+            Ok(Seen::Next(next_of(rt, alloc, task, before, marks)?))
+        }
+        Stage::Answered(_) => Ok(Seen::Nothing),
+    }
 }
 
-/// What is known of a predicate after the next level.
-fn look_on<T: Threads + Sync, K: LevelKey + Send + Sync>(
-    rt: &T,
+/// What is known of a predicate after a level with these marks, if this was known of it before.
+fn with_marks<K: LevelKey>(
     alloc: Global,
     task: &Task<'_, '_, '_, K>,
-    before: &Whole<K>,
     stage: Stage,
+    marks: Marks,
 ) -> Result<Stage, AllocError>
     requires task { IsTask task.now }
-    requires before { IsBeforeTask before.now task.now }
-    requires stands { StandsAt task.now before.now stage }
+    requires seen { IsSeenAt task.now stage (Next marks) }
     ensures { IfOk result (StandsAt task.now task.now.level.now) }
 {
     match stage {
-        Stage::Open => stage_at(rt, alloc, task),
-        Stage::Marked { split, marks } => look_marked(rt, alloc, task, before, split, &marks),
+        Stage::Marked { split, marks: _ } => settle(alloc, task, split, marks),
+        Stage::Open => Ok(Stage::Open),
         Stage::Answered(answers) => Ok(Stage::Answered(answers)),
     }
 }
 
+/// Puts what was seen of a predicate at a level to what was known of it before. What doesn't change isn't moved.
+pub(crate) fn go_on<K: LevelKey>(
+    alloc: Global,
+    task: &Task<'_, '_, '_, K>,
+    stage: &mut Stage,
+    seen: Seen,
+) -> Result<(), AllocError>
+    requires task { IsTask task.now }
+    requires seen { IsSeenAt task.now stage.old seen }
+    ensures { IfOk result (λ _. StandsAt task.now task.now.level.now stage.new) }
+{
+    match seen {
+        Seen::Nothing => {}
+        Seen::First(next) => *stage = next,
+        Seen::Next(marks) => {
+            let known = mem::replace(stage, Stage::Open);
+            *stage = with_marks(alloc, task, known, marks)?;
+        }
+    }
+    Ok(())
+}
+
 /// Looks at a predicate at the next level: what is known of it after that takes the place of what was known before.
-/// What doesn't change isn't moved.
 pub(crate) fn look<T: Threads + Sync, K: LevelKey + Send + Sync>(
     rt: &T,
     alloc: Global,
@@ -200,16 +226,6 @@ pub(crate) fn look<T: Threads + Sync, K: LevelKey + Send + Sync>(
     requires stands { StandsAt task.now before.now stage.old }
     ensures { IfOk result (λ _. StandsAt task.now task.now.level.now stage.new) }
 {
-    match stage {
-        Stage::Open => match look_open(rt, alloc, task)? {
-            Some(next) => *stage = next,
-            None => {}
-        },
-        Stage::Marked { split: _, marks: _ } => {
-            let marked = mem::replace(stage, Stage::Open);
-            *stage = look_on(rt, alloc, task, before, marked)?;
-        }
-        Stage::Answered(_) => {}
-    }
-    Ok(())
+    let seen = see(rt, alloc, task, before, stage)?;
+    go_on(alloc, task, stage, seen)
 }

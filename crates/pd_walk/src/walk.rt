@@ -11,8 +11,8 @@ use super::round::Round;
 use super::setting::Setting;
 use super::stage::Stage;
 use super::task::task_of;
-use super::turns::look_shared;
-use super::worth::{is_much, unanswered, weight};
+use super::turns::look_drawn;
+use super::worth::{is_much, most_drawn, unanswered, weight};
 use pd_back::Held;
 use pd_clock::Computation;
 use pd_level::{Gate, LevelKey};
@@ -28,7 +28,7 @@ use std::thread::Threads;
 pub(crate) const TABLE_BYTES: usize = 67_108_864;
 
 /// What is known of each predicate after the next level. If the predicates have much to evaluate there, several workers
-/// take their turns; if there are fewer of them than workers, the workers share each one that has much to evaluate.
+/// draw their turns; if there are fewer of them than workers, the workers share each one that has much to evaluate.
 fn look_all<T: Threads + Sync, K: LevelKey + Send + Sync>(
     rt: &T,
     alloc: Global,
@@ -41,12 +41,13 @@ fn look_all<T: Threads + Sync, K: LevelKey + Send + Sync>(
     requires stand { AllStandAt round.now before.now stages.old.items }
     ensures { IfOk result (λ _. AllStandAt round.now round.now.level.now stages.new.items) }
 {
-    let threads = round.threads;
-    if threads > 1
-        && unanswered(stages) >= threads as u64
-        && is_much(weight(round.tests), round.level.cuts())
-    {
-        return look_shared(rt, alloc, round, before, stages);
+    let threads = round.threads as u64;
+    if threads > 1 && unanswered(stages) >= threads {
+        let cuts = round.level.cuts();
+        let most = most_drawn(weight(round.tests, stages, u64::MAX), cuts);
+        if is_much(weight(round.tests, stages, most), cuts) {
+            return look_drawn(rt, alloc, round, before, most, stages);
+        }
     }
     look_in_turn(rt, alloc, round, before, stages)
 }

@@ -1,5 +1,5 @@
 //! Whether the work at a level is worth several threads.
-ghost use Rattle.std.specs.Prelude.{◌<◌};
+ghost use Rattle.std.specs.Prelude.{◌≡◌, ◌<◌, length};
 
 use super::stage::Stage;
 use pd_level::LevelKey;
@@ -16,13 +16,31 @@ pub(crate) fn is_much(comparisons: u64, cuts: u64) -> bool {
     comparisons.saturating_mul(cuts) >= SHARED_COMPARISONS
 }
 
-/// How many comparisons the predicates have together, if they are at most the greatest `u64`.
-pub(crate) fn weight(tests: &[Compiled<'_, '_>]) -> u64 {
+/// How many comparisons those of the predicates have together that aren't answered yet and have at most `most`, if they
+/// are at most the greatest `u64`.
+pub(crate) fn weight(tests: &[Compiled<'_, '_>], stages: &[Stage], most: u64) -> u64
+    requires { length stages.now ≡ length tests.now }
+{
     let mut sum: u64 = 0;
     for i in 0..tests.len() {
-        sum = sum.saturating_add(tests[i].comparisons());
+        let comparisons = tests[i].comparisons();
+        match &stages[i] {
+            Stage::Answered(_) => {}
+            _ => {
+                if comparisons <= most {
+                    sum = sum.saturating_add(comparisons);
+                }
+            }
+        }
     }
     sum
+}
+
+/// With how many comparisons a predicate's turn is drawn at most, of predicates that have `weight` together at a level
+/// with this many cuts. One that has more has more than all others together, by as much as is worth several threads:
+/// they would wait for whoever drew it.
+pub(crate) fn most_drawn(weight: u64, cuts: u64) -> u64 {
+    weight.saturating_add(SHARED_COMPARISONS / cuts.max(1)) / 2
 }
 
 /// How many predicates aren't answered yet.

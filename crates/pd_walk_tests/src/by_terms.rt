@@ -1,8 +1,12 @@
-//! Both questions by terms: `possibly_by_terms` and `definitely_by_terms`.
+//! Both questions by terms: `possibly_by_terms`, `definitely_by_terms`, and `path_of_all` where no cut satisfies.
+ghost use Rattle.pd_pred.specs.Views.{predicate_view};
+ghost use Rattle.pd_terms.specs.FirstCuts.{IsRightByTerms};
+
 use crate::definite::PATH;
 use pd_clock::Computation;
+use pd_pred::Pred;
 use pd_spec::Spec;
-use pd_terms::{ByTerms, PassageByTerms, definitely_by_terms, possibly_by_terms};
+use pd_terms::{ByTerms, PassageByTerms, definitely_by_terms, path_of_all, possibly_by_terms};
 use std::alloc::Global;
 
 /// What the terms of a predicate decide: the first satisfying cut, that there is none, or nothing.
@@ -67,6 +71,28 @@ fn is_way(answer: &PassageByTerms, way: Way) -> bool {
     }
 }
 
+/// What the observations pass through, by what the terms decide of Possibly. Nothing if memory was refused.
+fn passage_after(
+    alloc: Global,
+    computation: &Computation<'_>,
+    pred: &Pred,
+    answer: &ByTerms,
+) -> Option<PassageByTerms>
+    requires { IsRightByTerms computation.now (predicate_view pred.now) answer.now }
+{
+    match answer {
+        ByTerms::Satisfied(_) => match definitely_by_terms(alloc, computation, pred) {
+            Ok(passage) => Some(passage),
+            Err(_) => None,
+        },
+        ByTerms::Unsatisfied => match path_of_all(alloc, computation) {
+            Ok(path) => Some(PassageByTerms::Avoided(path)),
+            Err(_) => None,
+        },
+        ByTerms::Undecided => Some(PassageByTerms::Undecided),
+    }
+}
+
 /// Whether each predicate has its answers. Nothing if memory was refused.
 pub(crate) fn are_decided(
     alloc: Global,
@@ -85,7 +111,7 @@ pub(crate) fn are_decided(
         let Ok(answer) = possibly_by_terms(alloc, computation, &named[at].pred) else {
             return None;
         };
-        let Ok(passage) = definitely_by_terms(alloc, computation, &named[at].pred) else {
+        let Some(passage) = passage_after(alloc, computation, &named[at].pred, &answer) else {
             return None;
         };
         right = right && is_expected(&answer, *expected) && is_way(&passage, *way);

@@ -1,5 +1,5 @@
 //! Reports and refusals of each kind, and their texts.
-use pd_report::{Answer, Definitely, Possibly, Refusal, Report};
+use pd_report::{Answer, Definitely, Path, Possibly, Refusal, Report};
 use std::alloc::{AllocError, Global};
 
 pub(crate) fn string(alloc: Global, name: &str) -> Result<String, AllocError> {
@@ -22,11 +22,13 @@ fn answer(
 
 /// A report with an answer of each kind, and with the greatest numbers and the least.
 pub(crate) fn judged_report(alloc: Global) -> Result<Report, AllocError> {
-    let path = vec![in alloc; string(alloc, "b")?, string(alloc, "a")?]?;
+    let names = vec![in alloc; string(alloc, "a")?, string(alloc, "b")?]?;
+    let path = Path::new(names, vec![in alloc; 1, 0]?);
+    let none = Path::new(Vec::new(alloc), Vec::new(alloc));
     let first = Possibly::Yes(vec![in alloc; 1, 0]?);
     let greatest = Possibly::Yes(vec![in alloc; 18_446_744_073_709_551_615]?);
     let ahead = answer(alloc, "ahead", first, Definitely::No(path))?;
-    let both = answer(alloc, "both", Possibly::No, Definitely::No(Vec::new(alloc)))?;
+    let both = answer(alloc, "both", Possibly::No, Definitely::No(none))?;
     let wide = answer(alloc, "wide", Possibly::Unknown(12), Definitely::Unknown(0))?;
     let all = answer(alloc, "all", greatest, Definitely::Yes(3))?;
     Ok(Report::Judged {

@@ -1,6 +1,5 @@
 -- A path by its names.
-use Rattle.std.proofs.Common.{◌↔◌, IsTrue, List, ℕ, map, sym, subst}
-use Rattle.std.specs.Prelude.{string_bytes}
+use Rattle.std.proofs.Common.{◌↔◌, IsTrue, List, ℕ, sym, subst}
 use Rattle.std.proofs.lemmas.Result.{IfOk-weaker}
 use Rattle.pd_model.specs.Answers.{IsAvoidingObservation}
 use Rattle.pd_model.specs.Predicates.{test_of}
@@ -14,7 +13,7 @@ use Rattle.pd_check.proofs.evidence.avoids.Goals as goal
 pub returns-in-Some : goal.returns-in-Some
 returns-in-Some c =
     let names : List ProcessNames = c.args.names.now in
-    let reported : List (List ℕ) = map string_bytes c.args.reported.now in
+    let reported : List (List ℕ) = c.args.reported.now in
     let named : AreNamed names reported c.deref.result.now =
     subst (AreNamed names reported) (sym c.deref.ensures.value) (rw c.in-Some.is at c.in_ok-path.ensures) in
     IfOk-weaker c.check_path.result (λ good. IsTrue good
@@ -30,6 +29,6 @@ returns-in-Some c =
 pub returns-in-None : goal.returns-in-None
 returns-in-None c =
     without_path c.args.names.now c.args.computation.now.events
-    (test_of c.args.computation.now (predicate_view c.args.pred.now)) (map string_bytes c.args.reported.now)
+    (test_of c.args.computation.now (predicate_view c.args.pred.now)) c.args.reported.now
     c.requires
     (rw c.in-None.is at c.in_ok-path.ensures)

@@ -13,4 +13,5 @@ loop-i-preserved c = record {
       c.early_of.new.left.items c.loop-i.each.items c.push.new.self.items c.loop-i.i c.index-asked-i.result
       c.in_ok-early_of.field-0 c.loop-i-test.true c.loop-i.invariant.one_each c.loop-i.invariant.right
       c.in_ok-early_of.ensures.more c.index-asked-i.is c.in_ok-early_of.ensures.early c.in_ok-push.ensures.items;
+  path = c.early_of.ensures.path;
 }

@@ -1,5 +1,6 @@
 -- What is decided of the predicates so far.
 use Rattle.std.proofs.Common.{◌≡◌, ◌<◌, ℕ, get_or, length}
+use Rattle.pd_decided.specs.Found.{IsPathIfKnown}
 use Rattle.pd_engine.specs.Early.{IsEarly}
 use Rattle.pd_engine.specs.declared.early.Early.{Early}
 use Rattle.pd_spec.specs.Views.{document_view}
@@ -12,4 +13,5 @@ invariant-loop-i l = record {
   right : (j : ℕ) (named : NamedPred) (early : Early) → j < l.i
       → IsEarly (document_view l.spec) l.computation l.left.items (get_or l.asked j named)
       (get_or l.each.items j early);
+  path : IsPathIfKnown l.computation.events l.path;
 }

@@ -10,7 +10,7 @@ loop-process-smaller g c =
     c.loop-process.counts c.include.new.counts c.loop-process.invariant.below.consistent c.include.ensures
     (next_event c.args.computation.now.events (g.G.GoodCounts.good c.args.wanted.now) c.loop-process.counts
     c.loop-process.invariant.below c.in-Some.process c.in-Some.ensures.bad c.in-Some-next_good.number
-    c.in-Some-next_good.ensures.some c.in-Some-next_good.ensures.within)
+    c.in-Some-next_good.ensures.some (omega (arith, c.in-Some-next_good.ensures.within, c.events.ensures)))
     (next_after c.args.computation.now.events (g.G.GoodCounts.good c.args.wanted.now) c.loop-process.counts
     c.loop-process.invariant.below c.in-Some.process c.in-Some.ensures.bad c.in-Some-next_good.number
     c.in-Some-next_good.ensures.some)

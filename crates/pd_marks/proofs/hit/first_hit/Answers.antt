@@ -1,8 +1,9 @@
 -- The first hit in the first run with one.
-use Rattle.std.proofs.Common.{◌≡◌, ℕ, ◌<◌, ◌≤◌, ◌⊎◌, inl, inr, true, false, List, refl, sym, subst, arith}
+use Rattle.std.proofs.Common.{◌≡◌, ◌∙◌, ◌-◌, IsTrue, ℕ, ◌<◌, ◌≤◌, ◌⊎◌, inl, inr, true, false, List, refl, sym, subst, arith}
 use Rattle.std.proofs.lemmas.Bool.{cases_lt}
 use Rattle.pd_model.specs.Answers.{IsFirstSatisfying}
 use Rattle.pd_model.specs.Cuts.{IsOfLevel}
+use Rattle.pd_runs.specs.WholeLevels.{rest_at}
 use Rattle.pd_marks.specs.Marks.{cut_with}
 use Rattle.pd_marks.specs.RunPlaces.{run_at}
 use Rattle.pd_marks.proofs.AvoidingBits.{cut_in_run}
@@ -29,6 +30,14 @@ returns-in-Some-clause-first g c none =
     c.requires.level c.loop-i.i c.in-Some.x (omega (arith, c.loop-i-test.true, c.len-i-end.ensures))
     c.in-Some.ensures.some.0 c.in-Some.ensures.some.1 c.in-Some.ensures.some.2 c.in-Some.ensures.some.3
     c.loop-i.invariant none)
+
+pub returns-then-are_all-clause-none : goal.returns-then-are_all-clause-none
+returns-then-are_all-clause-none g c =
+    let all : IsTrue c.args.skips.all = sym c.are_all.ensures ∙ c.if-are_all.true in
+    none_in_level (g.T.RunTest.events c.args.test.now) (g.T.RunTest.test c.args.test.now) c.args.level.now
+    c.requires.level (λ k u lt low high. c.requires.skips.none k u
+    (rest_at c.args.level.now.number (run_at c.args.level.now.runs k) - u) lt (c.requires.skips.all all k lt)
+    (cut_in_run (g.T.RunTest.events c.args.test.now) c.args.level.now c.requires.level k u lt low high).0.fits)
 
 pub returns-clause-none : goal.returns-clause-none
 returns-clause-none g c =

@@ -3,13 +3,12 @@ use Rattle.std.proofs.Common.{◌≡◌, ◌++◌, length, map}
 use Rattle.std.specs.List.{AllByRecursion}
 use Rattle.pd_format.specs.Reports.{IsName}
 use Rattle.pd_report.specs.Remaining.{words_left}
-use Rattle.pd_report.specs.Views.{names_view}
 use Rattle.pd_report.proofs.listed.all_names.Given as goal
 
 abbrev pub invariant-loop-word : goal.invariant-loop-word
 invariant-loop-word l = record {
-  lawful : AllByRecursion IsName (names_view l.names.items);
-  read : words_left l.words ≡ map (λ name. name) (names_view l.names.items) ++ words_left l.left;
+  lawful : AllByRecursion IsName l.path;
+  read : words_left l.words ≡ map (λ name. name) l.path ++ words_left l.left;
 }
 
 abbrev pub decreases-loop-word : goal.decreases-loop-word

@@ -1,11 +1,11 @@
 -- The run of a cut is pushed, and its births.
-use Rattle.std.proofs.Common.{◌≡◌, ◌+◌, ◌-◌, ◌^◌, ◌<◌, ◌≤◌, ℕ, [], ◌∷◌, ◌++◌, length, sum, refl, sym, ap, ◌∙◌, subst, arith}
+use Rattle.std.proofs.Common.{◌≡◌, ◌+◌, ◌-◌, ◌^◌, ◌<◌, ◌≤◌, ℕ, List, [], ◌∷◌, ◌++◌, length, sum, refl, sym, ap, ◌∙◌, subst, arith}
 use Rattle.pd_format.specs.Limits.{event_limit}
 use Rattle.pd_keys.specs.Keys.{count_base, digits}
 use Rattle.pd_model.specs.Events.{event_count}
 use Rattle.pd_model.specs.Cuts.{IsConsistent}
 use Rattle.pd_neighbors.specs.Neighbors.{cut_at}
-use Rattle.pd_runs.specs.Births.{IsYoung}
+use Rattle.pd_runs.specs.Births.{IsUndoable, IsYoung}
 use Rattle.pd_runs.specs.Kept.{KeyedCut}
 use Rattle.pd_runs.specs.Points.{point_cut}
 use Rattle.pd_runs.proofs.Pushing.{births_of_born}
@@ -17,9 +17,9 @@ pub overflow_add-point-inside : goal.overflow_add-point-inside
 overflow_add-point-inside g c =
     let e : c.prefix.result + 2 ≡ length c.args.steps.now = omega (arith, c.prefix.ensures, c.limits.ensures.two) in
     let same : point_cut (length c.args.steps.now - 2) c.point_of-point.result
-    ≡ digits (length c.args.steps.now) (g.K.Key.number c.args.cut) =
+    ≡ digits (length c.args.steps.now) (g.K.Key.number c.args.birth.cut) =
     ap (λ (n : ℕ). point_cut (n - 2) c.point_of-point.result) (sym e)
-    ∙ (c.point_of-point.ensures.cut ∙ ap (λ (n : ℕ). digits n (g.K.Key.number c.args.cut)) e) in
+    ∙ (c.point_of-point.ensures.cut ∙ ap (λ (n : ℕ). digits n (g.K.Key.number c.args.birth.cut)) e) in
     let ok : IsConsistent c.args.steps.now (point_cut (length c.args.steps.now - 2) c.point_of-point.result) =
     subst (IsConsistent c.args.steps.now) (sym same) c.requires.cut in
     let w = last_counts c.args.steps.now c.limits.ensures.two c.point_of-point.result.key c.point_of-point.result.x
@@ -34,20 +34,30 @@ overflow_add-point-inside g c =
     let y_is : c.point.inside.y ≡ c.point_of-point.result.y = ap (λ (p : KeyedCut). p.y) c.point.view_is in
     omega arith
 
+pub add_births-requires-clause-latest : goal.add_births-requires-clause-latest
+add_births-requires-clause-latest g c =
+    let e : c.prefix.result + 2 ≡ length c.args.steps.now = omega (arith, c.prefix.ensures, c.limits.ensures.two) in
+    let same : point_cut (length c.args.steps.now - 2) c.point_of-point.result
+    ≡ digits (length c.args.steps.now) (g.K.Key.number c.args.birth.cut) =
+    ap (λ (n : ℕ). point_cut (n - 2) c.point_of-point.result) (sym e)
+    ∙ (c.point_of-point.ensures.cut ∙ ap (λ (n : ℕ). digits n (g.K.Key.number c.args.birth.cut)) e) in
+    λ _. subst (λ (cut : List ℕ). IsUndoable c.args.steps.now cut c.args.birth.by) (sym same) c.requires.latest
+
 pub returns : goal.returns
 returns g c =
     let e : c.prefix.result + 2 ≡ length c.args.steps.now = omega (arith, c.prefix.ensures, c.limits.ensures.two) in
     let same : point_cut (length c.args.steps.now - 2) c.point_of-point.result
-    ≡ digits (length c.args.steps.now) (g.K.Key.number c.args.cut) =
+    ≡ digits (length c.args.steps.now) (g.K.Key.number c.args.birth.cut) =
     ap (λ (n : ℕ). point_cut (n - 2) c.point_of-point.result) (sym e)
-    ∙ (c.point_of-point.ensures.cut ∙ ap (λ (n : ℕ). digits n (g.K.Key.number c.args.cut)) e) in
+    ∙ (c.point_of-point.ensures.cut ∙ ap (λ (n : ℕ). digits n (g.K.Key.number c.args.birth.cut)) e) in
     let ok : IsConsistent c.args.steps.now (point_cut (length c.args.steps.now - 2) c.point_of-point.result) =
     subst (IsConsistent c.args.steps.now) (sym same) c.requires.cut in
     let y_is : c.point_of-point.result.x + c.point_of-point.result.y - c.point_of-point.result.x
     ≡ c.point_of-point.result.y = omega arith in
-    let young : IsYoung c.args.steps.now (sum (digits (length c.args.steps.now) (g.K.Key.number c.args.cut)))
+    let young : IsYoung c.args.steps.now (sum (digits (length c.args.steps.now) (g.K.Key.number c.args.birth.cut)))
     (digits (length c.args.steps.now - 2) c.point_of-point.result.key) =
-    subst (λ (key : ℕ). IsYoung c.args.steps.now (sum (digits (length c.args.steps.now) (g.K.Key.number c.args.cut)))
+    subst (λ (key : ℕ). IsYoung c.args.steps.now
+    (sum (digits (length c.args.steps.now) (g.K.Key.number c.args.birth.cut)))
     (digits (length c.args.steps.now - 2) key)) (sym c.point_of-point.ensures.key) c.requires.young in
     record {
       run = record {
@@ -77,7 +87,7 @@ returns g c =
           }) ∷ []) c.point.view_is;
       births =
           births_of_born c.args.steps.now c.limits.ensures.two
-          (sum (digits (length c.args.steps.now) (g.K.Key.number c.args.cut))) c.point_of-point.result.key
+          (sum (digits (length c.args.steps.now) (g.K.Key.number c.args.birth.cut))) c.point_of-point.result.key
           c.point_of-point.result.x
           c.point_of-point.result.y ok (ap sum same) young c.args.born.now c.add_births.new.born
           c.in_ok-add_births.ensures;

@@ -1,6 +1,5 @@
 -- The births of one cut, one process after another.
 use Rattle.std.proofs.Common.{◌≡◌, ◌+◌, ◌-◌, ◌^◌, ◌<◌, ◌≤◌, ℕ, List, length, get_or, sym, ap, ◌∙◌, subst, arith}
-use Rattle.std.proofs.lemmas.Bool.{false≢true}
 use Rattle.pd_format.specs.Limits.{event_limit}
 use Rattle.pd_keys.specs.Keys.{count_base, digits, key_of}
 use Rattle.pd_model.specs.Events.{Computation, event_count}
@@ -9,10 +8,11 @@ use Rattle.pd_runs.specs.Collected.{HasOneMore}
 use Rattle.pd_runs.specs.Kept.{KeyedCut}
 use Rattle.pd_runs.specs.Points.{GrowsBy, point_cut}
 use Rattle.pd_runs.proofs.CutKeys.{added_key, cut_back, cut_below, room_for_one}
-use Rattle.pd_runs.proofs.Growing.{grow_yes, grow_no}
+use Rattle.pd_runs.proofs.Growing.{grow_yes, grow_no, left_out}
 use Rattle.pd_runs.proofs.RunSteps.{last_counts}
+use Rattle.pd_runs.proofs.UndoneEvents.{added_undoable}
 use Rattle.pd_runs.proofs.birth.add_births.Goals as goal
-use Rattle.pd_runs.proofs.birth.add_births.Goals.{then-adds+in_ok-push, else-adds}
+use Rattle.pd_runs.proofs.birth.add_births.Goals.{then-makes+in_ok-push, else-makes}
 
 pub key_of_cut-cut-requires-clause-x : goal.key_of_cut-cut-requires-clause-x
 key_of_cut-cut-requires-clause-x g c =
@@ -77,12 +77,12 @@ pub one_more-requires-clause-small : goal.one_more-requires-clause-small
 one_more-requires-clause-small g c =
     number_room c.args.steps.now c.limits.ensures.two c.limits.ensures.short c.args.point.now c.requires.cut
     c.prefix-prefix.result (g.K.Key.number c.key_of_cut-cut.result) c.loop-p.p c.prefix-prefix.ensures
-    c.key_of_cut-cut.ensures (omega arith) (c.adds.ensures.added c.if-adds.true)
+    c.key_of_cut-cut.ensures (omega arith) (c.makes.ensures.added c.if-makes.true)
 
 pub loop-p-preserved : goal.loop-p-preserved
 loop-p-preserved g c =
-    elim c.if-adds.branch [
-      | then-adds+in_ok-push w ↦
+    elim c.if-makes.branch [
+      | then-makes+in_ok-push w ↦
           let is : g.K.Key.number w.one_more.result
           ≡ key_of (one_more (point_cut (length c.args.steps.now - 2) c.args.point.now) c.loop-p.p) =
           w.one_more.ensures ∙ number_more c.args.steps.now c.limits.ensures.two c.limits.ensures.short c.args.point.now
@@ -90,12 +90,15 @@ loop-p-preserved g c =
           c.prefix-prefix.ensures c.key_of_cut-cut.ensures (omega arith) in
           rw (w.born-is) (grow_yes c.args.steps.now
           (point_cut (length c.args.steps.now - 2) c.args.point.now) c.args.by c.loop-p.p c.args.born.now
-          c.loop-p.born c.loop-p.invariant (c.adds.ensures.added w.if-adds.true) w.push.new.self
-          (subst (λ (key : ℕ). HasOneMore c.loop-p.born key w.push.new.self) is w.in_ok-push.ensures))
-      | else-adds w ↦
+          c.loop-p.born c.loop-p.invariant (c.makes.ensures.added w.if-makes.true)
+          (added_undoable c.args.steps.now (point_cut (length c.args.steps.now - 2) c.args.point.now) c.loop-p.p
+          c.requires.cut (omega (arith, c.prefix-prefix.ensures))) w.push.new.self
+          (subst (λ (key : ℕ). HasOneMore c.loop-p.born (record { cut = key; by = c.loop-p.p }) w.push.new.self) is
+          w.in_ok-push.ensures))
+      | else-makes w ↦
           rw (w.born-is) (grow_no c.args.steps.now (point_cut (length c.args.steps.now - 2) c.args.point.now) c.args.by
           c.loop-p.p c.args.born.now c.loop-p.born c.loop-p.invariant
-          (λ wanted. false≢true (sym w.if-adds.false ∙ c.adds.ensures.all wanted)))
+          (λ wanted. left_out c.makes.result w.if-makes.false (c.makes.ensures.all wanted)))
     ]
 
 pub returns : goal.returns

@@ -7,11 +7,13 @@ use Rattle.pd_terms.proofs.changes.has_any_changed.Goals as goal
 pub loop-var-preserved : goal.loop-var-preserved
 loop-var-preserved c = λ rest.
     c.loop-var.invariant
-    (all_more (VariableStays c.args.computation.now c.args.process c.args.count) c.args.vars.now c.loop-var.var-index _
+    (all_more (VariableStays c.args.computation.now c.args.process c.args.from c.args.count) c.args.vars.now
+    c.loop-var.var-index _
     c.loop-var-test.true (c.if-has_changed.ensures refl) rest)
 
 pub returns : goal.returns
 returns c = λ same.
     c.loop-var.invariant
-    (all_none (VariableStays c.args.computation.now c.args.process c.args.count) c.args.vars.now c.loop-var.var-index
+    (all_none (VariableStays c.args.computation.now c.args.process c.args.from c.args.count) c.args.vars.now
+    c.loop-var.var-index
     (omega arith))

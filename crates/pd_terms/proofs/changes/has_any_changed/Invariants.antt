@@ -5,5 +5,5 @@ use Rattle.pd_terms.proofs.changes.has_any_changed.Given as goal
 
 abbrev pub invariant-loop-var : goal.invariant-loop-var
 invariant-loop-var l =
-    All (VariableStays l.computation l.process l.count) (drop l.var-index l.vars)
-    → All (VariableStays l.computation l.process l.count) l.vars
+    All (VariableStays l.computation l.process l.from l.count) (drop l.var-index l.vars)
+    → All (VariableStays l.computation l.process l.from l.count) l.vars

@@ -1,5 +1,5 @@
 -- The walk from level 0 to the last level that is needed.
-use Rattle.std.proofs.Common.{◌≡◌, ◌+◌, ◌++◌, [], ◌∷◌, ℕ, List, length, get_or, refl, ap, sym, ◌∙◌, subst, arith}
+use Rattle.std.proofs.Common.{◌≡◌, ◌++◌, [], ◌∷◌, ℕ, List, length, get_or, refl, ap, sym, ◌∙◌, subst, arith}
 use Rattle.pd_model.specs.Events.{Computation}
 use Rattle.pd_skips.specs.SkippedRuns.{AreSkipped}
 use Rattle.pd_runs.specs.Levels.{IsWholeLevel, WholeLevel}

@@ -1,19 +1,22 @@
 -- Lists that are empty.
-use Rattle.std.proofs.Common.{rules, ◌≡◌, ℕ, ◌++◌, List, [], length, map, ap, ◌∙◌}
+use Rattle.std.proofs.Common.{rules, ◌≡◌, ◌++◌, List, [], length, map, ap, ◌∙◌}
 use Rattle.pd_runs.specs.Collected.{births_in}
+use Rattle.pd_runs.specs.Kept.{KeyedBirth, birth_view}
 use Rattle.pd_runs.proofs.Collecting.{births_append}
 use Rattle.pd_runs.proofs.births.Births.new.Goals as goal
 
 pub loop-init : goal.loop-init
-loop-init g c = (ap (births_in g.K.Key.number) c.in_ok-lists.ensures.items, ap length c.in_ok-lists.ensures.items)
+loop-init g c =
+    let view = birth_view g.K.Key.number in
+    (ap (births_in view) c.in_ok-lists.ensures.items, ap length c.in_ok-lists.ensures.items)
 
 pub loop-preserved : goal.loop-preserved
 loop-preserved g c =
-    let pushed : births_in g.K.Key.number c.push.new.self.items ≡ [] =
-    ap (births_in g.K.Key.number) c.in_ok-push.ensures.items
-    ∙ births_append g.K.Key.number c.loop.lists.items c.new.result
-    ∙ ap (λ (all : List ℕ). all ++ map g.K.Key.number c.new.result.items) c.loop.invariant.0
-    ∙ ap (map g.K.Key.number) c.new.ensures.items in
+    let view = birth_view g.K.Key.number in
+    let pushed : births_in view c.push.new.self.items ≡ [] =
+    ap (births_in view) c.in_ok-push.ensures.items ∙ births_append view c.loop.lists.items c.new.result
+    ∙ ap (λ (all : List KeyedBirth). all ++ map view c.new.result.items) c.loop.invariant.0
+    ∙ ap (map view) c.new.ensures.items in
     (pushed, search rules)
 
 pub invariant_of-result : goal.invariant_of-result

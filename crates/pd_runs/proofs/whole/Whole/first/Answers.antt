@@ -1,5 +1,5 @@
 -- Level 0 is kept as one run with its births.
-use Rattle.std.proofs.Common.{◌≡◌, ℕ, ◌+◌, ◌-◌, ◌^◌, ◌<◌, List, [], ◌∷◌, ◌++◌, length, map, sym, ap, ◌∙◌, subst, arith}
+use Rattle.std.proofs.Common.{◌≡◌, ℕ, ◌+◌, ◌-◌, ◌^◌, ◌<◌, List, [], ◌∷◌, ◌++◌, length, sym, ap, ◌∙◌, subst, arith}
 use Rattle.std.specs.Prelude.{None}
 use Rattle.pd_keys.specs.Keys.{count_base, digits}
 use Rattle.pd_keys.proofs.Keys.{weight_pos}
@@ -7,7 +7,7 @@ use Rattle.pd_model.specs.Cuts.{IsConsistent}
 use Rattle.pd_neighbors.specs.Neighbors.{cut_at}
 use Rattle.pd_runs.specs.Levels.{IsKeptLevel, IsWholeLevel, cut_count, runs_view, whole_view}
 use Rattle.pd_runs.specs.Points.{GrowsBy}
-use Rattle.pd_runs.specs.Kept.{KeyedRun}
+use Rattle.pd_runs.specs.Kept.{KeyedBirth, KeyedRun, births_view, cuts_of}
 use Rattle.pd_runs.proofs.FirstLevel.{first_consistent, first_run, first_level, first_kept}
 use Rattle.pd_runs.proofs.whole.Whole.first.Goals as goal
 
@@ -24,6 +24,9 @@ add_births-requires-clause-cut g c =
     subst (λ (key : ℕ). IsConsistent c.args.steps.now (cut_at (digits (length c.args.steps.now - 2) key) 0 0))
     (sym c.none-2.ensures) (first_consistent c.args.steps.now c.limits.ensures.two)
 
+pub add_births-requires-clause-latest : goal.add_births-requires-clause-latest
+add_births-requires-clause-latest g c = λ lt. absurd (omega arith)
+
 pub invariant_of-result : goal.invariant_of-result
 invariant_of-result g c =
     let e : length c.args.steps.now ≡ c.prefix-others.result + 2 =
@@ -34,19 +37,21 @@ invariant_of-result g c =
     ∙ ap (λ (rs : List KeyedRun). rs ++ first_run ∷ []) c.in_ok-runs.ensures.items in
     let grown : GrowsBy c.args.steps.now (cut_at (digits (length c.args.steps.now - 2) 0) 0 0) None
     (length c.args.steps.now - 2) [] c.add_births.new.born =
-    subst (λ (old : List ℕ). GrowsBy c.args.steps.now (cut_at (digits (length c.args.steps.now - 2) 0) 0 0) None
+    subst (λ (old : List KeyedBirth).
+    GrowsBy c.args.steps.now (cut_at (digits (length c.args.steps.now - 2) 0) 0 0) None
     (length c.args.steps.now - 2) old c.add_births.new.born) c.in_ok-born.ensures
     (subst (λ (key : ℕ). GrowsBy c.args.steps.now (cut_at (digits (length c.args.steps.now - 2) key) 0 0) None
     (length c.args.steps.now - 2) c.in_ok-born.born c.add_births.new.born) c.none-2.ensures
     c.in_ok-add_births.ensures) in
-    let born : List ℕ = map g.K.Key.number c.in_ok-born-2.born.items in
-    let kept : IsKeptLevel g.K.Key.room (length c.args.steps.now) 0 (first_run ∷ []) born =
+    let born : List KeyedBirth = births_view g.K.Key.number c.in_ok-born-2.born.items in
+    let kept : IsKeptLevel g.K.Key.room (length c.args.steps.now) 0 (first_run ∷ []) (cuts_of born) =
     first_kept c.args.steps.now c.limits.ensures.short c.limits.ensures.walkable c.limits.ensures.two
     c.add_births.new.born born grown c.in_ok-born-2.ensures.there
     c.in_ok-born-2.ensures.back g.K.Key.room (g.met.K.Key.fits_room (length c.args.steps.now) c.requires)
     c.in_ok-born-2.ensures.ascends in (
-      subst (λ (rs : List KeyedRun). IsKeptLevel g.K.Key.room (c.prefix-others.result + 2) 0 rs born) (sym runs)
-          (subst (λ (m : ℕ). IsKeptLevel g.K.Key.room m 0 (first_run ∷ []) born) e kept),
+      subst (λ (rs : List KeyedRun). IsKeptLevel g.K.Key.room (c.prefix-others.result + 2) 0 rs (cuts_of born))
+          (sym runs)
+          (subst (λ (m : ℕ). IsKeptLevel g.K.Key.room m 0 (first_run ∷ []) (cuts_of born)) e kept),
       subst (λ (rs : List KeyedRun). 1 ≡ cut_count (runs_view (c.prefix-others.result + 2 - 2) rs)) (sym runs)
           (omega arith),
       subst g.K.Key.fits e c.requires,
@@ -62,12 +67,13 @@ returns-clause-level g c =
     ∙ ap (λ (rs : List KeyedRun). rs ++ first_run ∷ []) c.in_ok-runs.ensures.items in
     let grown : GrowsBy c.args.steps.now (cut_at (digits (length c.args.steps.now - 2) 0) 0 0) None
     (length c.args.steps.now - 2) [] c.add_births.new.born =
-    subst (λ (old : List ℕ). GrowsBy c.args.steps.now (cut_at (digits (length c.args.steps.now - 2) 0) 0 0) None
+    subst (λ (old : List KeyedBirth).
+    GrowsBy c.args.steps.now (cut_at (digits (length c.args.steps.now - 2) 0) 0 0) None
     (length c.args.steps.now - 2) old c.add_births.new.born) c.in_ok-born.ensures
     (subst (λ (key : ℕ). GrowsBy c.args.steps.now (cut_at (digits (length c.args.steps.now - 2) key) 0 0) None
     (length c.args.steps.now - 2) c.in_ok-born.born c.add_births.new.born) c.none-2.ensures
     c.in_ok-add_births.ensures) in
-    let born : List ℕ = map g.K.Key.number c.in_ok-born-2.born.items in
+    let born : List KeyedBirth = births_view g.K.Key.number c.in_ok-born-2.born.items in
     subst (λ (rs : List KeyedRun). IsWholeLevel c.args.steps.now (whole_view (c.prefix-others.result + 2) 0 rs born))
     (sym runs)
     (subst (λ (m : ℕ). IsWholeLevel c.args.steps.now (whole_view m 0 (first_run ∷ []) born)) e

@@ -21,7 +21,7 @@ pub returns : goal.returns
 returns g c =
     let end : c.loop-i.i ≡ length c.args.level.now.runs =
     omega (arith, c.loop-i-test.false, c.loop-i.auto.i-end, c.len-i-end.ensures) in
-    record {
+    rw (c.new.ensures) record {
       one_each = c.loop-i.invariant.one_each ∙ end;
       each = λ k lt. c.loop-i.invariant.each k (omega (arith, end));
     }
