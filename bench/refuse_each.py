@@ -2,13 +2,13 @@
 """refuse_each.py PROGRAM [INPUT..]: refuses each of the program's allocations, reads and writes in turn.
 
 An input is a bundle, or a folder with `session.json`, `report` and files `NAME.stream`. A folder is judged from its
-files, by one worker and by two, with --beyond-width, and as a bundle; its report is checked and drawn; and its streams
-are served, with a watcher. Small sessions are run beside them: one that is judged, one with messages, one with a causal
-cycle, one with wide levels, and one of sixteen processes; and one of width 1, that is judged and served with
---beyond-width alone, and has predicates for each way to answer. For each of these runs and each N, counted upward until
-a run meets no refusal, the program runs with its Nth allocation refused; then with its Nth read failing, and with its
-Nth write. Before these it runs once with each allocation slow: a thread that asks for memory under a lock lets the
-others wait for the lock meanwhile, so an unlock that wakes nobody leaves a run without an end.
+files, by one worker and by two, with --beyond-width and --fail-on, and as a bundle; its report is checked and drawn;
+its run is explored; and its streams are served, with a watcher. Small sessions are run beside them: one that is judged,
+one with messages, one with a causal cycle, one with wide levels, and one of sixteen processes; and one of width 1, that
+is judged and served with these two options alone, and has predicates for each way to answer. For each of these runs and
+each N, counted upward until a run meets no refusal, the program runs with its Nth allocation refused; then with its Nth
+read failing, and with its Nth write. Before these it runs once with each allocation slow: a thread that asks for memory
+under a lock lets the others wait for the lock meanwhile, so an unlock that wakes nobody leaves a run without an end.
 
 It must end as a run that is refused nothing; or, for an allocation, with status 4, nothing on standard output and
 `monitor: memory` on standard error; for a read, with status 3 and `monitor: read`, or with what is made of a stream
@@ -182,13 +182,15 @@ def runs_of(program, path, beyond_alone):
         with open(report, "wb") as out:
             out.write(subprocess.run(judge, capture_output=True, timeout=RUN_SECONDS, check=False).stdout)
     parts = [contents(part) for part in [document, *streams]]
-    beyond = ("judge beyond the width", run, [*judge, "--beyond-width"], b"")
+    fail_on = ["--beyond-width", "--fail-on", "unknown,possibly,definitely-no"]
+    beyond = ("judge beyond the width", run, [*judge, *fail_on], b"")
     if beyond_alone:
-        return [beyond, ("serve beyond the width", serve, [program, "serve", "--beyond-width", document], parts[1:])]
+        return [beyond, ("serve beyond the width", serve, [program, "serve", *fail_on, document], parts[1:])]
     return [("judge", run, judge, b""), ("judge by two workers", run, [*judge, "--workers", "2"], b""), beyond,
             ("a bundle", run, [program], b"---\n".join(parts)),
             ("check", run, [program, "check", document, report, *streams], b""),
             ("draw", run, [program, "draw", document, report, *streams], b""),
+            ("explore", run, [program, "explore", document, *streams], b""),
             ("serve", serve, [program, "serve", document], parts[1:])]
 
 

@@ -82,7 +82,8 @@ def two_ports(taken):
 class Server(contextlib.ExitStack):
     """The program as a server on a free port, and the connections to it. All of it ends with the context."""
 
-    def __init__(self, program, folder, document=DOCUMENT, watchers=0, workers=None, taken=(), beyond=False):
+    def __init__(self, program, folder, document=DOCUMENT, watchers=0, workers=None, taken=(), beyond=False,
+                 fail_on=None):
         super().__init__()
         if document is not None:
             with open(os.path.join(folder, "session.json"), "wb") as file:
@@ -92,6 +93,7 @@ class Server(contextlib.ExitStack):
         words = ["--port", str(self.port), "--watchers", str(watchers)]
         words += ["--workers", str(workers)] if workers else []
         words += ["--beyond-width"] if beyond else []
+        words += ["--fail-on", fail_on] if fail_on else []
         self.process = self.enter_context(subprocess.Popen(
             [program, "serve", "session.json", *words], cwd=folder, stdout=subprocess.PIPE, stderr=subprocess.PIPE))
         self.callback(self.process.kill)
@@ -199,6 +201,16 @@ def cases():
     options = {"document": BROADCAST[:-1] + b',"width":1}', "beyond": True}
     undecided = OF_BROADCAST.replace(b"possibly yes 1,0,1", b"possibly unknown 2")
     yield "beyond width 1, and not decided", three, options, (0, undecided, b"")
+    options = {"watchers": 1, "fail_on": "both:definitely,possibly"}
+    yield "a condition that is met", two, options, (5, REPORT, b"")
+    yield "a condition that isn't met", two, {**options, "fail_on": "unknown,both:definitely"}, (0, REPORT, b"")
+    options = {"watchers": 1, "fail_on": "both:possibly,other:possibly"}
+    yield "a condition on no predicate", two, options, (2, REPORT, b"monitor: no predicate of this name\n")
+    options = {"document": NARROW, "watchers": 1, "fail_on": "unknown"}
+    yield "width 1, and a condition that is met", two, options, (5, UNKNOWN, b"")
+    yield "beyond width 1, and a condition that isn't met", two, {**options, "beyond": True}, (0, REPORT, b"")
+    options = {"document": b"x", "fail_on": "possibly"}
+    yield "a condition, and the document refused", nobody, options, (1, b"refused spec json\n", b"")
     yield "sixteen connections", senders(OF_SIXTEEN), {"document": SIXTEEN}, (0, OF_LAST, b"")
     options = {"document": SIXTEEN, "workers": 4}
     yield "sixteen connections in the other order", senders(OF_SIXTEEN[::-1]), options, (0, OF_LAST, b"")

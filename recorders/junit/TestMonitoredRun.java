@@ -99,10 +99,10 @@ public final class TestMonitoredRun {
                 thrown(AssertionError.class, () -> run.judge("both")));
         same(new TreeSet<>(Arrays.asList("both.svg", "left.stream", "report", "right.stream", "session.json")),
                 names(run.folder()));
-        same(true, Files.readString(run.folder().resolve("both.svg")).contains(">both possibly yes</title>"));
+        same(true, Files.readString(run.folder().resolve("both.svg")).contains(">both possibly yes, definitely "));
         MonitoredRun left = recorded(document, LATE);
         thrown(AssertionError.class, () -> left.judge());
-        same(true, Files.readString(left.folder().resolve("left_in.svg")).contains(">left_in possibly yes</title>"));
+        same(true, Files.readString(left.folder().resolve("left_in.svg")).contains(">left_in possibly yes, "));
         same("both possibly yes 2,1", Files.readAllLines(run.folder().resolve("report")).get(1));
         same("what must never hold may have held:\n  both possibly yes 2,1\n  picture: RUN/both.svg\n"
                 + "  left_in possibly yes 1,0\n  picture: RUN/left_in.svg\n  all of the run: RUN",

@@ -82,14 +82,14 @@ class Judged(Case):
         self.assertEqual(self.kept(), ["both.svg", "left.stream", "report", "right.stream", "session.json"])
         self.assertEqual(json.loads(self.text("turns-1", "session.json")), DOCUMENT)
         self.assertEqual(self.text("turns-1", "report").splitlines()[1], "both possibly yes 2,1")
-        self.assertIn("<title id=\"title\">both possibly yes</title>", self.text("turns-1", "both.svg"))
+        self.assertIn("<title id=\"title\">both possibly yes, definitely ", self.text("turns-1", "both.svg"))
 
     def test_without_more_all_predicates_must_never_hold(self):
         self.assertEqual(self.failure(early).splitlines()[1:5],
                          ["  both possibly yes 2,1", f"  picture: {self.runs}/turns-1/both.svg",
                           "  left_in possibly yes 1,0", f"  picture: {self.runs}/turns-1/left_in.svg"])
         for name in ("both", "left_in"):
-            self.assertIn(f">{name} possibly yes</title>", self.text("turns-1", f"{name}.svg"))
+            self.assertIn(f">{name} possibly yes, definitely ", self.text("turns-1", f"{name}.svg"))
         with MonitoredRun("turns", DOCUMENT, never=[]) as run:
             early(run)
 

@@ -2,27 +2,42 @@
 //! which runs it.
 #![tactic(auto)]
 
+use std::io::{IsTerminal, Write};
 use std::process::ExitCode;
 use std::{env, io};
+
+/// What is said of a bundle that is to be typed at a terminal.
+const BUNDLE_READ: &[u8] =
+    b"A bundle is read from standard input: the session document, and before each stream a line \
+---. `monitor --help` says what else there is.\n";
 
 /// The program's arguments, of which the first is its name.
 fn arguments(rt: &HostRuntime) -> io::Result<Vec<String>> {
     Ok(env::args(rt)?.collect(rt.alloc())?)
 }
 
+/// Explanations are wanted if the errors go to a terminal, or by the word `--explain`.
 fn main(rt: HostRuntime) -> ExitCode {
     let mut errors = rt.stderr();
     let status = match arguments(&rt) {
-        Ok(arguments) => pd_cli::run(
-            &rt,
-            &rt,
-            &rt,
-            rt.alloc(),
-            arguments,
-            rt.stdin(),
-            &mut rt.stdout(),
-            &mut errors,
-        ),
+        Ok(arguments) => {
+            let (arguments, is_asked) = pd_cli::without_explain(arguments);
+            let explain = is_asked || errors.is_terminal();
+            if explain && arguments.len() <= 1 && rt.stdin().is_terminal() {
+                let _ = errors.write_all(BUNDLE_READ);
+            }
+            pd_cli::run(
+                &rt,
+                &rt,
+                &rt,
+                rt.alloc(),
+                arguments,
+                rt.stdin(),
+                explain,
+                &mut rt.stdout(),
+                &mut errors,
+            )
+        }
         Err(error) => pd_cli::report_unread_arguments(&error, &mut errors),
     };
     ExitCode::from(status)

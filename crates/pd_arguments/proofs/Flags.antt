@@ -6,8 +6,8 @@ use Rattle.clap.proofs.OnLiterals.{clap_on_literals}
 use Rattle.clap.specs.Faults.{fault_of}
 use Rattle.clap.specs.Matches.{ReadsOne}
 use Rattle.clap.specs.Simple.{subcommand_of}
-use Rattle.clap.specs.Walk.{Row, Text, one_of}
-use Rattle.clap.specs.declared.error.kind.ErrorKind.TheVariants.{UnknownArgument}
+use Rattle.clap.specs.Walk.{Row, Text, first_of, one_of}
+use Rattle.clap.specs.declared.error.kind.ErrorKind.TheVariants.{DisplayHelp, DisplayVersion, InvalidSubcommand, UnknownArgument}
 use Rattle.pd_arguments.specs.Arguments.{SaysFlag, monitor_app}
 use Rattle.pd_arguments.proofs.Numbers.{some_same}
 
@@ -67,6 +67,48 @@ draw_has_no_flag :
     ≡ UnknownArgument ∷ []
 unfolding clap_on_literals
 draw_has_no_flag = refl
+
+-- the option's text stands in the rows of `judge` and `serve`, and in no other command's
+abbrev list_given : List Text → Option (Option Text)
+list_given arguments = option_map (λ found. first_of (codes "LIST") found.1) (subcommand_of monitor_app arguments)
+
+judged_with_list :
+    list_given (codes "judge" ∷ codes "spec" ∷ codes "--fail-on" ∷ codes "a:possibly" ∷ codes "stream" ∷ [])
+    ≡ Some (Some (codes "a:possibly"))
+unfolding clap_on_literals
+judged_with_list = refl
+
+judged_without_list : list_given (codes "judge" ∷ codes "spec" ∷ codes "stream" ∷ []) ≡ Some None
+unfolding clap_on_literals
+judged_without_list = refl
+
+served_with_list :
+    list_given (codes "serve" ∷ codes "spec" ∷ codes "--port=1" ∷ codes "--fail-on=unknown" ∷ [])
+    ≡ Some (Some (codes "unknown"))
+unfolding clap_on_literals
+served_with_list = refl
+
+check_has_no_list :
+    fault_of monitor_app (codes "check" ∷ codes "spec" ∷ codes "report" ∷ codes "stream" ∷ codes "--fail-on=unknown"
+    ∷ [])
+    ≡ UnknownArgument ∷ []
+unfolding clap_on_literals
+check_has_no_list = refl
+
+-- The version and the help are asked for by these. By the parser's clauses, what stands after `help` may also be found
+-- to be no command.
+version_is_shown : fault_of monitor_app (codes "--version" ∷ []) ≡ DisplayVersion ∷ []
+unfolding clap_on_literals
+version_is_shown = refl
+
+help_is_shown : fault_of monitor_app (codes "help" ∷ []) ≡ DisplayHelp ∷ InvalidSubcommand ∷ []
+unfolding clap_on_literals
+help_is_shown = refl
+
+help_of_judge_is_shown :
+    fault_of monitor_app (codes "help" ∷ codes "judge" ∷ []) ≡ DisplayHelp ∷ InvalidSubcommand ∷ []
+unfolding clap_on_literals
+help_of_judge_is_shown = refl
 
 program_has_no_flag : fault_of monitor_app (codes "--beyond-width" ∷ []) ≡ UnknownArgument ∷ []
 unfolding clap_on_literals

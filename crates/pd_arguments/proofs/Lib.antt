@@ -1,5 +1,6 @@
 -- The modules of lemmas of this crate.
 pub mod Builders
+pub mod Conditions
 pub mod Flags
 pub mod Numbers
 pub mod Parsed

@@ -15,10 +15,9 @@ use Rattle.std.specs.Prelude.{Box}
 use Rattle.clap.specs.declared.parser.matches.SubCommand.{SubCommand}
 use Rattle.std.specs.Prelude.{IsSomeAnd, ◌≢◌}
 use Rattle.clap.proofs.OnLiterals.{clap_on_literals}
-use Rattle.pd_judgement.specs.Statuses.{Unclear}
+use Rattle.pd_arguments.specs.Statuses.{Unclear}
 use Rattle.pd_arguments.specs.Arguments.{AreOf, AsksFor, IsErrorOf, IsShownKind, monitor_app, of_fault, of_help}
-use Rattle.clap.specs.declared.error.kind.ErrorKind.{ErrorKind}
-use Rattle.clap.specs.declared.error.kind.ErrorKind.TheVariants.{MissingRequiredArgument, OutOfMemory}
+use Rattle.clap.specs.declared.error.kind.ErrorKind.TheVariants.{OutOfMemory}
 
 pub monitor_is_simple : is_simple monitor_app ≡ true
 unfolding clap_on_literals
@@ -102,10 +101,5 @@ named_by_rows command arguments m rows same found = name_in_rows m ∙ ap (optio
 
 -- arguments that ask for nothing that can be done
 pub unclear_found : (arguments : List Text) (error : Error) → AsksFor arguments Unclear
-    → (kind_of error ≢ OutOfMemory → kind_of error ≡ MissingRequiredArgument) → IsErrorOf arguments (kind_of error)
-unclear_found arguments error unclear is other =
-    (λ shown. absurd (not_shown (kind_of error) (is other) shown), λ _. unclear)
-  where
-    not_shown : (kind : ErrorKind) → kind ≡ MissingRequiredArgument → ¬ IsShownKind kind
-    not_shown kind e (inl help) = cc
-    not_shown kind e (inr version) = cc
+    → (kind_of error ≢ OutOfMemory → ¬ IsShownKind (kind_of error)) → IsErrorOf arguments (kind_of error)
+unclear_found arguments error unclear is other = (λ shown. absurd (is other shown), λ _. unclear)

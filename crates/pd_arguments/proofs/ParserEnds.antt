@@ -4,7 +4,7 @@ use Rattle.std.specs.Io.KnownBytes.{Keeps}
 use Rattle.clap.specs.Walk.{Text}
 use Rattle.clap.specs.declared.error.kind.ErrorKind.{ErrorKind}
 use Rattle.clap.specs.declared.error.kind.ErrorKind.TheVariants as kind
-use Rattle.pd_judgement.specs.Statuses.{Failed, MemoryFailure, Ends, EndsAsAsked, HelpLeaves, MisuseLeaves, Reliance, ShowHelp, Unclear}
+use Rattle.pd_arguments.specs.Statuses.{Failed, MemoryFailure, Ends, EndsAsAsked, HelpLeaves, MisuseLeaves, Reliance, ShowHelp, Unclear}
 use Rattle.pd_arguments.specs.Arguments.{AsksFor, IsErrorOf, IsShownKind}
 
 data KindCase (k : ErrorKind) : Type 0 where

@@ -9,7 +9,8 @@ use Rattle.clap.specs.declared.builder.value_parser.ValueParser.TheVariants.{Uns
 use Rattle.clap.specs.declared.error.kind.ErrorKind.{ErrorKind}
 use Rattle.clap.specs.declared.error.kind.ErrorKind.TheVariants.{DisplayHelp, DisplayVersion, OutOfMemory}
 use Rattle.pd_format.specs.Limits.{worker_limit}
-use Rattle.pd_judgement.specs.Statuses.{Request, JudgeInput, JudgeFiles, CheckFiles, ServeStreams, ShowHelp, Unclear}
+use Rattle.pd_fail_on.specs.Conditions.{AreLawful, Condition, list_text}
+use Rattle.pd_arguments.specs.Statuses.{Request, JudgeInput, JudgeFiles, CheckFiles, ServeStreams, ShowHelp, Unclear}
 
 -- ---- limits
 
@@ -54,6 +55,10 @@ abbrev pub beyond_width_rule : Rule
 beyond_width_rule =
     record (new_rule (codes "BEYOND_WIDTH")) { long = Some (codes "beyond-width"); action = Some SetTrue }
 
+-- the conditions on which a judgement is to fail
+abbrev pub fail_on_rule : Rule
+fail_on_rule = record (new_rule (codes "LIST")) { long = Some (codes "fail-on") }
+
 -- the name of a predicate
 abbrev pub predicate_rule : Rule
 predicate_rule = record (new_rule (codes "PREDICATE")) { long = Some (codes "predicate") }
@@ -66,10 +71,13 @@ document_app name = with_rule (new_app name) (required_rule (codes "SPEC"))
 abbrev pub report_app : (name : Text) → App
 report_app name = with_rule (with_rule (document_app name) (required_rule (codes "REPORT"))) stream_rule
 
--- `judge SPEC STREAM... [--workers WORKERS] [--beyond-width]`
+-- with a number of workers, the flag and the conditions
+abbrev pub judging_app : App → App
+judging_app app = with_rule (with_rule (with_rule app workers_rule) beyond_width_rule) fail_on_rule
+
+-- `judge SPEC STREAM... [--workers WORKERS] [--beyond-width] [--fail-on LIST]`
 abbrev pub judge_app : App
-judge_app =
-    with_rule (with_rule (with_rule (document_app (codes "judge")) stream_rule) workers_rule) beyond_width_rule
+judge_app = judging_app (with_rule (document_app (codes "judge")) stream_rule)
 
 -- `check SPEC REPORT STREAM...`
 abbrev pub check_app : App
@@ -79,24 +87,26 @@ check_app = report_app (codes "check")
 abbrev pub draw_app : App
 draw_app = with_rule (report_app (codes "draw")) predicate_rule
 
--- `serve SPEC --port PORT [--watchers WATCHERS] [--workers WORKERS] [--beyond-width]`
+-- `serve SPEC --port PORT [--watchers WATCHERS] [--workers WORKERS] [--beyond-width] [--fail-on LIST]`
 abbrev pub serve_app : App
-serve_app =
-    with_rule (with_rule (with_rule (with_rule (document_app (codes "serve")) port_rule) watchers_rule) workers_rule)
-    beyond_width_rule
+serve_app = judging_app (with_rule (with_rule (document_app (codes "serve")) port_rule) watchers_rule)
 
--- the program alone: its name isn't among the arguments that are parsed
+-- `explore SPEC STREAM... [--workers WORKERS] [--beyond-width]`
+abbrev pub explore_app : App
+explore_app =
+    with_rule (with_rule (with_rule (document_app (codes "explore")) stream_rule) workers_rule) beyond_width_rule
+
+-- the program alone, with a version: its name isn't among the arguments that are parsed
 abbrev pub plain_shape : Shape
-plain_shape =
-    record (new_app (codes "monitor")).top { no_binary_name = true; disable_help_subcommand = true }
+plain_shape = record (new_app (codes "monitor")).top { no_binary_name = true; has_version = true }
 
 abbrev pub plain_app : App
 plain_app = record { top = plain_shape; subs = [] }
 
 -- with its commands
 abbrev pub monitor_app : App
-monitor_app = with_subcommand (with_subcommand (with_subcommand (with_subcommand plain_app judge_app.top) check_app.top)
-    draw_app.top) serve_app.top
+monitor_app = with_subcommand (with_subcommand (with_subcommand (with_subcommand (with_subcommand plain_app
+    judge_app.top) check_app.top) draw_app.top) serve_app.top) explore_app.top
 
 -- a command line that is another one with this command too
 abbrev pub AddsCommand : {E : Type 0} → (old : Command) → Result Command E → (new : Command) → Type 0
@@ -167,6 +177,19 @@ SaysFlag rows id is_given = IsTrue is_given ↔ (one_of id rows ≡ Some (codes 
 abbrev pub SaysBeyondWidth : List Row → (beyond_width : Bool) → Type 0
 SaysBeyondWidth rows beyond_width = SaysFlag rows (codes "BEYOND_WIDTH") beyond_width
 
+-- the conditions of a list, or none if there is no list
+abbrev pub AreConditions : Option Text → List Condition → Type 0
+AreConditions None conditions = conditions ≡ []
+AreConditions (Some list) conditions = AreLawful conditions × (list ≡ list_text conditions)
+
+-- the conditions on which a judgement is to fail
+abbrev pub NamesConditions : List Row → List Condition → Type 0
+NamesConditions rows conditions = AreConditions (first_of (codes "LIST") rows) conditions
+
+-- there is a list, and it is none of conditions
+abbrev pub LacksConditions : List Row → Type 0
+LacksConditions rows = (conditions : List Condition) → ¬ NamesConditions rows conditions
+
 -- the name of a session document's file, the port of the streams, and the number of watchers
 pub record NamesService (rows : List Row) (document : Text) (port watchers : ℕ) : Type 0 where
   pub names_document : first_of (codes "SPEC") rows ≡ Some document
@@ -185,34 +208,41 @@ LacksService rows =
 -- the commands that take the names of streams' files
 abbrev pub TakesStreams : (command : Text) → Type 0
 TakesStreams command = (command ≡ codes "judge") ⊎ (command ≡ codes "check") ⊎ (command ≡ codes "draw")
+    ⊎ (command ≡ codes "explore")
 
 -- the commands that take the name of a report's file
 abbrev pub TakesReport : (command : Text) → Type 0
 TakesReport command = (command ≡ codes "check") ⊎ (command ≡ codes "draw")
 
+-- the commands that judge under conditions
+abbrev pub IsJudging : (command : Text) → Type 0
+IsJudging command = (command ≡ codes "judge") ⊎ (command ≡ codes "serve")
+
 -- the commands that take a number of workers
 abbrev pub TakesWorkers : (command : Text) → Type 0
-TakesWorkers command = (command ≡ codes "judge") ⊎ (command ≡ codes "serve")
+TakesWorkers command = (command ≡ codes "judge") ⊎ (command ≡ codes "serve") ⊎ (command ≡ codes "explore")
 
 -- What the arguments ask for. If they are taken, it is what their command is for, and with no command the bundle on the
 -- input is judged. Arguments that are not taken ask for a text that is shown, or have some other fault; and so have
--- those of a command that lacks a name or a number. How many workers there are changes nothing of what is asked for.
+-- those of a command that lacks a name or a number, or has a list that is none of conditions. How many workers there
+-- are changes nothing of what is asked for.
 pub data AsksFor (arguments : List Text) : Request → Type 0 where
   of_input : AreTaken arguments → ¬ ((rows : List Row) × AreOf (codes "judge") arguments rows)
       → ¬ ((rows : List Row) × AreOf (codes "check") arguments rows)
       → ¬ ((rows : List Row) × AreOf (codes "draw") arguments rows)
-      → ¬ ((rows : List Row) × AreOf (codes "serve") arguments rows) → AsksFor arguments JudgeInput
+      → ¬ ((rows : List Row) × AreOf (codes "serve") arguments rows)
+      → ¬ ((rows : List Row) × AreOf (codes "explore") arguments rows) → AsksFor arguments JudgeInput
   of_judge : (rows : List Row) (document : Text) (streams : List Text) (workers : ℕ) (beyond_width : Bool)
-      → AreTaken arguments → AreOf (codes "judge") arguments rows → NamesSession rows document streams
-      → NamesWorkers rows workers → SaysBeyondWidth rows beyond_width
-      → AsksFor arguments (JudgeFiles beyond_width document streams)
+      (fail_on : List Condition) → AreTaken arguments → AreOf (codes "judge") arguments rows
+      → NamesSession rows document streams → NamesWorkers rows workers → SaysBeyondWidth rows beyond_width
+      → NamesConditions rows fail_on → AsksFor arguments (JudgeFiles beyond_width fail_on document streams)
   of_check : (rows : List Row) (document report : Text) (streams : List Text) → AreTaken arguments
       → AreOf (codes "check") arguments rows → NamesSession rows document streams → NamesReport rows report
       → AsksFor arguments (CheckFiles document report streams)
   of_serve : (rows : List Row) (document : Text) (port watchers workers : ℕ) (beyond_width : Bool)
-      → AreTaken arguments → AreOf (codes "serve") arguments rows → NamesService rows document port watchers
-      → NamesWorkers rows workers → SaysBeyondWidth rows beyond_width
-      → AsksFor arguments (ServeStreams beyond_width document port watchers)
+      (fail_on : List Condition) → AreTaken arguments → AreOf (codes "serve") arguments rows
+      → NamesService rows document port watchers → NamesWorkers rows workers → SaysBeyondWidth rows beyond_width
+      → NamesConditions rows fail_on → AsksFor arguments (ServeStreams beyond_width fail_on document port watchers)
   of_help : (kind : ErrorKind) → IsShownKind kind → HasFault arguments kind → AsksFor arguments ShowHelp
   of_fault : (kind : ErrorKind) → ¬ IsShownKind kind → HasFault arguments kind → AsksFor arguments Unclear
   of_missing : (command : Text) (rows : List Row) → TakesStreams command → AreOf command arguments rows
@@ -223,6 +253,8 @@ pub data AsksFor (arguments : List Text) : Request → Type 0 where
       → AsksFor arguments Unclear
   of_missing_workers : (command : Text) (rows : List Row) → TakesWorkers command → AreOf command arguments rows
       → LacksWorkers rows → AsksFor arguments Unclear
+  of_no_conditions : (command : Text) (rows : List Row) → IsJudging command → AreOf command arguments rows
+      → LacksConditions rows → AsksFor arguments Unclear
 
 -- The arguments ask for a picture of a session in files of these names, and of the evidence of the predicate of this
 -- name, or without a name of the first that has evidence.
@@ -235,6 +267,18 @@ pub record AsksToDraw (arguments : List Text) (document report : Text) (streams 
   pub names_report : NamesReport rows report
   pub names_predicate : first_of (codes "PREDICATE") rows ≡ name
 
+-- The arguments ask for the page of a session in files of these names, and of what is decided whatever the width, if
+-- that is asked for. How many workers there are changes nothing of it.
+pub record AsksToExplore (arguments : List Text) (beyond_width : Bool) (document : Text) (streams : List Text) :
+    Type 0 where
+  pub rows : List Row
+  pub are_taken : AreTaken arguments
+  pub are_of : AreOf (codes "explore") arguments rows
+  pub names_session : NamesSession rows document streams
+  pub workers : ℕ
+  pub names_workers : NamesWorkers rows workers
+  pub says_beyond_width : SaysBeyondWidth rows beyond_width
+
 -- A parse that gives no request says so: its error has a text to show, or one that reports what is wrong; or memory ran
 -- out.
 abbrev pub IsErrorOf : List Text → ErrorKind → Type 0
@@ -245,3 +289,8 @@ IsErrorOf arguments kind = kind ≢ OutOfMemory → (IsShownKind kind → AsksFo
 abbrev pub FindsSession : List Row → Option (Text × List Text) → Type 0
 FindsSession rows None = LacksSession rows
 FindsSession rows (Some names) = NamesSession rows names.0 names.1
+
+-- the conditions that are named, or that there are none though there is a list
+abbrev pub FindsConditions : List Row → Option (List Condition) → Type 0
+FindsConditions rows None = LacksConditions rows
+FindsConditions rows (Some conditions) = NamesConditions rows conditions

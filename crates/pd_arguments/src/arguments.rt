@@ -3,15 +3,17 @@ ghost use Rattle.clap.specs.Matches.{found_of};
 ghost use Rattle.clap.specs.Simple.{app_of, subcommand_of, subcommand_rows_of};
 ghost use Rattle.clap.specs.Values.{kind_of};
 ghost use Rattle.clap.specs.Walk.{Text, rows_of};
-ghost use Rattle.pd_arguments.specs.Arguments.{AreOf, AreTaken, FindsSession, IsErrorOf, IsNumberText, IsPort, NamesNumber, NamesWorkers, SaysFlag, monitor_app};
+ghost use Rattle.pd_arguments.specs.Arguments.{AreOf, AreTaken, FindsConditions, FindsSession, IsErrorOf, IsNumberText, IsPort, IsShownKind, NamesConditions, NamesNumber, NamesWorkers, SaysFlag, monitor_app};
+ghost use Rattle.pd_fail_on.specs.Views.{fail_on_view};
 ghost use Rattle.pd_arguments.specs.Views.{IsAsked, IsAskedIf, session_view};
 ghost use Rattle.std.specs.Prelude.{◌≡◌, ◌≢◌, ℕ, IfErr, IfOk, IfSome, List, None, codes, map, option_map};
 
-use super::commands::{PORT_LIMIT, WATCHER_LIMIT, program_command};
-use super::request::{Judgement, Request, Service, SessionNames};
+use super::commands::{LIST_WANTED, PORT_LIMIT, WATCHER_LIMIT, program_command};
+use super::request::{Exploration, Judgement, Request, Service, SessionNames};
 use super::workers::Workers;
 use clap::error::ErrorKind;
 use clap::{ArgMatches, Command, Error};
+use pd_fail_on::FailOn;
 use std::alloc::{AllocError, Global};
 
 /// The names of a session's files, if all are there.
@@ -45,10 +47,14 @@ fn judge_request<'a>(
     let Some(names) = session_names(alloc, matches)? else {
         return Ok(None);
     };
+    let Some(fail_on) = conditions_of(alloc, matches)? else {
+        return Ok(None);
+    };
     let beyond_width = flag_of(matches, "BEYOND_WIDTH");
     Ok(Some(Request::Judge(Judgement {
         names,
         beyond_width,
+        fail_on,
         workers,
     })))
 }
@@ -123,6 +129,19 @@ fn workers_of(matches: &ArgMatches<'_>) -> Option<Workers>
     Workers::of(number)
 }
 
+/// The conditions on which a judgement is to fail, if what is given is a list of them.
+fn conditions_of<'a>(
+    alloc: Global,
+    matches: &ArgMatches<'a>,
+) -> Result<Option<FailOn<'a>>, AllocError>
+    ensures { IfOk result (λ found. FindsConditions (rows_of (found_of matches.now)) (option_map fail_on_view found)) }
+{
+    let Some(list) = matches.get_str("LIST") else {
+        return Ok(Some(FailOn::nothing(alloc)));
+    };
+    FailOn::of(alloc, list)
+}
+
 /// Whether the flag of this id is given.
 fn flag_of(matches: &ArgMatches<'_>, id: &str) -> bool
     ensures { SaysFlag (rows_of (found_of matches.now)) id.now result }
@@ -142,10 +161,11 @@ fn port_of(number: u64) -> Option<u16>
     Some(number as u16)
 }
 
-/// What the arguments of `serve` ask for, if all are there.
-fn serve_request<'a>(matches: &ArgMatches<'a>) -> Option<Request<'a>>
+/// What the arguments of `serve` ask for with these conditions, if all else is there.
+fn service_request<'a>(matches: &ArgMatches<'a>, fail_on: FailOn<'a>) -> Option<Request<'a>>
     ensures { (arguments : List Text) → AreTaken arguments
         → AreOf (codes "serve") arguments (rows_of (found_of matches.now))
+        → NamesConditions (rows_of (found_of matches.now)) (fail_on_view fail_on.entry)
         → IsAskedIf arguments result }
 {
     let Some(spec) = matches.get_str("SPEC") else {
@@ -171,8 +191,47 @@ fn serve_request<'a>(matches: &ArgMatches<'a>) -> Option<Request<'a>>
         port,
         watchers,
         beyond_width: flag_of(matches, "BEYOND_WIDTH"),
+        fail_on,
         workers,
     }))
+}
+
+/// What the arguments of `serve` ask for, if all are there.
+fn serve_request<'a>(
+    alloc: Global,
+    matches: &ArgMatches<'a>,
+) -> Result<Option<Request<'a>>, AllocError>
+    ensures { IfOk result (λ request. (arguments : List Text) → AreTaken arguments
+        → AreOf (codes "serve") arguments (rows_of (found_of matches.now))
+        → IsAskedIf arguments request) }
+{
+    let Some(fail_on) = conditions_of(alloc, matches)? else {
+        return Ok(None);
+    };
+    Ok(service_request(matches, fail_on))
+}
+
+/// What the arguments of `explore` ask for, if all names are there.
+fn explore_request<'a>(
+    alloc: Global,
+    matches: &ArgMatches<'a>,
+) -> Result<Option<Request<'a>>, AllocError>
+    ensures { IfOk result (λ request. (arguments : List Text) → AreTaken arguments
+        → AreOf (codes "explore") arguments (rows_of (found_of matches.now))
+        → IsAskedIf arguments request) }
+{
+    let Some(workers) = workers_of(matches) else {
+        return Ok(None);
+    };
+    let Some(names) = session_names(alloc, matches)? else {
+        return Ok(None);
+    };
+    let beyond_width = flag_of(matches, "BEYOND_WIDTH");
+    Ok(Some(Request::Explore(Exploration {
+        names,
+        beyond_width,
+        workers,
+    })))
 }
 
 /// What is asked for, by what the parser found, if no name of a file and no number is missing.
@@ -194,22 +253,45 @@ fn request_of<'a>(
         return draw_request(alloc, found);
     }
     if let Some(found) = matches.subcommand_matches("serve") {
-        return Ok(serve_request(found));
+        return serve_request(alloc, found);
+    }
+    if let Some(found) = matches.subcommand_matches("explore") {
+        return explore_request(alloc, found);
     }
     Ok(Some(Request::Bundle))
 }
 
-/// The error of a command if a name of a file or a number lacks.
-fn missing_argument(command: &mut Command<'_>) -> Error
-    ensures { kind_of result ≢ ErrorKind.OutOfMemory → kind_of result ≡ ErrorKind.MissingRequiredArgument }
+/// Whether there is a list of conditions.
+fn has_list(matches: &ArgMatches<'_>) -> bool {
+    match matches.subcommand() {
+        Some((_, found)) => found.contains_id("LIST"),
+        None => false,
+    }
+}
+
+/// An error of this kind with this text.
+fn error_of(command: &mut Command<'_>, kind: ErrorKind, text: &str) -> Error
+    ensures { kind_of result ≢ ErrorKind.OutOfMemory → kind_of result ≡ kind }
 {
-    match command.error(
-        ErrorKind::MissingRequiredArgument,
-        "a name of a file or a number is missing",
-    ) {
+    match command.error(kind, text) {
         Ok(error) => error,
         Err(refused) => Error::from(refused),
     }
+}
+
+/// The error of a command whose list is none of conditions, or that lacks a name of a file or a number. The parser
+/// finds the latter itself, so if there is a list, the error is of the list.
+fn unclear_arguments(command: &mut Command<'_>, has_list: bool) -> Error
+    ensures { kind_of result ≢ ErrorKind.OutOfMemory → ¬ IsShownKind (kind_of result) }
+{
+    if has_list {
+        return error_of(command, ErrorKind::ValueValidation, LIST_WANTED);
+    }
+    error_of(
+        command,
+        ErrorKind::MissingRequiredArgument,
+        "a name of a file or a number is missing",
+    )
 }
 
 /// What the arguments ask for, as the program's command line takes them, or what its parser has to say.
@@ -229,7 +311,7 @@ fn request_by<'a>(
         Err(error) => return Err(error),
     };
     let Some(request) = request_of(alloc, &matches)? else {
-        return Err(missing_argument(command));
+        return Err(unclear_arguments(command, has_list(&matches)));
     };
     Ok(request)
 }

@@ -2,7 +2,7 @@
 ghost use Rattle.clap.specs.Simple.{app_of};
 ghost use Rattle.clap.specs.Walk.{rule_of};
 ghost use Rattle.clap.specs.declared.builder.command.Command.TheViews.{out-Command};
-ghost use Rattle.pd_arguments.specs.Arguments.{AddsCommand, beyond_width_rule, check_app, document_app, draw_app, judge_app, monitor_app, number_rule, plain_app, port_rule, predicate_rule, report_app, required_rule, serve_app, stream_rule, watchers_rule, workers_rule};
+ghost use Rattle.pd_arguments.specs.Arguments.{AddsCommand, beyond_width_rule, check_app, document_app, draw_app, explore_app, fail_on_rule, judge_app, judging_app, monitor_app, number_rule, plain_app, port_rule, predicate_rule, report_app, required_rule, serve_app, stream_rule, watchers_rule, workers_rule};
 ghost use Rattle.std.specs.Prelude.{◌≡◌, IfOk, false};
 
 use clap::builder::ValueParser;
@@ -10,13 +10,36 @@ use clap::{Arg, ArgAction, Command};
 use pd_format::WORKER_LIMIT;
 use std::alloc::{AllocError, Global};
 
+/// The program's version.
+const VERSION: &str = "1.0.0";
+
 /// What the program's help says of it.
 const ABOUT: &str =
     "Judges predicates on a distributed computation. The command `judge` reads a session document, and one stream of \
 events for each process, from files. With no command they are read from the standard input, as one bundle. \
 A report is written to the standard output. The command `check` checks the evidence in such a report, and `draw` \
 draws it. \
-The command `serve` judges streams that processes send over TCP while they run.";
+The command `serve` judges streams that processes send over TCP while they run, and `explore` writes a page on which a \
+run is explored.";
+
+/// What the program's help ends with.
+const AFTER: &str = "\
+With --explain anywhere in the arguments a refusal, an unknown answer and whatever fails is explained on the standard \
+error; in a terminal it is so without that.
+
+Status:
+  0  The session is judged, and no condition of --fail-on is met; a check finds nothing bad; the picture, the page or \
+the help is written
+  1  The session is refused; a check finds something bad, or what stands against the picture
+  2  The arguments are refused, or name a predicate that isn't there
+  3  A file can't be opened or read, a port can't be bound, a stream can't be accepted, or the output can't be written
+  4  Memory runs out
+  5  The session is judged, and a condition of --fail-on is met";
+
+/// What is wanted of a list of conditions.
+pub(crate) const LIST_WANTED: &str =
+    "the list after --fail-on has to be one or more of possibly, possibly-no, definitely, definitely-no and unknown, \
+each alone or as NAME:possibly of the predicate NAME, with a comma between each two";
 
 /// What the help says of `judge`.
 const JUDGE_ABOUT: &str = "Judges predicates on a computation that is recorded in files";
@@ -26,6 +49,14 @@ const JUDGE_AFTER: &str =
     "A report is written to the standard output. The status is 0 if the session is judged, 1 if it is refused, \
 also because a stream can't be read, 2 if the arguments are refused, 3 if a file can't be opened, the document \
 can't be read or the output can't be written, and 4 if memory runs out.\n\n\
+With --fail-on the status is 5 if the session is judged and a predicate meets a condition of LIST, which is one or \
+more of these, with a comma between each two. After NAME: a condition is asked of the predicate NAME alone; if there \
+is none, the status is 2. The report is the same.\n  \
+possibly       the answer to possibly is yes\n  \
+possibly-no    it is no\n  \
+definitely     the answer to definitely is yes\n  \
+definitely-no  it is no\n  \
+unknown        one of the two answers is unknown\n\n\
 An answer is unknown where a level of the lattice has more cuts than the document's width. With --beyond-width \
 predicates that name at most two processes are answered all the same and, as far as docs/SPECIFICATION.md says, those \
 of which each comparison names one process.\n\n\
@@ -71,12 +102,28 @@ const SERVE_AFTER: &str =
 is written to the standard output once all of them have ended and all watchers were answered. The status is 0 if \
 the session is judged, 1 if it is refused, 2 if the arguments are refused, 3 if the document can't be read, a port \
 can't be bound, a stream can't be accepted or the output can't be written, and 4 if memory runs out.\n\n\
+With --fail-on the status may be 5, as that of `judge`, whose help says what LIST is.\n\n\
 An answer is unknown where a level of the lattice has more cuts than the document's width. With --beyond-width \
 predicates that name at most two processes are answered all the same and, as far as docs/SPECIFICATION.md says, those \
 of which each comparison names one process.\n\n\
 The formats are described in docs/SPECIFICATION.md. An example, at the top of the repository:\n  \
 crates/monitor/out/monitor serve examples/live/session.json --port 7411\nand then, from another terminal:\n  \
 cat examples/live/left.stream > /dev/tcp/127.0.0.1/7411 & cat examples/live/right.stream > /dev/tcp/127.0.0.1/7411";
+
+/// What the help says of `explore`.
+const EXPLORE_ABOUT: &str =
+    "Writes a page on which a computation that is recorded in files is explored in a browser";
+
+/// What the help of `explore` ends with.
+const EXPLORE_AFTER: &str =
+    "The session is judged as `judge` does, and the page is written to the standard output: one file of HTML, complete \
+in itself, with the run, the predicates and the answers. Of a session that is refused the report is written in its \
+place, as by `judge`. The status is 0 if the page is written, 1 if the session is refused, also because a stream can't \
+be read, 2 if the arguments are refused, 3 if a file can't be opened, the document can't be read or the output can't \
+be written, and 4 if memory runs out.\n\n\
+The formats are described in docs/SPECIFICATION.md. An example, at the top of the repository:\n  \
+crates/monitor/out/monitor explore examples/ten-lines/session.json examples/ten-lines/left.stream \
+examples/ten-lines/right.stream > run.html";
 
 /// The greatest port of streams: the next one is that of the watchers.
 pub(crate) const PORT_LIMIT: u64 = 65_534;
@@ -167,6 +214,16 @@ fn beyond_width_option<'a>(alloc: Global) -> Arg<'a>
         )
 }
 
+/// The option that names the conditions on which a judgement is to fail.
+fn fail_on_option<'a>(alloc: Global) -> Arg<'a>
+    ensures rule { rule_of result ≡ fail_on_rule }
+    ensures local { result.global ≡ false }
+{
+    Arg::new(alloc, "LIST").long("fail-on").help(
+        "End with status 5 if an answer is one of these, as possibly or NAME:unknown, with commas between them",
+    )
+}
+
 /// The command line of the command of this name, on a session document, with what its help begins and ends with.
 fn document_command<'a>(
     alloc: Global,
@@ -198,15 +255,27 @@ fn report_command<'a>(
         .arg(streams_argument(alloc))
 }
 
+/// A command's line with the options of all that judge.
+fn judging_command<'a>(alloc: Global, command: Command<'a>) -> Result<Command<'a>, AllocError>
+    requires { (out-Command command).has_globals ≡ false }
+    ensures app { IfOk result (λ judging. app_of judging ≡ judging_app (app_of command.entry)) }
+    ensures local { IfOk result (λ judging. (out-Command judging).has_globals ≡ false) }
+{
+    command
+        .arg(workers_option(alloc))?
+        .arg(beyond_width_option(alloc))?
+        .arg(fail_on_option(alloc))
+}
+
 /// The command line of a judgement.
 fn judge_command<'a>(alloc: Global) -> Result<Command<'a>, AllocError>
     ensures app { IfOk result (λ command. app_of command ≡ judge_app) }
     ensures local { IfOk result (λ command. (out-Command command).has_globals ≡ false) }
 {
-    document_command(alloc, "judge", JUDGE_ABOUT, JUDGE_AFTER)?
-        .arg(streams_argument(alloc))?
-        .arg(workers_option(alloc))?
-        .arg(beyond_width_option(alloc))
+    let command = document_command(alloc, "judge", JUDGE_ABOUT, JUDGE_AFTER)?.arg(streams_argument(
+        alloc,
+    ))?;
+    judging_command(alloc, command)
 }
 
 /// The command line of a check.
@@ -230,9 +299,19 @@ fn serve_command<'a>(alloc: Global) -> Result<Command<'a>, AllocError>
     ensures app { IfOk result (λ command. app_of command ≡ serve_app) }
     ensures local { IfOk result (λ command. (out-Command command).has_globals ≡ false) }
 {
-    document_command(alloc, "serve", SERVE_ABOUT, SERVE_AFTER)?
+    let command = document_command(alloc, "serve", SERVE_ABOUT, SERVE_AFTER)?
         .arg(port_option(alloc))?
-        .arg(watchers_option(alloc))?
+        .arg(watchers_option(alloc))?;
+    judging_command(alloc, command)
+}
+
+/// The command line of a page.
+fn explore_command<'a>(alloc: Global) -> Result<Command<'a>, AllocError>
+    ensures app { IfOk result (λ command. app_of command ≡ explore_app) }
+    ensures local { IfOk result (λ command. (out-Command command).has_globals ≡ false) }
+{
+    document_command(alloc, "explore", EXPLORE_ABOUT, EXPLORE_AFTER)?
+        .arg(streams_argument(alloc))?
         .arg(workers_option(alloc))?
         .arg(beyond_width_option(alloc))
 }
@@ -243,8 +322,9 @@ fn plain_command<'a>(alloc: Global) -> Result<Command<'a>, AllocError>
 {
     Command::new(alloc, "monitor")
         .about(ABOUT)
+        .after_help(AFTER)
+        .version(VERSION)
         .no_binary_name(true)
-        .disable_help_subcommand(true)
         .bin_name("monitor")
 }
 
@@ -267,5 +347,6 @@ pub(crate) fn program_command<'a>(alloc: Global) -> Result<Command<'a>, AllocErr
     let program = with_command(program, judge_command(alloc))?;
     let program = with_command(program, check_command(alloc))?;
     let program = with_command(program, draw_command(alloc))?;
-    with_command(program, serve_command(alloc))
+    let program = with_command(program, serve_command(alloc))?;
+    with_command(program, explore_command(alloc))
 }

@@ -2,7 +2,8 @@
 //! say.
 //!
 //! `parse` takes the arguments by the kit's parser of command lines, and gives a request. What they ask for stands in
-//! `specs/Arguments.antt`, and how a request shows that in `specs/Views.antt`.
+//! `specs/Arguments.antt`, how a request shows that in `specs/Views.antt`, and how a run may end in
+//! `specs/Statuses.antt`.
 //!
 //! - `commands`: the program's commands, as the parser takes them, with their help texts
 //! - `arguments`: what the arguments ask for, by what the parser finds in them
@@ -16,5 +17,5 @@ mod request;
 mod workers;
 
 pub use arguments::parse;
-pub use request::{Judgement, Request, Service, SessionNames};
+pub use request::{Exploration, Judgement, Request, Service, SessionNames};
 pub use workers::Workers;

@@ -1,6 +1,7 @@
 //! What the program is asked for.
 
 use super::workers::Workers;
+use pd_fail_on::FailOn;
 
 /// The names of the files of a session.
 #[derive(Drop)]
@@ -14,6 +15,19 @@ pub struct SessionNames<'a> {
 /// What a judgement of files is asked for.
 #[derive(Drop)]
 pub struct Judgement<'a> {
+    /// The names of the session's files.
+    pub names: SessionNames<'a>,
+    /// That predicates are answered whatever the width, as far as they are decided without the levels of the lattice.
+    pub beyond_width: bool,
+    /// The answers to fail on.
+    pub fail_on: FailOn<'a>,
+    /// How many workers share the work.
+    pub workers: Workers,
+}
+
+/// What is asked for of a page on which a run is explored.
+#[derive(Drop)]
+pub struct Exploration<'a> {
     /// The names of the session's files.
     pub names: SessionNames<'a>,
     /// That predicates are answered whatever the width, as far as they are decided without the levels of the lattice.
@@ -33,6 +47,8 @@ pub struct Service<'a> {
     pub watchers: u64,
     /// Whether predicates are answered whatever the width, as far as they are decided without the levels.
     pub beyond_width: bool,
+    /// The answers to fail on.
+    pub fail_on: FailOn<'a>,
     /// How many workers share the work.
     pub workers: Workers,
 }
@@ -51,4 +67,6 @@ pub enum Request<'a> {
     Draw(&'a str, Option<&'a str>, SessionNames<'a>),
     /// To judge a session document and streams that come by connections.
     Serve(Service<'a>),
+    /// To write the page on which the run of a session document and streams is explored.
+    Explore(Exploration<'a>),
 }

@@ -3,11 +3,12 @@ use Rattle.std.proofs.Common.{◌≡◌, ℕ, List, [], length, refl, sym, ap, s
 use Rattle.std.specs.Prelude.{◌⊎◌, All, Bool, IfErr, IfOk, MatchOption, MatchResult, Result, Ok, Err}
 use Rattle.pd_format.specs.Documents.{Document, DocumentFault, IsDocument, IsRefusedDocument, Inquiry, inquiry}
 use Rattle.pd_judgement.specs.OneReport.{DocumentNotRefused, OneDocument}
+use Rattle.pd_format.specs.Reports as formats
 use Rattle.pd_format.specs.Reports.{Report}
 use Rattle.pd_judgement.specs.Headline.{is_judged}
 use Rattle.pd_judgement.specs.Judgements.{IsJudgement, RawStream, of_read, of_refused}
-use Rattle.pd_judgement.specs.Statuses.{Ending, Success, Negative, Misuse, Failed, MemoryFailure, ReadFailure, WriteFailure, BundleFailure, NetworkFailure, FilesJudgementLeaves, IsTextOfAccepted, OfDocument, ServiceLeaves}
-use Rattle.pd_judgement.specs.Writes.{Whole, IsTextOfStreams}
+use Rattle.pd_arguments.specs.Statuses.{Ending, Success, Negative, Alarm, NoPredicate, Misuse, Failed, ComesTo, MemoryFailure, ReadFailure, WriteFailure, BundleFailure, NetworkFailure, FilesJudgementLeaves, IsTextOfAccepted, OfDocument, ServiceLeaves}
+use Rattle.pd_judgement.specs.Writes.{Whole, IsAnyReport, IsRefused, IsTextOfStreams}
 use Rattle.pd_judgement.proofs.Writing.{writes_weaker}
 use Rattle.pd_pred.specs.Views.{predicate_fault_view}
 use Rattle.pd_format.specs.Documents as faults
@@ -15,7 +16,12 @@ use Rattle.pd_format.specs.PredicateTexts.{PredicateFault}
 use Rattle.pd_spec.specs.Views.{IsFaultOf}
 use Rattle.pd_spec.specs.declared.fault.SpecFault.{SpecFault}
 use Rattle.pd_spec.specs.declared.fault.SpecFault.TheVariants as kinds
-use Rattle.pd_cli.specs.Faults.{ending_view, is_out_of_memory}
+use Rattle.pd_fail_on.specs.Conditions as conditions
+use Rattle.pd_fail_on.specs.Conditions.{Condition, conclusion}
+use Rattle.pd_report.specs.Views.{report_view}
+use Rattle.pd_report.specs.declared.report.Report as programs
+use Rattle.pd_report.specs.declared.report.Report.TheVariants.{Judged, Refused}
+use Rattle.pd_cli.specs.Faults.{is_out_of_memory, judgement_ending}
 use Rattle.pd_cli.specs.declared.service_fault.ServiceFault.{ServiceFault}
 use Rattle.pd_cli.specs.declared.service_fault.ServiceFault.TheVariants.{Engine}
 use Rattle.pd_sessions.specs.declared.fault.EngineFault.{EngineFault}
@@ -74,10 +80,10 @@ refused_unless_memory bytes kinds.Version e h = (faults.OtherVersion, h)
 refused_unless_memory bytes kinds.Memory e h = cc
 
 accepted_text : (beyond : Bool) (document : List ℕ) (G : Option (List ℕ) → Type 0) (inputs : List (Option (List ℕ)))
-    (never_fails : Bool) (judged : Option Bool) (text : List ℕ) → AreAccepted document G inputs
-    → IsTextOfStreams (inquiry beyond document) inputs never_fails judged text
-    → IsTextOfAccepted (inquiry beyond document) G never_fails judged text
-accepted_text beyond document G inputs never_fails judged text are is = record {
+    (never_fails : Bool) (IsSaid : Report → Type 0) (text : List ℕ) → AreAccepted document G inputs
+    → IsTextOfStreams (inquiry beyond document) inputs never_fails IsSaid text
+    → IsTextOfAccepted (inquiry beyond document) G never_fails IsSaid text
+accepted_text beyond document G inputs never_fails IsSaid text are is = record {
   inputs = inputs;
   accepted = are.accepted;
   one_each = are.one_each;
@@ -94,25 +100,33 @@ of_known document P Q go h = record {
 }
 
 -- what is left by these streams is what is to be left by accepted ones
-pub service_of_judgement : (beyond : Bool) (document : List ℕ) (G : Option (List ℕ)
+pub service_of_judgement : (beyond : Bool) (fail_on : List Condition) (document : List ℕ) (G : Option (List ℕ)
     → Type 0) (inputs : List (Option (List ℕ)))
     (never_fails : Bool) (MayNotServe : Type 0) (ending : Ending) (old new : Option (List ℕ))
-    → AreAccepted document G inputs → FilesJudgementLeaves beyond (Some document) inputs never_fails ⊥ ending old new
-    → ServiceLeaves beyond (Some document) G never_fails ⊥ MayNotServe ending old new
-service_of_judgement beyond document G inputs never_fails N Success old new are left =
+    → AreAccepted document G inputs → FilesJudgementLeaves beyond fail_on (Some document) inputs never_fails ⊥
+    ending old new
+    → ServiceLeaves beyond fail_on (Some document) G never_fails ⊥ MayNotServe ending old new
+service_of_judgement beyond fail_on document G inputs never_fails N Success old new are left =
     of_known document _ _ (writes_weaker _ _ Whole old new (λ text.
-    accepted_text beyond document G inputs never_fails (Some true) text are)) left
-service_of_judgement beyond document G inputs never_fails N Negative old new are left =
+    accepted_text beyond document G inputs never_fails (ComesTo fail_on conditions.Unmet) text are)) left
+service_of_judgement beyond fail_on document G inputs never_fails N Alarm old new are left =
     of_known document _ _ (writes_weaker _ _ Whole old new (λ text.
-    accepted_text beyond document G inputs never_fails (Some false) text are)) left
-service_of_judgement beyond document G inputs never_fails N Misuse old new are left = left
-service_of_judgement beyond document G inputs never_fails N (Failed MemoryFailure) old new are left = left
-service_of_judgement beyond document G inputs never_fails N (Failed ReadFailure) old new are left = left
-service_of_judgement beyond document G inputs never_fails N (Failed WriteFailure) old new are left =
+    accepted_text beyond document G inputs never_fails (ComesTo fail_on conditions.Met) text are)) left
+service_of_judgement beyond fail_on document G inputs never_fails N NoPredicate old new are left =
+    of_known document _ _ (writes_weaker _ _ Whole old new (λ text.
+    accepted_text beyond document G inputs never_fails (ComesTo fail_on conditions.NoPredicate) text are)) left
+service_of_judgement beyond fail_on document G inputs never_fails N Negative old new are left =
+    of_known document _ _ (writes_weaker _ _ Whole old new (λ text.
+    accepted_text beyond document G inputs never_fails IsRefused text are)) left
+service_of_judgement beyond fail_on document G inputs never_fails N Misuse old new are left = left
+service_of_judgement beyond fail_on document G inputs never_fails N (Failed MemoryFailure) old new are left = left
+service_of_judgement beyond fail_on document G inputs never_fails N (Failed ReadFailure) old new are left = left
+service_of_judgement beyond fail_on document G inputs never_fails N (Failed WriteFailure) old new are left =
     of_known document _ _ (up_to_weaker _ _ old new
-    (λ text. accepted_text beyond document G inputs never_fails None text are)) left
-service_of_judgement beyond document G inputs never_fails N (Failed BundleFailure) old new are left = left
-service_of_judgement beyond document G inputs never_fails N (Failed NetworkFailure) old new are left = absurd left
+    (λ text. accepted_text beyond document G inputs never_fails IsAnyReport text are)) left
+service_of_judgement beyond fail_on document G inputs never_fails N (Failed BundleFailure) old new are left = left
+service_of_judgement beyond fail_on document G inputs never_fails N (Failed NetworkFailure) old new are left =
+    absurd left
 
 -- ---- how a session ends
 
@@ -124,25 +138,26 @@ abbrev pub IsServiceFault : ServiceFault → Type 0
 IsServiceFault fault = (fault ≡ Engine Memory) ⊎ (fault ≡ Engine Write)
 
 -- a server ends as its judgement does
-pub service_faults : (end : Result Bool EngineFault) (result : Result Bool ServiceFault)
-    → MatchResult end (λ judged. result ≡ Ok judged) (λ fault. result ≡ Err (Engine fault))
+pub service_faults : (end : Result programs.Report EngineFault) (result : Result programs.Report ServiceFault)
+    → MatchResult end (λ report. result ≡ Ok report) (λ fault. result ≡ Err (Engine fault))
     → IfErr end IsJudgementFault → IfErr result IsServiceFault
-service_faults (Ok judged) result same two =
-    subst (λ (r : Result Bool ServiceFault). IfErr r IsServiceFault) (sym same) tt
+service_faults (Ok report) result same two =
+    subst (λ (r : Result programs.Report ServiceFault). IfErr r IsServiceFault) (sym same) tt
 service_faults (Err fault) result same two =
-    subst (λ (r : Result Bool ServiceFault). IfErr r IsServiceFault) (sym same) (go two)
+    subst (λ (r : Result programs.Report ServiceFault). IfErr r IsServiceFault) (sym same) (go two)
   where
     go : IsJudgementFault fault → IsServiceFault (Engine fault)
     go (inl e) = inl (ap Engine e)
     go (inr e) = inr (ap Engine e)
 
-pub service_outcome : (end : Result Bool EngineFault) (result : Result Bool ServiceFault)
-    (P : Bool → Type 0) → MatchResult end (λ judged. result ≡ Ok judged) (λ fault. result ≡ Err (Engine fault))
+pub service_outcome : (end : Result programs.Report EngineFault) (result : Result programs.Report ServiceFault)
+    (P : programs.Report → Type 0)
+    → MatchResult end (λ report. result ≡ Ok report) (λ fault. result ≡ Err (Engine fault))
     → IfOk end P → IfOk result P
-service_outcome (Ok judged) result P same holds =
-    subst (λ (r : Result Bool ServiceFault). IfOk r P) (sym same) holds
+service_outcome (Ok report) result P same holds =
+    subst (λ (r : Result programs.Report ServiceFault). IfOk r P) (sym same) holds
 service_outcome (Err fault) result P same holds =
-    subst (λ (r : Result Bool ServiceFault). IfOk r P) (sym same) tt
+    subst (λ (r : Result programs.Report ServiceFault). IfOk r P) (sym same) tt
 
 -- the report of a refused document is its refusal
 refused_report : (document : Inquiry) (streams : List RawStream) (report : Report) (fault : DocumentFault)
@@ -152,54 +167,68 @@ refused_report document streams report fault not_refused refused (of_refused oth
 refused_report document streams report fault not_refused refused (of_read read results is _ _) =
     absurd (not_refused document.bytes is.said fault is.read refused)
 
+-- a report that comes to some end is judged
+concluded_is_judged : (fail_on : List Condition) (report : Report) → ComesTo fail_on conditions.Unmet report
+    → is_judged report ≡ true
+concluded_is_judged fail_on (formats.Judged processes events messages answers) is = refl
+concluded_is_judged fail_on (formats.Refused refusal) is = cc
+
 -- so a document that is refused isn't judged
 pub refused_outcome : (beyond : Bool) (document : List ℕ) (inputs : List (Option (List ℕ))) (never_fails : Bool)
-    (end : Result Bool EngineFault)
+    (end : Result programs.Report EngineFault)
     (old new : Option (List ℕ)) (fault : DocumentFault) → DocumentNotRefused → IsRefusedDocument document fault
-    → FilesJudgementLeaves beyond (Some document) inputs never_fails ⊥ (ending_view end) old new → IfOk end
-    (λ judged. judged ≡ false)
+    → FilesJudgementLeaves beyond [] (Some document) inputs never_fails ⊥ (judgement_ending [] end) old new → IfOk end
+    (λ report. is_judged (report_view report) ≡ false)
 refused_outcome beyond document inputs never_fails (Err fault) old new refusal not_refused refused left = tt
-refused_outcome beyond document inputs never_fails (Ok false) old new refusal not_refused refused left = refl
-refused_outcome beyond document inputs never_fails (Ok true) old new refusal not_refused refused left =
+refused_outcome beyond document inputs never_fails (Ok (Refused r)) old new refusal not_refused refused left = refl
+refused_outcome beyond document inputs never_fails (Ok (Judged processes events messages answers)) old new refusal
+    not_refused refused left =
     let text = left.holds.1.is_report_text in
     let right = subst (λ (d : List ℕ). IsJudgement (inquiry beyond d) left.holds.1.streams text.report)
     left.whole_document text.right in
-    sym text.said ∙ refused_report (inquiry beyond document) left.holds.1.streams text.report refusal not_refused
-    refused right
+    sym (concluded_is_judged [] text.report text.said)
+    ∙ refused_report (inquiry beyond document) left.holds.1.streams text.report refusal not_refused refused right
 
 -- ---- a document that stands in a file
 
 accepted_of_file : (beyond : Bool) (read document : List ℕ) (G : Option (List ℕ) → Type 0) (never_fails : Bool)
-    (judged : Option Bool) (text : List ℕ) → SameOutline read document
-    → IsTextOfAccepted (inquiry beyond read) G never_fails judged text
-    → IsTextOfAccepted (inquiry beyond document) G never_fails judged text
-accepted_of_file beyond read document G never_fails judged text same h = record {
+    (IsSaid : Report → Type 0) (text : List ℕ) → SameOutline read document
+    → IsTextOfAccepted (inquiry beyond read) G never_fails IsSaid text
+    → IsTextOfAccepted (inquiry beyond document) G never_fails IsSaid text
+accepted_of_file beyond read document G never_fails IsSaid text same h = record {
   inputs = h.inputs;
   accepted = h.accepted;
   one_each = λ other is. h.one_each other (same_document document read other (sym same) is);
   none_refused = λ fault refused. h.none_refused fault (same_refusal document read fault (sym same) refused);
-  is_text = same_report_text beyond read document h.inputs never_fails judged text same h.is_text;
+  is_text = same_report_text beyond read document h.inputs never_fails IsSaid text same h.is_text;
 }
 
 -- what is left by the bytes that were read is what is to be left by the file
-pub service_of_file : (beyond : Bool) (file : Option (List ℕ)) (read : List ℕ) (G : Option (List ℕ) → Type 0)
+pub service_of_file : (beyond : Bool) (fail_on : List Condition) (file : Option (List ℕ)) (read : List ℕ) (G :
+    Option (List ℕ) → Type 0)
     (never_fails : Bool) (MayBeUnread MayNotServe : Type 0) (ending : Ending) (old new : Option (List ℕ))
-    → StandsFor read file → ServiceLeaves beyond (Some read) G never_fails ⊥ MayNotServe ending old new
-    → ServiceLeaves beyond file G never_fails MayBeUnread MayNotServe ending old new
-service_of_file beyond file read G never_fails M N Success old new stands left =
+    → StandsFor read file → ServiceLeaves beyond fail_on (Some read) G never_fails ⊥ MayNotServe ending old new
+    → ServiceLeaves beyond fail_on file G never_fails MayBeUnread MayNotServe ending old new
+service_of_file beyond fail_on file read G never_fails M N Success old new stands left =
     of_document file read _ _ stands (λ document same. writes_weaker _ _ Whole old new (λ text.
-    accepted_of_file beyond read document G never_fails (Some true) text same)) left
-service_of_file beyond file read G never_fails M N Negative old new stands left =
+    accepted_of_file beyond read document G never_fails (ComesTo fail_on conditions.Unmet) text same)) left
+service_of_file beyond fail_on file read G never_fails M N Alarm old new stands left =
     of_document file read _ _ stands (λ document same. writes_weaker _ _ Whole old new (λ text.
-    accepted_of_file beyond read document G never_fails (Some false) text same)) left
-service_of_file beyond file read G never_fails M N Misuse old new stands left = left
-service_of_file beyond file read G never_fails M N (Failed MemoryFailure) old new stands left = left
-service_of_file beyond file read G never_fails M N (Failed ReadFailure) old new stands left = absurd left.0
-service_of_file beyond file read G never_fails M N (Failed WriteFailure) old new stands left =
+    accepted_of_file beyond read document G never_fails (ComesTo fail_on conditions.Met) text same)) left
+service_of_file beyond fail_on file read G never_fails M N NoPredicate old new stands left =
+    of_document file read _ _ stands (λ document same. writes_weaker _ _ Whole old new (λ text.
+    accepted_of_file beyond read document G never_fails (ComesTo fail_on conditions.NoPredicate) text same)) left
+service_of_file beyond fail_on file read G never_fails M N Negative old new stands left =
+    of_document file read _ _ stands (λ document same. writes_weaker _ _ Whole old new (λ text.
+    accepted_of_file beyond read document G never_fails IsRefused text same)) left
+service_of_file beyond fail_on file read G never_fails M N Misuse old new stands left = left
+service_of_file beyond fail_on file read G never_fails M N (Failed MemoryFailure) old new stands left = left
+service_of_file beyond fail_on file read G never_fails M N (Failed ReadFailure) old new stands left = absurd left.0
+service_of_file beyond fail_on file read G never_fails M N (Failed WriteFailure) old new stands left =
     of_document file read _ _ stands (λ document same. up_to_weaker _ _ old new (λ text.
-    accepted_of_file beyond read document G never_fails None text same)) left
-service_of_file beyond file read G never_fails M N (Failed BundleFailure) old new stands left = left
-service_of_file beyond file read G never_fails M N (Failed NetworkFailure) old new stands left = (
+    accepted_of_file beyond read document G never_fails IsAnyReport text same)) left
+service_of_file beyond fail_on file read G never_fails M N (Failed BundleFailure) old new stands left = left
+service_of_file beyond fail_on file read G never_fails M N (Failed NetworkFailure) old new stands left = (
   left.0,
   of_document file read _ _ stands (λ document same holds.
       (holds.0, same_document read document holds.0 same holds.1)) left.1,

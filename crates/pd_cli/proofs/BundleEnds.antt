@@ -2,14 +2,15 @@
 use Rattle.std.proofs.Common.{◌≡◌, ◌≤◌, ℕ, List, [], ◌∷◌, drop, map, length, refl, sym, subst, arith, Option, inr}
 use Rattle.std.specs.Prelude.{Bool, true, false}
 use Rattle.clap.specs.Walk.{Text}
-use Rattle.pd_judgement.specs.Statuses.{Ending, Success, Negative, Misuse, Failed, MemoryFailure, ReadFailure, WriteFailure, BundleFailure, NetworkFailure, Ends, EndsAsAsked, JudgeInput, JudgementLeaves, Reliance, status_of}
-use Rattle.pd_judgement.specs.Writes.{WritesTruthOfBundle}
+use Rattle.pd_arguments.specs.Statuses.{Ending, Success, Negative, Alarm, NoPredicate, Misuse, Failed, MemoryFailure, ReadFailure, WriteFailure, BundleFailure, NetworkFailure, Ends, EndsAsAsked, JudgeInput, JudgementLeaves, Reliance, status_of}
+use Rattle.pd_judgement.specs.Writes.{IsJudged, IsRefused, WritesTruthOfBundle}
 use Rattle.pd_judgement.proofs.TextsOwed.{truth_of_bundle_text}
 use Rattle.pd_arguments.specs.Arguments.{AsksFor, of_input}
 use Rattle.pd_arguments.proofs.Parsed.{nothing_is_no_command, nothing_is_taken}
 
 none_asks : AsksFor [] JudgeInput
 none_asks = of_input nothing_is_taken (λ found. let is = found.1 in let none = nothing_is_no_command in cc)
+    (λ found. let is = found.1 in let none = nothing_is_no_command in cc)
     (λ found. let is = found.1 in let none = nothing_is_no_command in cc)
     (λ found. let is = found.1 in let none = nothing_is_no_command in cc)
     (λ found. let is = found.1 in let none = nothing_is_no_command in cc)
@@ -31,26 +32,15 @@ as_asked_by_none arguments on input files connections status old new errors_old 
   errors = h.errors;
 }
 
--- the truth stays the truth, if what is said of a judged session is said in other words
-truth_said : (input : Option (List ℕ)) (Said Other : Type 0) (old new : Option (List ℕ)) → (Said → Other)
-    → WritesTruthOfBundle input Said old new → WritesTruthOfBundle input Other old new
-truth_said input Said Other old new go h = record {
-  bundle = h.bundle;
-  is_given = h.is_given;
-  document = h.document;
-  streams = h.streams;
-  parts = h.parts;
-  truth = λ document traces holds formed.
-      let w = h.truth document traces holds formed in (go w.0, w.1);
-}
-
 truth_of_end : (input : Option (List ℕ)) (never_fails : Bool) (ending : Ending) (old new : Option (List ℕ))
     → status_of ending ≤ 1 → JudgementLeaves input never_fails ending old new → WritesTruthOfBundle input
     (status_of ending ≡ 0) old new
 truth_of_end input never_fails Success old new le left =
-    truth_said input _ _ old new (λ _. refl) (truth_of_bundle_text input true old new left)
+    truth_of_bundle_text input IsJudged (status_of Success ≡ 0) old new (λ _ _ _. refl) left
 truth_of_end input never_fails Negative old new le left =
-    truth_said input _ _ old new (λ e. cc) (truth_of_bundle_text input false old new left)
+    truth_of_bundle_text input IsRefused (status_of Negative ≡ 0) old new (λ _ refused judged. cc) left
+truth_of_end input never_fails Alarm old new le left = absurd left
+truth_of_end input never_fails NoPredicate old new le left = absurd left
 truth_of_end input never_fails Misuse old new le left = absurd left
 truth_of_end input never_fails (Failed MemoryFailure) old new le left = absurd (omega (arith, le))
 truth_of_end input never_fails (Failed ReadFailure) old new le left = absurd (omega (arith, le))

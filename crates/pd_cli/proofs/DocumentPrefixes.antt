@@ -65,7 +65,7 @@ same_inquired beyond a b document e is = record {
   is_changed = is.is_changed;
 }
 
-same_judgement : (beyond : Bool) (a b : List ℕ) (streams : List RawStream) (report : Report) → SameOutline a b
+pub same_judgement : (beyond : Bool) (a b : List ℕ) (streams : List RawStream) (report : Report) → SameOutline a b
     → IsJudgement (inquiry beyond a) streams report → IsJudgement (inquiry beyond b) streams report
 same_judgement beyond a b streams report e (of_refused fault refused reported) =
     of_refused fault (same_refusal a b fault e refused) reported
@@ -84,7 +84,7 @@ same_session a b streams document traces messages e held = record {
   counted = held.counted;
 }
 
-same_holding : (beyond : Bool) (a b : List ℕ) (streams : List RawStream) (document : Document) (traces : List Trace)
+pub same_holding : (beyond : Bool) (a b : List ℕ) (streams : List RawStream) (document : Document) (traces : List Trace)
     → SameOutline a b → HoldsSession (inquiry beyond a) streams document traces
     → HoldsSession (inquiry beyond b) streams document traces
 same_holding beyond a b streams document traces e held = record {
@@ -94,7 +94,7 @@ same_holding beyond a b streams document traces e held = record {
   joined = held.joined;
 }
 
-same_truth : (beyond : Bool) (a b : List ℕ) (streams : List RawStream) (report : Report) → SameOutline a b
+pub same_truth : (beyond : Bool) (a b : List ℕ) (streams : List RawStream) (report : Report) → SameOutline a b
     → IsTrueReport (inquiry beyond a) streams report → IsTrueReport (inquiry beyond b) streams report
 same_truth beyond a b streams report e truth = record {
   agrees = truth.agrees;
@@ -134,10 +134,10 @@ same_text a b report inputs never_fails good text e h = record {
 
 -- the report of the one is that of the other
 pub same_report_text : (beyond : Bool) (a b : List ℕ) (inputs : List (Option (List ℕ))) (never_fails : Bool)
-    (judged : Option Bool) (text : List ℕ) → SameOutline a b
-    → IsTextOfStreams (inquiry beyond a) inputs never_fails judged text
-    → IsTextOfStreams (inquiry beyond b) inputs never_fails judged text
-same_report_text beyond a b inputs never_fails judged text e h = record {
+    (IsSaid : Report → Type 0) (text : List ℕ) → SameOutline a b
+    → IsTextOfStreams (inquiry beyond a) inputs never_fails IsSaid text
+    → IsTextOfStreams (inquiry beyond b) inputs never_fails IsSaid text
+same_report_text beyond a b inputs never_fails IsSaid text e h = record {
   streams = h.streams;
   are_given = h.are_given;
   is_report_text = record {

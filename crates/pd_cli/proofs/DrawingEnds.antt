@@ -3,7 +3,7 @@ use Rattle.std.proofs.Common.{◌≡◌, ◌≤◌, ◌⊎◌, ◌∙◌, ℕ, L
 use Rattle.std.specs.Prelude.{Bool, Result}
 use Rattle.std.specs.Io.KnownBytes.{Keeps}
 use Rattle.pd_format.specs.Limits.{report_byte_limit}
-use Rattle.pd_judgement.specs.Statuses.{OfFiles}
+use Rattle.pd_arguments.specs.Statuses.{OfFiles}
 use Rattle.pd_judgement.specs.Writes.{Writes}
 use Rattle.pd_claims.specs.Drawings.{IsDrawingTextOf, ShowsEnd, drawing_end}
 use Rattle.pd_claims.specs.declared.drawings.DrawOutcome.{DrawOutcome}

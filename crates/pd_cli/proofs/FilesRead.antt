@@ -4,10 +4,13 @@ use Rattle.std.specs.Prelude.{Bool, IfSome}
 use Rattle.std.specs.List.{AllZip}
 use Rattle.pd_judgement.specs.Judgements.{RawStream}
 use Rattle.pd_format.specs.Limits.{document_byte_limit}
-use Rattle.pd_judgement.specs.Writes.{Whole, Partial, IsGivenAs, IsWholeInput, IsFindingTextOf, IsTextOfStreams, WritesTruth}
+use Rattle.pd_format.specs.Reports.{Report}
+use Rattle.pd_judgement.specs.Writes.{Whole, Partial, IsAnyReport, IsRefused, IsGivenAs, IsWholeInput, IsFindingTextOf, IsTextOfStreams, WritesTruth}
 use Rattle.pd_judgement.proofs.Writing.{writes_weaker}
 use Rattle.pd_format.specs.Documents.{inquiry}
-use Rattle.pd_judgement.specs.Statuses.{Ending, Success, Negative, Misuse, Failed, MemoryFailure, ReadFailure, WriteFailure, BundleFailure, NetworkFailure, CheckLeaves, FilesJudgementLeaves, OfDocument, OfFiles, WritesUpTo}
+use Rattle.pd_arguments.specs.Statuses.{Ending, Success, Negative, Alarm, NoPredicate, Misuse, Failed, ComesTo, MemoryFailure, ReadFailure, WriteFailure, BundleFailure, NetworkFailure, CheckLeaves, FilesJudgementLeaves, OfDocument, OfFiles, WritesUpTo}
+use Rattle.pd_fail_on.specs.Conditions as conditions
+use Rattle.pd_fail_on.specs.Conditions.{Condition}
 use Rattle.pd_cli.specs.FileSources.{HasWholeFile, SameOutline, StandsFor}
 use Rattle.pd_cli.proofs.DocumentPrefixes.{outline_of_prefix, same_report_text, same_text, same_written_truth}
 use Rattle.std.proofs.lemmas.List.{map-append}
@@ -94,13 +97,13 @@ of_file P (Some bytes) left is h = subst (λ (l : Option (List ℕ)). IfSome l P
 
 -- ---- the texts that are owed
 
-report_text_of_files : (beyond : Bool) (read document : List ℕ) (files lefts : List (Option (List ℕ))) (never_fails :
-    Bool)
-    (judged : Option Bool) (text : List ℕ) → SameOutline read document → AllZip HasWholeFile files lefts
-    → IsTextOfStreams (inquiry beyond read) lefts never_fails judged text
-    → IsTextOfStreams (inquiry beyond document) files never_fails judged text
-report_text_of_files beyond read document files lefts never_fails judged text same are h =
-    same_report_text beyond read document files never_fails judged text same (record {
+pub report_text_of_files : (beyond : Bool) (read document : List ℕ) (files lefts : List (Option (List ℕ)))
+    (never_fails : Bool) (IsSaid : Report → Type 0) (text : List ℕ) → SameOutline read document
+    → AllZip HasWholeFile files lefts
+    → IsTextOfStreams (inquiry beyond read) lefts never_fails IsSaid text
+    → IsTextOfStreams (inquiry beyond document) files never_fails IsSaid text
+report_text_of_files beyond read document files lefts never_fails IsSaid text same are h =
+    same_report_text beyond read document files never_fails IsSaid text same (record {
       streams = h.streams;
       are_given = given_as_files never_fails files lefts h.streams are h.are_given;
       is_report_text = h.is_report_text;
@@ -142,25 +145,39 @@ of_document (Some bytes) read P Q stands go h = record {
 }
 
 -- what is left written by the bytes that were read is what is to be left by the files
-pub judgement_of_files : (beyond : Bool) (file : Option (List ℕ)) (read : List ℕ) (files lefts : List (Option (List ℕ)))
-    (never_fails : Bool) (MayBeUnread : Type 0) (ending : Ending) (old new : Option (List ℕ)) → StandsFor read file
-    → AllZip HasWholeFile files lefts → FilesJudgementLeaves beyond (Some read) lefts never_fails ⊥ ending old new
-    → FilesJudgementLeaves beyond file files never_fails MayBeUnread ending old new
-judgement_of_files beyond file read files lefts never_fails M Success old new stands are left =
+pub judgement_of_files : (beyond : Bool) (fail_on : List Condition) (file : Option (List ℕ)) (read : List ℕ)
+    (files lefts : List (Option (List ℕ))) (never_fails : Bool) (MayBeUnread : Type 0) (ending : Ending) (old new :
+    Option (List ℕ)) → StandsFor read file
+    → AllZip HasWholeFile files lefts → FilesJudgementLeaves beyond fail_on (Some read) lefts never_fails ⊥ ending
+    old new
+    → FilesJudgementLeaves beyond fail_on file files never_fails MayBeUnread ending old new
+judgement_of_files beyond fail_on file read files lefts never_fails M Success old new stands are left =
     of_document file read _ _ stands (λ document same. writes_weaker _ _ Whole old new (λ text.
-    report_text_of_files beyond read document files lefts never_fails (Some true) text same are)) left
-judgement_of_files beyond file read files lefts never_fails M Negative old new stands are left =
+    report_text_of_files beyond read document files lefts never_fails (ComesTo fail_on conditions.Unmet) text
+    same are)) left
+judgement_of_files beyond fail_on file read files lefts never_fails M Alarm old new stands are left =
     of_document file read _ _ stands (λ document same. writes_weaker _ _ Whole old new (λ text.
-    report_text_of_files beyond read document files lefts never_fails (Some false) text same are)) left
-judgement_of_files beyond file read files lefts never_fails M Misuse old new stands are left = left
-judgement_of_files beyond file read files lefts never_fails M (Failed MemoryFailure) old new stands are left = left
-judgement_of_files beyond file read files lefts never_fails M (Failed ReadFailure) old new stands are left = absurd
-    left.0
-judgement_of_files beyond file read files lefts never_fails M (Failed WriteFailure) old new stands are left =
+    report_text_of_files beyond read document files lefts never_fails (ComesTo fail_on conditions.Met) text
+    same are)) left
+judgement_of_files beyond fail_on file read files lefts never_fails M NoPredicate old new stands are left =
+    of_document file read _ _ stands (λ document same. writes_weaker _ _ Whole old new (λ text.
+    report_text_of_files beyond read document files lefts never_fails (ComesTo fail_on conditions.NoPredicate) text
+    same are)) left
+judgement_of_files beyond fail_on file read files lefts never_fails M Negative old new stands are left =
+    of_document file read _ _ stands (λ document same. writes_weaker _ _ Whole old new (λ text.
+    report_text_of_files beyond read document files lefts never_fails IsRefused text same are)) left
+judgement_of_files beyond fail_on file read files lefts never_fails M Misuse old new stands are left = left
+judgement_of_files beyond fail_on file read files lefts never_fails M (Failed MemoryFailure) old new stands are left =
+    left
+judgement_of_files beyond fail_on file read files lefts never_fails M (Failed ReadFailure) old new stands are left =
+    absurd left.0
+judgement_of_files beyond fail_on file read files lefts never_fails M (Failed WriteFailure) old new stands are left =
     of_document file read _ _ stands (λ document same. up_to_weaker _ _ old new (λ text.
-    report_text_of_files beyond read document files lefts never_fails None text same are)) left
-judgement_of_files beyond file read files lefts never_fails M (Failed BundleFailure) old new stands are left = left
-judgement_of_files beyond file read files lefts never_fails M (Failed NetworkFailure) old new stands are left = left
+    report_text_of_files beyond read document files lefts never_fails IsAnyReport text same are)) left
+judgement_of_files beyond fail_on file read files lefts never_fails M (Failed BundleFailure) old new stands are left =
+    left
+judgement_of_files beyond fail_on file read files lefts never_fails M (Failed NetworkFailure) old new stands are left =
+    left
 
 -- files whose bytes are known have readers with these bytes left
 pub lefts_of_known : (files lefts : List (Option (List ℕ))) (known : List (List ℕ)) → AllZip HasWholeFile files lefts
@@ -221,6 +238,8 @@ check_of_files file report_file read claimed files lefts never_fails M Negative 
     of_files file report_file read claimed _ _ stands whole (λ document report same.
     writes_weaker _ _ Whole old new (λ text.
     finding_text_of_files read document report files lefts never_fails (Some false) text same are)) left
+check_of_files file report_file read claimed files lefts never_fails M Alarm old new stands whole are left = left
+check_of_files file report_file read claimed files lefts never_fails M NoPredicate old new stands whole are left = left
 check_of_files file report_file read claimed files lefts never_fails M Misuse old new stands whole are left = left
 check_of_files file report_file read claimed files lefts never_fails M
     (Failed MemoryFailure) old new stands whole are left = left

@@ -2,8 +2,10 @@
 mod Accepted
 mod BundleEnds
 mod DocumentPrefixes
+mod Explanations
 mod FilesRead
 mod FlushedTexts
 mod WrittenSoFar
 mod DrawingEnds
+mod ExplorationEnds
 mod DrawingsRead

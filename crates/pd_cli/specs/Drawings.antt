@@ -2,7 +2,7 @@
 use Rattle.std.specs.Prelude.{◌≡◌, ◌⊎◌, ℕ, Bool, List, [], ◌++◌, codes, map, Option, Result, Ok, Err, IsOkAnd}
 use Rattle.std.specs.Io.KnownBytes.{Keeps}
 use Rattle.clap.specs.Words.{Text}
-use Rattle.pd_judgement.specs.Statuses.{EndsAsAsked, FilesMayFail, IsLongReport, OfFiles, Reliance, WritesUpTo, line_of_failure, status_of_failure}
+use Rattle.pd_arguments.specs.Statuses.{EndsAsAsked, FilesMayFail, IsLongReport, OfFiles, Reliance, WritesUpTo, line_of_failure, status_of_failure}
 use Rattle.pd_judgement.specs.Writes.{Whole, Writes}
 use Rattle.pd_claims.specs.Drawings.{IsDrawingTextOf, IsRefusalTextOf, LacksPredicate}
 use Rattle.pd_claims.specs.declared.drawings.DrawOutcome.{DrawOutcome}
@@ -10,6 +10,7 @@ use Rattle.pd_claims.specs.declared.drawings.DrawOutcome.TheVariants.{Written, R
 use Rattle.pd_sessions.specs.declared.fault.EngineFault.{EngineFault}
 use Rattle.pd_sessions.specs.declared.fault.EngineFault.TheVariants.{Memory, Write, Read, BundleLong}
 use Rattle.pd_arguments.specs.Arguments.{AsksFor, AsksToDraw}
+use Rattle.pd_cli.specs.Explorations.{ExploresAsAsked}
 use Rattle.pd_cli.specs.Faults.{failure_view}
 
 -- the line above what a check finds
@@ -94,3 +95,4 @@ abbrev pub RunsAsAsked : List Text → (on : Reliance) (input : Option (List ℕ
 RunsAsAsked arguments on input files connections status old new errors_old errors_new =
     EndsAsAsked (AsksFor arguments) on input files connections status old new errors_old errors_new
     ⊎ DrawsAsAsked arguments on files status old new errors_old errors_new
+    ⊎ ExploresAsAsked arguments on files status old new errors_old errors_new

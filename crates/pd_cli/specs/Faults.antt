@@ -1,8 +1,13 @@
 -- The engine's faults and results, as ends of a run.
-use Rattle.std.specs.Prelude.{◌≡◌, ℕ, Bool, true, false, List, codes, Result, Ok, Err}
-use Rattle.pd_judgement.specs.Statuses.{Failure, MemoryFailure, ReadFailure, WriteFailure, BundleFailure, NetworkFailure, Ending, Success, Negative, Failed}
+use Rattle.std.specs.Prelude.{◌≡◌, ℕ, Bool, true, false, List, codes, Option, Some, None, Result, Ok, Err}
+use Rattle.pd_judgement.specs.Headline.{is_judged}
+use Rattle.pd_arguments.specs.Statuses.{Failure, MemoryFailure, ReadFailure, WriteFailure, BundleFailure, NetworkFailure, Ending, Success, Negative, Alarm, NoPredicate, Failed}
+use Rattle.pd_fail_on.specs.Conditions as conditions
+use Rattle.pd_fail_on.specs.Conditions.{Condition, Conclusion, conclusion}
 use Rattle.pd_cli.specs.declared.service_fault.ServiceFault.{ServiceFault}
 use Rattle.pd_cli.specs.declared.service_fault.ServiceFault.TheVariants.{Engine, Network}
+use Rattle.pd_report.specs.Views.{report_view}
+use Rattle.pd_report.specs.declared.report.Report.{Report}
 use Rattle.pd_sessions.specs.declared.fault.EngineFault.{EngineFault}
 use Rattle.pd_spec.specs.declared.fault.SpecFault.{SpecFault}
 use Rattle.pd_spec.specs.declared.fault.SpecFault.TheVariants as spec_faults
@@ -14,18 +19,45 @@ failure_view Write = WriteFailure
 failure_view Read = ReadFailure
 failure_view BundleLong = BundleFailure
 
--- whether the session is judged and not refused, or nothing that a check found is bad; or the fault
+-- nothing that a check found is bad, or something is; or the fault
 abbrev pub ending_view : Result Bool EngineFault → Ending
 ending_view (Ok true) = Success
 ending_view (Ok false) = Negative
 ending_view (Err fault) = Failed (failure_view fault)
 
+-- a report is a session's that is judged, or a refusal
+abbrev pub judged_ending : (judged : Bool) → Ending
+judged_ending true = Success
+judged_ending false = Negative
+
+-- how a run ends that comes to a report, or the fault
+abbrev pub report_ending : Result Report EngineFault → Ending
+report_ending (Ok report) = judged_ending (is_judged (report_view report))
+report_ending (Err fault) = Failed (failure_view fault)
+
+-- the same by what a report comes to
+abbrev pub concluded_ending : Conclusion → Ending
+concluded_ending conditions.OfRefusal = Negative
+concluded_ending conditions.NoPredicate = NoPredicate
+concluded_ending conditions.Met = Alarm
+concluded_ending conditions.Unmet = Success
+
+-- how a run ends that is to fail on these answers and comes to a report, or the fault
+abbrev pub judgement_ending : (fail_on : List Condition) → Result Report EngineFault → Ending
+judgement_ending fail_on (Ok report) = concluded_ending (conclusion fail_on (report_view report))
+judgement_ending fail_on (Err fault) = Failed (failure_view fault)
+
 -- the same of a server
-abbrev pub service_ending_view : Result Bool ServiceFault → Ending
-service_ending_view (Ok true) = Success
-service_ending_view (Ok false) = Negative
-service_ending_view (Err (Engine fault)) = Failed (failure_view fault)
-service_ending_view (Err Network) = Failed NetworkFailure
+abbrev pub service_ending : (fail_on : List Condition) → Result Report ServiceFault → Ending
+service_ending fail_on (Ok report) = concluded_ending (conclusion fail_on (report_view report))
+service_ending fail_on (Err (Engine fault)) = Failed (failure_view fault)
+service_ending fail_on (Err Network) = Failed NetworkFailure
+
+-- how a run that explores ends: the page is written, or the report of a refusal; or the fault
+abbrev pub exploration_ending : Result (Option Report) EngineFault → Ending
+exploration_ending (Ok None) = Success
+exploration_ending (Ok (Some refusal)) = Negative
+exploration_ending (Err fault) = Failed (failure_view fault)
 
 -- whether a document's fault says nothing of the document
 abbrev pub is_out_of_memory : SpecFault → Bool

@@ -1,3 +1,5 @@
 pub mod Drawings
+pub mod Explorations
+pub mod Explained
 pub mod Faults
 pub mod FileSources

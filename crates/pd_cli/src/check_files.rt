@@ -1,7 +1,7 @@
 //! Checks a report against the session in files.
 ghost use Rattle.pd_cli.specs.Faults.{ending_view};
 ghost use Rattle.pd_format.specs.Limits.{report_byte_limit};
-ghost use Rattle.pd_judgement.specs.Statuses.{CheckLeaves, IsLongReport};
+ghost use Rattle.pd_arguments.specs.Statuses.{CheckLeaves, IsLongReport};
 ghost use Rattle.std.specs.Prelude.{◌≡◌, ◌≤◌, ◌⊎◌, All, Err, Some, false, length, map, true};
 
 use super::claim_files::read_claim;

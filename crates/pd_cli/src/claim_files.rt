@@ -1,7 +1,7 @@
 //! The files of a report and of the session that it is said to be of.
 ghost use Rattle.pd_cli.specs.FileSources.{HasWholeFile, StandsFor};
 ghost use Rattle.pd_format.specs.Limits.{report_byte_limit};
-ghost use Rattle.pd_judgement.specs.Statuses.{IsLongReport};
+ghost use Rattle.pd_arguments.specs.Statuses.{IsLongReport};
 ghost use Rattle.pd_judgement.specs.Writes.{IsWholeInput};
 ghost use Rattle.std.specs.List.{AllZip};
 ghost use Rattle.std.specs.Prelude.{◌≡◌, ◌≤◌, ◌⊎◌, All, Err, IfErr, IfOk, false, map, true, vec_len};

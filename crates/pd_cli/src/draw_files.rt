@@ -2,7 +2,7 @@
 ghost use Rattle.pd_cli.specs.Drawings.{DrawLeaves, Finishes, draw_notice, draw_status, refusal_heading};
 ghost use Rattle.pd_draw.specs.Choices.{name_view};
 ghost use Rattle.pd_format.specs.Limits.{report_byte_limit};
-ghost use Rattle.pd_judgement.specs.Statuses.{IsLongReport, WritesUpTo};
+ghost use Rattle.pd_arguments.specs.Statuses.{IsLongReport, WritesUpTo};
 ghost use Rattle.std.specs.Prelude.{◌≡◌, ◌⊎◌, ◌≤◌, ◌++◌, All, IfOk, Some, false, length, map, true};
 
 use super::claim_files::read_claim;

@@ -1,8 +1,10 @@
 //! Where files are read.
 use pd_engine::ByteSource;
 use pd_sessions::EngineFault;
-use std::fs;
+use std::alloc::{AllocError, Global};
+use std::io::{ErrorKind, Read};
 use std::rt::Files;
+use std::{fs, io};
 
 /// Opens files by their names. What each holds may be known, as it is in proofs over files that are made up; of the
 /// system's files nothing is known.
@@ -28,6 +30,46 @@ pub trait FileSource {
         ensures open { IfOk result (λ file. Self.File.has_ended file ≡ false) }
         ensures sure { always_opens ≡ true → IsOk result }
         ensures err { IsOkUnless result faults.Read };
+
+    /// Whether the file of this name can be read a second time: a pipe or a terminal has nothing to give then, and is
+    /// waited for.
+    fn can_be_reread(&self, _name: &str) -> bool {
+        true
+    }
+
+    /// Why the file of this name can't be opened, or not be read to its end, in the words of the system, if that is so
+    /// and known: it is tried again, unless it is a pipe or a terminal.
+    ///
+    /// # Errors
+    /// Out of memory.
+    fn failure(&self, _alloc: Global, _name: &str) -> Result<Option<String>, AllocError> {
+        Ok(None)
+    }
+}
+
+/// The first error of the reads of a file up to its end, if one fails. A read that is interrupted is tried again.
+fn read_failure<R: Read>(file: &mut R) -> Option<io::Error> {
+    let mut piece = [0u8; 256];
+    for _read in 0..u64::MAX {
+        match file.read(&mut piece) {
+            Ok(0) => return None,
+            Ok(_) => {}
+            Err(error) if error.kind() == ErrorKind::Interrupted => {}
+            Err(error) => return Some(error),
+        }
+    }
+    None
+}
+
+/// The error of opening this file, or the first one of its reads up to its end.
+fn open_failure<R: Files>(files: &R, name: &str) -> Option<io::Error> {
+    match fs::open(files, name) {
+        Ok(file) => {
+            let mut file = file;
+            read_failure(&mut file)
+        }
+        Err(error) => Some(error),
+    }
 }
 
 impl<R: Files> FileSource for R
@@ -44,5 +86,24 @@ where
 
     fn open(&self, name: &str) -> Result<R::File, EngineFault> {
         fs::open(self, name).map_err(|_| EngineFault::Read)
+    }
+
+    fn can_be_reread(&self, name: &str) -> bool {
+        match fs::metadata(self, name) {
+            Ok(found) => found.is_file(),
+            Err(_) => false,
+        }
+    }
+
+    fn failure(&self, alloc: Global, name: &str) -> Result<Option<String>, AllocError> {
+        let found = match fs::metadata(self, name) {
+            Ok(found) if found.is_file() || found.is_dir() => open_failure(self, name),
+            Ok(_) => None,
+            Err(error) => Some(error),
+        };
+        match found {
+            Some(error) => Ok(Some(format!(in alloc; "{error}")?)),
+            None => Ok(None),
+        }
     }
 }

@@ -1,17 +1,19 @@
 //! Judges the session in files.
-ghost use Rattle.pd_cli.specs.Faults.{ending_view};
+ghost use Rattle.pd_cli.specs.Faults.{judgement_ending};
+ghost use Rattle.pd_fail_on.specs.Conditions.{Condition};
 ghost use Rattle.pd_format.specs.Documents.{inquiry};
+ghost use Rattle.pd_judgement.specs.Headline.{is_judged};
 ghost use Rattle.pd_judgement.specs.Judgements.{ended_streams};
-ghost use Rattle.pd_judgement.specs.Statuses.{FilesJudgementLeaves};
+ghost use Rattle.pd_arguments.specs.Statuses.{FilesJudgementLeaves};
 ghost use Rattle.pd_judgement.specs.Writes.{WritesTruth};
+ghost use Rattle.pd_report.specs.Views.{report_view};
 ghost use Rattle.pd_sessions.specs.Inquiries.{inquiry_view};
 ghost use Rattle.std.specs.Prelude.{◌≡◌, ◌⊎◌, ℕ, List, All, IfErr, IfOk, Some, false, true, map};
 
 use super::file_source::FileSource;
-use super::outcomes::is_judged;
 use super::session_files::{open_streams, read_document};
 use pd_arguments::{Judgement, Workers};
-use pd_engine::{ByteSource, Inquiry, NoGate, judge_inquiry};
+use pd_engine::{ByteSource, Inquiry, NoGate, Report, judge_inquiry};
 use pd_sessions::EngineFault;
 use std::alloc::Global;
 use std::io::Write;
@@ -20,7 +22,7 @@ use std::sync::Wait;
 use std::thread::Threads;
 
 /// Judges a document's bytes, with what is asked beside them, and the streams, writes the report, and flushes the
-/// output. It reports whether the session is judged, and not refused.
+/// output. It gives the report.
 ///
 /// # Errors
 /// `Memory` leaves nothing written. `Write` leaves a part of the report written, or all of it if only the flush failed.
@@ -35,18 +37,20 @@ pub(crate) fn judge_read<
     streams: Vec<R>,
     workers: &Workers,
     output: &mut O,
-) -> Result<bool, EngineFault>
+) -> Result<Report, EngineFault>
     requires { All (λ stream. R.has_ended stream ≡ false) streams.items }
-    ensures written { FilesJudgementLeaves inquiry.entry.beyond_width (Some inquiry.entry.document.now)
-        (map R.remaining streams.items) R.never_fails ⊥ (ending_view result) (O.contents output.old)
-        (O.contents output.new) }
-    ensures headline { R.never_fails ≡ true → IfOk result (λ judged. (known : List (List ℕ))
+    // This is said for all answers on which the run may be to fail.
+    ensures written { (fail_on : List Condition) → FilesJudgementLeaves inquiry.entry.beyond_width fail_on
+        (Some inquiry.entry.document.now) (map R.remaining streams.items) R.never_fails ⊥
+        (judgement_ending fail_on result) (O.contents output.old) (O.contents output.new) }
+    ensures headline { R.never_fails ≡ true → IfOk result (λ report. (known : List (List ℕ))
         → map R.remaining streams.items ≡ map Some known
-        → WritesTruth (inquiry_view inquiry.entry) (ended_streams known) (judged ≡ true) (O.contents output.old)
+        → WritesTruth (inquiry_view inquiry.entry) (ended_streams known) (is_judged (report_view report) ≡ true)
+        (O.contents output.old)
         (O.contents output.new)) }
     ensures err { IfErr result (λ fault. (fault ≡ EngineFault.Memory) ⊎ (fault ≡ EngineFault.Write)) }
 {
-    let outcome = judge_inquiry(
+    let report = judge_inquiry(
         rt,
         alloc,
         inquiry,
@@ -58,12 +62,12 @@ pub(crate) fn judge_read<
     if output.flush().is_err() {
         return Err(EngineFault::Write);
     }
-    Ok(is_judged(outcome))
+    Ok(report)
 }
 
 /// Opens the files of a session, the document and then the streams, reads the document, judges it and the streams,
-/// writes the report, and flushes the output. It reports whether the session is judged, and not refused. All files are
-/// opened before one is read. A stream whose read fails later is a fault of that stream in the report.
+/// writes the report, and flushes the output. It gives the report. All files are opened before one is read. A stream
+/// whose read fails later is a fault of that stream in the report.
 ///
 /// # Errors
 /// `Read`, if a file can't be opened or the document can't be read, and `Memory` leave nothing written. `Write` leaves
@@ -74,19 +78,20 @@ pub(crate) fn judge_files<S: RandomSource + Threads + Wait + Sync, F: FileSource
     alloc: Global,
     judgement: &Judgement<'_>,
     output: &mut O,
-) -> Result<bool, EngineFault>
-    ensures written { FilesJudgementLeaves judgement.now.beyond_width
+) -> Result<Report, EngineFault>
+    ensures written { (fail_on : List Condition) → FilesJudgementLeaves judgement.now.beyond_width fail_on
         (F.bytes_of files.now judgement.now.names.spec.now)
         (map (λ name. F.bytes_of files.now name.now) judgement.now.names.streams.items) F.File.never_fails
-        (F.always_opens ≡ true → F.File.never_fails ≡ true → ⊥) (ending_view result) (O.contents output.old)
-        (O.contents output.new) }
+        (F.always_opens ≡ true → F.File.never_fails ≡ true → ⊥) (judgement_ending fail_on result)
+        (O.contents output.old) (O.contents output.new) }
     // If the bytes of the files are known and no read of them fails: if they hold a well-formed session, it is judged,
     // and what is written is true: with no level over the width of each predicate, and if that is asked for, however
     // wide it is, of each that is decided.
-    ensures headline { F.File.never_fails ≡ true → IfOk result (λ judged. (document : List ℕ)
+    ensures headline { F.File.never_fails ≡ true → IfOk result (λ report. (document : List ℕ)
         (streams : List (List ℕ)) → F.bytes_of files.now judgement.now.names.spec.now ≡ Some document
         → map (λ name. F.bytes_of files.now name.now) judgement.now.names.streams.items ≡ map Some streams
-        → WritesTruth (inquiry judgement.now.beyond_width document) (ended_streams streams) (judged ≡ true)
+        → WritesTruth (inquiry judgement.now.beyond_width document) (ended_streams streams) (is_judged (report_view
+        report) ≡ true)
         (O.contents output.old) (O.contents output.new)) }
 {
     let spec = files.open(judgement.names.spec)?;

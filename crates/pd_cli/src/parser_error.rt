@@ -2,7 +2,7 @@
 ghost use Rattle.clap.specs.Values.{kind_of};
 ghost use Rattle.pd_arguments.specs.Arguments.{IsShownKind};
 ghost use Rattle.pd_cli.specs.Faults.{IsUnreadLine};
-ghost use Rattle.pd_judgement.specs.Statuses.{Ends, HelpLeaves, MisuseLeaves, IsLineOf, MemoryFailure, Failed, WritesUpTo};
+ghost use Rattle.pd_arguments.specs.Statuses.{Ends, HelpLeaves, MisuseLeaves, IsLineOf, MemoryFailure, Failed, WritesUpTo};
 ghost use Rattle.std.specs.IoError.{error_kind};
 ghost use Rattle.std.specs.Io.KnownBytes.{Keeps};
 ghost use Rattle.std.specs.Prelude.{◌≡◌, ◌≢◌};

@@ -1,21 +1,31 @@
 //! One run of the program.
 ghost use Rattle.pd_arguments.specs.Arguments.{port_limit};
 ghost use Rattle.pd_cli.specs.Drawings.{EndsDrawn, RunsAsAsked};
+ghost use Rattle.pd_cli.specs.Explained.{Explained};
+ghost use Rattle.pd_cli.specs.Explorations.{ExploreLeaves};
 ghost use Rattle.pd_draw.specs.Choices.{name_view};
-ghost use Rattle.pd_judgement.specs.Statuses.{CheckLeaves, Ends, FilesJudgementLeaves, IsLongReport, JudgementLeaves, ServiceLeaves, reliance};
+ghost use Rattle.pd_fail_on.specs.Views.{fail_on_view};
+ghost use Rattle.pd_arguments.specs.Statuses.{CheckLeaves, Ends, FilesJudgementLeaves, IsLongReport, JudgementLeaves, ServiceLeaves, reliance};
 ghost use Rattle.pd_judgement.specs.Writes.{WritesTruthOfBundle};
 ghost use Rattle.std.specs.Prelude.{◌≡◌, ◌⊎◌, ◌≤◌, drop, false, length, map, true, vec_len};
 
 use super::bundle::judge_input;
 use super::check_files::check_files;
 use super::draw_files::{draw_files, report_drawing};
+use super::explained_ends::{
+    bundle_text, check_text, drawing_text, exploration_text, judgement_text, service_text,
+};
+use super::explanation::write_explanation;
+use super::explore_files::explore_files;
 use super::file_source::FileSource;
 use super::judge_files::judge_files;
 use super::network::Network;
 use super::parser_error::report_parser_error;
 use super::server::serve;
-use super::status::{report_end, report_service_end};
-use pd_arguments::{Judgement, Request, Service, SessionNames, parse};
+use super::status::{
+    report_bundle, report_end, report_exploration, report_judgement, report_service_end,
+};
+use pd_arguments::{Exploration, Judgement, Request, Service, SessionNames, parse};
 use pd_engine::ByteSource;
 use std::alloc::Global;
 use std::io::Write;
@@ -30,17 +40,20 @@ fn run_check<S: RandomSource + Threads + Wait + Sync, F: FileSource, O: Write, E
     alloc: Global,
     report: &str,
     names: &SessionNames<'_>,
+    explain: bool,
     output: &mut O,
     errors: &mut E,
 ) -> u8
-    ensures { Ends (λ ending. CheckLeaves (F.bytes_of files.now names.now.spec.now)
+    ensures { Explained explain (λ start. Ends (λ ending. CheckLeaves (F.bytes_of files.now names.now.spec.now)
         (F.bytes_of files.now report.now)
         (map (λ name. F.bytes_of files.now name.now) names.now.streams.items) F.File.never_fails
         ((F.always_opens ≡ true → F.File.never_fails ≡ true → ⊥) ⊎ IsLongReport (F.bytes_of files.now report.now))
-        ending (O.contents output.old) (O.contents output.new)) result (E.contents errors.old)
-        (E.contents errors.new) }
+        ending (O.contents output.old) (O.contents output.new)) result start (E.contents errors.new))
+        (E.contents errors.old) }
 {
     let end = check_files(rt, files, alloc, report, names, output);
+    let text = check_text(explain, files, alloc, report, names, &end);
+    write_explanation(explain, &text, errors);
     report_end(&end, errors)
 }
 
@@ -52,16 +65,20 @@ fn run_draw<S: RandomSource + Threads + Wait + Sync, F: FileSource, O: Write, E:
     report: &str,
     predicate: Option<&str>,
     names: &SessionNames<'_>,
+    explain: bool,
     output: &mut O,
     errors: &mut E,
 ) -> u8
-    ensures { EndsDrawn (F.bytes_of files.now names.now.spec.now) (F.bytes_of files.now report.now)
+    ensures { Explained explain (λ start. EndsDrawn (F.bytes_of files.now names.now.spec.now)
+        (F.bytes_of files.now report.now)
         (map (λ name. F.bytes_of files.now name.now) names.now.streams.items) F.File.never_fails
         ((F.always_opens ≡ true → F.File.never_fails ≡ true → ⊥) ⊎ IsLongReport (F.bytes_of files.now report.now))
-        (name_view predicate.entry) result (O.contents output.old) (O.contents output.new) (E.contents errors.old)
-        (E.contents errors.new) }
+        (name_view predicate.entry) result (O.contents output.old) (O.contents output.new) start
+        (E.contents errors.new)) (E.contents errors.old) }
 {
     let end = draw_files(rt, files, alloc, report, predicate, names, output);
+    let text = drawing_text(explain, files, alloc, report, names, &end);
+    write_explanation(explain, &text, errors);
     report_drawing(&end, errors)
 }
 
@@ -78,19 +95,24 @@ fn run_service<
     network: &N,
     alloc: Global,
     service: &Service<'_>,
+    explain: bool,
     output: &mut O,
     errors: &mut E,
 ) -> u8
     requires some { 1 ≤ service.now.port }
     requires port { service.now.port ≤ port_limit }
-    ensures { Ends (λ ending. ServiceLeaves service.now.beyond_width
+    ensures { Explained explain (λ start. Ends (λ ending. ServiceLeaves service.now.beyond_width
+        (fail_on_view service.now.fail_on)
         (F.bytes_of files.now service.now.spec.now)
         (N.may_give network.now service.now.port) N.Connection.never_fails
         (F.always_opens ≡ true → F.File.never_fails ≡ true → ⊥) (N.never_fails ≡ true → ⊥) ending
-        (O.contents output.old) (O.contents output.new)) result (E.contents errors.old) (E.contents errors.new) }
+        (O.contents output.old) (O.contents output.new)) result start (E.contents errors.new))
+        (E.contents errors.old) }
 {
     let end = serve(rt, files, network, alloc, service, output);
-    report_service_end(&end, errors)
+    let text = service_text(explain, files, network, alloc, service, &end);
+    write_explanation(explain, &text, errors);
+    report_service_end(&service.fail_on, &end, errors)
 }
 
 /// Judges the session in files, and gives the exit status.
@@ -99,33 +121,61 @@ fn run_files<S: RandomSource + Threads + Wait + Sync, F: FileSource, O: Write, E
     files: &F,
     alloc: Global,
     judgement: &Judgement<'_>,
+    explain: bool,
     output: &mut O,
     errors: &mut E,
 ) -> u8
-    ensures { Ends (λ ending. FilesJudgementLeaves judgement.now.beyond_width
+    ensures { Explained explain (λ start. Ends (λ ending. FilesJudgementLeaves judgement.now.beyond_width
+        (fail_on_view judgement.now.fail_on)
         (F.bytes_of files.now judgement.now.names.spec.now)
         (map (λ name. F.bytes_of files.now name.now) judgement.now.names.streams.items) F.File.never_fails
         (F.always_opens ≡ true → F.File.never_fails ≡ true → ⊥) ending (O.contents output.old)
-        (O.contents output.new)) result (E.contents errors.old) (E.contents errors.new) }
+        (O.contents output.new)) result start (E.contents errors.new)) (E.contents errors.old) }
 {
     let end = judge_files(rt, files, alloc, judgement, output);
-    report_end(&end, errors)
+    let text = judgement_text(explain, files, alloc, judgement, &end);
+    write_explanation(explain, &text, errors);
+    report_judgement(&judgement.fail_on, &end, errors)
 }
 
-/// Judges the bundle on the input, and gives the exit status.
-fn run_bundle<S: RandomSource + Threads + Wait + Sync, I: ByteSource + Drop, O: Write, E: Write>(
+/// Explores the session in files, and gives the exit status.
+fn run_explore<S: RandomSource + Threads + Wait + Sync, F: FileSource, O: Write, E: Write>(
     rt: &S,
+    files: &F,
     alloc: Global,
-    input: I,
+    exploration: &Exploration<'_>,
+    explain: bool,
     output: &mut O,
     errors: &mut E,
 ) -> u8
+    ensures { Explained explain (λ start. Ends (λ ending. ExploreLeaves exploration.now.beyond_width
+        (F.bytes_of files.now exploration.now.names.spec.now)
+        (map (λ name. F.bytes_of files.now name.now) exploration.now.names.streams.items) F.File.never_fails
+        (F.always_opens ≡ true → F.File.never_fails ≡ true → ⊥) ending (O.contents output.old)
+        (O.contents output.new)) result start (E.contents errors.new)) (E.contents errors.old) }
+{
+    let end = explore_files(rt, files, alloc, exploration, output);
+    let text = exploration_text(explain, files, alloc, exploration, &end);
+    write_explanation(explain, &text, errors);
+    report_exploration(&end, errors)
+}
+
+/// Judges the bundle on the input, and gives the exit status.
+fn run_bundle<
+    S: RandomSource + Threads + Wait + Sync,
+    F: FileSource,
+    I: ByteSource + Drop,
+    O: Write,
+    E: Write,
+>(rt: &S, files: &F, alloc: Global, input: I, explain: bool, output: &mut O, errors: &mut E) -> u8
     requires { I.has_ended input ≡ false }
-    ensures { Ends (λ ending. JudgementLeaves (I.remaining input) I.never_fails ending (O.contents output.old)
-        (O.contents output.new)) result (E.contents errors.old) (E.contents errors.new) }
+    ensures { Explained explain (λ start. Ends (λ ending. JudgementLeaves (I.remaining input) I.never_fails ending
+        (O.contents output.old) (O.contents output.new)) result start (E.contents errors.new)) (E.contents errors.old) }
 {
     let end = judge_input(rt, alloc, input, output);
-    report_end(&end, errors)
+    let text = bundle_text(explain, files, alloc, &end);
+    write_explanation(explain, &text, errors);
+    report_bundle(&end, errors)
 }
 
 /// Does what the arguments after the program's name ask for, and gives the exit status.
@@ -143,27 +193,34 @@ fn run_arguments<
     alloc: Global,
     arguments: &[String],
     input: I,
+    explain: bool,
     output: &mut O,
     errors: &mut E,
 ) -> u8
     requires { I.has_ended input ≡ false }
-    ensures ends { RunsAsAsked (map (λ argument. argument.bytes.items) arguments.now)
+    ensures ends { Explained explain (λ start. RunsAsAsked (map (λ argument. argument.bytes.items) arguments.now)
         (reliance I.never_fails F.always_opens F.File.never_fails N.never_fails N.Connection.never_fails)
         (I.remaining input) (F.bytes_of files.now) (N.may_give network.now) result
-        (O.contents output.old) (O.contents output.new)
-        (E.contents errors.old) (E.contents errors.new) }
+        (O.contents output.old) (O.contents output.new) start (E.contents errors.new)) (E.contents errors.old) }
 {
     match parse(alloc, arguments) {
-        Ok(Request::Bundle) => run_bundle(rt, alloc, input, output, errors),
-        Ok(Request::Judge(judgement)) => run_files(rt, files, alloc, &judgement, output, errors),
+        Ok(Request::Bundle) => run_bundle(rt, files, alloc, input, explain, output, errors),
+        Ok(Request::Judge(judgement)) => {
+            run_files(rt, files, alloc, &judgement, explain, output, errors)
+        },
         Ok(Request::Check(report, names)) => {
-            run_check(rt, files, alloc, report, &names, output, errors)
+            run_check(rt, files, alloc, report, &names, explain, output, errors)
         }
         Ok(Request::Draw(report, predicate, names)) => {
-            run_draw(rt, files, alloc, report, predicate, &names, output, errors)
+            run_draw(
+                rt, files, alloc, report, predicate, &names, explain, output, errors,
+            )
         }
         Ok(Request::Serve(service)) => {
-            run_service(rt, files, network, alloc, &service, output, errors)
+            run_service(rt, files, network, alloc, &service, explain, output, errors)
+        }
+        Ok(Request::Explore(exploration)) => {
+            run_explore(rt, files, alloc, &exploration, explain, output, errors)
         }
         Err(error) => report_parser_error(&error, output, errors),
     }
@@ -183,11 +240,12 @@ fn without_first(arguments: &[String]) -> &[String]
 /// parsed: `judge`, with the names of the files of a session document and one stream or more, judges these and writes
 /// their report to `output`; `check`, with the names of the files of a session document, a report and one stream or
 /// more, checks that report and writes what is found to `output`; `draw`, with the same names, draws that report and
-/// writes the picture to `output`; `serve`, with the name of a session document's file
-/// and a port, judges streams that come by connections; both answer predicates beyond the width where they are decided,
-/// if that is asked for; the help that they ask for is written to `output`,
-/// and what is wrong with them to `errors`. `errors` also has one line for each fault; what of it can't be written is
-/// left off.
+/// writes the picture to `output`; `serve`, with the name of a session document's file and a port, judges streams that
+/// come by connections; `explore`, with the names of `judge`, judges these and writes the page on which their run is
+/// explored, or the report of a refusal, to `output`; these three answer predicates beyond the width where they are
+/// decided, and `judge` and `serve` fail on answers, if that is asked for; the help that they ask for is written to
+/// `output`, and what is wrong with them to `errors`. `errors` also has one line for each fault, and before it an
+/// explanation if one is wanted, as `explain` says; what of it can't be written is left off.
 pub fn run<
     S: RandomSource + Threads + Wait + Sync,
     F: FileSource,
@@ -202,27 +260,30 @@ pub fn run<
     alloc: Global,
     arguments: Vec<String>,
     input: I,
+    explain: bool,
     output: &mut O,
     errors: &mut E,
 ) -> u8
     requires open { I.has_ended input ≡ false }
     // The exit status says what is left on the output and on the errors, by what the arguments after the first ask for.
     // Where nothing that is read can fail, all bytes of the input, the files and the connections are judged.
-    ensures ends { RunsAsAsked (drop 1 (map (λ argument. argument.bytes.items) arguments.items))
+    // If explanations are wanted, any text may stand before that on the errors.
+    ensures ends { Explained explain (λ start. RunsAsAsked
+        (drop 1 (map (λ argument. argument.bytes.items) arguments.items))
         (reliance I.never_fails F.always_opens F.File.never_fails N.never_fails N.Connection.never_fails)
         (I.remaining input) (F.bytes_of files.now) (N.may_give network.now) result
-        (O.contents output.old) (O.contents output.new)
-        (E.contents errors.old) (E.contents errors.new) }
+        (O.contents output.old) (O.contents output.new) start (E.contents errors.new)) (E.contents errors.old) }
     // With no further argument that is the report of the bundle on the input.
-    ensures bundle { vec_len arguments ≤ 1 → Ends (λ ending. JudgementLeaves (I.remaining input) I.never_fails ending
-        (O.contents output.old) (O.contents output.new)) result (E.contents errors.old) (E.contents errors.new) }
+    ensures bundle { vec_len arguments ≤ 1 → Explained explain (λ start. Ends (λ ending.
+        JudgementLeaves (I.remaining input) I.never_fails ending (O.contents output.old) (O.contents output.new)) result
+        start (E.contents errors.new)) (E.contents errors.old) }
     // If the input holds a well-formed session, status 0 or 1 is 0; and with no level over the width, that report says
     // the truth of each predicate.
     ensures headline { vec_len arguments ≤ 1 → result ≤ 1 → WritesTruthOfBundle (I.remaining input) (result ≡ 0)
         (O.contents output.old) (O.contents output.new) }
 {
     if arguments.len() <= 1 {
-        return run_bundle(rt, alloc, input, output, errors);
+        return run_bundle(rt, files, alloc, input, explain, output, errors);
     }
     run_arguments(
         rt,
@@ -231,6 +292,7 @@ pub fn run<
         alloc,
         without_first(&arguments),
         input,
+        explain,
         output,
         errors,
     )

@@ -1,22 +1,24 @@
 //! Judges a session whose streams come by connections.
 ghost use Rattle.pd_arguments.specs.Arguments.{port_limit};
-ghost use Rattle.pd_cli.specs.Faults.{ending_view, is_out_of_memory, service_ending_view};
+ghost use Rattle.pd_cli.specs.Faults.{is_out_of_memory, judgement_ending, service_ending};
 ghost use Rattle.pd_cli.specs.declared.service_fault.ServiceFault.TheVariants as faults;
+ghost use Rattle.pd_fail_on.specs.Conditions.{Condition};
 ghost use Rattle.pd_format.specs.Documents.{IsDocument};
-ghost use Rattle.pd_judgement.specs.Statuses.{FilesJudgementLeaves, ServiceLeaves};
+ghost use Rattle.pd_judgement.specs.Headline.{is_judged};
+ghost use Rattle.pd_arguments.specs.Statuses.{FilesJudgementLeaves, ServiceLeaves};
+ghost use Rattle.pd_report.specs.Views.{report_view};
 ghost use Rattle.pd_spec.specs.Views.{IsFaultOf, document_view};
-ghost use Rattle.std.specs.Prelude.{◌≡◌, ◌⊎◌, ◌↔◌, ◌+◌, ◌<◌, ◌≤◌, ℕ, All, Err, IfErr, IfOk, IfSome, IsOk, IsSome, MatchResult, Ok, Some, [], false, length, map, true};
+ghost use Rattle.std.specs.Prelude.{◌≡◌, ◌⊎◌, ◌↔◌, ◌+◌, ◌<◌, ◌≤◌, ℕ, All, List, Err, IfErr, IfOk, IfSome, IsOk, IsSome, MatchResult, Ok, Some, [], false, length, map, true};
 
 use super::file_source::FileSource;
 use super::judge_files::judge_read;
 use super::network::Network;
-use super::outcomes::is_judged;
 use super::service_fault::ServiceFault;
 use super::session_files::read_document;
 use super::watchers::Watchers;
 use pd_arguments::{Service, Workers};
 use pd_engine::{
-    ByteSource, Crew, Inquiry, NoGate, Observer, Spec, SpecFault, judge_inquiry_watched,
+    ByteSource, Crew, Inquiry, NoGate, Observer, Report, Spec, SpecFault, judge_inquiry_watched,
 };
 use pd_judgement::one_document;
 use pd_sessions::EngineFault;
@@ -91,18 +93,18 @@ fn accept_streams<N: Network>(
 }
 
 /// How a server ends by how its judgement ends.
-fn service_end(end: Result<bool, EngineFault>) -> Result<bool, ServiceFault>
-    ensures ending { service_ending_view result ≡ ending_view end }
-    ensures same { MatchResult end (λ judged. result ≡ Ok judged) (λ fault. result ≡ Err (faults.Engine fault)) }
+fn service_end(end: Result<Report, EngineFault>) -> Result<Report, ServiceFault>
+    ensures ending { (fail_on : List Condition) → service_ending fail_on result ≡ judgement_ending fail_on end }
+    ensures same { MatchResult end (λ report. result ≡ Ok report) (λ fault. result ≡ Err (faults.Engine fault)) }
 {
     match end {
-        Ok(judged) => Ok(judged),
+        Ok(report) => Ok(report),
         Err(fault) => Err(ServiceFault::Engine(fault)),
     }
 }
 
 /// Judges a document's bytes, with what is asked beside them, and the streams while the observer runs, writes the
-/// report, and flushes the output. It reports whether the session is judged, and not refused.
+/// report, and flushes the output. It gives the report.
 ///
 /// # Errors
 /// `Memory` leaves nothing written. `Write` leaves a part of the report written, or all of it if only the flush failed.
@@ -119,19 +121,19 @@ fn judge_accepted<
     workers: &Workers,
     observer: &B,
     output: &mut O,
-) -> Result<bool, EngineFault>
+) -> Result<Report, EngineFault>
     requires { All (λ stream. R.has_ended stream ≡ false) streams.items }
-    ensures written { FilesJudgementLeaves inquiry.entry.beyond_width (Some inquiry.entry.document.now)
-        (map R.remaining streams.items) R.never_fails ⊥ (ending_view result) (O.contents output.old)
-        (O.contents output.new) }
+    ensures written { (fail_on : List Condition) → FilesJudgementLeaves inquiry.entry.beyond_width fail_on
+        (Some inquiry.entry.document.now) (map R.remaining streams.items) R.never_fails ⊥
+        (judgement_ending fail_on result) (O.contents output.old) (O.contents output.new) }
     ensures err { IfErr result (λ fault. (fault ≡ EngineFault.Memory) ⊎ (fault ≡ EngineFault.Write)) }
 {
     let crew = Crew::new(rt, workers.count(), &NoGate);
-    let outcome = judge_inquiry_watched(&crew, alloc, inquiry, streams, observer, output)?;
+    let report = judge_inquiry_watched(&crew, alloc, inquiry, streams, observer, output)?;
     if output.flush().is_err() {
         return Err(EngineFault::Write);
     }
-    Ok(is_judged(outcome))
+    Ok(report)
 }
 
 /// Binds the ports, accepts a stream for each process of the document, judges the document and the streams, and writes
@@ -147,12 +149,12 @@ fn serve_session<S: RandomSource + Threads + Wait + Sync, N: Network + Sync, O: 
     spec: &Spec,
     service: &Service<'_>,
     output: &mut O,
-) -> Result<bool, ServiceFault>
+) -> Result<Report, ServiceFault>
     requires document { IsDocument inquiry.document.now (document_view spec.now) }
     requires port { service.now.port ≤ port_limit }
-    ensures written { ServiceLeaves inquiry.entry.beyond_width (Some inquiry.entry.document.now)
-        (N.may_give network.now service.now.port) N.Connection.never_fails ⊥ (N.never_fails ≡ true → ⊥)
-        (service_ending_view result) (O.contents output.old) (O.contents output.new) }
+    ensures written { (fail_on : List Condition) → ServiceLeaves inquiry.entry.beyond_width fail_on
+        (Some inquiry.entry.document.now) (N.may_give network.now service.now.port) N.Connection.never_fails ⊥
+        (N.never_fails ≡ true → ⊥) (service_ending fail_on result) (O.contents output.old) (O.contents output.new) }
     ensures err { IfErr result (λ fault. (fault ≡ faults.Network) ⊎ (fault ≡ faults.Engine EngineFault.Memory)
         ⊎ (fault ≡ faults.Engine EngineFault.Write)) }
 {
@@ -186,9 +188,10 @@ fn judge_no_streams<S: RandomSource + Threads + Wait + Sync, N: Network, O: Writ
     alloc: Global,
     inquiry: Inquiry<'_>,
     output: &mut O,
-) -> Result<bool, EngineFault>
-    ensures written { FilesJudgementLeaves inquiry.entry.beyond_width (Some inquiry.entry.document.now) []
-        N.Connection.never_fails ⊥ (ending_view result) (O.contents output.old) (O.contents output.new) }
+) -> Result<Report, EngineFault>
+    ensures written { (fail_on : List Condition) → FilesJudgementLeaves inquiry.entry.beyond_width fail_on
+        (Some inquiry.entry.document.now) [] N.Connection.never_fails ⊥ (judgement_ending fail_on result)
+        (O.contents output.old) (O.contents output.new) }
     ensures err { IfErr result (λ fault. (fault ≡ EngineFault.Memory) ⊎ (fault ≡ EngineFault.Write)) }
 {
     judge_read(
@@ -232,13 +235,13 @@ fn refuse_document<S: RandomSource + Threads + Wait + Sync, N: Network, O: Write
     inquiry: Inquiry<'_>,
     fault: &SpecFault,
     output: &mut O,
-) -> Result<bool, ServiceFault>
+) -> Result<Report, ServiceFault>
     requires { IsFaultOf inquiry.document.now fault.now }
-    ensures written { (port : ℕ) → ServiceLeaves inquiry.entry.beyond_width (Some inquiry.entry.document.now)
-        (N.may_give _network.now port) N.Connection.never_fails ⊥ (N.never_fails ≡ true → ⊥)
-        (service_ending_view result) (O.contents output.old) (O.contents output.new) }
+    ensures written { (port : ℕ) (fail_on : List Condition) → ServiceLeaves inquiry.entry.beyond_width fail_on
+        (Some inquiry.entry.document.now) (N.may_give _network.now port) N.Connection.never_fails ⊥
+        (N.never_fails ≡ true → ⊥) (service_ending fail_on result) (O.contents output.old) (O.contents output.new) }
     // Its refusal is the report that is written whole, or the call fails.
-    ensures refused { IfOk result (λ judged. judged ≡ false) }
+    ensures refused { IfOk result (λ report. is_judged (report_view report) ≡ false) }
     ensures err { IfErr result (λ fault. (fault ≡ faults.Engine EngineFault.Memory)
         ⊎ (fault ≡ faults.Engine EngineFault.Write)) }
 {
@@ -250,8 +253,8 @@ fn refuse_document<S: RandomSource + Threads + Wait + Sync, N: Network, O: Write
 }
 
 /// Opens and reads the document of a session; binds the ports, unless the document is refused; accepts a stream for
-/// each process; judges the document and the streams, writes the report, and flushes the output. It reports whether the
-/// session is judged, and not refused. Meanwhile the watchers are accepted, and each is shown how far the streams are
+/// each process; judges the document and the streams, writes the report, and flushes the output. It gives the report.
+/// Meanwhile the watchers are accepted, and each is shown how far the streams are
 /// read; it returns once all of them have come, or one can't be accepted.
 ///
 /// # Errors
@@ -270,12 +273,13 @@ pub(crate) fn serve<
     alloc: Global,
     service: &Service<'_>,
     output: &mut O,
-) -> Result<bool, ServiceFault>
+) -> Result<Report, ServiceFault>
     requires { service.now.port ≤ port_limit }
-    ensures { ServiceLeaves service.now.beyond_width (F.bytes_of files.now service.now.spec.now)
-        (N.may_give network.now service.now.port)
+    // This is said for all answers on which the run may be to fail.
+    ensures { (fail_on : List Condition) → ServiceLeaves service.now.beyond_width fail_on
+        (F.bytes_of files.now service.now.spec.now) (N.may_give network.now service.now.port)
         N.Connection.never_fails (F.always_opens ≡ true → F.File.never_fails ≡ true → ⊥) (N.never_fails ≡ true → ⊥)
-        (service_ending_view result) (O.contents output.old) (O.contents output.new) }
+        (service_ending fail_on result) (O.contents output.old) (O.contents output.new) }
 {
     let file = files.open(service.spec)?;
     let document = read_document(alloc, file)?;

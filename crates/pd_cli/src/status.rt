@@ -1,20 +1,27 @@
 //! Exit statuses, and what is reported on the errors.
-ghost use Rattle.pd_cli.specs.Faults.{ending_view, failure_view, service_ending_view};
-ghost use Rattle.pd_judgement.specs.Statuses.{IsLineOf, NetworkFailure, Reports, WritesUpTo, line_of_failure, status_of, status_of_failure};
+ghost use Rattle.pd_cli.specs.Faults.{concluded_ending, ending_view, exploration_ending, failure_view, judged_ending, judgement_ending, report_ending, service_ending};
+ghost use Rattle.pd_fail_on.specs.Conditions.{conclusion};
+ghost use Rattle.pd_fail_on.specs.Views.{conclusion_view, fail_on_view};
+ghost use Rattle.pd_judgement.specs.Headline.{is_judged};
+ghost use Rattle.pd_arguments.specs.Statuses.{IsLineOf, IsNoPredicateLine, NetworkFailure, Reports, WritesUpTo, line_of_failure, status_of, status_of_failure};
+ghost use Rattle.pd_report.specs.Views.{report_view};
 ghost use Rattle.std.specs.Prelude.{◌≡◌};
 
 use super::line::write_line;
 use super::service_fault::ServiceFault;
+use pd_engine::{Outcome, Report, report_outcome};
+use pd_fail_on::{Conclusion, FailOn};
 use pd_sessions::EngineFault;
 use std::io::Write;
 
-/// The session is judged, nothing that a check found is bad, or the help that was asked for is written.
+/// The session is judged and has no answer to fail on, nothing that a check found is bad, or the help that was asked
+/// for is written.
 pub(crate) const SUCCESS: u8 = 0;
 
 /// The session is refused, and its report says why; or something that a check found is bad.
 pub(crate) const REFUSED: u8 = 1;
 
-/// The arguments are refused.
+/// The arguments are refused, or give the name of a predicate that the session doesn't have.
 pub(crate) const MISUSED: u8 = 2;
 
 /// The input or a file can't be read or is too long, a port can't be bound or a stream not be accepted, or the output
@@ -23,6 +30,9 @@ pub(crate) const FAILED: u8 = 3;
 
 /// Memory runs out.
 pub(crate) const NO_MEMORY: u8 = 4;
+
+/// The session is judged, and has an answer to fail on.
+pub(crate) const ALARMED: u8 = 5;
 
 /// The exit status of a fault.
 fn fault_status(fault: &EngineFault) -> u8
@@ -56,7 +66,7 @@ pub(crate) fn report_fault<E: Write>(fault: &EngineFault, errors: &mut E) -> u8
     fault_status(fault)
 }
 
-/// The exit status by how a run ended, whose fault is reported.
+/// The exit status by how a check ended, whose fault is reported.
 pub(crate) fn report_end<E: Write>(end: &Result<bool, EngineFault>, errors: &mut E) -> u8
     ensures status { result ≡ status_of (ending_view end.now) }
     ensures errors { Reports (ending_view end.now) (E.contents errors.old) (E.contents errors.new) }
@@ -64,6 +74,81 @@ pub(crate) fn report_end<E: Write>(end: &Result<bool, EngineFault>, errors: &mut
     match end {
         Ok(true) => SUCCESS,
         Ok(false) => REFUSED,
+        Err(fault) => report_fault(fault, errors),
+    }
+}
+
+/// The exit status of a run that wrote this report.
+fn report_status(report: &Report) -> u8
+    ensures { result ≡ status_of (judged_ending (is_judged (report_view report.now))) }
+{
+    match report_outcome(report) {
+        Outcome::Judged => SUCCESS,
+        Outcome::Refused => REFUSED,
+    }
+}
+
+/// The exit status by how the judgement of a bundle ended, whose fault is reported.
+pub(crate) fn report_bundle<E: Write>(end: &Result<Report, EngineFault>, errors: &mut E) -> u8
+    ensures status { result ≡ status_of (report_ending end.now) }
+    ensures errors { Reports (report_ending end.now) (E.contents errors.old) (E.contents errors.new) }
+{
+    match end {
+        Ok(report) => report_status(report),
+        Err(fault) => report_fault(fault, errors),
+    }
+}
+
+/// The exit status by how an exploration ended, whose fault is reported.
+pub(crate) fn report_exploration<E: Write>(
+    end: &Result<Option<Report>, EngineFault>,
+    errors: &mut E,
+) -> u8
+    ensures status { result ≡ status_of (exploration_ending end.now) }
+    ensures errors { Reports (exploration_ending end.now) (E.contents errors.old) (E.contents errors.new) }
+{
+    match end {
+        Ok(None) => SUCCESS,
+        Ok(Some(_)) => REFUSED,
+        Err(fault) => report_fault(fault, errors),
+    }
+}
+
+/// Writes the line that reports that there is no predicate of a name in the arguments, and gives the exit status.
+fn report_no_predicate<E: Write>(errors: &mut E) -> u8
+    ensures status { result ≡ 2 }
+    ensures line { WritesUpTo IsNoPredicateLine (E.contents errors.old) (E.contents errors.new) }
+{
+    write_line(b"monitor: no predicate of this name\n", errors);
+    MISUSED
+}
+
+/// The exit status of a run that wrote a report which comes to this. A predicate that isn't there is reported.
+fn report_conclusion<E: Write>(end: Conclusion, errors: &mut E) -> u8
+    ensures status { result ≡ status_of (concluded_ending (conclusion_view end)) }
+    ensures errors { Reports (concluded_ending (conclusion_view end)) (E.contents errors.old)
+        (E.contents errors.new) }
+{
+    match end {
+        Conclusion::Refused => REFUSED,
+        Conclusion::NoPredicate => report_no_predicate(errors),
+        Conclusion::Met => ALARMED,
+        Conclusion::Unmet => SUCCESS,
+    }
+}
+
+/// The exit status by how the judgement of files ended that is to fail on these answers, whose fault is reported.
+pub(crate) fn report_judgement<E: Write>(
+    fail_on: &FailOn<'_>,
+    end: &Result<Report, EngineFault>,
+    errors: &mut E,
+) -> u8
+    ensures status { result ≡ status_of (judgement_ending (fail_on_view fail_on.now) end.now) }
+    ensures errors { Reports (judgement_ending (fail_on_view fail_on.now) end.now) (E.contents errors.old)
+        (E.contents errors.new) }
+{
+    match end {
+        Ok(report) => report_conclusion(fail_on.conclusion(report), errors),
         Err(fault) => report_fault(fault, errors),
     }
 }
@@ -78,13 +163,17 @@ fn report_network<E: Write>(errors: &mut E) -> u8
 }
 
 /// The exit status by how a server's run ended, whose fault is reported.
-pub(crate) fn report_service_end<E: Write>(end: &Result<bool, ServiceFault>, errors: &mut E) -> u8
-    ensures status { result ≡ status_of (service_ending_view end.now) }
-    ensures errors { Reports (service_ending_view end.now) (E.contents errors.old) (E.contents errors.new) }
+pub(crate) fn report_service_end<E: Write>(
+    fail_on: &FailOn<'_>,
+    end: &Result<Report, ServiceFault>,
+    errors: &mut E,
+) -> u8
+    ensures status { result ≡ status_of (service_ending (fail_on_view fail_on.now) end.now) }
+    ensures errors { Reports (service_ending (fail_on_view fail_on.now) end.now) (E.contents errors.old)
+        (E.contents errors.new) }
 {
     match end {
-        Ok(true) => SUCCESS,
-        Ok(false) => REFUSED,
+        Ok(report) => report_conclusion(fail_on.conclusion(report), errors),
         Err(ServiceFault::Engine(fault)) => report_fault(fault, errors),
         Err(ServiceFault::Network) => report_network(errors),
     }

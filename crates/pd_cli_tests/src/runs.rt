@@ -64,6 +64,7 @@ pub(crate) fn run_to<T: RandomSource + Threads + Wait + Sync>(
         alloc,
         arguments,
         input,
+        false,
         &mut output,
         &mut errors,
     );

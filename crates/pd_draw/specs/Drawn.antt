@@ -28,7 +28,7 @@ pub record ShowsPredicate (document : Document) (traces : List Trace) (answers :
   pub answer : Answer
   pub is_answer : slice_get answers i ≡ Some answer
   pub shows : Shows document.names (recorded_of document traces) asked.predicate answer evidence
-  pub is_title : title ≡ title_text asked.name evidence
+  pub is_title : title ≡ title_text asked.name answer.possibly answer.definitely
 
 -- the evidence that is drawn by this choice, and the title of its picture
 abbrev pub ShowsChoice : Document → List Trace → List Answer → Choice → Evidence → (title : List ℕ) → Type 0

@@ -1,5 +1,5 @@
 -- The evidence that a picture shows of a predicate, and what the picture is called.
-use Rattle.std.specs.Prelude.{◌≡◌, ℕ, Contains, List, ◌++◌, codes, map}
+use Rattle.std.specs.Prelude.{◌≡◌, ℕ, Contains, List, ◌++◌, codes, decimal, map}
 use Rattle.pd_model.specs.Answers.{IsAvoidingObservation, cuts_along}
 use Rattle.pd_model.specs.Cuts.{empty_cut}
 use Rattle.pd_model.specs.Events.{Computation}
@@ -79,14 +79,20 @@ Shows names recorded predicate answer evidence =
 
 -- ---- what the picture is called
 
-abbrev pub claim : Evidence → List ℕ
-claim Absent = codes " has no evidence"
-claim (Cut counts values path) = codes " possibly yes"
-claim (Observation path) = codes " definitely no"
+-- what the report says of a predicate, but for the cut and the path
+abbrev pub possibly_words : Possibly → List ℕ
+possibly_words (Possibly.Yes cut) = codes " possibly yes"
+possibly_words Possibly.No = codes " possibly no"
+possibly_words (Possibly.Unknown level) = codes " possibly unknown " ++ decimal level
+
+abbrev pub definitely_words : Definitely → List ℕ
+definitely_words (Definitely.Yes level) = codes ", definitely yes " ++ decimal level
+definitely_words (Definitely.No reported) = codes ", definitely no"
+definitely_words (Definitely.Unknown level) = codes ", definitely unknown " ++ decimal level
 
 -- the picture of a predicate of this name
-abbrev pub title_text : List ℕ → Evidence → List ℕ
-title_text name evidence = name ++ claim evidence
+abbrev pub title_text : (name : List ℕ) → Possibly → Definitely → List ℕ
+title_text name possibly definitely = (name ++ possibly_words possibly) ++ definitely_words definitely
 
 -- the picture of a run alone
 abbrev pub run_title : List ℕ

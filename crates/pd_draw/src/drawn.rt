@@ -119,8 +119,9 @@ fn draw_predicate(
 {
     let spec = run.spec;
     let asked = &spec.predicates()[i];
-    let evidence = evidence_of(alloc, spec.names(), run.computation, asked, &answers[i])?;
-    let title = title_of(alloc, &asked.name, &evidence)?;
+    let answer = &answers[i];
+    let evidence = evidence_of(alloc, spec.names(), run.computation, asked, answer)?;
+    let title = title_of(alloc, &asked.name, answer)?;
     run_picture(alloc, run, &title, &evidence)
 }
 

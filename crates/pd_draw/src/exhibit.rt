@@ -1,5 +1,5 @@
 //! The evidence that is drawn, and what the picture is called.
-ghost use Rattle.pd_draw.specs.Exhibits.{HasGoodEvidence, Shows, ShowsCut, ShowsDefinitely, ShowsPath, claim, title_text};
+ghost use Rattle.pd_draw.specs.Exhibits.{HasGoodEvidence, Shows, ShowsCut, ShowsDefinitely, ShowsPath, definitely_words, possibly_words, title_text};
 ghost use Rattle.pd_draw.specs.Values.{value_texts};
 ghost use Rattle.pd_judgement.specs.Findings.{IsGoodCut, IsGoodPath};
 ghost use Rattle.pd_model.specs.Cuts.{IsConsistent};
@@ -8,7 +8,7 @@ ghost use Rattle.pd_picture.specs.Pictures.{texts_view};
 ghost use Rattle.pd_pred.specs.Views.{predicate_view};
 ghost use Rattle.pd_report.specs.Views as views;
 ghost use Rattle.pd_spec.specs.Named.{named_view};
-ghost use Rattle.std.specs.Prelude.{◌≡◌, IfOk, length, string_bytes};
+ghost use Rattle.std.specs.Prelude.{◌≡◌, ◌++◌, IfOk, OnOk, decimal, length, string_bytes};
 
 use super::values::value_texts;
 use pd_check::path_of;
@@ -127,25 +127,53 @@ pub(crate) fn evidence_of(
     }
 }
 
-/// What is said of a predicate with this evidence.
-fn claim(evidence: &Evidence) -> &'static str
-    ensures { result.now ≡ claim evidence.now }
+/// Appends words and the number of a level.
+fn push_level(alloc: Global, text: &mut String, words: &str, level: u64) -> Result<(), AllocError>
+    ensures { OnOk result (string_bytes text.new ≡ string_bytes text.old ++ (words.now ++ decimal level)) }
 {
-    match evidence {
-        Evidence::Absent => " has no evidence",
-        Evidence::Cut { .. } => " possibly yes",
-        Evidence::Observation(_) => " definitely no",
+    let digits = format!(in alloc; "{level}")?;
+    text.push_str(words)?;
+    text.push_str(&digits)
+}
+
+/// Appends what the report says of *possibly*, but for the cut.
+fn push_possibly(alloc: Global, text: &mut String, possibly: &Possibly) -> Result<(), AllocError>
+    ensures { OnOk result (string_bytes text.new
+        ≡ string_bytes text.old ++ possibly_words (views.possibly_view possibly.now)) }
+{
+    match possibly {
+        Possibly::Yes(_) => text.push_str(" possibly yes"),
+        Possibly::No => text.push_str(" possibly no"),
+        Possibly::Unknown(level) => push_level(alloc, text, " possibly unknown ", *level),
     }
 }
 
-/// What the picture of a predicate of this name and of this evidence is called.
+/// Appends what the report says of *definitely*, but for the path.
+fn push_definitely(
+    alloc: Global,
+    text: &mut String,
+    definitely: &Definitely,
+) -> Result<(), AllocError>
+    ensures { OnOk result (string_bytes text.new
+        ≡ string_bytes text.old ++ definitely_words (views.definitely_view definitely.now)) }
+{
+    match definitely {
+        Definitely::Yes(level) => push_level(alloc, text, ", definitely yes ", *level),
+        Definitely::No(_) => text.push_str(", definitely no"),
+        Definitely::Unknown(level) => push_level(alloc, text, ", definitely unknown ", *level),
+    }
+}
+
+/// What the picture of a predicate of this name and with this answer is called.
 ///
 /// # Errors
 /// Out of memory.
-pub(crate) fn title_of(alloc: Global, name: &str, evidence: &Evidence) -> Result<String, AllocError>
-    ensures { IfOk result (λ title. string_bytes title ≡ title_text name.now evidence.now) }
+pub(crate) fn title_of(alloc: Global, name: &str, answer: &Answer) -> Result<String, AllocError>
+    ensures { IfOk result (λ title. string_bytes title ≡ title_text name.now
+        (views.answer_view answer.now).possibly (views.answer_view answer.now).definitely) }
 {
     let mut title = String::from_str(alloc, name)?;
-    title.push_str(claim(evidence))?;
+    push_possibly(alloc, &mut title, &answer.possibly)?;
+    push_definitely(alloc, &mut title, &answer.definitely)?;
     Ok(title)
 }

@@ -3,7 +3,6 @@ pub mod AnsweredTraces
 pub mod SessionReports
 pub mod ReportTexts
 pub mod PrintedPaths
-pub mod Ends
 pub mod Zips
 pub mod WalkAnswers
 pub mod BundleReads

@@ -26,7 +26,10 @@ use std::thread::Threads;
 
 /// The answer for each predicate: those that are decided whatever the width, if the document asks for them, and the
 /// others by one walk, whose lists of cuts the workers share.
-pub(crate) fn answers_of<S: Threads + Wait + Sync, G: Gate + Sync>(
+///
+/// # Errors
+/// Out of memory.
+pub fn answers_of<S: Threads + Wait + Sync, G: Gate + Sync>(
     crew: &Crew<'_, '_, S, G>,
     alloc: Global,
     spec: &Spec,

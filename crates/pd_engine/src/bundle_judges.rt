@@ -1,14 +1,13 @@
 //! Judges a bundle, and writes its report.
 ghost use Rattle.pd_bundle.specs.PartsRead.{IsKept};
 ghost use Rattle.pd_sessions.specs.Ends.{call_end};
-ghost use Rattle.pd_engine.specs.Ends.{judged_as};
+ghost use Rattle.pd_engine.specs.Judging.{JudgesBundle, JudgesBundleToOutcome};
 ghost use Rattle.pd_engine.specs.SessionReports.{IsReportOfRead};
 ghost use Rattle.pd_sessions.specs.Unanswered.{IsUnanswered};
-ghost use Rattle.pd_engine.specs.declared.outcome.Outcome.TheVariants as outcomes;
 ghost use Rattle.pd_format.specs.Limits.{worker_limit};
 ghost use Rattle.pd_format.specs.Documents.{IsDocument, plain};
 ghost use Rattle.pd_judgement.specs.Judgements.{IsJudgement, RawStream};
-ghost use Rattle.pd_judgement.specs.Writes.{IsTextOfBundle, IsTooLong, Silent, Writes, WritesTruthOfBundle};
+ghost use Rattle.pd_judgement.specs.Writes.{IsTooLong, Silent};
 ghost use Rattle.pd_report.specs.Views.{report_view};
 ghost use Rattle.pd_spec.specs.Views.{document_view};
 ghost use Rattle.pd_bundle.specs.Steps.{HasParts};
@@ -16,6 +15,7 @@ ghost use Rattle.std.specs.Prelude.{◌≡◌, ◌≢◌, ◌≤◌, ◌∷◌, 
 
 use super::Outcome;
 use super::judges::write_report;
+use super::outcome::outcome_of;
 use super::reports::report_by;
 use pd_bundle::{Bundle, read_document_part, read_stream_parts, skip_parts};
 use pd_expand::Crew;
@@ -124,13 +124,40 @@ fn bundle_report<S: RandomSource + Threads + Wait + Sync, R: ByteSource + Drop, 
     }
 }
 
-/// Reads a bundle, judges it, and writes its report. Its first part is the document, and each of the others is a whole
-/// stream. They are read one after another, in pieces, and no bundle is held in memory. The workers, from 1 to 16,
-/// and the gate change how long it takes, and nothing that is written.
+/// Reads a bundle, judges it, and writes its report, which it gives back. Its first part is the document, and each of
+/// the others is a whole stream. They are read one after another, in pieces, and no bundle is held in memory. The
+/// workers, from 1 to 16, and the gate change how long it takes, and nothing that is written.
 ///
 /// # Errors
 /// `Memory`, `Read` if the reader fails, and `BundleLong` if it has more than 67,108,864 bytes leave nothing written.
 /// `Write` leaves a prefix of the report written, and not all of it.
+pub fn write_bundle_report<
+    S: RandomSource + Threads + Wait + Sync,
+    R: ByteSource + Drop,
+    W: Write,
+    G: Gate + Sync,
+>(
+    rt: &S,
+    alloc: Global,
+    reader: R,
+    workers: u64,
+    gate: &G,
+    writer: &mut W,
+) -> Result<Report, EngineFault>
+    requires open { R.has_ended reader ≡ false }
+    requires some_workers { 1 ≤ workers }
+    requires few_workers { workers ≤ worker_limit }
+    ensures { JudgesBundle (R.remaining reader) R.never_fails result (W.contents writer.old) (W.contents writer.new) }
+{
+    let crew = Crew::new(rt, workers, gate);
+    let report = bundle_report(&crew, alloc, reader)?;
+    write_report(alloc, report, writer)
+}
+
+/// Judges a bundle as `write_bundle_report` does, and gives no more of the report than its outcome.
+///
+/// # Errors
+/// As `write_bundle_report`.
 pub fn judge_bundle<
     S: RandomSource + Threads + Wait + Sync,
     R: ByteSource + Drop,
@@ -147,20 +174,8 @@ pub fn judge_bundle<
     requires open { R.has_ended reader ≡ false }
     requires some_workers { 1 ≤ workers }
     requires few_workers { workers ≤ worker_limit }
-    // The text of the report of the parts of the bundle that the reader gave is written whole, judged or refused as is
-    // reported, and it is true; a write that fails leaves a prefix of it, and every other fault leaves nothing.
-    ensures written { Writes (IsTextOfBundle (R.remaining reader) (judged_as result)) (call_end result)
-        (W.contents writer.old) (W.contents writer.new) }
-    // If the bundle holds a well-formed session, it is judged; with no level over the width, what is written tells the
-    // truth of each predicate.
-    ensures headline { IfOk result (λ outcome. WritesTruthOfBundle (R.remaining reader) (outcome ≡ outcomes.Judged)
-        (W.contents writer.old) (W.contents writer.new)) }
-    // The bundle is reported as too long only if it is; and a read is reported as failed only if one may fail. So of a
-    // reader of which no read fails, a bundle over the limit is reported as that, or memory ran out.
-    ensures long { result ≡ Err EngineFault.BundleLong → IsTooLong (R.remaining reader) }
-    ensures sure { R.never_fails ≡ true → result ≢ Err EngineFault.Read }
+    ensures { JudgesBundleToOutcome (R.remaining reader) R.never_fails result (W.contents writer.old)
+        (W.contents writer.new) }
 {
-    let crew = Crew::new(rt, workers, gate);
-    let report = bundle_report(&crew, alloc, reader)?;
-    write_report(alloc, &report, writer)
+    outcome_of(write_bundle_report(rt, alloc, reader, workers, gate, writer))
 }

@@ -1,6 +1,6 @@
 //! Judges a session, and writes its report.
-ghost use Rattle.pd_engine.specs.Ends.{IsTextAs, judged_as};
-ghost use Rattle.pd_engine.specs.Judging.{JudgesStreams};
+ghost use Rattle.pd_engine.specs.Ends.{IsTextAs};
+ghost use Rattle.pd_engine.specs.Judging.{JudgesStreams, JudgesToOutcome};
 ghost use Rattle.pd_format.specs.Documents.{plain};
 ghost use Rattle.pd_format.specs.Limits.{worker_limit};
 ghost use Rattle.pd_judgement.specs.Writes.{Writes};
@@ -10,7 +10,7 @@ ghost use Rattle.pd_sessions.specs.Inquiries.{inquiry_view};
 ghost use Rattle.std.specs.Prelude.{◌≡◌, ◌⊎◌, ◌≤◌, All, IfErr, false, map};
 
 use super::Outcome;
-use super::outcome::report_outcome;
+use super::outcome::outcome_of;
 use super::reports::streams_report;
 use pd_expand::Crew;
 use pd_gather::{ByteSource, NoObserver, Observer};
@@ -23,18 +23,21 @@ use std::random::RandomSource;
 use std::sync::Wait;
 use std::thread::Threads;
 
-/// Writes a report, and gives its outcome.
-pub(crate) fn write_report<W: Write>(
+/// Writes a report, and gives it back. It doesn't flush the writer.
+///
+/// # Errors
+/// `Memory` leaves nothing written. `Write` leaves a prefix of the report written, and not all of it.
+pub fn write_report<W: Write>(
     alloc: Global,
-    report: &Report,
+    report: Report,
     writer: &mut W,
-) -> Result<Outcome, EngineFault>
-    ensures written { Writes (IsTextAs (report_view report.now) (judged_as result)) (call_end result)
+) -> Result<Report, EngineFault>
+    ensures written { Writes (IsTextAs (report_view report) result) (call_end result)
         (W.contents writer.old) (W.contents writer.new) }
     ensures err { IfErr result (λ fault. (fault ≡ EngineFault.Memory) ⊎ (fault ≡ EngineFault.Write)) }
 {
-    write(alloc, report, writer)?;
-    Ok(report_outcome(report))
+    write(alloc, &report, writer)?;
+    Ok(report)
 }
 
 /// Judges a session, and writes its report. The observer, if there is one, watches while the streams are read.
@@ -51,13 +54,13 @@ fn judge_streams<
     readers: Vec<R>,
     observer: Option<&O>,
     writer: &mut W,
-) -> Result<Outcome, EngineFault>
+) -> Result<Report, EngineFault>
     requires { All (λ r. R.has_ended r ≡ false) readers.items }
     ensures { JudgesStreams (inquiry_view inquiry.entry) (map R.remaining readers.items) R.never_fails result
         (W.contents writer.old) (W.contents writer.new) }
 {
     let report = streams_report(crew, alloc, inquiry, readers, observer)?;
-    write_report(alloc, &report, writer)
+    write_report(alloc, report, writer)
 }
 
 /// Judges the session of the document in these bytes and of the streams, and writes its report. The streams are read
@@ -84,10 +87,10 @@ pub fn judge<
     requires open { All (λ r. R.has_ended r ≡ false) readers.items }
     requires some_workers { 1 ≤ workers }
     requires few_workers { workers ≤ worker_limit }
-    ensures { JudgesStreams (plain spec.now) (map R.remaining readers.items) R.never_fails result
+    ensures { JudgesToOutcome (plain spec.now) (map R.remaining readers.items) R.never_fails result
         (W.contents writer.old) (W.contents writer.new) }
 {
-    judge_inquiry(
+    outcome_of(judge_inquiry(
         rt,
         alloc,
         Inquiry::plain(spec),
@@ -95,10 +98,11 @@ pub fn judge<
         workers,
         gate,
         writer,
-    )
+    ))
 }
 
-/// Judges a session as `judge` does, with what is asked of it beside its document's bytes.
+/// Judges a session as `judge` does, with what is asked of it beside its document's bytes, and gives the report that it
+/// wrote.
 ///
 /// # Errors
 /// As `judge`.
@@ -115,7 +119,7 @@ pub fn judge_inquiry<
     workers: u64,
     gate: &G,
     writer: &mut W,
-) -> Result<Outcome, EngineFault>
+) -> Result<Report, EngineFault>
     requires open { All (λ r. R.has_ended r ≡ false) readers.items }
     requires some_workers { 1 ≤ workers }
     requires few_workers { workers ≤ worker_limit }
@@ -152,21 +156,22 @@ pub fn judge_watched<
     requires open { All (λ r. R.has_ended r ≡ false) readers.items }
     requires some_workers { 1 ≤ workers }
     requires few_workers { workers ≤ worker_limit }
-    ensures { JudgesStreams (plain spec.now) (map R.remaining readers.items) R.never_fails result
+    ensures { JudgesToOutcome (plain spec.now) (map R.remaining readers.items) R.never_fails result
         (W.contents writer.old) (W.contents writer.new) }
 {
     let crew = Crew::new(rt, workers, gate);
-    judge_inquiry_watched(
+    outcome_of(judge_inquiry_watched(
         &crew,
         alloc,
         Inquiry::plain(spec),
         readers,
         observer,
         writer,
-    )
+    ))
 }
 
-/// Judges a session as `judge_watched` does, by this crew, with what is asked of it beside its document's bytes.
+/// Judges a session as `judge_watched` does, by this crew, with what is asked of it beside its document's bytes, and
+/// gives the report that it wrote.
 ///
 /// # Errors
 /// As `judge_watched`.
@@ -183,7 +188,7 @@ pub fn judge_inquiry_watched<
     readers: Vec<R>,
     observer: &O,
     writer: &mut W,
-) -> Result<Outcome, EngineFault>
+) -> Result<Report, EngineFault>
     requires { All (λ r. R.has_ended r ≡ false) readers.items }
     ensures { JudgesStreams (inquiry_view inquiry.entry) (map R.remaining readers.items) R.never_fails result
         (W.contents writer.old) (W.contents writer.new) }

@@ -24,9 +24,10 @@ mod judges;
 mod outcome;
 mod reports;
 
-pub use bundle_judges::judge_bundle;
-pub use judges::{judge, judge_inquiry, judge_inquiry_watched, judge_watched};
-pub use outcome::Outcome;
+pub use answers::answers_of;
+pub use bundle_judges::{judge_bundle, write_bundle_report};
+pub use judges::{judge, judge_inquiry, judge_inquiry_watched, judge_watched, write_report};
+pub use outcome::{Outcome, report_outcome};
 pub use pd_expand::Crew;
 pub use pd_gather::{ByteSource, NoObserver, Observer, within_limit};
 pub use pd_level::{Gate, NoGate};

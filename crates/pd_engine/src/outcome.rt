@@ -1,10 +1,11 @@
 //! How a session was judged.
-ghost use Rattle.pd_engine.specs.Ends.{outcome_view};
+ghost use Rattle.pd_engine.specs.Ends.{IsOutcomeOf, outcome_view};
 ghost use Rattle.pd_judgement.specs.Headline.{is_judged};
 ghost use Rattle.pd_report.specs.Views.{report_view};
 ghost use Rattle.std.specs.Prelude.{◌≡◌};
 
 use pd_report::Report;
+use pd_sessions::EngineFault;
 
 /// How a session was judged.
 #[derive(Clone, Copy, Debug, PartialEq, Eq)]
@@ -16,11 +17,21 @@ pub enum Outcome {
 }
 
 /// Whether a report has answers or is a refusal.
-pub(crate) fn report_outcome(report: &Report) -> Outcome
+pub fn report_outcome(report: &Report) -> Outcome
     ensures { outcome_view result ≡ is_judged (report_view report.now) }
 {
     match report {
         Report::Judged { .. } => Outcome::Judged,
         Report::Refused(_) => Outcome::Refused,
+    }
+}
+
+/// How a session was judged whose report this is, if there is one.
+pub(crate) fn outcome_of(reported: Result<Report, EngineFault>) -> Result<Outcome, EngineFault>
+    ensures { IsOutcomeOf reported result }
+{
+    match reported {
+        Ok(report) => Ok(report_outcome(&report)),
+        Err(fault) => Err(fault),
     }
 }

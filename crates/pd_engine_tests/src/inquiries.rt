@@ -1,9 +1,8 @@
 //! What is asked of a session beside its document.
-use super::ends::outcome_word;
 use super::readers::{Reader, Signs, both};
 use super::sessions::{OF_A, OF_B, REPORT};
 use super::writers::{Full, ROOM, Writer};
-use pd_engine::{Inquiry, NoGate, judge_inquiry};
+use pd_engine::{Inquiry, NoGate, Report, judge_inquiry};
 use std::alloc::Global;
 use std::random::RandomSource;
 use std::sync::Wait;
@@ -38,7 +37,7 @@ fn is_answered<S: RandomSource + Threads + Wait + Sync>(
         beyond_width,
     };
     let end = judge_inquiry(rt, alloc, inquiry, readers, 1, &NoGate, &mut writer);
-    Ok(outcome_word(&end) == "judged" && writer.has_taken(report, ROOM))
+    Ok(matches!(end, Ok(Report::Judged { .. })) && writer.has_taken(report, ROOM))
 }
 
 #[test]

@@ -1,21 +1,21 @@
 -- The text of a report is one that is owed, and what is written whole of such a text is the truth.
-use Rattle.std.proofs.Common.{◌≡◌, ℕ, Bool, true, false, List, [], ◌∷◌, ◌++◌, refl, sym, ◌∙◌, Some}
-use Rattle.std.specs.Prelude.{Option, IfSome, if◌then◌else◌}
+use Rattle.std.proofs.Common.{◌≡◌, ℕ, Bool, true, false, List, [], ◌∷◌, ◌++◌, refl}
+use Rattle.std.specs.Prelude.{Option, if◌then◌else◌}
 use Rattle.pd_format.specs.Bundles.{whole_lines, is_separator, onto_part, parts_of_lines, parts_of}
 use Rattle.pd_format.specs.Documents.{Inquiry, plain}
 use Rattle.pd_format.specs.Reports.{Report, report_text}
 use Rattle.pd_judgement.specs.Judgements.{RawStream, IsJudgement, ended_streams}
 use Rattle.pd_judgement.specs.Headline.{is_judged}
-use Rattle.pd_judgement.specs.Writes.{Writes, Whole, IsReportTextOf, IsTextOfBundle, WritesTruth, WritesTruthOfBundle}
+use Rattle.pd_judgement.specs.Writes.{Writes, Whole, IsReportTextOf, IsTextOfBundle, IsTextOfStreams, WritesTruth, WritesTruthOfBundle}
 use Rattle.pd_judgement.proofs.TrueReports.{judgement_is_true_lem}
 
 -- ---- what is owed
 
 -- a right report's text is owed
 pub report_text_of : (document : Inquiry) (streams : List RawStream) (report : Report)
-    → IsJudgement document streams report → (judged : Option Bool) → IfSome judged (λ j. is_judged report ≡ j)
-    → IsReportTextOf document streams judged (report_text report)
-report_text_of document streams report right judged said = record {
+    → IsJudgement document streams report → (IsSaid : Report → Type 0) → IsSaid report
+    → IsReportTextOf document streams IsSaid (report_text report)
+report_text_of document streams report right IsSaid said = record {
   report = report;
   right = right;
   truth = judgement_is_true_lem document streams report right;
@@ -23,14 +23,49 @@ report_text_of document streams report right judged said = record {
   is_text = refl;
 }
 
+-- a text of which something is said is one of which what follows from that is said
+pub weaker_said : (document : Inquiry) (streams : List RawStream) (P Q : Report → Type 0) (text : List ℕ)
+    → ((report : Report) → P report → Q report) → IsReportTextOf document streams P text
+    → IsReportTextOf document streams Q text
+weaker_said document streams P Q text go h = record {
+  report = h.report;
+  right = h.right;
+  truth = h.truth;
+  said = go h.report h.said;
+  is_text = h.is_text;
+}
+
+-- so is that of a bundle
+pub weaker_said_of_bundle : (input : Option (List ℕ)) (P Q : Report → Type 0) (text : List ℕ)
+    → ((report : Report) → P report → Q report) → IsTextOfBundle input P text → IsTextOfBundle input Q text
+weaker_said_of_bundle input P Q text go h = record {
+  bundle = h.bundle;
+  is_given = h.is_given;
+  fits = h.fits;
+  document = h.document;
+  streams = h.streams;
+  parts = h.parts;
+  is_report_text = weaker_said (plain h.document) (ended_streams h.streams) P Q text go h.is_report_text;
+}
+
+-- and that of readers of streams
+pub weaker_said_of_streams : (document : Inquiry) (inputs : List (Option (List ℕ))) (never_fails : Bool)
+    (P Q : Report → Type 0) (text : List ℕ) → ((report : Report) → P report → Q report)
+    → IsTextOfStreams document inputs never_fails P text → IsTextOfStreams document inputs never_fails Q text
+weaker_said_of_streams document inputs never_fails P Q text go h = record {
+  streams = h.streams;
+  are_given = h.are_given;
+  is_report_text = weaker_said document h.streams P Q text go h.is_report_text;
+}
+
 -- ---- what is true
 
--- a report's text that is written whole is the truth
-pub truth_of_text : (document : Inquiry) (streams : List RawStream) (j : Bool) (old new : Option (List ℕ))
-    → Writes (IsReportTextOf document streams (Some j)) Whole old new
-    → WritesTruth document streams (j ≡ true) old new
-truth_of_text document streams j old new written = λ read traces holds well. (
-  sym written.1.said ∙ written.1.truth.judged read traces holds well,
+-- a report's text that is written whole is the truth; that it is judged is told by what is said of it
+pub truth_of_text : (document : Inquiry) (streams : List RawStream) (IsSaid : Report → Type 0) (IsTold : Type 0)
+    (old new : Option (List ℕ)) → ((report : Report) → IsSaid report → is_judged report ≡ true → IsTold)
+    → Writes (IsReportTextOf document streams IsSaid) Whole old new → WritesTruth document streams IsTold old new
+truth_of_text document streams IsSaid IsTold old new tell written = λ read traces holds well. (
+  tell written.1.report written.1.said (written.1.truth.judged read traces holds well),
   record {
     within_width = λ narrow. (
       written.0,
@@ -54,15 +89,16 @@ truth_of_text document streams j old new written = λ read traces holds well. (
 )
 
 -- so is that of a bundle
-pub truth_of_bundle_text : (input : Option (List ℕ)) (j : Bool) (old new : Option (List ℕ))
-    → Writes (IsTextOfBundle input (Some j)) Whole old new → WritesTruthOfBundle input (j ≡ true) old new
-truth_of_bundle_text input j old new written = record {
+pub truth_of_bundle_text : (input : Option (List ℕ)) (IsSaid : Report → Type 0) (IsTold : Type 0)
+    (old new : Option (List ℕ)) → ((report : Report) → IsSaid report → is_judged report ≡ true → IsTold)
+    → Writes (IsTextOfBundle input IsSaid) Whole old new → WritesTruthOfBundle input IsTold old new
+truth_of_bundle_text input IsSaid IsTold old new tell written = record {
   bundle = written.1.bundle;
   is_given = written.1.is_given;
   document = written.1.document;
   streams = written.1.streams;
   parts = written.1.parts;
-  truth = truth_of_text (plain written.1.document) (ended_streams written.1.streams) j old new
+  truth = truth_of_text (plain written.1.document) (ended_streams written.1.streams) IsSaid IsTold old new tell
       (written.0, written.1.is_report_text, written.2);
 }
 

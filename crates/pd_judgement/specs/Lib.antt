@@ -5,5 +5,4 @@ pub mod OneReport
 pub mod LawfulReports
 pub mod Findings
 pub mod Writes
-pub mod Statuses
 pub mod Examples

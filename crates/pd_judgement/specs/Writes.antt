@@ -1,5 +1,5 @@
 -- What a call leaves written of the one text that it owes: all of it, a part of it, or nothing; and which text that is.
-use Rattle.std.specs.Prelude.{◌≡◌, ◌≢◌, ◌<◌, ◌≤◌, ◌↔◌, ℕ, Bool, true, IsTrue, List, ◌∷◌, ◌++◌, length, take, Option, IfSome}
+use Rattle.std.specs.Prelude.{◌≡◌, ◌≢◌, ◌<◌, ◌≤◌, ◌↔◌, ⊤, ℕ, Bool, true, false, IsTrue, List, ◌∷◌, ◌++◌, length, take, Option, IfSome}
 use Rattle.std.specs.List.{AllZip}
 use Rattle.std.specs.Io.KnownBytes.{Appends, Keeps}
 use Rattle.pd_model.specs.Order.{IsWellFormed}
@@ -51,35 +51,49 @@ pub record IsGivenAs (never_fails : Bool) (input : Option (List ℕ)) (given : R
 abbrev pub IsWholeInput : Option (List ℕ) → List ℕ → Type 0
 IsWholeInput input bytes = IfSome input (λ left. bytes ≡ left)
 
+-- ---- what is said of a report
+
+-- it is no refusal
+abbrev pub IsJudged : Report → Type 0
+IsJudged report = is_judged report ≡ true
+
+-- it is a refusal
+abbrev pub IsRefused : Report → Type 0
+IsRefused report = is_judged report ≡ false
+
+-- nothing
+abbrev pub IsAnyReport : Report → Type 0
+IsAnyReport report = ⊤
+
 -- ---- the texts
 
--- The text of the report of a document's bytes, with what is asked beside them, and of streams, which is true. The
--- report is judged or a refusal as said, if anything is said of it.
-pub record IsReportTextOf (document : Inquiry) (streams : List RawStream) (judged : Option Bool) (text : List ℕ) :
-    Type 0 where
+-- The text of the report of a document's bytes, with what is asked beside them, and of streams, which is true. Of the
+-- report this is said.
+pub record IsReportTextOf (document : Inquiry) (streams : List RawStream) (IsSaid : Report → Type 0)
+    (text : List ℕ) : Type 0 where
   pub report : Report
   pub right : IsJudgement document streams report
   pub truth : IsTrueReport document streams report
-  pub said : IfSome judged (λ judged. is_judged report ≡ judged)
+  pub said : IsSaid report
   pub is_text : text ≡ report_text report
 
 -- The same of readers of streams with this left, of which no read ever fails, if that is said: of the streams that they
 -- gave.
 pub record IsTextOfStreams (document : Inquiry) (inputs : List (Option (List ℕ))) (never_fails : Bool)
-    (judged : Option Bool) (text : List ℕ) : Type 0 where
+    (IsSaid : Report → Type 0) (text : List ℕ) : Type 0 where
   pub streams : List RawStream
   pub are_given : AllZip (IsGivenAs never_fails) inputs streams
-  pub is_report_text : IsReportTextOf document streams judged text
+  pub is_report_text : IsReportTextOf document streams IsSaid text
 
 -- The same of a reader of a bundle with this left: of the parts of the bundle that it gave, which isn't too long.
-pub record IsTextOfBundle (input : Option (List ℕ)) (judged : Option Bool) (text : List ℕ) : Type 0 where
+pub record IsTextOfBundle (input : Option (List ℕ)) (IsSaid : Report → Type 0) (text : List ℕ) : Type 0 where
   pub bundle : List ℕ
   pub is_given : IsWholeInput input bundle
   pub fits : length bundle ≤ bundle_byte_limit
   pub document : List ℕ
   pub streams : List (List ℕ)
   pub parts : parts_of bundle ≡ document ∷ streams
-  pub is_report_text : IsReportTextOf (plain document) (ended_streams streams) judged text
+  pub is_report_text : IsReportTextOf (plain document) (ended_streams streams) IsSaid text
 
 -- the bundle that a reader with this left has is too long
 abbrev pub IsTooLong : Option (List ℕ) → Type 0

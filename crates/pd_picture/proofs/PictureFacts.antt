@@ -10,25 +10,27 @@ use Rattle.pd_picture.specs.Columns.{AreColumns}
 use Rattle.pd_picture.specs.Flights.{is_flight}
 use Rattle.pd_picture.specs.Layout.{lane_y, window_around}
 use Rattle.pd_picture.specs.Pictures.{IsPicture, description, evidence_shapes, focus, heading_shapes, page_width, run_shapes, widest, window}
+use Rattle.pd_picture.specs.Rooms.{names_room}
 use Rattle.pd_picture.specs.Shapes.{all_seen}
 use Rattle.pd_picture.specs.declared.evidence.Evidence.{Evidence}
 use Rattle.pd_picture.specs.declared.window.Window.{Window}
 use Rattle.pd_picture.proofs.FlightFacts.{flights_are}
 
 module _ (c recorded : Computation) (columns : Place → ℕ) (messages : List (MatchedPlace × MatchedPlace))
-    (names : List (List ℕ)) (title : List ℕ) (evidence : Evidence) (most last : ℕ) (shown : Window)
+    (names : List (List ℕ)) (title : List ℕ) (evidence : Evidence) (most last room : ℕ) (shown : Window)
     (same : recorded ≡ c) (most_is : most ≡ widest columns c) (last_is : last ≡ focus columns c evidence)
-    (shown_is : shown ≡ window_around most last) where
-  window_is : shown ≡ window columns c evidence
+    (room_is : room ≡ names_room names) (shown_is : shown ≡ window_around most last room) where
+  window_is : shown ≡ window columns c names evidence
   window_is =
-      shown_is ∙ (ap (λ (n : ℕ). window_around n last) most_is
-      ∙ ap (λ (n : ℕ). window_around (widest columns c) n) last_is)
+      shown_is ∙ (ap (λ (n : ℕ). window_around n last room) most_is
+      ∙ (ap (λ (n : ℕ). window_around (widest columns c) n room) last_is
+      ∙ ap (λ (n : ℕ). window_around (widest columns c) (focus columns c evidence) n) room_is))
 
   pub is_picture : IsMessageList c (pairs_view messages) → AreColumns c columns → (drawing : Drawing)
       → all_seen drawing.shapes.items ≡ heading_shapes shown most title evidence
       ++ run_shapes shown columns (is_flight recorded messages) c (pairs_view messages) names evidence
       ++ evidence_shapes shown columns c evidence
-      → drawing.width ≡ page_width shown last → drawing.height ≡ lane_y (length c) - 30
+      → drawing.width ≡ page_width shown title evidence → drawing.height ≡ lane_y (length c) - 30
       → string_bytes drawing.title ≡ title
       → string_bytes drawing.description ≡ description shown most c names evidence
       → IsPicture c (pairs_view messages) names title evidence drawing
@@ -47,9 +49,7 @@ module _ (c recorded : Computation) (columns : Place → ℕ) (messages : List (
         ∙ ap (λ (w : Window). heading_shapes w (widest columns c) title evidence
         ++ run_shapes w columns (is_flight c messages) c (pairs_view messages) names evidence
         ++ evidence_shapes w columns c evidence) window_is));
-    width =
-        wide ∙ (ap (λ (n : ℕ). page_width shown n) last_is
-        ∙ ap (λ (w : Window). page_width w (focus columns c evidence)) window_is);
+    width = wide ∙ ap (λ (w : Window). page_width w title evidence) window_is;
     height = high;
     is_titled = titled;
     is_described =

@@ -29,11 +29,16 @@ columns_after = 8
 abbrev pub last_shown : (widest focus : ℕ) → ℕ
 last_shown widest focus = min widest (max (focus + columns_after) column_limit)
 
--- the columns that are shown
-abbrev pub window_around : (widest focus : ℕ) → Window
-window_around widest focus = record {
+-- the left end of the lanes: there is room for the names of the processes before it
+abbrev pub left_of : (names : ℕ) → ℕ
+left_of names = max 182 (min 600 names) + 38
+
+-- the columns that are shown, if the names of the processes are given this room
+abbrev pub window_around : (widest focus names : ℕ) → Window
+window_around widest focus names = record {
   first = last_shown widest focus - column_limit + 1;
   shown = min (last_shown widest focus) column_limit;
+  left = left_of names;
 }
 
 -- a column is among those that are shown
@@ -46,10 +51,6 @@ greatest_column columns counts processes = max_upto (λ p. columns (place p (cou
 
 -- ---- places
 
--- the left end of the lanes
-abbrev pub left : ℕ
-left = 220
-
 -- how far one column is right of the other, and one lane below the other
 abbrev pub column_width : ℕ
 column_width = 48
@@ -59,11 +60,11 @@ lane_height = 100
 
 -- where a column stands: those before and after what is shown stand at the ends of the lanes
 abbrev pub column_x : Window → ℕ → ℕ
-column_x window column = left + column_width * min (column + 1 - window.first) (window.shown + 1)
+column_x window column = window.left + column_width * min (column + 1 - window.first) (window.shown + 1)
 
 -- the right end of the lanes
 abbrev pub right : Window → ℕ
-right window = left + column_width * (window.shown + 1)
+right window = window.left + column_width * (window.shown + 1)
 
 -- where the lane of a process stands; there are no more than `process_limit`
 abbrev pub lane_y : ℕ → ℕ

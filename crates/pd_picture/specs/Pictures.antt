@@ -1,5 +1,5 @@
 -- What a picture shows, and where.
-use Rattle.std.specs.Prelude.{◌≡◌, ℕ, ◌+◌, ◌-◌, max, Bool, true, ◌||◌, nat_le, nat_lt, if◌then◌else◌, IsTrue, ◌↔◌, List, [], ◌∷◌, ◌++◌, length, flat_map, codes, decimal, string_bytes, slice_index, slice_get, replicate, Option, Some, None, String, map}
+use Rattle.std.specs.Prelude.{◌≡◌, ◌<◌, ◌≤◌, ℕ, ◌+◌, ◌-◌, max, Bool, true, ◌||◌, nat_le, nat_lt, if◌then◌else◌, IsTrue, ◌↔◌, List, [], ◌∷◌, ◌++◌, length, flat_map, codes, decimal, string_bytes, slice_index, slice_get, replicate, Option, Some, None, String, map}
 use Rattle.std.specs.Global.{Global}
 use Rattle.std.specs.Fmt.Cut.{cut_to}
 use Rattle.pd_model.specs.Events.{Computation, Place, place, event_count, IsEvent}
@@ -10,7 +10,8 @@ use Rattle.pd_svg.specs.declared.class.Class.TheVariants as class
 use Rattle.pd_svg.specs.declared.drawing.Drawing.{Drawing}
 use Rattle.pd_svg.specs.declared.point.Point.{Point}
 use Rattle.pd_picture.specs.Columns.{AreColumns}
-use Rattle.pd_picture.specs.Layout.{upto, window_around, is_shown, greatest_column, left, right, column_x, lane_y, event_point}
+use Rattle.pd_picture.specs.Layout.{upto, window_around, is_shown, greatest_column, right, column_x, lane_y, event_point}
+use Rattle.pd_picture.specs.Rooms.{names_room, title_room, values_room}
 use Rattle.pd_picture.specs.Shapes.{Seen, SeenLine, SeenArrow, SeenCircle, SeenPolyline, SeenText, all_seen}
 use Rattle.pd_picture.specs.declared.evidence.Evidence.{Evidence}
 use Rattle.pd_picture.specs.declared.evidence.Evidence.TheVariants.{Absent, Cut, Observation}
@@ -38,16 +39,11 @@ texts_view texts = map string_bytes texts
 
 -- ---- the run
 
--- the height of the type of a process's name: a long one is set smaller, so that it has room
-abbrev pub name_size : List ℕ → ℕ
-name_size name = if nat_le (length name) 18 then 15 else 10
-
 -- the line of a process, and its name at the left of it
 abbrev pub lane_shapes : Window → List (List ℕ) → ℕ → List Seen
 lane_shapes window names p =
-    SeenLine class.Process (point left (lane_y p)) (point (right window) (lane_y p))
-    ∷ SeenText class.Name (point (left - 14) (lane_y p + 5)) anchor.End (name_size (text_at names p))
-    (shortened 32 (text_at names p)) ∷ []
+    SeenLine class.Process (point window.left (lane_y p)) (point (right window) (lane_y p))
+    ∷ SeenText class.Name (point (window.left - 14) (lane_y p + 5)) anchor.End 15 (shortened 32 (text_at names p)) ∷ []
 
 abbrev pub lanes_shapes : Window → List (List ℕ) → List Seen
 lanes_shapes window names = upto (lane_shapes window names) (length names)
@@ -56,16 +52,40 @@ lanes_shapes window names = upto (lane_shapes window names) (length names)
 abbrev pub head_point : (from_above : Bool) → Point → Point
 head_point from_above at = point (at.x - 5) (if from_above then at.y - 8 else at.y + 8)
 
--- the arrow of a message, if its send or its receipt is shown
+-- the arrow of a message, if its receipt is shown; a line without a head, if its send alone is
 abbrev pub message_shapes : Window → (Place → ℕ) → Place × Place → List Seen
 message_shapes window columns (send, receipt) =
-    if is_shown window (columns send) || is_shown window (columns receipt) then (
+    if is_shown window (columns receipt) then (
     SeenArrow class.Message (event_point window columns send)
     (head_point (nat_lt send.process receipt.process) (event_point window columns receipt)) ∷ []
-    ) else []
+    ) else (
+    if is_shown window (columns send) then (
+    SeenLine class.Message (event_point window columns send) (event_point window columns receipt) ∷ []
+    ) else [])
 
 abbrev pub messages_shapes : Window → (Place → ℕ) → List (Place × Place) → List Seen
 messages_shapes window columns messages = flat_map (message_shapes window columns) messages
+
+-- the corners of a diamond around a point, the first of them twice
+abbrev pub diamond : Point → List Point
+diamond at =
+    point (at.x - 6) at.y ∷ point at.x (at.y - 6) ∷ point (at.x + 6) at.y ∷ point at.x (at.y + 6)
+    ∷ point (at.x - 6) at.y ∷ []
+
+-- the mark of an event that isn't shown, where a message begins or ends that has its other end in the picture
+abbrev pub mark_shapes : Window → (Place → ℕ) → Place → List Seen
+mark_shapes window columns e = SeenPolyline class.Beyond (diamond (event_point window columns e)) ∷ []
+
+-- the mark of a message of which one end is shown
+abbrev pub end_shapes : Window → (Place → ℕ) → Place × Place → List Seen
+end_shapes window columns (send, receipt) =
+    if is_shown window (columns receipt) then (
+    if is_shown window (columns send) then [] else mark_shapes window columns send
+    ) else (
+    if is_shown window (columns send) then mark_shapes window columns receipt else [])
+
+abbrev pub ends_shapes : Window → (Place → ℕ) → List (Place × Place) → List Seen
+ends_shapes window columns messages = flat_map (end_shapes window columns) messages
 
 -- the event, if it is shown
 abbrev pub shown_at : Window → (Place → ℕ) → Place → List Place
@@ -113,20 +133,37 @@ abbrev pub cut_points : Window → (Place → ℕ) → List ℕ → ℕ → List
 cut_points window columns counts p =
     point (cut_x window columns counts p) (lane_y p - 50) ∷ point (cut_x window columns counts p) (lane_y p + 36) ∷ []
 
--- the values of a process's variables at the cut, beside it, above the numbers of steps
-abbrev pub value_shapes : Window → (Place → ℕ) → List ℕ → List (List ℕ) → ℕ → List Seen
-value_shapes window columns counts values p =
-    SeenText class.Value (point (cut_x window columns counts p + 8) (lane_y p - 36)) anchor.Start 13
-    (shortened 40 (text_at values p)) ∷ []
+-- what is shown of the values of a process's variables
+abbrev pub shown_value : List ℕ → List ℕ
+shown_value text = shortened 80 text
+
+-- where values stand: right of all lanes, and so of all arrows
+abbrev pub values_x : Window → ℕ
+values_x window = right window + 24
+
+-- the law of values: where they begin is right of each lane's end, and of each point at which an arrow begins or ends
+abbrev pub ValuesStandClear : Type 0
+ValuesStandClear = (window : Window) (columns : Place → ℕ) (e : Place)
+    → (right window < values_x window) × ((event_point window columns e).x ≤ right window)
+
+-- the values of a process's variables at the cut, at the right of its lane
+abbrev pub value_shapes : Window → List (List ℕ) → ℕ → List Seen
+value_shapes window values p =
+    SeenText class.Value (point (values_x window) (lane_y p + 5)) anchor.Start 13 (shown_value (text_at values p)) ∷ []
+
+-- the words above the values
+abbrev pub values_words : List ℕ
+values_words = codes "at the cut"
 
 abbrev pub cut_shapes : Window → (Place → ℕ) → (lanes : ℕ) → List ℕ → List (List ℕ) → List Seen
 cut_shapes window columns lanes counts values =
     SeenPolyline class.Cut (upto (cut_points window columns counts) lanes)
-    ∷ upto (value_shapes window columns counts values) lanes
+    ∷ SeenText class.Value (point (values_x window) 114) anchor.Start 13 values_words
+    ∷ upto (value_shapes window values) lanes
 
--- the height of the type of a step's number: one of six digits is set smaller, so that it has room
+-- the height of the type of a step's number: one of five digits, or of six, is set smaller, so that it has room
 abbrev pub step_size : ℕ → ℕ
-step_size step = if nat_le step 99999 then 13 else 11
+step_size step = if nat_le step 9999 then 13 else (if nat_le step 99999 then 11 else 10)
 
 -- the number of a step, above the event that it adds, if that is shown
 abbrev pub step_shapes : Window → (Place → ℕ) → (step : ℕ) → Place → List Seen
@@ -166,13 +203,13 @@ abbrev pub window_note : Window → (widest : ℕ) → List ℕ
 window_note window widest =
     if nat_lt window.shown widest then (
     codes "Columns " ++ decimal window.first ++ codes " to " ++ decimal (window.first + window.shown - 1)
-    ++ codes " of " ++ decimal widest ++ codes " are shown."
+    ++ codes " of " ++ decimal widest ++ codes " are shown. A diamond stands for an event before or after them."
     ) else codes "All events are shown."
 
 -- the title, what the shapes mean, and which columns are shown
 abbrev pub heading_shapes : Window → (widest : ℕ) → (title : List ℕ) → Evidence → List Seen
 heading_shapes window widest title evidence =
-    SeenText class.Name (point 24 38) anchor.Start 18 (shortened 60 title)
+    SeenText class.Name (point 24 38) anchor.Start 18 (shortened 112 title)
     ∷ SeenText class.Note (point 24 64) anchor.Start 13 (legend evidence)
     ∷ SeenText class.Note (point 24 84) anchor.Start 13 (window_note window widest) ∷ []
 
@@ -225,12 +262,18 @@ abbrev pub widest : (Place → ℕ) → Computation → ℕ
 widest columns c = greatest_column columns (λ p. event_count c p) (length c)
 
 -- the columns that are shown
-abbrev pub window : (Place → ℕ) → Computation → Evidence → Window
-window columns c evidence = window_around (widest columns c) (focus columns c evidence)
+abbrev pub window : (Place → ℕ) → Computation → (names : List (List ℕ)) → Evidence → Window
+window columns c names evidence = window_around (widest columns c) (focus columns c evidence) (names_room names)
+
+-- the room right of the lanes
+abbrev pub room_right : Evidence → ℕ
+room_right Absent = 0
+room_right (Cut counts values path) = values_room (map shown_value (texts_view values.items))
+room_right (Observation path) = 0
 
 -- the width of the page: there is room for the headings, the lanes and the values at a cut
-abbrev pub page_width : Window → (focus : ℕ) → ℕ
-page_width window focus = max 800 (max (right window + 40) (column_x window focus + 400))
+abbrev pub page_width : Window → (title : List ℕ) → Evidence → ℕ
+page_width window title evidence = max 800 (max (title_room title + 48) (values_x window + 24 + room_right evidence))
 
 abbrev pub page_height : Computation → ℕ
 page_height c = lane_y (length c) - 30
@@ -239,7 +282,7 @@ page_height c = lane_y (length c) - 30
 abbrev pub run_shapes : Window → (Place → ℕ) → (Place → Bool) → Computation → List (Place × Place) → List (List ℕ)
     → Evidence → List Seen
 run_shapes shown columns flights c messages names evidence =
-    lanes_shapes shown names ++ messages_shapes shown columns messages
+    lanes_shapes shown names ++ messages_shapes shown columns messages ++ ends_shapes shown columns messages
     ++ flat_map (flight_shapes shown columns flights) (shown_events shown columns c)
     ++ flat_map (event_shapes shown columns evidence) (shown_events shown columns c)
 
@@ -259,9 +302,10 @@ pub record IsPicture (c : Computation) (messages : List (Place × Place)) (names
   pub flights : Place → Bool
   pub are_flights : (e : Place) → IsEvent c e → IsTrue (flights e) ↔ IsInFlight c e
   pub shapes : all_seen drawing.shapes.items
-      ≡ picture_shapes columns flights c messages names title evidence (window columns c evidence)
-  pub width : drawing.width ≡ page_width (window columns c evidence) (focus columns c evidence)
+      ≡ picture_shapes columns flights c messages names title evidence
+      (window columns c names evidence)
+  pub width : drawing.width ≡ page_width (window columns c names evidence) title evidence
   pub height : drawing.height ≡ page_height c
   pub is_titled : string_bytes drawing.title ≡ title
   pub is_described : string_bytes drawing.description
-      ≡ description (window columns c evidence) (widest columns c) c names evidence
+      ≡ description (window columns c names evidence) (widest columns c) c names evidence

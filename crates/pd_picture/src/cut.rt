@@ -1,12 +1,12 @@
 //! A cut across the processes.
 ghost use Rattle.pd_picture.specs.Layout.{upto};
-ghost use Rattle.pd_picture.specs.Pictures.{cut_points, cut_shapes, cut_x, texts_view, value_shapes};
-ghost use Rattle.pd_picture.specs.Shapes.{all_seen};
+ghost use Rattle.pd_picture.specs.Pictures.{ValuesStandClear, cut_points, cut_shapes, cut_x, point, texts_view, value_shapes, values_words, values_x};
+ghost use Rattle.pd_picture.specs.Shapes.{SeenText, all_seen};
 ghost use Rattle.pd_picture.specs.Tables.{column_at};
-ghost use Rattle.std.specs.Prelude.{◌≡◌, ◌≤◌, ◌++◌, IfOk, OnOk};
+ghost use Rattle.std.specs.Prelude.{◌≡◌, ◌++◌, ◌∷◌, [], IfOk, OnOk};
 
 use super::shapes::{push_polyline, push_text};
-use super::texts::{shortened, text_at};
+use super::texts::{shown_value, text_at};
 use super::window::{Window, column_at, count_at, lane_y};
 use pd_clock::Place;
 use pd_svg::{Anchor, Class, Point, Shape};
@@ -14,8 +14,7 @@ use std::alloc::{AllocError, Global};
 
 /// Where the cut crosses the lane of a process: right of its last event in the cut, and left of the next one.
 fn cut_x(window: Window, rows: &[Vec<u32>], counts: &[u64], p: usize) -> u32
-    ensures at { result ≡ cut_x window (column_at rows.now) counts.now p }
-    ensures small { result ≤ 20000 }
+    ensures { result ≡ cut_x window (column_at rows.now) counts.now p }
 {
     let last = Place {
         process: p,
@@ -60,23 +59,58 @@ fn crossings(
     Ok(points)
 }
 
-/// Adds what the variables of a process are worth at the cut, beside it and above the numbers of steps.
+/// Where values stand: right of all lanes, and so of all arrows.
+pub(crate) fn values_x(window: Window) -> u32
+    ensures { result ≡ values_x window }
+{
+    window.right() + 24
+}
+
+/// The law of values: where they begin is right of each lane's end, and of each point at which an arrow begins or ends.
+/// It has no code.
+pub fn values_stand_clear()
+    ensures { ValuesStandClear }
+{}
+
+/// The words above the values.
+fn values_words() -> &'static str
+    ensures { result.now ≡ values_words }
+{
+    "at the cut"
+}
+
+/// Adds the words above the values.
+fn push_values_heading(
+    alloc: Global,
+    shapes: &mut Vec<Shape>,
+    window: Window,
+) -> Result<(), AllocError>
+    ensures { OnOk result (all_seen shapes.new.items ≡ all_seen shapes.old.items
+        ++ SeenText Class.Value (point (values_x window) 114) Anchor.Start 13 values_words ∷ []) }
+{
+    let text = String::from_str(alloc, values_words())?;
+    let at = Point {
+        x: values_x(window),
+        y: 114,
+    };
+    push_text(shapes, Class::Value, at, Anchor::Start, 13, text)
+}
+
+/// Adds what the variables of a process are worth at the cut, at the right of its lane.
 fn push_value(
     alloc: Global,
     shapes: &mut Vec<Shape>,
     window: Window,
-    rows: &[Vec<u32>],
-    counts: &[u64],
     values: &[String],
     p: usize,
 ) -> Result<(), AllocError>
     ensures { OnOk result (all_seen shapes.new.items ≡ all_seen shapes.old.items
-        ++ value_shapes window (column_at rows.now) counts.now (texts_view values.now) p) }
+        ++ value_shapes window (texts_view values.now) p) }
 {
-    let text = shortened(alloc, text_at(values, p), 40)?;
+    let text = shown_value(alloc, text_at(values, p))?;
     let at = Point {
-        x: cut_x(window, rows, counts, p) + 8,
-        y: lane_y(p) - 36,
+        x: values_x(window),
+        y: lane_y(p) + 5,
     };
     push_text(shapes, Class::Value, at, Anchor::Start, 13, text)
 }
@@ -96,7 +130,8 @@ pub(crate) fn push_cut(
 {
     let points = crossings(alloc, window, rows, counts, lanes)?;
     push_polyline(shapes, Class::Cut, points)?;
-    push_values(alloc, shapes, window, rows, counts, values, lanes)
+    push_values_heading(alloc, shapes, window)?;
+    push_values(alloc, shapes, window, values, lanes)
 }
 
 /// Adds what the variables of each of these many processes are worth at the cut.
@@ -104,16 +139,14 @@ fn push_values(
     alloc: Global,
     shapes: &mut Vec<Shape>,
     window: Window,
-    rows: &[Vec<u32>],
-    counts: &[u64],
     values: &[String],
     lanes: usize,
 ) -> Result<(), AllocError>
     ensures { OnOk result (all_seen shapes.new.items ≡ all_seen shapes.old.items
-        ++ upto (value_shapes window (column_at rows.now) counts.now (texts_view values.now)) lanes) }
+        ++ upto (value_shapes window (texts_view values.now)) lanes) }
 {
     for p in 0..lanes {
-        push_value(alloc, shapes, window, rows, counts, values, p)?;
+        push_value(alloc, shapes, window, values, p)?;
     }
     Ok(())
 }

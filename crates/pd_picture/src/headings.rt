@@ -44,7 +44,10 @@ fn window_note(alloc: Global, window: Window, widest: u32) -> Result<String, All
     push_decimal(alloc, &mut text, last)?;
     push_words(&mut text, " of ")?;
     push_decimal(alloc, &mut text, u64::from(widest))?;
-    push_words(&mut text, " are shown.")?;
+    push_words(
+        &mut text,
+        " are shown. A diamond stands for an event before or after them.",
+    )?;
     Ok(text)
 }
 
@@ -75,7 +78,7 @@ pub(crate) fn push_headings(
     ensures { OnOk result (all_seen shapes.new.items ≡ all_seen shapes.old.items
         ++ heading_shapes window widest title.now evidence.now) }
 {
-    let heading = shortened(alloc, title, 60)?;
+    let heading = shortened(alloc, title, 112)?;
     push_text(
         shapes,
         Class::Name,

@@ -1,5 +1,5 @@
 //! The lines of the processes.
-ghost use Rattle.pd_picture.specs.Pictures.{lane_shapes, lanes_shapes, name_size, texts_view};
+ghost use Rattle.pd_picture.specs.Pictures.{lane_shapes, lanes_shapes, texts_view};
 ghost use Rattle.pd_picture.specs.Shapes.{all_seen};
 ghost use Rattle.std.specs.Prelude.{◌≡◌, ◌++◌, OnOk};
 
@@ -8,13 +8,6 @@ use super::texts::{shortened, text_at};
 use super::window::{Window, lane_y};
 use pd_svg::{Anchor, Class, Point, Shape};
 use std::alloc::{AllocError, Global};
-
-/// The height of the type of a process's name: a long one is set smaller, so that it has room.
-fn name_size(name: &str) -> u32
-    ensures { result ≡ name_size name.now }
-{
-    if name.len() <= 18 { 15 } else { 10 }
-}
 
 /// Adds the line of a process, and its name at the left of it.
 fn push_lane(
@@ -28,17 +21,19 @@ fn push_lane(
         ≡ all_seen shapes.old.items ++ lane_shapes window (texts_view names.now) p) }
 {
     let y = lane_y(p);
-    let from = Point { x: 220, y };
+    let left = u32::from(window.left);
+    let from = Point { x: left, y };
     let to = Point {
         x: window.right(),
         y,
     };
     push_line(shapes, Class::Process, from, to)?;
-    let name = text_at(names, p);
-    let at = Point { x: 206, y: y + 5 };
-    let size = name_size(name);
-    let text = shortened(alloc, name, 32)?;
-    push_text(shapes, Class::Name, at, Anchor::End, size, text)
+    let at = Point {
+        x: left.saturating_sub(14),
+        y: y + 5,
+    };
+    let text = shortened(alloc, text_at(names, p), 32)?;
+    push_text(shapes, Class::Name, at, Anchor::End, 15, text)
 }
 
 /// Adds the lines of the processes of these names.

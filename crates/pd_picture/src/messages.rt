@@ -5,7 +5,7 @@ ghost use Rattle.pd_picture.specs.Shapes.{all_seen};
 ghost use Rattle.pd_picture.specs.Tables.{column_at};
 ghost use Rattle.std.specs.Prelude.{◌≡◌, ◌≤◌, ◌++◌, OnOk};
 
-use super::shapes::push_arrow;
+use super::shapes::{push_arrow, push_line};
 use super::window::{Window, column_at};
 use pd_clock::Place;
 use pd_svg::{Class, Point, Shape};
@@ -13,18 +13,17 @@ use std::alloc::AllocError;
 
 /// Where the head of an arrow stands that comes to this point from above or from below.
 fn head_point(from_above: bool, at: Point) -> Point
-    requires right { 5 ≤ at.x }
     requires below { 8 ≤ at.y }
     requires within { at.y ≤ 4294967000 }
     ensures { result ≡ head_point from_above at }
 {
     Point {
-        x: at.x - 5,
+        x: at.x.saturating_sub(5),
         y: if from_above { at.y - 8 } else { at.y + 8 },
     }
 }
 
-/// Adds the arrow of a message, if its send or its receipt is shown.
+/// Adds the arrow of a message, if its receipt is shown, and a line without a head, if its send alone is.
 fn push_message(
     shapes: &mut Vec<Shape>,
     window: Window,
@@ -35,15 +34,16 @@ fn push_message(
         ++ message_shapes window (column_at rows.now) (place_view message.0, place_view message.1)) }
 {
     let (send, receipt) = message;
-    if !window.shows(column_at(rows, send)) && !window.shows(column_at(rows, receipt)) {
-        return Ok(());
-    }
     let from = window.event_point(rows, send);
-    let to = head_point(
-        send.process < receipt.process,
-        window.event_point(rows, receipt),
-    );
-    push_arrow(shapes, Class::Message, from, to)
+    let to = window.event_point(rows, receipt);
+    if window.shows(column_at(rows, receipt)) {
+        let head = head_point(send.process < receipt.process, to);
+        return push_arrow(shapes, Class::Message, from, head);
+    }
+    if window.shows(column_at(rows, send)) {
+        return push_line(shapes, Class::Message, from, to);
+    }
+    Ok(())
 }
 
 /// Adds the arrows of the messages of which the send or the receipt is shown.

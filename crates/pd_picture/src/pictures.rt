@@ -4,19 +4,21 @@ ghost use Rattle.pd_match.specs.Views.{pairs_view};
 ghost use Rattle.pd_model.specs.Messages.{IsMessageList};
 ghost use Rattle.pd_picture.specs.Columns.{AreColumns};
 ghost use Rattle.pd_picture.specs.Flights.{is_flight};
-ghost use Rattle.pd_picture.specs.Pictures.{IsPicture, evidence_shapes, focus, heading_shapes, page_width, run_shapes, texts_view, widest};
+ghost use Rattle.pd_picture.specs.Pictures.{IsPicture, evidence_shapes, focus, heading_shapes, page_width, room_right, run_shapes, texts_view, widest};
 ghost use Rattle.pd_picture.specs.Shapes.{all_seen};
 ghost use Rattle.pd_picture.specs.Tables.{IsTable, column_at};
-ghost use Rattle.std.specs.Prelude.{◌≡◌, ◌++◌, IfOk, OnOk};
+ghost use Rattle.std.specs.Prelude.{◌≡◌, ◌≤◌, ◌++◌, IfOk, OnOk};
 
 use super::Evidence;
 use super::columns::columns;
-use super::cut::push_cut;
+use super::cut::{push_cut, values_x};
 use super::dots::{push_dots, shown_events};
+use super::ends::push_ends;
 use super::flights::push_flights;
 use super::headings::{description, push_headings};
 use super::lanes::push_lanes;
 use super::messages::push_messages;
+use super::rooms::{names_room, title_room, values_room};
 use super::steps::push_steps;
 use super::window::{Window, greatest_column, lane_y, widest_column};
 use pd_clock::{Computation, Place};
@@ -70,13 +72,29 @@ fn push_evidence(
     }
 }
 
-/// The width of the page: there is room for the headings, the lanes and the values at a cut.
-fn page_width(window: Window, focus: u32) -> u32
-    ensures { result ≡ page_width window focus }
+/// The room right of the lanes.
+fn room_right(alloc: Global, evidence: &Evidence) -> Result<u32, AllocError>
+    ensures is { IfOk result (λ room. room ≡ room_right evidence.now) }
+    ensures small { IfOk result (λ room. room ≤ 60000) }
 {
-    let lanes = window.right() + 40;
-    let values = window.column_x(focus) + 400;
-    lanes.max(values).max(800)
+    match evidence {
+        Evidence::Cut { values, .. } => values_room(alloc, values),
+        Evidence::Absent | Evidence::Observation(_) => Ok(0),
+    }
+}
+
+/// The width of the page: there is room for the headings, the lanes and the values at a cut.
+fn page_width(
+    alloc: Global,
+    window: Window,
+    title: &str,
+    evidence: &Evidence,
+) -> Result<u32, AllocError>
+    ensures { IfOk result (λ width. width ≡ page_width window title.now evidence.now) }
+{
+    let lanes = values_x(window) + 24 + room_right(alloc, evidence)?;
+    let title = title_room(title) + 48;
+    Ok(title.max(lanes).max(800))
 }
 
 /// What a picture shows: a run, with its messages as pairs of a send and a receipt, and the evidence.
@@ -108,6 +126,7 @@ fn push_run(
     let places = shown_events(alloc, subject.computation, window, rows)?;
     push_lanes(alloc, shapes, window, subject.names)?;
     push_messages(shapes, window, rows, messages)?;
+    push_ends(alloc, shapes, window, rows, messages)?;
     push_flights(shapes, window, rows, subject.traces, messages, &places)?;
     push_dots(alloc, shapes, window, rows, subject.evidence, &places)
 }
@@ -157,12 +176,13 @@ fn drawn(alloc: Global, rows: &[Vec<u32>], subject: &Subject<'_, '_>) -> Result<
     let evidence = subject.evidence;
     let widest = widest(rows, computation);
     let focus = focus(rows, computation, evidence);
-    let window = Window::around(widest, focus);
+    let window = Window::around(widest, focus, names_room(subject.names));
+    let width = page_width(alloc, window, subject.title, evidence)?;
     let shapes = all_shapes(alloc, window, widest, rows, subject)?;
     let title = String::from_str(alloc, subject.title)?;
     let description = description(alloc, window, widest, computation, subject.names, evidence)?;
     Ok(Drawing {
-        width: page_width(window, focus),
+        width,
         height: lane_y(computation.processes()) - 30,
         title,
         description,

@@ -12,11 +12,15 @@ use pd_clock::Place;
 use pd_svg::{Class, Point, Shape};
 use std::alloc::{AllocError, Global};
 
-/// The height of the type of a step's number: one of six digits is set smaller, so that it has room.
+/// The height of the type of a step's number: one of five digits, or of six, is set smaller, so that it has room.
 fn step_size(step: u64) -> u32
     ensures { result ≡ step_size step }
 {
-    if step <= 99_999 { 13 } else { 11 }
+    match step {
+        0..=9_999 => 13,
+        10_000..=99_999 => 11,
+        _ => 10,
+    }
 }
 
 /// Adds the number of a step above the event that it adds, if that is shown.

@@ -1,5 +1,5 @@
 //! Texts of a length.
-ghost use Rattle.pd_picture.specs.Pictures.{shortened, text_at, texts_view};
+ghost use Rattle.pd_picture.specs.Pictures.{shortened, shown_value, text_at, texts_view};
 ghost use Rattle.std.specs.Prelude.{◌≡◌, ◌≤◌, ◌++◌, IfOk, OnOk, decimal, string_bytes};
 
 use std::alloc::{AllocError, Global};
@@ -16,6 +16,13 @@ pub(crate) fn shortened(alloc: Global, text: &str, limit: usize) -> Result<Strin
     let mut short = String::from_str(alloc, &text[..kept])?;
     short.push_str("...")?;
     Ok(short)
+}
+
+/// What is shown of the values of a process's variables.
+pub(crate) fn shown_value(alloc: Global, text: &str) -> Result<String, AllocError>
+    ensures { IfOk result (λ short. string_bytes short ≡ shown_value text.now) }
+{
+    shortened(alloc, text, 80)
 }
 
 /// The text with this number, counted from 0, and no text past the end.

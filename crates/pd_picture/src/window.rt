@@ -21,17 +21,21 @@ pub(crate) struct Window {
     pub(crate) first: u32,
     /// How many they are.
     pub(crate) shown: u8,
+    /// The left end of the lanes.
+    pub(crate) left: u16,
 }
 
 impl Window {
-    /// The columns that are shown, if a run has this many, and its evidence ends in column `focus`.
-    pub(crate) fn around(widest: u32, focus: u32) -> Window
-        ensures { result ≡ window_around widest focus }
+    /// The columns that are shown, if a run has this many, its evidence ends in column `focus`, and the names of its
+    /// processes are given this room.
+    pub(crate) fn around(widest: u32, focus: u32, names: u32) -> Window
+        ensures { result ≡ window_around widest focus names }
     {
         let last = widest.min(focus.saturating_add(COLUMNS_AFTER).max(COLUMN_LIMIT));
         Window {
             first: last.saturating_sub(COLUMN_LIMIT) + 1,
             shown: last.min(COLUMN_LIMIT) as u8,
+            left: (names.min(600).max(182) + 38) as u16,
         }
     }
 
@@ -50,14 +54,14 @@ impl Window {
         let within = shown
             .saturating_sub(u64::from(self.first))
             .min(u64::from(self.shown) + 1);
-        220 + 48 * (within as u32)
+        u32::from(self.left) + 48 * (within as u32)
     }
 
     /// The right end of the lanes.
     pub(crate) fn right(self) -> u32
         ensures { result ≡ right self }
     {
-        220 + 48 * (u32::from(self.shown) + 1)
+        u32::from(self.left) + 48 * (u32::from(self.shown) + 1)
     }
 
     /// Where an event stands.

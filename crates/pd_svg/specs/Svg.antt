@@ -4,7 +4,7 @@ use Rattle.pd_svg.specs.Escapes.{escape}
 use Rattle.pd_svg.specs.declared.anchor.Anchor.{Anchor}
 use Rattle.pd_svg.specs.declared.anchor.Anchor.TheVariants as anchor
 use Rattle.pd_svg.specs.declared.class.Class.{Class}
-use Rattle.pd_svg.specs.declared.class.Class.TheVariants.{Process, Past, Next, Message, Flight, Cut, Number, Step, Value, Name, Note}
+use Rattle.pd_svg.specs.declared.class.Class.TheVariants.{Process, Past, Next, Message, Flight, Beyond, Cut, Number, Step, Value, Name, Note}
 use Rattle.pd_svg.specs.declared.drawing.Drawing.{Drawing}
 use Rattle.pd_svg.specs.declared.point.Point.{Point}
 use Rattle.pd_svg.specs.declared.shape.Shape.{Shape}
@@ -20,6 +20,7 @@ class_name Past = codes "past"
 class_name Next = codes "next"
 class_name Message = codes "message"
 class_name Flight = codes "flight"
+class_name Beyond = codes "beyond"
 class_name Cut = codes "cut"
 class_name Number = codes "number"
 class_name Step = codes "step"
@@ -86,6 +87,7 @@ declarations Past = codes "fill:#000;stroke:#000;stroke-width:2"
 declarations Next = codes "fill:#fff;stroke:#000;stroke-width:2"
 declarations Message = codes "stroke:#0072b2;stroke-width:2"
 declarations Flight = codes "stroke:#0072b2;stroke-width:2;stroke-dasharray:7 5"
+declarations Beyond = codes "fill:#fff;stroke:#0072b2;stroke-width:2"
 declarations Cut = codes "fill:none;stroke:#d55e00;stroke-width:4;stroke-linejoin:round"
 declarations Number = codes "fill:#595959;stroke:#fff;stroke-width:4;paint-order:stroke"
 declarations Step = codes "fill:#006b4f;font-weight:bold;stroke:#fff;stroke-width:4;paint-order:stroke"
@@ -100,7 +102,8 @@ abbrev pub classes_rules : List Class → List ℕ
 classes_rules classes = flat_map class_rule classes
 
 abbrev pub all_classes : List Class
-all_classes = Process ∷ Past ∷ Next ∷ Message ∷ Flight ∷ Cut ∷ Number ∷ Step ∷ Value ∷ Name ∷ Note ∷ []
+all_classes =
+    Process ∷ Past ∷ Next ∷ Message ∷ Flight ∷ Beyond ∷ Cut ∷ Number ∷ Step ∷ Value ∷ Name ∷ Note ∷ []
 
 -- the rules of what has no class
 unfoldable pub style_start : List ℕ

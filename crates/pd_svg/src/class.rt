@@ -13,6 +13,8 @@ pub enum Class {
     Message,
     /// A message in flight.
     Flight,
+    /// The mark at the end of a message that goes beyond what is shown.
+    Beyond,
     /// A cut across the processes.
     Cut,
     /// The number of an event.

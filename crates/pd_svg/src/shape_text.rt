@@ -18,6 +18,7 @@ pub(crate) fn class_name(class: Class) -> &'static [u8]
         Class::Next => b"next",
         Class::Message => b"message",
         Class::Flight => b"flight",
+        Class::Beyond => b"beyond",
         Class::Cut => b"cut",
         Class::Number => b"number",
         Class::Step => b"step",

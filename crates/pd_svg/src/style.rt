@@ -21,6 +21,7 @@ fn declarations(class: Class) -> &'static [u8]
         Class::Next => b"fill:#fff;stroke:#000;stroke-width:2",
         Class::Message => b"stroke:#0072b2;stroke-width:2",
         Class::Flight => b"stroke:#0072b2;stroke-width:2;stroke-dasharray:7 5",
+        Class::Beyond => b"fill:#fff;stroke:#0072b2;stroke-width:2",
         Class::Cut => b"fill:none;stroke:#d55e00;stroke-width:4;stroke-linejoin:round",
         Class::Number => b"fill:#595959;stroke:#fff;stroke-width:4;paint-order:stroke",
         Class::Step =>
@@ -79,6 +80,7 @@ pub(crate) fn push_style(out: &mut Vec<u8>) -> Result<(), AllocError>
             Class::Next,
             Class::Message,
             Class::Flight,
+            Class::Beyond,
             Class::Cut,
             Class::Number,
             Class::Step,

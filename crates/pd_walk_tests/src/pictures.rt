@@ -5,21 +5,21 @@ ghost use Rattle.pd_model.specs.Messages.{IsMessageList};
 ghost use Rattle.std.specs.Prelude.{◌≡◌};
 
 use pd_clock::{Computation, Place};
-use pd_picture::{Evidence, columns_stand_right, picture};
+use pd_picture::{Evidence, columns_stand_right, picture, values_stand_clear};
 use pd_svg::{Drawing, Shape};
 use pd_traces::Trace;
 use std::alloc::{AllocError, Global};
 
-/// Values of more than 40 bytes, of which byte 37 begins or ends a character of two bytes.
+/// Values of more than 80 bytes, of which byte 77 begins or ends a character of two bytes.
 const VALUES: [&str; 2] = [
-    "0123456789abcdef0123456789abcdef0123\u{e9}s_of",
-    "0123456789abcdef0123456789abcdef012\u{e9}rs_of",
+    "0123456789abcdef0123456789abcdef0123456789abcdef0123456789abcdef0123456789ab\u{e9}s_of",
+    "0123456789abcdef0123456789abcdef0123456789abcdef0123456789abcdef0123456789a\u{e9}rs_of",
 ];
 
 /// What is shown of these values, and of a process that has none.
 const SHOWN: [&str; 3] = [
-    "0123456789abcdef0123456789abcdef0123...",
-    "0123456789abcdef0123456789abcdef012\u{e9}...",
+    "0123456789abcdef0123456789abcdef0123456789abcdef0123456789abcdef0123456789ab...",
+    "0123456789abcdef0123456789abcdef0123456789abcdef0123456789abcdef0123456789a\u{e9}...",
     "",
 ];
 
@@ -34,6 +34,7 @@ fn drawing_of(
     requires messages { IsMessageList computation.now.events (pairs_view messages.now) }
 {
     columns_stand_right();
+    values_stand_clear();
     let mut names = Vec::new(alloc);
     for name in ["a", "b", "c"] {
         names.push(String::from_str(alloc, name)?)?;

@@ -147,7 +147,7 @@ func TestWhatIsKept(t *testing.T) {
 		t.Errorf("there are %v, and not %v", found, wanted)
 	}
 	picture, err := os.ReadFile(wanted[0])
-	if err != nil || !strings.Contains(string(picture), ">both possibly yes</title>") {
+	if err != nil || !strings.Contains(string(picture), ">both possibly yes, definitely ") {
 		t.Errorf("the picture is %s", picture)
 	}
 }

@@ -1,5 +1,5 @@
 -- The names of a session's files and of a report's file ask to draw the report.
-use Rattle.std.proofs.Common.{codes, inr, option_map, refl, subst, sym, ◌∙◌, Option}
+use Rattle.std.proofs.Common.{codes, inl, inr, option_map, refl, subst, sym, ◌∙◌, Option}
 use Rattle.clap.specs.Matches.{found_of}
 use Rattle.clap.specs.Walk.{rows_of}
 use Rattle.clap.proofs.WalkLemmas.{first_value-rows}
@@ -17,7 +17,7 @@ returns-in_default c arguments taken are =
 
 pub returns-in_default-2 : goal.returns-in_default-2
 returns-in_default-2 c arguments taken are =
-    of_missing (codes "draw") (rows_of (found_of c.args.matches.now)) (inr (inr refl)) are
+    of_missing (codes "draw") (rows_of (found_of c.args.matches.now)) (inr (inr (inl refl))) are
     (subst (λ (names : Option SessionNames). FindsSession (rows_of (found_of c.args.matches.now))
     (option_map session_view names)) c.in_default-2.is c.in_ok-names.ensures)
 

@@ -12,11 +12,11 @@ returns-in-Err-clause-refused c =
 pub returns-in_default-clause-refused : goal.returns-in_default-clause-refused
 returns-in_default-clause-refused c =
     let arguments : List (List ℕ) = map (λ argument. argument.bytes.items) c.args.arguments.now in
-    unclear_found arguments c.missing_argument.result
+    unclear_found arguments c.unclear_arguments.result
     (subst (λ (request : Option Request). IsAskedIf arguments request) c.in_default.is
     (c.in_ok-request.ensures arguments
     (program_taken _ _ c.requires c.in-Ok.ensures.kinds)
-    (program_matches _ _ c.in-Ok.matches c.requires c.in-Ok.ensures.ok.2))) c.missing_argument.ensures
+    (program_matches _ _ c.in-Ok.matches c.requires c.in-Ok.ensures.ok.2))) c.unclear_arguments.ensures
 
 pub returns-clause-asked : goal.returns-clause-asked
 returns-clause-asked c =

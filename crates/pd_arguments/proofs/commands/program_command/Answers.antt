@@ -1,4 +1,4 @@
--- The program's command line has its four commands.
+-- The program's command line has its five commands.
 use Rattle.pd_arguments.proofs.Builders.{with_command, with_last_command}
 use Rattle.pd_arguments.proofs.commands.program_command.Goals as goal
 
@@ -14,6 +14,9 @@ with_command-requires-3 c = c.draw_command.ensures.local
 pub with_command-requires-4 : goal.with_command-requires-4
 with_command-requires-4 c = c.serve_command.ensures.local
 
+pub with_command-requires-5 : goal.with_command-requires-5
+with_command-requires-5 c = c.explore_command.ensures.local
+
 pub returns : goal.returns
 returns c =
     let judge_is =
@@ -21,5 +24,6 @@ returns c =
     let check_is =
     with_command _ _ _ _ _ judge_is c.check_command.ensures.app c.in_ok-program-3.ensures in
     let draw_is = with_command _ _ _ _ _ check_is c.draw_command.ensures.app c.in_ok-program-4.ensures in
-    with_last_command _ c.serve_command.result c.with_command-4.result _ _ draw_is c.serve_command.ensures.app
-    c.with_command-4.ensures
+    let serve_is = with_command _ _ _ _ _ draw_is c.serve_command.ensures.app c.in_ok-program-5.ensures in
+    with_last_command _ c.explore_command.result c.with_command-5.result _ _ serve_is c.explore_command.ensures.app
+    c.with_command-5.ensures

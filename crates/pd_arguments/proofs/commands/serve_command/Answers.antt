@@ -1,15 +1,25 @@
--- The command has the document, the port, the number of watchers, the number of workers and the flag.
-use Rattle.pd_arguments.proofs.Builders.{with_argument, with_last_argument}
+-- The command has the document, the port and the number of watchers, and what all that judge have.
+use Rattle.std.proofs.Common.{ap, ◌∙◌}
+use Rattle.std.proofs.lemmas.Result.{IfOk-weaker}
+use Rattle.pd_arguments.specs.Arguments.{judging_app}
+use Rattle.pd_arguments.proofs.Builders.{with_argument}
 use Rattle.pd_arguments.proofs.commands.serve_command.Goals as goal
+
+pub judging_command-requires : goal.judging_command-requires
+judging_command-requires c =
+    let port = with_argument _ _ _ _ _ (c.in_ok-document_command.ensures.app, c.in_ok-document_command.ensures.local)
+    (c.port_option.ensures.rule, c.port_option.ensures.local) c.in_ok-arg.ensures in
+    (with_argument _ _ _ _ _ port (c.watchers_option.ensures.rule, c.watchers_option.ensures.local)
+    c.in_ok-command.ensures).1
 
 pub returns : goal.returns
 returns c =
     let port = with_argument _ _ _ _ _ (c.in_ok-document_command.ensures.app, c.in_ok-document_command.ensures.local)
     (c.port_option.ensures.rule, c.port_option.ensures.local) c.in_ok-arg.ensures in
     let watchers = with_argument _ _ _ _ _ port (c.watchers_option.ensures.rule, c.watchers_option.ensures.local)
-    c.in_ok-arg-2.ensures in
-    let workers = with_argument _ _ _ _ _ watchers (c.workers_option.ensures.rule, c.workers_option.ensures.local)
-    c.in_ok-arg-3.ensures in
-    let both = with_last_argument _ _ c.arg-4.result _ _ workers
-    (c.beyond_width_option.ensures.rule, c.beyond_width_option.ensures.local) c.arg-4.ensures in
-    record { app = both.0; local = both.1 }
+    c.in_ok-command.ensures in
+    record {
+      app = IfOk-weaker c.judging_command.result _ _ (λ _ is. is ∙ ap judging_app watchers.0)
+          c.judging_command.ensures.app;
+      local = c.judging_command.ensures.local;
+    }

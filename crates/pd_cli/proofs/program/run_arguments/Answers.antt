@@ -1,10 +1,13 @@
 -- What is done is what the arguments ask for.
 use Rattle.std.proofs.Common.{◌≡◌, ◌⊎◌, inl, inr, map, option_map, refl, subst, true, List, ℕ, Option, Some, None, Bor}
-use Rattle.pd_judgement.specs.Statuses.{CheckFiles, CheckLeaves, FilesJudgementLeaves, IsLongReport, JudgeFiles, ServeStreams, reliance}
+use Rattle.pd_arguments.specs.Statuses.{CheckFiles, CheckLeaves, Ends, FilesJudgementLeaves, IsLongReport, JudgeFiles, ServeStreams, reliance}
+use Rattle.pd_cli.proofs.Explanations.{unexplained}
 use Rattle.pd_cli.proofs.FilesRead.{files_of_names}
 use Rattle.clap.specs.Values.{kind_of}
 use Rattle.pd_draw.specs.Choices.{name_view}
+use Rattle.pd_fail_on.specs.Views.{fail_on_view}
 use Rattle.pd_cli.specs.Drawings.{EndsDrawn}
+use Rattle.pd_cli.specs.Explorations.{ExploreLeaves}
 use Rattle.pd_arguments.specs.Arguments.{AsksToDraw}
 use Rattle.pd_arguments.specs.Views.{IsAsked, session_view}
 use Rattle.pd_arguments.proofs.ParserEnds.{error_as_asked}
@@ -32,102 +35,148 @@ run_service-requires-clause-port g c _ _ =
 
 pub returns-in-Ok-Judge : goal.returns-in-Ok-Judge
 returns-in-Ok-Judge g c = record {
-  ends = inl (record {
-    ending = c.run_files.ensures.ending;
-    is_status = c.run_files.ensures.is_status;
-    output = inr (
-      JudgeFiles c.in-Ok-Judge.judgement.beyond_width (session_view c.in-Ok-Judge.judgement.names).0
-          (session_view c.in-Ok-Judge.judgement.names).1,
-      subst (IsAsked (map (λ argument. argument.bytes.items) c.args.arguments.now)) c.in-Ok-Judge.field-0-is
-          c.in-Ok-Judge.ensures.asked,
-      (subst (λ (streams : List (Option (List ℕ))). FilesJudgementLeaves
-          c.in-Ok-Judge.judgement.beyond_width (g.F.FileSource.bytes_of c.args.files.now
-          c.in-Ok-Judge.judgement.names.spec.now) streams
-          g.F.File.ByteSource.never_fails (g.F.FileSource.always_opens ≡ true → g.F.File.ByteSource.never_fails ≡ true
-          → ⊥)
-          c.run_files.ensures.ending (g.O.Write.contents c.args.output.now)
-          (g.O.Write.contents c.run_files.new.output))
-          (files_of_names (g.F.FileSource.bytes_of c.args.files.now) (λ (name : Bor (List ℕ)). name.now)
-          c.in-Ok-Judge.judgement.names.streams.items) c.run_files.ensures.output),
-    );
-    errors = c.run_files.ensures.errors;
-  });
+  ends = record {
+    start = c.run_files.ensures.start;
+    explanation = c.run_files.ensures.explanation;
+    reported = inl (record {
+      ending = c.run_files.ensures.reported.ending;
+      is_status = c.run_files.ensures.reported.is_status;
+      output = inr (
+        JudgeFiles c.in-Ok-Judge.judgement.beyond_width (fail_on_view c.in-Ok-Judge.judgement.fail_on)
+            (session_view c.in-Ok-Judge.judgement.names).0 (session_view c.in-Ok-Judge.judgement.names).1,
+        subst (IsAsked (map (λ argument. argument.bytes.items) c.args.arguments.now)) c.in-Ok-Judge.field-0-is
+            c.in-Ok-Judge.ensures.asked,
+        (subst (λ (streams : List (Option (List ℕ))). FilesJudgementLeaves
+            c.in-Ok-Judge.judgement.beyond_width (fail_on_view c.in-Ok-Judge.judgement.fail_on)
+            (g.F.FileSource.bytes_of c.args.files.now c.in-Ok-Judge.judgement.names.spec.now) streams
+            g.F.File.ByteSource.never_fails (g.F.FileSource.always_opens ≡ true → g.F.File.ByteSource.never_fails ≡ true
+            → ⊥)
+            c.run_files.ensures.reported.ending (g.O.Write.contents c.args.output.now)
+            (g.O.Write.contents c.run_files.new.output))
+            (files_of_names (g.F.FileSource.bytes_of c.args.files.now) (λ (name : Bor (List ℕ)). name.now)
+            c.in-Ok-Judge.judgement.names.streams.items) c.run_files.ensures.reported.output),
+      );
+      errors = c.run_files.ensures.reported.errors;
+    });
+  };
 }
 
 pub returns-in-Ok-Check : goal.returns-in-Ok-Check
 returns-in-Ok-Check g c = record {
-  ends = inl (record {
-    ending = c.run_check.ensures.ending;
-    is_status = c.run_check.ensures.is_status;
-    output = inr (
-      CheckFiles (session_view c.in-Ok-Check.names).0 c.in-Ok-Check.report.now (session_view c.in-Ok-Check.names).1,
-      subst (IsAsked (map (λ argument. argument.bytes.items) c.args.arguments.now)) c.in-Ok-Check.field-0-is
-          c.in-Ok-Check.ensures.asked,
-      (subst (λ (streams : List (Option (List ℕ))). CheckLeaves
-          (g.F.FileSource.bytes_of c.args.files.now c.in-Ok-Check.names.spec.now)
-          (g.F.FileSource.bytes_of c.args.files.now c.in-Ok-Check.report.now) streams
-          g.F.File.ByteSource.never_fails
-          ((g.F.FileSource.always_opens ≡ true → g.F.File.ByteSource.never_fails ≡ true → ⊥)
-          ⊎ IsLongReport (g.F.FileSource.bytes_of c.args.files.now c.in-Ok-Check.report.now)) c.run_check.ensures.ending
-          (g.O.Write.contents c.args.output.now) (g.O.Write.contents c.run_check.new.output))
-          (files_of_names (g.F.FileSource.bytes_of c.args.files.now) (λ (name : Bor (List ℕ)). name.now)
-          c.in-Ok-Check.names.streams.items) c.run_check.ensures.output),
-    );
-    errors = c.run_check.ensures.errors;
-  });
+  ends = record {
+    start = c.run_check.ensures.start;
+    explanation = c.run_check.ensures.explanation;
+    reported = inl (record {
+      ending = c.run_check.ensures.reported.ending;
+      is_status = c.run_check.ensures.reported.is_status;
+      output = inr (
+        CheckFiles (session_view c.in-Ok-Check.names).0 c.in-Ok-Check.report.now (session_view c.in-Ok-Check.names).1,
+        subst (IsAsked (map (λ argument. argument.bytes.items) c.args.arguments.now)) c.in-Ok-Check.field-0-is
+            c.in-Ok-Check.ensures.asked,
+        (subst (λ (streams : List (Option (List ℕ))). CheckLeaves
+            (g.F.FileSource.bytes_of c.args.files.now c.in-Ok-Check.names.spec.now)
+            (g.F.FileSource.bytes_of c.args.files.now c.in-Ok-Check.report.now) streams
+            g.F.File.ByteSource.never_fails
+            ((g.F.FileSource.always_opens ≡ true → g.F.File.ByteSource.never_fails ≡ true → ⊥)
+            ⊎ IsLongReport (g.F.FileSource.bytes_of c.args.files.now c.in-Ok-Check.report.now))
+            c.run_check.ensures.reported.ending
+            (g.O.Write.contents c.args.output.now) (g.O.Write.contents c.run_check.new.output))
+            (files_of_names (g.F.FileSource.bytes_of c.args.files.now) (λ (name : Bor (List ℕ)). name.now)
+            c.in-Ok-Check.names.streams.items) c.run_check.ensures.reported.output),
+      );
+      errors = c.run_check.ensures.reported.errors;
+    });
+  };
 }
 
 pub returns-in-Ok-Serve : goal.returns-in-Ok-Serve
 returns-in-Ok-Serve g c = record {
-  ends = inl (record {
-    ending = c.run_service.ensures.ending;
-    is_status = c.run_service.ensures.is_status;
-    output = inr (
-      ServeStreams c.in-Ok-Serve.service.beyond_width c.in-Ok-Serve.service.spec.now c.in-Ok-Serve.service.port
-          c.in-Ok-Serve.service.watchers,
-      subst (IsAsked (map (λ argument. argument.bytes.items) c.args.arguments.now)) c.in-Ok-Serve.field-0-is
-          c.in-Ok-Serve.ensures.asked,
-      c.run_service.ensures.output,
-    );
-    errors = c.run_service.ensures.errors;
-  });
+  ends = record {
+    start = c.run_service.ensures.start;
+    explanation = c.run_service.ensures.explanation;
+    reported = inl (record {
+      ending = c.run_service.ensures.reported.ending;
+      is_status = c.run_service.ensures.reported.is_status;
+      output = inr (
+        ServeStreams c.in-Ok-Serve.service.beyond_width (fail_on_view c.in-Ok-Serve.service.fail_on)
+            c.in-Ok-Serve.service.spec.now c.in-Ok-Serve.service.port c.in-Ok-Serve.service.watchers,
+        subst (IsAsked (map (λ argument. argument.bytes.items) c.args.arguments.now)) c.in-Ok-Serve.field-0-is
+            c.in-Ok-Serve.ensures.asked,
+        c.run_service.ensures.reported.output,
+      );
+      errors = c.run_service.ensures.reported.errors;
+    });
+  };
 }
 
 pub returns-in-Ok-Draw : goal.returns-in-Ok-Draw
 returns-in-Ok-Draw g c = record {
-  ends = inr (record {
-    document = (session_view c.in-Ok-Draw.names).0;
-    report = c.in-Ok-Draw.report.now;
-    streams = (session_view c.in-Ok-Draw.names).1;
-    name = name_view c.in-Ok-Draw.predicate;
-    asked = subst (λ (name : Option (List ℕ)). AsksToDraw (map (λ argument. argument.bytes.items) c.args.arguments.now)
-        (session_view c.in-Ok-Draw.names).0 c.in-Ok-Draw.report.now (session_view c.in-Ok-Draw.names).1 name)
-        (named c.in-Ok-Draw.predicate)
-        (subst (IsAsked (map (λ argument. argument.bytes.items) c.args.arguments.now)) c.in-Ok-Draw.field-0-is
-        c.in-Ok-Draw.ensures.asked);
-    ends = subst (λ (streams : List (Option (List ℕ))). EndsDrawn
-        (g.F.FileSource.bytes_of c.args.files.now c.in-Ok-Draw.names.spec.now)
-        (g.F.FileSource.bytes_of c.args.files.now c.in-Ok-Draw.report.now) streams
-        g.F.File.ByteSource.never_fails
-        ((g.F.FileSource.always_opens ≡ true → g.F.File.ByteSource.never_fails ≡ true → ⊥)
-        ⊎ IsLongReport (g.F.FileSource.bytes_of c.args.files.now c.in-Ok-Draw.report.now))
-        (name_view c.in-Ok-Draw.predicate)
-        c.run_draw.result (g.O.Write.contents c.args.output.now) (g.O.Write.contents c.run_draw.new.output)
-        (g.E.Write.contents c.args.errors.now) (g.E.Write.contents c.run_draw.new.errors))
-        (files_of_names (g.F.FileSource.bytes_of c.args.files.now) (λ (name : Bor (List ℕ)). name.now)
-        c.in-Ok-Draw.names.streams.items) c.run_draw.ensures;
-  });
+  ends = record {
+    start = c.run_draw.ensures.start;
+    explanation = c.run_draw.ensures.explanation;
+    reported = inr (inl (record {
+      document = (session_view c.in-Ok-Draw.names).0;
+      report = c.in-Ok-Draw.report.now;
+      streams = (session_view c.in-Ok-Draw.names).1;
+      name = name_view c.in-Ok-Draw.predicate;
+      asked = subst (λ (name : Option (List ℕ)). AsksToDraw
+          (map (λ argument. argument.bytes.items) c.args.arguments.now)
+          (session_view c.in-Ok-Draw.names).0 c.in-Ok-Draw.report.now (session_view c.in-Ok-Draw.names).1 name)
+          (named c.in-Ok-Draw.predicate)
+          (subst (IsAsked (map (λ argument. argument.bytes.items) c.args.arguments.now)) c.in-Ok-Draw.field-0-is
+          c.in-Ok-Draw.ensures.asked);
+      ends = subst (λ (streams : List (Option (List ℕ))). EndsDrawn
+          (g.F.FileSource.bytes_of c.args.files.now c.in-Ok-Draw.names.spec.now)
+          (g.F.FileSource.bytes_of c.args.files.now c.in-Ok-Draw.report.now) streams
+          g.F.File.ByteSource.never_fails
+          ((g.F.FileSource.always_opens ≡ true → g.F.File.ByteSource.never_fails ≡ true → ⊥)
+          ⊎ IsLongReport (g.F.FileSource.bytes_of c.args.files.now c.in-Ok-Draw.report.now))
+          (name_view c.in-Ok-Draw.predicate)
+          c.run_draw.result (g.O.Write.contents c.args.output.now) (g.O.Write.contents c.run_draw.new.output)
+          c.run_draw.ensures.start (g.E.Write.contents c.run_draw.new.errors))
+          (files_of_names (g.F.FileSource.bytes_of c.args.files.now) (λ (name : Bor (List ℕ)). name.now)
+          c.in-Ok-Draw.names.streams.items) c.run_draw.ensures.reported;
+    }));
+  };
+}
+
+pub returns-in-Ok-Explore : goal.returns-in-Ok-Explore
+returns-in-Ok-Explore g c = record {
+  ends = record {
+    start = c.run_explore.ensures.start;
+    explanation = c.run_explore.ensures.explanation;
+    reported = inr (inr (record {
+      beyond_width = c.in-Ok-Explore.exploration.beyond_width;
+      document = (session_view c.in-Ok-Explore.exploration.names).0;
+      streams = (session_view c.in-Ok-Explore.exploration.names).1;
+      asked = subst (IsAsked (map (λ argument. argument.bytes.items) c.args.arguments.now)) c.in-Ok-Explore.field-0-is
+          c.in-Ok-Explore.ensures.asked;
+      ends = subst (λ (streams : List (Option (List ℕ))). Ends (λ ending. ExploreLeaves
+          c.in-Ok-Explore.exploration.beyond_width
+          (g.F.FileSource.bytes_of c.args.files.now c.in-Ok-Explore.exploration.names.spec.now) streams
+          g.F.File.ByteSource.never_fails
+          (g.F.FileSource.always_opens ≡ true → g.F.File.ByteSource.never_fails ≡ true → ⊥) ending
+          (g.O.Write.contents c.args.output.now) (g.O.Write.contents c.run_explore.new.output)) c.run_explore.result
+          c.run_explore.ensures.start (g.E.Write.contents c.run_explore.new.errors))
+          (files_of_names (g.F.FileSource.bytes_of c.args.files.now) (λ (name : Bor (List ℕ)). name.now)
+          c.in-Ok-Explore.exploration.names.streams.items) c.run_explore.ensures.reported;
+    }));
+  };
 }
 
 pub returns-in-Err : goal.returns-in-Err
 returns-in-Err g c = record {
-  ends = inl (error_as_asked _
-      (reliance g.I.ByteSource.never_fails g.F.FileSource.always_opens g.F.File.ByteSource.never_fails
-      g.N.Network.never_fails g.N.Connection.ByteSource.never_fails)
-      (g.I.ByteSource.remaining c.args.input) (g.F.FileSource.bytes_of c.args.files.now)
-      (g.N.Network.may_give c.args.network.now) c.report_parser_error.result (g.O.Write.contents c.args.output.now)
-      (g.O.Write.contents c.report_parser_error.new.output) (g.E.Write.contents c.args.errors.now)
-      (g.E.Write.contents c.report_parser_error.new.errors) (kind_of c.in-Err.error) c.in-Err.ensures.refused
-      c.report_parser_error.ensures.memory c.report_parser_error.ensures.shown
-      c.report_parser_error.ensures.misused);
+  ends = record {
+    start = g.E.Write.contents c.args.errors.now;
+    explanation = unexplained c.args.explain (g.E.Write.contents c.args.errors.now);
+    reported = inl (error_as_asked _
+        (reliance g.I.ByteSource.never_fails g.F.FileSource.always_opens g.F.File.ByteSource.never_fails
+        g.N.Network.never_fails g.N.Connection.ByteSource.never_fails)
+        (g.I.ByteSource.remaining c.args.input) (g.F.FileSource.bytes_of c.args.files.now)
+        (g.N.Network.may_give c.args.network.now) c.report_parser_error.result (g.O.Write.contents c.args.output.now)
+        (g.O.Write.contents c.report_parser_error.new.output) (g.E.Write.contents c.args.errors.now)
+        (g.E.Write.contents c.report_parser_error.new.errors) (kind_of c.in-Err.error) c.in-Err.ensures.refused
+        c.report_parser_error.ensures.memory c.report_parser_error.ensures.shown
+        c.report_parser_error.ensures.misused);
+  };
 }

@@ -3,15 +3,15 @@ use Rattle.std.proofs.Common.{◌≡◌, ◌∙◌, List, ap, length, map, subst
 use Rattle.std.proofs.lemmas.List.{length-map}
 use Rattle.std.proofs.lemmas.List.Elements.{All-map}
 use Rattle.pd_format.specs.Names.{ProcessNames}
-use Rattle.pd_judgement.specs.Statuses.{Ending, ServiceLeaves}
+use Rattle.pd_arguments.specs.Statuses.{Ending, ServiceLeaves}
 use Rattle.std.specs.Prelude.{Some}
 use Rattle.pd_cli.proofs.Accepted.{accepted_of_read, service_of_judgement}
-use Rattle.pd_cli.specs.Faults.{ending_view}
+use Rattle.pd_cli.specs.Faults.{judgement_ending}
 use Rattle.pd_spec.specs.Views.{document_view}
 use Rattle.pd_cli.proofs.server.serve_session.Goals as goal
 
 pub returns-clause-written : goal.returns-clause-written
-returns-clause-written g c =
+returns-clause-written g c fail_on =
     let port = c.args.service.now.port in
     let G = g.N.Network.may_give c.args.network.now port in
     let remaining = g.N.Connection.ByteSource.remaining in
@@ -23,12 +23,12 @@ returns-clause-written g c =
     let given = All-map G remaining streams (c.in_ok-streams.ensures.given port c.in_ok-listener.ensures.on) in
     let are = accepted_of_read document G (map remaining streams) (document_view c.args.spec.now)
     c.one_document.ensures.single c.one_document.ensures.not_refused c.requires.document given count in
-    subst (λ (e : Ending). ServiceLeaves c.args.inquiry.beyond_width (Some document) G
+    subst (λ (e : Ending). ServiceLeaves c.args.inquiry.beyond_width fail_on (Some document) G
     g.N.Connection.ByteSource.never_fails
     ⊥ (g.N.Network.never_fails ≡ true → ⊥) e (g.O.Write.contents c.args.output.now)
-    (g.O.Write.contents c.judge_accepted.new.output)) (sym c.service_end.ensures.ending)
-    (service_of_judgement c.args.inquiry.beyond_width document G (map remaining streams)
+    (g.O.Write.contents c.judge_accepted.new.output)) (sym (c.service_end.ensures.ending fail_on))
+    (service_of_judgement c.args.inquiry.beyond_width fail_on document G (map remaining streams)
     g.N.Connection.ByteSource.never_fails _
-    (ending_view c.judge_accepted.result)
+    (judgement_ending fail_on c.judge_accepted.result)
     (g.O.Write.contents c.args.output.now) (g.O.Write.contents c.judge_accepted.new.output) are
-    c.judge_accepted.ensures.written)
+    (c.judge_accepted.ensures.written fail_on))

@@ -3,9 +3,8 @@ use Rattle.std.proofs.Common.{◌≡◌, ◌++◌}
 use Rattle.pd_picture.specs.Layout.{upto}
 use Rattle.pd_picture.specs.Pictures.{texts_view, value_shapes}
 use Rattle.pd_picture.specs.Shapes.{all_seen}
-use Rattle.pd_picture.specs.Tables.{column_at}
 use Rattle.pd_picture.proofs.cut.push_values.Given as goal
 
 abbrev pub invariant-loop-p : goal.invariant-loop-p
 invariant-loop-p l = all_seen l.shapes.items ≡ all_seen l.initial.shapes.items
-    ++ upto (value_shapes l.window (column_at l.rows) l.counts (texts_view l.values)) l.p
+    ++ upto (value_shapes l.window (texts_view l.values)) l.p

@@ -1,0 +1,323 @@
+#!/usr/bin/env python3
+"""explanations.py [PROGRAM] [--write]: causes each refusal, each fault and unknown answers, and compares what the
+program explains of them with docs/EXPLANATIONS.md, which is made of the same cases by --write.
+
+PROGRAM is ../crates/monitor/out/monitor if it isn't given. Each case is run as it stands, where the errors have to hold
+the fixed line and nothing else, and with `--explain` at three places of its arguments, where the output and the status
+have to be the same, and the fixed line to stand last. A refusal or a fault without a case is missed. A case of another
+explanation is printed with both. The last line says how many cases there are and how many differ; the status is 1 if
+any does.
+"""
+import argparse
+import collections
+import concurrent.futures
+import difflib
+import json
+import os
+import re
+import resource
+import socket
+import subprocess
+import sys
+import tempfile
+
+import listening
+
+HERE = os.path.dirname(os.path.abspath(__file__))
+PAGE = os.path.join(HERE, "..", "docs", "EXPLANATIONS.md")
+SPECS = os.path.join(HERE, "..", "crates", "pd_format", "specs", "RefusalWords.antt")
+SECONDS = 60
+FIXED = ("read", "write", "memory", "network", "bundle too long")
+COLUMNS = 116
+
+Case = collections.namedtuple("Case", "name files words input output memory peers",
+                              defaults=({}, (), b"", None, None, ()))
+
+A = '{"process":"a"}\n'
+B = '{"process":"b"}\n'
+END = '{"end":true}\n'
+
+
+def document(text="a.x == 1 and b.y == 1", **fields):
+    """A session document of two processes, with these fields in place of its own."""
+    processes = [{"name": "a", "vars": {"x": 0}}, {"name": "b", "vars": {"y": 0}}]
+    whole = {"processes": processes, "predicates": [{"name": "both", "text": text}], **fields}
+    fields = (f"{json.dumps(name)}:{json.dumps(value, separators=(',', ':'))}" for name, value in whole.items())
+    return "{" + ",\n ".join(fields) + "}\n"
+
+
+def session(name, spec=None, a=A + '{"set":{"x":1}}\n' + END, b=B + '{"set":{"y":1}}\n' + END, words=(), **more):
+    """A case that judges two streams."""
+    files = {"session.json": document() if spec is None else spec, "a.stream": a, "b.stream": b}
+    return Case(name, files, ("judge", "session.json", "a.stream", "b.stream", *words), **more)
+
+
+def processes(*items):
+    return document(processes=[{"name": name, "vars": variables} for name, variables in items])
+
+
+def wide():
+    """A session of four processes with no messages, that is unknown at the width 2."""
+    names = "abcd"
+    spec = document("a.x + b.x + c.x > 5", width=2, processes=[{"name": name, "vars": {"x": 0}} for name in names])
+    events = '{"set":{"x":1}}\n{"set":{"x":2}}\n'
+    files = {f"{name}.stream": f'{{"process":"{name}"}}\n{events}{END}' for name in names}
+    return Case("an answer is unknown", {"session.json": spec, **files}, ("judge", "session.json", *files))
+
+
+def large():
+    """A session of 16 processes with 10,000 messages each, in too little memory."""
+    names = [f"p{number}" for number in range(16)]
+    spec = document("p0.x == 1", processes=[{"name": name, "vars": {"x": 0}} for name in names])
+    files = {f"{name}.stream": f'{{"process":"{name}"}}\n'
+             + "".join(f'{{"send":"{name}-{number:060}"}}\n' for number in range(10_000)) + END for name in names}
+    return Case("memory is refused", {"session.json": spec, **files}, ("judge", "session.json", *files), memory=MEMORY)
+
+
+def documents():
+    yield session("the document is too long", document() + " " * 262_144)
+    yield session("the document isn't JSON", document().replace('0}},{"name":"b"', '0},{"name":"b"'))
+    yield session("the document ends too soon", document()[:-40])
+    yield session("the document has a field too many", document(widht=5))
+    yield session("the document has no predicates", '{"processes":[]}\n')
+    yield session("a process has no variables", document(processes=[{"name": "a"}, {"name": "b", "vars": {}}]))
+    yield session("the document has too many processes", processes(*((f"p{number}", {}) for number in range(17))))
+    yield session("a name can't be one", processes(("a", {"x": 0}), ("b-1", {"y": 0})))
+    yield session("two processes have one name", processes(("a", {"x": 0}), ("a", {"y": 0})))
+    yield session("an initial value isn't a whole number", processes(("a", {"x": 0}), ("b", {"y": 0.5})))
+    yield session("the document has no predicate", document(predicates=[]))
+    yield session("the width is too great", document(width=65_537))
+    yield session("the version is unknown", document(version=3))
+
+
+def predicates():
+    yield session("a predicate is too long", document("a.x == 1" + " or a.x == 1" * 400))
+    yield session("a predicate has a sign that means nothing", document("a.x = 1 and b.y == 1"))
+    yield session("a number is too great", document("a.x == 1 and b.y == 9223372036854775808"))
+    yield session("a predicate goes on as none can", document("a.x == 1 and and b.y == 1"))
+    yield session("a predicate ends too soon", document("a.x == 1 and b."))
+    yield session("a variable is unknown", document("a.x == 1 and b.yy == 1"))
+    yield session("a process is unknown in a predicate", document("a.x == 1 and c.y == 1"))
+    yield session("a predicate is too deep", document("(" * 65 + "a.x == 1" + ")" * 65))
+
+
+def lines():
+    long = A + '{"set":{"x":1}, "send":"' + "m" * 65_536 + '"}\n' + END
+    yield session("a line is too long", a=long)
+    yield session("a stream is too long", a=A + "{}\n" + (" " * 65_000 + "\n") * 260 + END)
+    yield session("a line isn't JSON", a=A + '{"set":{"x":1}\n' + END)
+    yield session("a line has a byte that isn't UTF-8", a=(A + '{"send":"m').encode() + b'\xff"}\n' + END.encode())
+    yield session("a line has a field too many", a=A + '{"set":{"x":1},"at":12.5}\n' + END)
+    yield session("a stream doesn't begin with its process", a='{"set":{"x":1}}\n' + END)
+    yield session("a process is unknown", a='{"process":"c"}\n' + END)
+    yield session("a line sets an unknown variable", a=A + '{"set":{"y":1}}\n' + END)
+    yield session("a value isn't a whole number", a=A + '{"set":{"x":"yes"}}\n' + END)
+    yield session("the id of a message is too long", a=A + '{"send":"' + "m" * 65 + '"}\n' + END)
+    yield session("a process has too many events", a=A + "{}\n" * 10_001 + END)
+    yield session("a stream has no end line", a=A + '{"set":{"x":1}}\n')
+    yield session("a stream is empty", a="")
+    yield session("a stream is a folder", a=None)
+    yield session("two streams are of one process", b=A + END)
+
+
+def streams():
+    yield Case("there are too many streams", {"session.json": document(), "a.stream": A + END},
+               ("judge", "session.json", *["a.stream"] * 33))
+    yield Case("a process has no stream", {"session.json": document(), "a.stream": A + END},
+               ("judge", "session.json", "a.stream"))
+
+
+def messages():
+    yield session("two sends have one id", a=A + '{"send":"m1"}\n' + END, b=B + '{}\n{"send":"m1"}\n' + END)
+    yield session("nobody sent what is received", b=B + '{"recv":"m1"}\n' + END)
+    yield session("a process receives what it sent", a=A + '{"send":"m1"}\n{"recv":"m1"}\n' + END)
+    yield session("a message is received twice", a=A + '{"send":"m1"}\n' + END,
+                  b=B + '{"recv":"m1"}\n{"recv":"m1"}\n' + END)
+    yield session("each of two processes waits for the other", a=A + '{"recv":"m2"}\n{"send":"m1"}\n' + END,
+                  b=B + '{"recv":"m1"}\n{"send":"m2"}\n' + END)
+
+
+def bundles():
+    yield Case("a document in a bundle", input=document(width=0).encode() + b"---\n" + A.encode())
+    yield Case("a predicate in a bundle", input=document("a.x = 1").encode() + b"---\n" + A.encode())
+    yield Case("a stream in a bundle", input=document().encode() + b"---\n" + A.encode() + b"{}\n---\n" + B.encode())
+    yield Case("a bundle that is too long", input=b" " * 67_108_865)
+
+
+def faults():
+    yield session("a file isn't there")._replace(words=("judge", "session.json", "a.stream", "c.stream"))
+    yield session("the document is a folder")._replace(words=("judge", ".", "a.stream", "b.stream"))
+    good = session("the report isn't there")
+    yield good._replace(words=("check", "session.json", "report", "a.stream", "b.stream"))
+    yield session("the output is full")._replace(output="/dev/full")
+    yield good._replace(name="there is no predicate of that name", files={**good.files, "report": REPORT},
+                        words=("draw", "session.json", "report", "a.stream", "b.stream", "--predicate", "bot"))
+    yield good._replace(name="the report is too long", files={**good.files, "report": TOO_LONG},
+                        words=("check", "session.json", "report", "a.stream", "b.stream"))
+    yield good._replace(name="a port is taken", words=("serve", "session.json", "--port", "TAKEN"))
+    yield large()
+
+
+def connections():
+    serve = ("serve", "session.json", "--port", "FREE")
+    yield session("a stream that comes by a pipe", input=B.encode() + b"{}\n")._replace(
+        words=("judge", "session.json", "a.stream", "/dev/stdin"))
+    yield Case("a stream that comes by a connection", {"session.json": document()}, serve, peers=(A + "{}\n", B + END))
+
+
+# So few bytes of memory that the ids of 160,000 messages have no room.
+MEMORY = 14 << 20
+# The length of a file that is one byte longer than a report may be.
+TOO_LONG = 268_435_457
+REPORT = "session 2 processes 2 events 0 messages\nboth possibly yes 1,1\nboth definitely yes 2\n"
+KINDS = {
+    "The session document": documents, "The text of a predicate": predicates, "A line of a stream": lines,
+    "The list of streams": streams, "Messages": messages, "Unknown answers": lambda: [wide()],
+    "Streams whose bytes are gone": connections, "A bundle, whose bytes are gone": bundles, "Faults": faults,
+}
+
+
+def write(folder, files):
+    for name, value in files.items():
+        path = os.path.join(folder, name)
+        if value is None:
+            os.mkdir(path)
+        elif isinstance(value, int):
+            with open(path, "wb") as file:
+                file.truncate(value)
+        else:
+            with open(path, "wb") as file:
+                file.write(value.encode() if isinstance(value, str) else value)
+
+
+def limited(memory):
+    """Has a process have no more than this many bytes of memory."""
+    def limit():
+        resource.setrlimit(resource.RLIMIT_AS, (memory, memory))
+    return limit
+
+
+def send(server, port, peers):
+    """Sends each of these streams by a connection of its own, which are made one after the other."""
+    connections = [listening.connect(server, port) for _ in peers]
+    for connection, peer in zip(connections, peers):
+        with connection:
+            connection.sendall(peer.encode())
+
+
+def ran(program, folder, case, words):
+    """The status, the output and the errors of the program."""
+    path = os.path.join(folder, ".output")
+    options = {"preexec_fn": limited(case.memory)} if case.memory else {}
+    with open(case.output or path, "wb") as out:
+        with subprocess.Popen([program, *words], stdin=subprocess.PIPE, stdout=out, stderr=subprocess.PIPE, cwd=folder,
+                              **options) as process:
+            if case.peers:
+                send(process, int(words[-1 if words[-1] != "--explain" else -2]), case.peers)
+            _, errors = process.communicate(case.input, timeout=SECONDS)
+    if case.output:
+        return process.returncode, "", errors.decode()
+    with open(path, "rb") as file:
+        return process.returncode, file.read().decode(), errors.decode()
+
+
+def explained(program, case):
+    """How a case goes: its report or fixed line, and its explanation; and in what it goes wrong, if it does."""
+    with tempfile.TemporaryDirectory() as folder, socket.socket() as taken:
+        write(folder, case.files)
+        taken.bind(("127.0.0.1", 0))
+        taken.listen()
+        port = str(taken.getsockname()[1])
+        ports = {"TAKEN": port, "FREE": str(listening.free_ports(1)) if case.peers else ""}
+        words = [ports.get(word, word) for word in case.words]
+        plain = ran(program, folder, case, words)
+        found = [ran(program, folder, case, [*words[:at], "--explain", *words[at:]])
+                 for at in sorted({0, min(1, len(words)), len(words)})]
+        errors = found[0][2]
+        wrong = []
+        if any(other != found[0] for other in found):
+            wrong.append("it goes otherwise where the word stands elsewhere")
+        if plain[:2] != found[0][:2]:
+            wrong.append(f"output or status change: {plain[:2]} and {found[0][:2]}")
+        if plain[2] and (plain[2].count("\n") != 1 or not errors.endswith(plain[2])):
+            wrong.append(f"the fixed line {plain[2]!r} isn't last of {errors!r}")
+        explanation = errors.removesuffix(plain[2]) if plain[2] else errors
+        if not explanation:
+            wrong.append("nothing is explained")
+        return plain[2] or plain[1], explanation.replace(f"Port {port}", "Port 7411"), wrong
+
+
+def wanted():
+    """The words of refusals, by the definitions, and the fixed lines."""
+    with open(SPECS, encoding="utf-8") as file:
+        found = set(re.findall(r'codes "([a-z]+)"', file.read()))
+    return found | {f"monitor: {line}" for line in FIXED}
+
+
+def wrapped(line):
+    """A line of an explanation, broken where it is wider than the page."""
+    if line.startswith("    ") or len(line) <= COLUMNS:
+        return [line]
+    parts, rest = [], line
+    while len(rest) > COLUMNS:
+        at = rest.rfind(" ", 3, COLUMNS)
+        at = COLUMNS if at < 0 else at
+        parts.append(rest[:at])
+        rest = "  " + rest[at:].lstrip()
+    return [*parts, rest]
+
+
+def page(cases, results):
+    """The page of all explanations."""
+    with open(os.path.join(HERE, "explanations.head"), encoding="utf-8") as file:
+        out = [file.read().rstrip("\n"), ""]
+    at = 0
+    for kind, group in cases.items():
+        out += [f"## {kind}", ""]
+        for case in group:
+            said, explanation, _ = results[at]
+            at += 1
+            out += [f"**{case.name[0].upper()}{case.name[1:]}**", ""]
+            shown = said.splitlines()
+            out += ["    " + part for line in shown for part in wrapped(line)] + [""]
+            out += ["```"] + [part for line in explanation.splitlines() for part in wrapped(line)] + ["```", ""]
+    return "\n".join(out).rstrip("\n") + "\n"
+
+
+def main():
+    parser = argparse.ArgumentParser(description=__doc__, formatter_class=argparse.RawDescriptionHelpFormatter)
+    parser.add_argument("program", nargs="?", default=os.path.join(HERE, "..", "crates", "monitor", "out", "monitor"))
+    parser.add_argument("--write", action="store_true")
+    given = parser.parse_args()
+    program = os.path.abspath(given.program)
+    if not os.access(program, os.X_OK):
+        sys.exit(f"explanations: no program {program}")
+    cases = {kind: list(make()) for kind, make in KINDS.items()}
+    flat = [case for group in cases.values() for case in group]
+    with concurrent.futures.ThreadPoolExecutor(os.cpu_count()) as pool:
+        results = list(pool.map(lambda case: explained(program, case), flat))
+    differing = 0
+    for case, (_, _, wrong) in zip(flat, results):
+        for why in wrong:
+            differing += 1
+            print(f"explanations: {case.name}: {why}")
+    said = " ".join(result[0] for result in results)
+    for word in sorted(wanted()):
+        if not re.search(rf"\b{word}\b", said):
+            differing += 1
+            print(f"explanations: no case has {word}")
+    made = page(cases, results)
+    if given.write:
+        with open(PAGE, "w", encoding="utf-8") as file:
+            file.write(made)
+    with open(PAGE, encoding="utf-8") as file:
+        stored = file.read()
+    if stored != made:
+        differing += 1
+        print("\n".join(difflib.unified_diff(stored.splitlines(), made.splitlines(), "the page", "made", lineterm="")))
+    print(f"explanations: {len(flat)} cases, {differing} differ")
+    sys.exit(1 if differing else 0)
+
+
+if __name__ == "__main__":
+    main()

@@ -1,0 +1,58 @@
+# bash completion of monitor, made by completions/make.py from the program's help
+# shellcheck disable=SC2207
+
+# the last condition of a list, after what stands before it: other conditions, or the name of a predicate
+_monitor_conditions() {
+  local before=''
+  case "$1" in *[,:]*) before="${1%"${1##*[,:]}"}" ;; esac
+  COMPREPLY=($(compgen -P "$before" -W 'possibly possibly-no definitely definitely-no unknown' -- "${1#"$before"}"))
+  # where bash cuts words at a colon, what stands before the last one is there already
+  case "$COMP_WORDBREAKS" in
+    *:*) COMPREPLY=("${COMPREPLY[@]#"${before%"${before##*:}"}"}") ;;
+  esac
+}
+
+_monitor() {
+  local line="${COMP_LINE:0:COMP_POINT}" words current previous command options
+  read -ra words <<< "$line"
+  case "$line" in *[[:space:]]) words+=('') ;; esac
+  current="${words[-1]}" previous='' command="${words[1]:-}"
+  [ "${#words[@]}" -gt 1 ] && previous="${words[-2]}"
+  case "$current" in --*=*) previous="${current%%=*}" current="${current#*=}" ;; esac
+  COMPREPLY=()
+  if [ "${#words[@]}" -le 2 ]; then
+    COMPREPLY=($(compgen -W 'judge check draw serve explore help -h --help -V --version --explain' -- "$current"))
+    return
+  fi
+  case "$previous" in
+    --workers)
+      COMPREPLY=($(compgen -W '1 2 3 4 5 6 7 8 9 10 11 12 13 14 15 16' -- "$current"))
+      return ;;
+    --fail-on)
+      _monitor_conditions "$current"
+      return ;;
+    --predicate)
+      return ;;
+    --port)
+      return ;;
+    --watchers)
+      return ;;
+  esac
+  case "$command" in
+    judge) options='--workers --beyond-width --fail-on -h --help --explain' ;;
+    check) options='-h --help --explain' ;;
+    draw) options='--predicate -h --help --explain' ;;
+    serve) options='--port --watchers --workers --beyond-width --fail-on -h --help --explain' ;;
+    explore) options='--workers --beyond-width -h --help --explain' ;;
+    help)
+      COMPREPLY=($(compgen -W 'judge check draw serve explore help' -- "$current"))
+      return ;;
+    *) return ;;
+  esac
+  case "$current" in
+    -*) COMPREPLY=($(compgen -W "$options" -- "$current")) ;;
+    *) compopt -o default 2> /dev/null ;;
+  esac
+}
+
+complete -F _monitor monitor

@@ -1,0 +1,101 @@
+-- What a run that explores leaves by the bytes that were read, after the flush, and by all that the files hold.
+use Rattle.std.proofs.Common.{◌≡◌, ℕ, Bool, true, false, List, refl, None, Some, Option, Ok, inl, inr}
+use Rattle.std.specs.List.{AllZip}
+use Rattle.std.specs.Io.KnownBytes.{Keeps}
+use Rattle.pd_format.specs.Documents.{Inquiry, inquiry}
+use Rattle.pd_arguments.specs.Statuses.{Alarm, BundleFailure, Ending, Failed, MemoryFailure, Misuse, Negative, NetworkFailure, NoPredicate, ReadFailure, Success, WriteFailure, WritesUpTo}
+use Rattle.pd_judgement.specs.Writes.{IsRefused, Whole, Writes}
+use Rattle.pd_judgement.proofs.Writing.{writes_weaker}
+use Rattle.pd_report.specs.declared.report.Report.{Report}
+use Rattle.pd_explore.specs.Explored.{IsOwed, IsPageOfInputs, judged_as}
+use Rattle.pd_cli.specs.Explorations.{ExploreLeaves}
+use Rattle.pd_cli.specs.Faults.{exploration_ending}
+use Rattle.pd_cli.specs.FileSources.{HasWholeFile, SameOutline, StandsFor}
+use Rattle.pd_cli.proofs.DocumentPrefixes.{same_holding, same_judgement, same_truth}
+use Rattle.pd_cli.proofs.FilesRead.{given_as_files, of_document, report_text_of_files, up_to_weaker}
+use Rattle.pd_cli.proofs.WrittenSoFar.{appends_kept}
+
+-- ---- after the flush
+
+-- a text of which it is said whether the session is judged is one of which that isn't said
+pub unsaid_of_owed : (asked : Inquiry) (inputs : List (Option (List ℕ))) (never_fails : Bool) (judged : Option Bool)
+    (text : List ℕ) → IsOwed asked inputs never_fails judged text → IsOwed asked inputs never_fails None text
+unsaid_of_owed asked inputs never_fails (Some true) text owed = inl owed
+unsaid_of_owed asked inputs never_fails (Some false) text owed = inr owed
+unsaid_of_owed asked inputs never_fails None text owed = owed
+
+pub explored_ends : (beyond : Bool) (document : List ℕ) (inputs : List (Option (List ℕ))) (never_fails : Bool)
+    (refusal : Option Report) (old middle new : Option (List ℕ))
+    → Writes (IsOwed (inquiry beyond document) inputs never_fails (judged_as (Ok refusal))) Whole old middle
+    → Keeps middle new
+    → ExploreLeaves beyond (Some document) inputs never_fails ⊥ (exploration_ending (Ok refusal)) old new
+explored_ends beyond document inputs never_fails None old middle new written keeps = record {
+  document_bytes = document;
+  whole_document = refl;
+  holds = (written.0, written.1, appends_kept old middle new written.0 written.2 keeps);
+}
+explored_ends beyond document inputs never_fails (Some report) old middle new written keeps = record {
+  document_bytes = document;
+  whole_document = refl;
+  holds = (written.0, written.1, appends_kept old middle new written.0 written.2 keeps);
+}
+
+-- ---- files
+
+page_of_files : (beyond : Bool) (read document : List ℕ) (files lefts : List (Option (List ℕ))) (never_fails : Bool)
+    (text : List ℕ) → SameOutline read document → AllZip HasWholeFile files lefts
+    → IsPageOfInputs (inquiry beyond read) lefts never_fails text
+    → IsPageOfInputs (inquiry beyond document) files never_fails text
+page_of_files beyond read document files lefts never_fails text same are h = record {
+  streams = h.streams;
+  are_given = given_as_files never_fails files lefts h.streams are h.are_given;
+  is_page = record {
+    document = h.is_page.document;
+    traces = h.is_page.traces;
+    held = same_holding beyond read document h.streams h.is_page.document h.is_page.traces same h.is_page.held;
+    pairs = h.is_page.pairs;
+    are_messages = h.is_page.are_messages;
+    messages = h.is_page.messages;
+    answers = h.is_page.answers;
+    right = same_judgement beyond read document h.streams _ same h.is_page.right;
+    truth = same_truth beyond read document h.streams _ same h.is_page.truth;
+    is_text = h.is_page.is_text;
+  };
+}
+
+owed_of_files : (beyond : Bool) (read document : List ℕ) (files lefts : List (Option (List ℕ))) (never_fails : Bool)
+    (judged : Option Bool) (text : List ℕ) → SameOutline read document → AllZip HasWholeFile files lefts
+    → IsOwed (inquiry beyond read) lefts never_fails judged text
+    → IsOwed (inquiry beyond document) files never_fails judged text
+owed_of_files beyond read document files lefts never_fails (Some true) text same are owed =
+    page_of_files beyond read document files lefts never_fails text same are owed
+owed_of_files beyond read document files lefts never_fails (Some false) text same are owed =
+    report_text_of_files beyond read document files lefts never_fails IsRefused text same are owed
+owed_of_files beyond read document files lefts never_fails None text same are (inl page) =
+    inl (page_of_files beyond read document files lefts never_fails text same are page)
+owed_of_files beyond read document files lefts never_fails None text same are (inr report) =
+    inr (report_text_of_files beyond read document files lefts never_fails IsRefused text same are report)
+
+-- what is left written by the bytes that were read is what is to be left by the files
+pub exploration_of_files : (beyond : Bool) (file : Option (List ℕ)) (read : List ℕ)
+    (files lefts : List (Option (List ℕ))) (never_fails : Bool) (MayBeUnread : Type 0) (ending : Ending)
+    (old new : Option (List ℕ)) → StandsFor read file → AllZip HasWholeFile files lefts
+    → ExploreLeaves beyond (Some read) lefts never_fails ⊥ ending old new
+    → ExploreLeaves beyond file files never_fails MayBeUnread ending old new
+exploration_of_files beyond file read files lefts never_fails M Success old new stands are left =
+    of_document file read _ _ stands (λ document same. writes_weaker _ _ Whole old new (λ text.
+    owed_of_files beyond read document files lefts never_fails (Some true) text same are)) left
+exploration_of_files beyond file read files lefts never_fails M Negative old new stands are left =
+    of_document file read _ _ stands (λ document same. writes_weaker _ _ Whole old new (λ text.
+    owed_of_files beyond read document files lefts never_fails (Some false) text same are)) left
+exploration_of_files beyond file read files lefts never_fails M Misuse old new stands are left = left
+exploration_of_files beyond file read files lefts never_fails M Alarm old new stands are left = left
+exploration_of_files beyond file read files lefts never_fails M NoPredicate old new stands are left = left
+exploration_of_files beyond file read files lefts never_fails M (Failed MemoryFailure) old new stands are left = left
+exploration_of_files beyond file read files lefts never_fails M (Failed ReadFailure) old new stands are left =
+    absurd left.0
+exploration_of_files beyond file read files lefts never_fails M (Failed WriteFailure) old new stands are left =
+    of_document file read _ _ stands (λ document same. up_to_weaker _ _ old new (λ text.
+    owed_of_files beyond read document files lefts never_fails None text same are)) left
+exploration_of_files beyond file read files lefts never_fails M (Failed BundleFailure) old new stands are left = left
+exploration_of_files beyond file read files lefts never_fails M (Failed NetworkFailure) old new stands are left = left

@@ -1,0 +1,78 @@
+//! Explores the session in files.
+ghost use Rattle.pd_cli.specs.Explorations.{ExploreLeaves};
+ghost use Rattle.pd_cli.specs.Faults.{exploration_ending};
+ghost use Rattle.std.specs.Prelude.{◌≡◌, All, Some, false, map, true};
+
+use super::file_source::FileSource;
+use super::session_files::{open_streams, read_document};
+use pd_arguments::{Exploration, Workers};
+use pd_engine::{ByteSource, Inquiry, NoGate, Report};
+use pd_explore::explore;
+use pd_sessions::EngineFault;
+use std::alloc::Global;
+use std::io::Write;
+use std::random::RandomSource;
+use std::sync::Wait;
+use std::thread::Threads;
+
+/// Explores a document's bytes, with what is asked beside them, and the streams, writes the page or the report of a
+/// refusal, and flushes the output. It gives the report, if the session is refused.
+///
+/// # Errors
+/// `Memory` leaves nothing written. `Write` leaves a part of the text written, or all of it if only the flush failed.
+fn explore_read<S: RandomSource + Threads + Wait + Sync, R: ByteSource + Send + Drop, O: Write>(
+    rt: &S,
+    alloc: Global,
+    inquiry: Inquiry<'_>,
+    streams: Vec<R>,
+    workers: &Workers,
+    output: &mut O,
+) -> Result<Option<Report>, EngineFault>
+    requires { All (λ stream. R.has_ended stream ≡ false) streams.items }
+    ensures { ExploreLeaves inquiry.entry.beyond_width (Some inquiry.entry.document.now)
+        (map R.remaining streams.items) R.never_fails ⊥ (exploration_ending result) (O.contents output.old)
+        (O.contents output.new) }
+{
+    let refusal = explore(
+        rt,
+        alloc,
+        inquiry,
+        streams,
+        workers.count(),
+        &NoGate,
+        output,
+    )?;
+    if output.flush().is_err() {
+        return Err(EngineFault::Write);
+    }
+    Ok(refusal)
+}
+
+/// Opens the files of a session, the document and then the streams, reads the document, explores it and the streams,
+/// writes the page or the report of a refusal, and flushes the output. It gives the report, if the session is refused.
+/// All files are opened before one is read. A stream whose read fails later is a fault of that stream.
+///
+/// # Errors
+/// `Read`, if a file can't be opened or the document can't be read, and `Memory` leave nothing written. `Write` leaves
+/// a part of the text written, or all of it if only the flush failed.
+pub(crate) fn explore_files<S: RandomSource + Threads + Wait + Sync, F: FileSource, O: Write>(
+    rt: &S,
+    files: &F,
+    alloc: Global,
+    exploration: &Exploration<'_>,
+    output: &mut O,
+) -> Result<Option<Report>, EngineFault>
+    ensures { ExploreLeaves exploration.now.beyond_width (F.bytes_of files.now exploration.now.names.spec.now)
+        (map (λ name. F.bytes_of files.now name.now) exploration.now.names.streams.items) F.File.never_fails
+        (F.always_opens ≡ true → F.File.never_fails ≡ true → ⊥) (exploration_ending result) (O.contents output.old)
+        (O.contents output.new) }
+{
+    let spec = files.open(exploration.names.spec)?;
+    let streams = open_streams(files, alloc, &exploration.names.streams)?;
+    let document = read_document(alloc, spec)?;
+    let inquiry = Inquiry {
+        document: &document,
+        beyond_width: exploration.beyond_width,
+    };
+    explore_read(rt, alloc, inquiry, streams, &exploration.workers, output)
+}

@@ -1,0 +1,116 @@
+//! Explains why a session document is refused.
+use super::document_details::say_detail;
+use super::json_faults::json_place;
+use super::lines::line_at;
+use super::says::{say, say_advice};
+use super::source::{Source, show_numbered};
+use serde_json::Value;
+use std::alloc::{AllocError, Global};
+
+/// What a word for a document's fault means.
+fn meaning(word: &str) -> &'static str {
+    match word {
+        "long" => "The session document has more than 262,144 bytes.",
+        "json" => "The session document isn't a JSON text.",
+        "shape" => "The session document doesn't have the form of one.",
+        "processes" => "The session document has no process, or more than 16.",
+        "name" => "A name in the session document isn't one that is allowed.",
+        "nametwice" => "Two processes, or two predicates, of the session document have one name.",
+        "vars" =>
+            "A process in the session document has too many variables, or one without a right initial value.",
+        "predicates" => "The session document has no predicate, or more than 16.",
+        "width" => "The width in the session document isn't a whole number in its range.",
+        _ => "The version in the session document isn't one that is known.",
+    }
+}
+
+/// What is expected in place of what has this fault.
+fn expected(word: &str) -> &'static str {
+    match word {
+        "long" => "at most 262,144 bytes.",
+        "json" =>
+            "one JSON value in UTF-8, in which values stand no more than 127 deep in each other.",
+        "shape" => {
+            "{\"processes\":[{\"name\":\"a\",\"vars\":{\"x\":0}}],\
+\"predicates\":[{\"name\":\"p\",\"text\":\"a.x == 1\"}]}, and beside these two fields \"width\" and \"version\" alone."
+        }
+        "processes" => "1 to 16 processes.",
+        "name" => {
+            "a letter or _, then letters, digits and _, at most 32 bytes in all, and none of and, or, not, true, false."
+        }
+        "nametwice" => "a name of its own for each process, and for each predicate.",
+        "vars" => {
+            "at most 16 variables of a process, each with a whole number from -9223372036854775808 to \
+9223372036854775807, without a point or an exponent."
+        }
+        "predicates" => "1 to 16 predicates.",
+        "width" => "a whole number from 1 to 65536, as \"width\":4096.",
+        _ =>
+            "\"version\":1, or \"version\":2 for messages that several processes receive; without it, it is 1.",
+    }
+}
+
+/// What to do about this fault.
+fn advice(word: &str) -> &'static str {
+    match word {
+        "long" => "leave out processes, variables and predicates that no question needs.",
+        "json" => {
+            "look at the marked byte, and before it for a comma, a quote or a bracket that is missing or too many."
+        }
+        "shape" => "give each part the form of this example.",
+        "processes" => "name in \"processes\" each process that you record, and no more than 16.",
+        "name" => "choose another name, here and where predicates and streams use it.",
+        "nametwice" => "rename one of the two.",
+        "vars" =>
+            "leave out the variables that no predicate names, and count in whole numbers, as 0 and 1 for no and yes.",
+        "predicates" =>
+            "put a question in \"predicates\", and at most 16; ask the others of the same streams in another run.",
+        "width" => "correct the number, or leave the field out: the width is 4,096 then.",
+        _ => "correct the number, or leave the field out.",
+    }
+}
+
+/// Explains why a session document is refused by this word, where only that is known.
+///
+/// # Errors
+/// Out of memory; what was put until then stays.
+pub fn explain_document_word(out: &mut Vec<u8>, word: &str) -> Result<(), AllocError> {
+    say(out, meaning(word))?;
+    say(out, "\n")?;
+    say_advice(out, expected(word), advice(word))
+}
+
+/// Shows where the document stops being a JSON text.
+fn show_json(out: &mut Vec<u8>, alloc: Global, source: &Source<'_>) -> Result<(), AllocError> {
+    let Some(found) = json_place(alloc, source.bytes)? else {
+        return Ok(());
+    };
+    if found.at_end {
+        say(out, "It ends before it is whole.\n")?;
+    }
+    let line = line_at(source.bytes, found.line);
+    show_numbered(out, source.name, found.line, line, Some(found.place))
+}
+
+/// Explains why this session document is refused by this word: what it means, where in the document the fault is, as
+/// far as that is sure, what is expected there, and what to do.
+///
+/// # Errors
+/// Out of memory; what was put until then stays.
+pub fn explain_document(
+    out: &mut Vec<u8>,
+    alloc: Global,
+    source: &Source<'_>,
+    word: &str,
+) -> Result<(), AllocError> {
+    say(out, meaning(word))?;
+    say(out, "\n")?;
+    match word {
+        "json" => show_json(out, alloc, source)?,
+        _ => match Value::from_slice(alloc, source.bytes) {
+            Ok(value) => say_detail(out, source, &value, word)?,
+            Err(_) => {}
+        },
+    }
+    say_advice(out, expected(word), advice(word))
+}

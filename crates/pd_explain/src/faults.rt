@@ -1,0 +1,124 @@
+//! Explains why there is no report.
+use super::says::{say, say_name, say_number, say_shown};
+use pd_spec::NamedPred;
+use std::alloc::AllocError;
+
+/// Explains that a file can't be opened or read, in the words of the system.
+///
+/// # Errors
+/// Out of memory; what was put until then stays.
+pub fn explain_file(out: &mut Vec<u8>, name: &str, why: &str) -> Result<(), AllocError> {
+    say(out, "The file ")?;
+    say_shown(out, name.as_bytes())?;
+    say(out, " can't be read: ")?;
+    say_shown(out, why.as_bytes())?;
+    say(out, ".\n")
+}
+
+/// Explains that no file was found that can't be read now.
+///
+/// # Errors
+/// Out of memory; what was put until then stays.
+pub fn explain_no_file(out: &mut Vec<u8>) -> Result<(), AllocError> {
+    say(
+        out,
+        "A file couldn't be read, and each of them can be read now: try again.\n",
+    )
+}
+
+/// Explains that a report is too long to be read.
+///
+/// # Errors
+/// Out of memory; what was put until then stays.
+pub fn explain_long_report(out: &mut Vec<u8>, name: &str) -> Result<(), AllocError> {
+    say(out, "The file ")?;
+    say_shown(out, name.as_bytes())?;
+    say(
+        out,
+        " has more than 268,435,456 bytes, the most that is read of a report: look whether it is the right file.\n",
+    )
+}
+
+/// Explains that a port can't be bound, in the words of the system.
+///
+/// # Errors
+/// Out of memory; what was put until then stays.
+pub fn explain_port(out: &mut Vec<u8>, port: u64, why: &str) -> Result<(), AllocError> {
+    say(out, "Port ")?;
+    say_number(out, port)?;
+    say(out, " of this machine can't be used: ")?;
+    say_shown(out, why.as_bytes())?;
+    say(
+        out,
+        ". Stop the program that has it, or choose another one after --port.\n",
+    )
+}
+
+/// Explains that no connection could be accepted.
+///
+/// # Errors
+/// Out of memory; what was put until then stays.
+pub fn explain_connection(out: &mut Vec<u8>, port: u64) -> Result<(), AllocError> {
+    say(out, "A connection to port ")?;
+    say_number(out, port)?;
+    say(
+        out,
+        " couldn't be accepted, or the port was taken until now: try again.\n",
+    )
+}
+
+/// Explains that memory ran out.
+///
+/// # Errors
+/// Out of memory; what was put until then stays.
+pub fn explain_memory(out: &mut Vec<u8>) -> Result<(), AllocError> {
+    say(
+        out,
+        "The system refused memory. Let the program have more of it, or judge a shorter run, or one with a smaller \
+width.\n",
+    )
+}
+
+/// Explains that the output couldn't be written.
+///
+/// # Errors
+/// Out of memory; what was put until then stays.
+pub fn explain_output(out: &mut Vec<u8>) -> Result<(), AllocError> {
+    say(
+        out,
+        "Standard output took a part of what is written at most: its disk is full, or the program that reads it has \
+ended.\n",
+    )
+}
+
+/// Explains that a bundle is too long, or that it can't be read.
+///
+/// # Errors
+/// Out of memory; what was put until then stays.
+pub fn explain_bundle_fault(out: &mut Vec<u8>, is_long: bool) -> Result<(), AllocError> {
+    if is_long {
+        return say(
+            out,
+            "The bundle on standard input has more than 67,108,864 bytes: put its parts into files, and judge these by \
+`monitor judge`.\n",
+        );
+    }
+    say(
+        out,
+        "Standard input can't be read: give a bundle, the session document and the streams with a line --- before each \
+stream, as in `monitor < FILE`.\n",
+    )
+}
+
+/// Explains that the document has no predicate of the name that is asked for, and says which it has.
+///
+/// # Errors
+/// Out of memory; what was put until then stays.
+pub fn explain_no_predicate(out: &mut Vec<u8>, predicates: &[NamedPred]) -> Result<(), AllocError> {
+    say(out, "The predicates of the document are ")?;
+    for (index, predicate) in predicates.iter().enumerate() {
+        say(out, if index == 0 { "" } else { ", " })?;
+        say_name(out, &predicate.name)?;
+    }
+    say(out, ".\n")
+}

@@ -1,0 +1,53 @@
+//! Explanations for a person: what a refusal, an unknown answer or a fault means, where it stands, what was expected
+//! there, and what to do.
+//!
+//! An explanation is text for the errors beside a report or a fault's line, and changes neither. Each function here
+//! puts lines to the end of a text. It is given what a report says, and the bytes of the files that it is about, as
+//! they are read again: they may have changed, so nothing is taken for granted of them, and a place is shown only where
+//! it is sure. What the words of refusals mean exactly stands in the definitions of `pd_format`; nothing is stated here
+//! but that each call ends, and stays within its bounds.
+//!
+//! - `source`: what is read again of a file, and its lines as they are shown
+//! - `documents`, `document_details`: why a session document is refused
+//! - `predicates`, `expected_tokens`, `known_names`: why the text of a predicate is refused
+//! - `streams`, `record_details`: why a stream is refused
+//! - `messages`: why messages, a causal cycle, or a list of streams are refused
+//! - `answers`: what an answer leaves unknown
+//! - `faults`: why there is no report
+//! - `lines`: the lines of bytes, and places in them
+//! - `json_faults`: where bytes stop being a JSON text
+//! - `window`: a line with a caret below a place of it
+//! - `says`: words, numbers and shown bytes
+#![tactic(auto)]
+
+mod answers;
+mod document_details;
+mod documents;
+mod expected_tokens;
+mod faults;
+mod json_faults;
+mod known_names;
+mod lines;
+mod messages;
+mod predicates;
+mod record_details;
+mod says;
+mod source;
+mod streams;
+mod window;
+
+pub use answers::{Judged, explain_answers};
+pub use documents::{explain_document, explain_document_word};
+pub use faults::{
+    explain_bundle_fault, explain_connection, explain_file, explain_long_report, explain_memory,
+    explain_no_file, explain_no_predicate, explain_output, explain_port,
+};
+pub use messages::{
+    EventName, Others, advise_absent, advise_cycle, advise_messages, explain_absent, explain_cycle,
+    explain_message, explain_streams, message_of, show_event, show_join, show_other, show_step,
+};
+pub use predicates::{PredicateFault, explain_predicate, explain_predicate_word};
+pub use source::Source;
+pub use streams::{
+    StreamFault, explain_stream, explain_stream_with, explain_stream_word, joined_name,
+};

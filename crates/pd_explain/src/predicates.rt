@@ -1,0 +1,236 @@
+//! Explains why the text of a predicate is refused.
+use super::expected_tokens::say_expected_tokens;
+use super::known_names::{name_at, say_processes, say_vars};
+use super::says::{say, say_advice, say_name, say_number, say_shown};
+use super::source::Source;
+use super::window::show_line;
+use pd_pred::Names;
+use pd_spec::{Spec, SpecFault};
+use serde_json::Value;
+use std::alloc::{AllocError, Global};
+
+/// The fault of a predicate's text, as a report has it.
+#[derive(Clone, Copy)]
+pub struct PredicateFault<'a> {
+    /// The number of the predicate, counted from 1.
+    pub k: u64,
+    /// The word of the fault.
+    pub word: &'a str,
+    /// The byte at fault, counted from 1.
+    pub at: u64,
+}
+
+/// What a word for a predicate's fault means.
+fn meaning(word: &str) -> &'static str {
+    match word {
+        "long" => "it has more than 4,096 bytes.",
+        "character" => "this sign has no meaning in a predicate.",
+        "number" => "this number is too great.",
+        "expected" =>
+            "what stands here can't follow what stands before it, or the text ends too soon.",
+        "unknownname" => "the session has nothing of this name.",
+        _ => "this stands inside 64 others, which are parentheses or nots.",
+    }
+}
+
+/// What is expected in place of what has this fault.
+fn expected(word: &str) -> &'static str {
+    match word {
+        "long" => "at most 4,096 bytes.",
+        "character" => {
+            "words, whole numbers, spaces, and the signs ( ) . + - * == != < <= > and >=."
+        }
+        "number" => { "at most 9223372036854775807, and at most 2147483647 before a *." }
+        "depth" => "at most 64 parentheses and nots that enclose each other.",
+        _ => "",
+    }
+}
+
+/// What to do about this fault.
+fn advice(word: &str) -> &'static str {
+    match word {
+        "long" => "ask in several predicates, or name fewer cases.",
+        "character" =>
+            "use == for equal, != for unequal, and the words and, or, not between comparisons.",
+        "number" => "compare with a smaller number, or record a smaller one.",
+        "expected" => "correct the text at the mark, or just before it.",
+        "unknownname" => {
+            "correct the name, or add it to the document. A variable is written with its process, as a.x."
+        }
+        _ =>
+            "leave out parentheses that enclose no more than others do, and two nots that undo each other.",
+    }
+}
+
+/// The predicate with this number, counted from 1, of the document: its name and its text.
+fn predicate_at(document: &Value, k: u64) -> Option<(&str, &str)> {
+    let Some(Value::Array(predicates)) = document.as_object()?.get("predicates") else {
+        return None;
+    };
+    for (index, predicate) in predicates.iter().enumerate() {
+        if (index as u64).saturating_add(1) == k {
+            let fields = predicate.as_object()?;
+            let name = fields.get("name")?.as_str()?;
+            let text = fields.get("text")?.as_str()?;
+            return Some((name, text));
+        }
+    }
+    None
+}
+
+/// What the document says but for its predicates, width and version, if its processes are as they should be.
+fn bare_document(alloc: Global, document: &Value) -> Result<Option<Spec>, AllocError> {
+    let Some(fields) = document.as_object() else {
+        return Ok(None);
+    };
+    let Some(processes) = fields.get("processes") else {
+        return Ok(None);
+    };
+    let text = format!(in alloc;
+        "{{\"processes\":{processes},\"predicates\":[{{\"name\":\"p\",\"text\":\"true\"}}]}}"
+    )?;
+    match Spec::read(alloc, text.as_bytes()) {
+        Ok(spec) => Ok(Some(spec)),
+        Err(SpecFault::Memory) => Err(AllocError),
+        Err(_) => Ok(None),
+    }
+}
+
+/// Says which names there are in place of the one at this place of a predicate's text.
+fn say_known_names(
+    out: &mut Vec<u8>,
+    names: &Names,
+    text: &str,
+    place: usize,
+) -> Result<(), AllocError> {
+    match process_before(names, text.as_bytes(), place) {
+        Some(process) => {
+            say(out, "Expected here: a variable of process ")?;
+            say_name(out, name_at(names, process))?;
+            say(out, ", which has ")?;
+            say_vars(out, names, process)?;
+        }
+        None => {
+            say(out, "Expected here: a process of the session, which has ")?;
+            say_processes(out, names)?;
+        }
+    }
+    say(out, ".\n")
+}
+
+/// The process whose variable should stand at this place of a text: the one before a dot.
+fn process_before(names: &Names, text: &[u8], place: usize) -> Option<usize> {
+    let before = without_spaces(text.get(..place)?);
+    let (dot, before) = before.split_last()?;
+    if *dot != b'.' {
+        return None;
+    }
+    let before = without_spaces(before);
+    for process in 0..names.processes() {
+        if ends_with_word(before, names.name(process).as_bytes()) {
+            return Some(process);
+        }
+    }
+    None
+}
+
+/// The bytes without spaces and tabs at their end.
+fn without_spaces(bytes: &[u8]) -> &[u8] {
+    let mut rest = bytes;
+    for _byte in 0..bytes.len() {
+        match rest.split_last() {
+            Some((b' ' | b'\t', before)) => rest = before,
+            _ => return rest,
+        }
+    }
+    rest
+}
+
+/// Whether the last word of the bytes is this one.
+fn ends_with_word(bytes: &[u8], word: &[u8]) -> bool {
+    let Some(start) = bytes.len().checked_sub(word.len()) else {
+        return false;
+    };
+    let begins_there = match start.checked_sub(1) {
+        None => true,
+        Some(before) => match bytes.get(before) {
+            Some(byte) => !(byte.is_ascii_alphanumeric() || *byte == b'_'),
+            None => true,
+        },
+    };
+    begins_there && bytes.ends_with(word)
+}
+
+/// Shows the text of a predicate with a caret at the fault, and says what is expected there.
+fn show_text(
+    out: &mut Vec<u8>,
+    alloc: Global,
+    source: &Source<'_>,
+    document: &Value,
+    fault: PredicateFault<'_>,
+) -> Result<(), AllocError> {
+    let Some((_, text)) = predicate_at(document, fault.k) else {
+        return Ok(());
+    };
+    let place = fault.at.saturating_sub(1) as usize;
+    say(out, "In ")?;
+    say_shown(out, source.name.as_bytes())?;
+    say(out, ", byte ")?;
+    say_number(out, fault.at)?;
+    say(out, " of the predicate's text:\n")?;
+    show_line(out, text.as_bytes(), Some(place))?;
+    let Some(spec) = bare_document(alloc, document)? else {
+        return Ok(());
+    };
+    match fault.word {
+        "expected" => say_expected_tokens(out, alloc, spec.names(), text, place),
+        "unknownname" => say_known_names(out, spec.names(), text, place),
+        _ => Ok(()),
+    }
+}
+
+/// Explains why the text of a predicate is refused, where only the fault is known.
+///
+/// # Errors
+/// Out of memory; what was put until then stays.
+pub fn explain_predicate_word(
+    out: &mut Vec<u8>,
+    fault: PredicateFault<'_>,
+) -> Result<(), AllocError> {
+    say(out, "Predicate ")?;
+    say_number(out, fault.k)?;
+    say(out, " can't be read, at byte ")?;
+    say_number(out, fault.at)?;
+    say(out, " of its text: ")?;
+    say(out, meaning(fault.word))?;
+    say(out, "\n")?;
+    say_advice(out, expected(fault.word), advice(fault.word))
+}
+
+/// Explains why the text of a predicate of this document is refused: what the fault means, the text with a caret below
+/// the place, what is expected there, and what to do.
+///
+/// # Errors
+/// Out of memory; what was put until then stays.
+pub fn explain_predicate(
+    out: &mut Vec<u8>,
+    alloc: Global,
+    source: &Source<'_>,
+    fault: PredicateFault<'_>,
+) -> Result<(), AllocError> {
+    let Ok(document) = Value::from_slice(alloc, source.bytes) else {
+        return explain_predicate_word(out, fault);
+    };
+    say(out, "Predicate ")?;
+    say_number(out, fault.k)?;
+    if let Some((name, _)) = predicate_at(&document, fault.k) {
+        say(out, ", ")?;
+        say_name(out, name)?;
+        say(out, ",")?;
+    }
+    say(out, " can't be read: ")?;
+    say(out, meaning(fault.word))?;
+    say(out, "\n")?;
+    show_text(out, alloc, source, &document, fault)?;
+    say_advice(out, expected(fault.word), advice(fault.word))
+}

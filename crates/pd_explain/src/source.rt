@@ -1,0 +1,59 @@
+//! What is read again of a file for an explanation.
+use super::lines::{cut_line, line_of_place};
+use super::says::{say, say_number, say_shown};
+use super::window::show_line;
+use std::alloc::AllocError;
+
+/// The name and the bytes of a file that is explained.
+#[derive(Clone, Copy)]
+pub struct Source<'a> {
+    /// Its name, as the arguments give it.
+    pub name: &'a str,
+    /// Its bytes.
+    pub bytes: &'a [u8],
+}
+
+/// Shows the line of a file in which this place stands, with a caret below it.
+///
+/// # Errors
+/// Out of memory.
+pub(crate) fn show_place(
+    out: &mut Vec<u8>,
+    source: &Source<'_>,
+    place: usize,
+) -> Result<(), AllocError> {
+    let (line, start) = line_of_place(source.bytes, place);
+    say(out, "In ")?;
+    say_shown(out, source.name.as_bytes())?;
+    say(out, ", line ")?;
+    say_number(out, line)?;
+    say(out, ", byte ")?;
+    say_number(out, place.saturating_sub(start).saturating_add(1) as u64)?;
+    say(out, ":\n")?;
+    let from_start = source.bytes.get(start..).unwrap_or(&[]);
+    let (line, _) = cut_line(from_start);
+    show_line(out, line, Some(place.saturating_sub(start)))
+}
+
+/// Shows the line of a file with this number, with a caret below a place of it if there is one.
+///
+/// # Errors
+/// Out of memory.
+pub(crate) fn show_numbered(
+    out: &mut Vec<u8>,
+    name: &str,
+    number: u64,
+    line: &[u8],
+    place: Option<usize>,
+) -> Result<(), AllocError> {
+    say(out, "In ")?;
+    say_shown(out, name.as_bytes())?;
+    say(out, ", line ")?;
+    say_number(out, number)?;
+    if let Some(place) = place {
+        say(out, ", byte ")?;
+        say_number(out, place.saturating_add(1) as u64)?;
+    }
+    say(out, ":\n")?;
+    show_line(out, line, place)
+}

@@ -1,0 +1,81 @@
+-- The page of traces, and of the streams that hold them.
+use Rattle.std.proofs.Common.{◌≡◌, ℕ, List, length, sym, ap, ◌∙◌, subst, Ok, Err}
+use Rattle.std.specs.Prelude.{Bool, Option, Result, IfErr}
+use Rattle.std.specs.List.{AllZip}
+use Rattle.pd_model.specs.Cuts.{total}
+use Rattle.pd_model.specs.Events.{Computation, Place}
+use Rattle.pd_model.specs.Messages.{IsMessageList}
+use Rattle.pd_model.specs.Predicates.{Recorded}
+use Rattle.pd_format.specs.Documents.{Document, Inquiry, IsInquired}
+use Rattle.pd_format.specs.Readings.{Trace}
+use Rattle.pd_format.specs.Reports.{Answer, Judged, Report}
+use Rattle.pd_format.specs.Sessions.{StreamResult, session}
+use Rattle.pd_gather.specs.Views.{traces_view}
+use Rattle.pd_judgement.specs.Judgements.{IsAnswered, IsJudgement, IsTracesReport}
+use Rattle.pd_judgement.proofs.TrueReports.{judgement_is_true_lem}
+use Rattle.pd_page.specs.Pages.{page_text}
+use Rattle.pd_traces.specs.Views.{computation_view}
+use Rattle.pd_traces.specs.declared.event.Trace.{Trace as Read}
+use Rattle.pd_sessions.specs.Computations.{AreWellFormed}
+use Rattle.pd_sessions.specs.Unanswered.{IsUnanswered, refused_report}
+use Rattle.pd_sessions.specs.declared.unanswered.Unanswered.{Unanswered}
+use Rattle.pd_sessions.proofs.FitTraces.{same_events}
+use Rattle.pd_sessions.proofs.SessionReports.{AreGiven, judged_of_results, of_given, traces_report}
+use Rattle.pd_engine.proofs.AnsweredTraces.{answers_report}
+use Rattle.pd_explore.specs.Explored.{IsPageOfInputs, IsPageOfTraces, report_with}
+
+-- the page of traces that make a well-formed computation
+pub traces_page : (document : Document) (traces : List Read) (recorded : Recorded) (count : ℕ)
+    (pairs : List (Place × Place)) (answers : List Answer) (text : List ℕ)
+    → AreWellFormed document (traces_view traces) recorded count → IsMessageList (computation_view traces) pairs
+    → AllZip (IsAnswered document recorded) document.predicates answers
+    → text ≡ page_text document (computation_view traces) pairs answers
+    → IsPageOfTraces document (traces_view traces) text
+traces_page document traces recorded count pairs answers text well list answered is_text = record {
+  pairs = pairs;
+  are_messages = subst (λ (c : Computation). IsMessageList c pairs) (same_events traces) list;
+  messages = count;
+  answers = answers;
+  right = subst (λ (r : Recorded). IsTracesReport document (traces_view traces)
+      (Judged (length document.names) (total r.events) count answers)) well.same
+      (answers_report document (traces_view traces) recorded count answers well answered);
+  is_text = is_text ∙ ap (λ (c : Computation). page_text document c pairs answers) (same_events traces);
+}
+
+-- the same of the streams that readers gave
+pub inputs_page : (inquiry : Inquiry) (inputs : List (Option (List ℕ))) (never_fails : Bool) (document : Document)
+    (count : ℕ) (results : List StreamResult) (traces : List Trace) (text : List ℕ) → IsInquired inquiry document
+    → AreGiven document inputs never_fails count results → session document.names count results ≡ Ok traces
+    → IsPageOfTraces document traces text → IsPageOfInputs inquiry inputs never_fails text
+inputs_page inquiry inputs never_fails document count results traces text is given joined page =
+    let report : Report = report_with document traces page.messages page.answers in
+    let right : IsJudgement inquiry given.0 report =
+    judged_of_results inquiry given.0 document count results report is given.2
+    (traces_report document count results traces report joined page.right) in
+    record {
+      streams = given.0;
+      are_given = given.1;
+      is_page = record {
+        document = document;
+        traces = traces;
+        held = record {
+          read = is;
+          results = given.2.given_results;
+          are_results = given.2.are_results;
+          joined = sym given.2.same_session ∙ joined;
+        };
+        pairs = page.pairs;
+        are_messages = page.are_messages;
+        messages = page.messages;
+        answers = page.answers;
+        right = right;
+        truth = judgement_is_true_lem inquiry given.0 report right;
+        is_text = page.is_text;
+      };
+    }
+
+-- what holds of a refusal, if there is one
+pub refused_weaker : {A : Type 0} (result : Result A Unanswered) (P Q : Report → Type 0)
+    → ((report : Report) → P report → Q report) → IfErr result (IsUnanswered P) → IfErr result (IsUnanswered Q)
+refused_weaker (Ok x) P Q f p = tt
+refused_weaker (Err u) P Q f p = of_given (refused_report u) P Q f p

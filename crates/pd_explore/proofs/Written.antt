@@ -1,0 +1,77 @@
+-- What is written of a session is what is owed.
+use Rattle.std.proofs.Common.{◌≡◌, ℕ, Bool, true, false, List, refl, sym, subst, inl, inr, Some, None, Ok, Err}
+use Rattle.std.specs.Prelude.{◌⊎◌, Option, Result, IfErr, IfOk, MatchResult}
+use Rattle.pd_format.specs.Documents.{Inquiry}
+use Rattle.pd_format.specs.Reports.{Refusal, Refused}
+use Rattle.pd_judgement.specs.Writes.{IsRefused, IsReportTextOf, IsTextOfStreams, Whole, Writes}
+use Rattle.pd_judgement.proofs.TextsOwed.{report_text_of}
+use Rattle.pd_judgement.proofs.Writing.{writes_weaker}
+use Rattle.pd_report.specs.declared.report.Report.{Report}
+use Rattle.pd_sessions.specs.Ends.{call_end, fault_end}
+use Rattle.pd_sessions.specs.SessionReports.{IsReportOfInputs}
+use Rattle.pd_sessions.specs.declared.fault.EngineFault.{EngineFault}
+use Rattle.pd_sessions.specs.declared.fault.EngineFault.TheVariants.{Memory, Write}
+use Rattle.pd_engine.specs.Ends.{IsTextAs}
+use Rattle.pd_explore.specs.Explored.{IsOwed, IsPageOfInputs, judged_as}
+
+-- ---- the page
+
+pub page_written : (inquiry : Inquiry) (inputs : List (Option (List ℕ))) (never_fails : Bool) (page : List ℕ)
+    (result : Result (Option Report) EngineFault) (old new : Option (List ℕ))
+    → IsPageOfInputs inquiry inputs never_fails page → IfOk result (λ refusal. refusal ≡ None)
+    → Writes (λ (text : List ℕ). text ≡ page) (call_end result) old new
+    → Writes (IsOwed inquiry inputs never_fails (judged_as result)) (call_end result) old new
+page_written inquiry inputs never_fails page (Ok None) old new right judged written =
+    writes_weaker (λ (text : List ℕ). text ≡ page) (IsOwed inquiry inputs never_fails (Some true))
+    Whole old new
+    (λ text is. subst (IsPageOfInputs inquiry inputs never_fails) (sym is) right) written
+page_written inquiry inputs never_fails page (Ok (Some report)) old new right judged written = absurd (cc judged)
+page_written inquiry inputs never_fails page (Err fault) old new right judged written =
+    writes_weaker (λ (text : List ℕ). text ≡ page) (IsOwed inquiry inputs never_fails None)
+    (fault_end fault) old new
+    (λ text is. inl (subst (IsPageOfInputs inquiry inputs never_fails) (sym is) right)) written
+
+pub write_only : (result : Result (Option Report) EngineFault) → IfErr result (λ fault. fault ≡ Write)
+    → IfErr result (λ fault. (fault ≡ Memory) ⊎ (fault ≡ Write))
+write_only (Ok given) only = tt
+write_only (Err fault) only = inr only
+
+-- ---- a refusal
+
+refusal_text : (inquiry : Inquiry) (inputs : List (Option (List ℕ))) (never_fails : Bool) (refusal : Refusal)
+    (given : Result Report EngineFault) (text : List ℕ) → IsReportOfInputs inquiry inputs never_fails (Refused refusal)
+    → IsTextAs (Refused refusal) given text → IsTextOfStreams inquiry inputs never_fails IsRefused text
+refusal_text inquiry inputs never_fails refusal given text right owed = record {
+  streams = right.streams;
+  are_given = right.are_given;
+  is_report_text = subst (IsReportTextOf inquiry right.streams IsRefused) (sym owed.is_text)
+      (report_text_of inquiry right.streams (Refused refusal) right.right IsRefused refl);
+}
+
+pub refusal_written : (inquiry : Inquiry) (inputs : List (Option (List ℕ))) (never_fails : Bool) (refusal : Refusal)
+    (written : Result Report EngineFault) (result : Result (Option Report) EngineFault) (old new : Option (List ℕ))
+    → IsReportOfInputs inquiry inputs never_fails (Refused refusal)
+    → MatchResult written (λ report. result ≡ Ok (Some report)) (λ fault. result ≡ Err fault)
+    → Writes (IsTextAs (Refused refusal) written) (call_end written) old new
+    → Writes (IsOwed inquiry inputs never_fails (judged_as result)) (call_end result) old new
+refusal_written inquiry inputs never_fails refusal (Ok report) result old new right same written =
+    subst (λ (r : Result (Option Report) EngineFault). Writes (IsOwed inquiry inputs never_fails (judged_as r))
+    (call_end r) old new) (sym same)
+    (writes_weaker (IsTextAs (Refused refusal) (Ok report)) (IsOwed inquiry inputs never_fails (Some false)) Whole old
+    new (λ text owed. refusal_text inquiry inputs never_fails refusal (Ok report) text right owed) written)
+refusal_written inquiry inputs never_fails refusal (Err fault) result old new right same written =
+    subst (λ (r : Result (Option Report) EngineFault). Writes (IsOwed inquiry inputs never_fails (judged_as r))
+    (call_end r) old new) (sym same)
+    (writes_weaker (IsTextAs (Refused refusal) (Err fault)) (IsOwed inquiry inputs never_fails None) (fault_end fault)
+    old new (λ text owed. inr (refusal_text inquiry inputs never_fails refusal (Err fault) text right owed)) written)
+
+pub refusal_faults : (written : Result Report EngineFault) (result : Result (Option Report) EngineFault)
+    → MatchResult written (λ report. result ≡ Ok (Some report)) (λ fault. result ≡ Err fault)
+    → IfErr written (λ fault. (fault ≡ Memory) ⊎ (fault ≡ Write))
+    → IfErr result (λ fault. (fault ≡ Memory) ⊎ (fault ≡ Write))
+refusal_faults (Ok report) result same two =
+    subst (λ (r : Result (Option Report) EngineFault). IfErr r (λ fault. (fault ≡ Memory) ⊎ (fault ≡ Write)))
+    (sym same) tt
+refusal_faults (Err fault) result same two =
+    subst (λ (r : Result (Option Report) EngineFault). IfErr r (λ fault. (fault ≡ Memory) ⊎ (fault ≡ Write)))
+    (sym same) two

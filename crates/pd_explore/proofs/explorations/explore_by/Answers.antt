@@ -1,0 +1,28 @@
+-- What is owed of the session is written.
+use Rattle.std.proofs.Common.{◌≡◌, ℕ, List, map, subst}
+use Rattle.pd_judgement.specs.Writes.{Writes}
+use Rattle.pd_sessions.specs.Ends.{call_end}
+use Rattle.pd_sessions.specs.Inquiries.{inquiry_view}
+use Rattle.pd_explore.proofs.Written.{page_written, write_only}
+use Rattle.pd_explore.proofs.explorations.explore_by.Goals as goal
+
+pub returns-in-Ok : goal.returns-in-Ok
+returns-in-Ok g c =
+    let asked = inquiry_view c.args.inquiry in
+    let inputs = map g.R.ByteSource.remaining c.args.readers.items in
+    let old = g.W.Write.contents c.args.writer.now in
+    let new = g.W.Write.contents c.write_page.new.writer in
+    record {
+      written = page_written asked inputs g.R.ByteSource.never_fails c.in-Ok.page.items c.write_page.result old new
+          c.in-Ok.ensures.page c.write_page.ensures.judged
+          (subst (λ (page : List ℕ). Writes (λ (text : List ℕ). text ≡ page) (call_end c.write_page.result) old new)
+          c.deref.ensures.value c.write_page.ensures.written);
+      err = write_only c.write_page.result c.write_page.ensures.err;
+    }
+
+pub returns-in-Err : goal.returns-in-Err
+returns-in-Err g c = record {
+  written = c.write_refusal.ensures.written (inquiry_view c.args.inquiry)
+      (map g.R.ByteSource.remaining c.args.readers.items) g.R.ByteSource.never_fails c.in-Err.ensures.refused;
+  err = c.write_refusal.ensures.err;
+}

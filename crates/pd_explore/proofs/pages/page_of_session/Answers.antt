@@ -1,0 +1,72 @@
+-- The page of the session, or why it comes to no answers.
+use Rattle.std.proofs.Common.{List, map, subst}
+use Rattle.std.specs.Prelude.{IfErr, IfOk}
+use Rattle.std.proofs.lemmas.Result.{IfOk-weaker}
+use Rattle.pd_format.specs.Reports.{Report}
+use Rattle.pd_gather.specs.Views.{results_view, traces_view}
+use Rattle.pd_judgement.specs.Judgements.{IsJudgement, IsReportOfResults, IsTracesReport, RawStream}
+use Rattle.pd_spec.specs.Views.{document_view}
+use Rattle.pd_sessions.specs.Inquiries.{inquiry_view}
+use Rattle.pd_sessions.specs.SessionReports.{IsReportOfInputs}
+use Rattle.pd_sessions.specs.Unanswered.{IsUnanswered}
+use Rattle.pd_sessions.proofs.SessionReports.{inputs_report, refusal_given, refused_inputs_report, traces_report}
+use Rattle.pd_traces.specs.declared.event.Trace.{Trace}
+use Rattle.pd_explore.specs.Explored.{IsPageOfInputs, IsPageOfTraces}
+use Rattle.pd_explore.proofs.SessionPages.{inputs_page, refused_weaker}
+use Rattle.pd_explore.proofs.pages.page_of_session.Goals as goal
+
+pub returns-in_err-spec-clause-refused : goal.returns-in_err-spec-clause-refused
+returns-in_err-spec-clause-refused g c =
+    let asked = inquiry_view c.args.inquiry in
+    let inputs = map g.R.ByteSource.remaining c.args.readers.items in
+    refusal_given c.from_residual.result c.in_err-spec.field-0.0
+    (λ (report : Report). (streams : List RawStream) → IsJudgement asked streams report)
+    (IsReportOfInputs asked inputs g.R.ByteSource.never_fails)
+    (refused_inputs_report asked inputs g.R.ByteSource.never_fails) c.from_residual.ensures.1
+    c.in_err-spec.ensures.refused
+
+pub returns-in_err-traces-clause-refused : goal.returns-in_err-traces-clause-refused
+returns-in_err-traces-clause-refused g c =
+    let asked = inquiry_view c.args.inquiry in
+    let inputs = map g.R.ByteSource.remaining c.args.readers.items in
+    let document = document_view c.in_ok-spec.spec in
+    let count = c.in_ok-gathered.gathered.streams in
+    let results = results_view c.in_ok-gathered.gathered.readings.items in
+    refusal_given c.from_residual-in_err-traces.result c.in_err-traces.field-0.0
+    (IsReportOfResults document count results) (IsReportOfInputs asked inputs g.R.ByteSource.never_fails)
+    (λ report right. inputs_report asked inputs g.R.ByteSource.never_fails document count results report
+    c.in_ok-spec.ensures.read c.in_ok-gathered.ensures.given right)
+    c.from_residual-in_err-traces.ensures.1 c.in_err-traces.ensures.refused
+
+pub returns-clause-page : goal.returns-clause-page
+returns-clause-page g c =
+    let asked = inquiry_view c.args.inquiry in
+    let inputs = map g.R.ByteSource.remaining c.args.readers.items in
+    let document = document_view c.in_ok-spec.spec in
+    let count = c.in_ok-gathered.gathered.streams in
+    let results = results_view c.in_ok-gathered.gathered.readings.items in
+    let traces = traces_view c.in_ok-traces.traces.items in
+    IfOk-weaker c.page_of_traces.result (λ page. IsPageOfTraces document traces page.items)
+    (λ page. IsPageOfInputs asked inputs g.R.ByteSource.never_fails page.items)
+    (λ page is. inputs_page asked inputs g.R.ByteSource.never_fails document count results traces page.items
+    c.in_ok-spec.ensures.read c.in_ok-gathered.ensures.given c.in_ok-traces.ensures.joined is)
+    (subst (λ (all : List Trace). IfOk c.page_of_traces.result
+    (λ page. IsPageOfTraces document (traces_view all) page.items)) c.deref.ensures.value
+    c.page_of_traces.ensures.page)
+
+pub returns-clause-refused : goal.returns-clause-refused
+returns-clause-refused g c =
+    let asked = inquiry_view c.args.inquiry in
+    let inputs = map g.R.ByteSource.remaining c.args.readers.items in
+    let document = document_view c.in_ok-spec.spec in
+    let count = c.in_ok-gathered.gathered.streams in
+    let results = results_view c.in_ok-gathered.gathered.readings.items in
+    let traces = traces_view c.in_ok-traces.traces.items in
+    refused_weaker c.page_of_traces.result (IsTracesReport document traces)
+    (IsReportOfInputs asked inputs g.R.ByteSource.never_fails)
+    (λ report right. inputs_report asked inputs g.R.ByteSource.never_fails document count results report
+    c.in_ok-spec.ensures.read c.in_ok-gathered.ensures.given
+    (traces_report document count results traces report c.in_ok-traces.ensures.joined right))
+    (subst (λ (all : List Trace). IfErr c.page_of_traces.result
+    (IsUnanswered (IsTracesReport document (traces_view all)))) c.deref.ensures.value
+    c.page_of_traces.ensures.refused)

@@ -1,0 +1,76 @@
+-- What is written of a session that is explored.
+use Rattle.std.specs.Prelude.{◌≡◌, ◌⊎◌, ℕ, Bool, true, false, List, length, Option, Some, None, Result, Ok, Err, IfErr}
+use Rattle.std.specs.List.{AllZip}
+use Rattle.pd_model.specs.Events.{Place}
+use Rattle.pd_model.specs.Messages.{IsMessageList}
+use Rattle.pd_model.specs.Cuts.{total}
+use Rattle.pd_format.specs.Documents.{Document, Inquiry}
+use Rattle.pd_format.specs.Readings.{Trace}
+use Rattle.pd_format.specs.Reports.{Answer, Report, Judged}
+use Rattle.pd_judgement.specs.Headline.{HoldsSession, IsTrueReport}
+use Rattle.pd_judgement.specs.Judgements.{IsJudgement, IsTracesReport, RawStream, events_of_traces}
+use Rattle.pd_judgement.specs.Writes.{IsGivenAs, IsRefused, IsTextOfStreams, Writes}
+use Rattle.pd_page.specs.Pages.{page_text}
+use Rattle.pd_sessions.specs.Ends.{call_end}
+use Rattle.pd_sessions.specs.declared.fault.EngineFault.{EngineFault}
+use Rattle.pd_sessions.specs.declared.fault.EngineFault.TheVariants.{Memory, Write}
+use Rattle.pd_report.specs.declared.report.Report as programs
+
+-- the report of traces with these answers, for a session with this many messages
+abbrev pub report_with : Document → List Trace → (messages : ℕ) → List Answer → Report
+report_with document traces messages answers =
+    Judged (length document.names) (total (events_of_traces traces)) messages answers
+
+-- The page of a session's traces: of their events, of the messages, each as its send and its receipt in the order of
+-- the receipts, and of the answers of their report.
+pub record IsPageOfTraces (document : Document) (traces : List Trace) (text : List ℕ) : Type 0 where
+  pub pairs : List (Place × Place)
+  pub are_messages : IsMessageList (events_of_traces traces) pairs
+  pub messages : ℕ
+  pub answers : List Answer
+  pub right : IsTracesReport document traces (report_with document traces messages answers)
+  pub is_text : text ≡ page_text document (events_of_traces traces) pairs answers
+
+-- The page of the session that a document's bytes, with what is asked beside them, and streams hold; and the report
+-- whose answers it shows is the report of these, which is true.
+pub record IsPageOf (inquiry : Inquiry) (streams : List RawStream) (text : List ℕ) : Type 0 where
+  pub document : Document
+  pub traces : List Trace
+  pub held : HoldsSession inquiry streams document traces
+  pub pairs : List (Place × Place)
+  pub are_messages : IsMessageList (events_of_traces traces) pairs
+  pub messages : ℕ
+  pub answers : List Answer
+  pub right : IsJudgement inquiry streams (report_with document traces messages answers)
+  pub truth : IsTrueReport inquiry streams (report_with document traces messages answers)
+  pub is_text : text ≡ page_text document (events_of_traces traces) pairs answers
+
+-- the same of the streams that readers with this left gave, of which no read ever fails, if that is said
+pub record IsPageOfInputs (inquiry : Inquiry) (inputs : List (Option (List ℕ))) (never_fails : Bool) (text : List ℕ) :
+    Type 0 where
+  pub streams : List RawStream
+  pub are_given : AllZip (IsGivenAs never_fails) inputs streams
+  pub is_page : IsPageOf inquiry streams text
+
+-- The text that is owed of a session: of one that is judged its page, of one that is refused the text of its report.
+abbrev pub IsOwed : (inquiry : Inquiry) (inputs : List (Option (List ℕ))) (never_fails : Bool) (judged : Option Bool)
+    (text : List ℕ) → Type 0
+IsOwed inquiry inputs never_fails (Some true) text = IsPageOfInputs inquiry inputs never_fails text
+IsOwed inquiry inputs never_fails (Some false) text = IsTextOfStreams inquiry inputs never_fails IsRefused text
+IsOwed inquiry inputs never_fails None text =
+    IsPageOfInputs inquiry inputs never_fails text ⊎ IsTextOfStreams inquiry inputs never_fails IsRefused text
+
+-- whether the session is judged, and not refused with a report, if that is said
+abbrev pub judged_as : Result (Option programs.Report) EngineFault → Option Bool
+judged_as (Ok None) = Some true
+judged_as (Ok (Some refusal)) = Some false
+judged_as (Err fault) = None
+
+-- What a call leaves on its output, and its result, if it explores the session of a document's bytes, with what is
+-- asked beside them, and of readers with this left, of which no read ever fails, if that is said. What is owed is
+-- written whole, judged or refused as is reported; a write that fails leaves a prefix of it, out of memory nothing, and
+-- no other fault comes.
+pub record Explores (inquiry : Inquiry) (inputs : List (Option (List ℕ))) (never_fails : Bool)
+    (result : Result (Option programs.Report) EngineFault) (old new : Option (List ℕ)) : Type 0 where
+  pub written : Writes (IsOwed inquiry inputs never_fails (judged_as result)) (call_end result) old new
+  pub err : IfErr result (λ fault. (fault ≡ Memory) ⊎ (fault ≡ Write))

@@ -1,0 +1,125 @@
+//! Explores a session, and writes what comes of it.
+ghost use Rattle.pd_explore.specs.Explored.{Explores, IsOwed, judged_as};
+ghost use Rattle.pd_format.specs.Documents as documents;
+ghost use Rattle.pd_format.specs.Limits.{worker_limit};
+ghost use Rattle.pd_judgement.specs.Writes.{Writes};
+ghost use Rattle.pd_sessions.specs.Ends.{call_end};
+ghost use Rattle.pd_sessions.specs.Inquiries.{inquiry_view};
+ghost use Rattle.pd_sessions.specs.SessionReports.{IsReportOfInputs};
+ghost use Rattle.pd_sessions.specs.Unanswered.{IsUnanswered};
+ghost use Rattle.std.specs.Prelude.{◌≡◌, ◌⊎◌, ◌≤◌, ℕ, All, Bool, Err, IfErr, IfOk, List, MatchResult, None, Ok, Option, Some, false, map};
+
+use super::pages::page_of_session;
+use pd_engine::write_report;
+use pd_expand::Crew;
+use pd_gather::ByteSource;
+use pd_level::Gate;
+use pd_report::{Report, write_all};
+use pd_sessions::{EngineFault, Inquiry, Unanswered};
+use std::alloc::Global;
+use std::io::Write;
+use std::random::RandomSource;
+use std::sync::Wait;
+use std::thread::Threads;
+
+/// Writes the page of a session that is judged: there is no report of a refusal.
+fn write_page<W: Write>(page: &[u8], writer: &mut W) -> Result<Option<Report>, EngineFault>
+    ensures written { Writes (λ text. text ≡ page.now) (call_end result) (W.contents writer.old)
+        (W.contents writer.new) }
+    ensures judged { IfOk result (λ refusal. refusal ≡ None) }
+    ensures err { IfErr result (λ fault. fault ≡ EngineFault.Write) }
+{
+    write_all(page, writer)?;
+    Ok(None)
+}
+
+/// What an exploration gives of a session that is refused, with what came of its report.
+fn refused(written: Result<Report, EngineFault>) -> Result<Option<Report>, EngineFault>
+    ensures { MatchResult written (λ report. result ≡ Ok (Some report)) (λ fault. result ≡ Err fault) }
+{
+    match written {
+        Ok(report) => Ok(Some(report)),
+        Err(fault) => Err(fault),
+    }
+}
+
+/// Writes the report of a session that is refused, and gives it back.
+fn write_refusal<W: Write>(
+    alloc: Global,
+    unanswered: Unanswered,
+    writer: &mut W,
+) -> Result<Option<Report>, EngineFault>
+    // It is owed of each inquiry and of readers of which it is the report.
+    ensures written { (inquiry : documents.Inquiry) (inputs : List (Option (List ℕ))) (never_fails : Bool)
+        → IsUnanswered (IsReportOfInputs inquiry inputs never_fails) unanswered
+        → Writes (IsOwed inquiry inputs never_fails (judged_as result)) (call_end result) (W.contents writer.old)
+        (W.contents writer.new) }
+    ensures err { IfErr result (λ fault. (fault ≡ EngineFault.Memory) ⊎ (fault ≡ EngineFault.Write)) }
+{
+    match unanswered {
+        Unanswered::Refused(refusal) => {
+            refused(write_report(alloc, Report::Refused(refusal), writer))
+        }
+        Unanswered::Memory => Err(EngineFault::Memory),
+    }
+}
+
+/// Explores a session by this crew.
+fn explore_by<
+    S: RandomSource + Threads + Wait + Sync,
+    R: ByteSource + Send + Drop,
+    W: Write,
+    G: Gate + Sync,
+>(
+    crew: &Crew<'_, '_, S, G>,
+    alloc: Global,
+    inquiry: Inquiry<'_>,
+    readers: Vec<R>,
+    writer: &mut W,
+) -> Result<Option<Report>, EngineFault>
+    requires { All (λ r. R.has_ended r ≡ false) readers.items }
+    ensures { Explores (inquiry_view inquiry.entry) (map R.remaining readers.items) R.never_fails result
+        (W.contents writer.old) (W.contents writer.new) }
+{
+    match page_of_session(crew, alloc, inquiry, readers) {
+        Ok(page) => write_page(&page, writer),
+        Err(unanswered) => write_refusal(alloc, unanswered, writer),
+    }
+}
+
+/// Explores the session of an inquiry's document and of the streams: judges it, and writes its page, with the answers
+/// of its report. Of a session that is refused it writes the report, gives it back, and writes no page. The streams
+/// are read each on its own thread; none is read if the document is refused, or if they are too many. A read that
+/// fails is a fault of its stream. The workers, from 1 to 16, and the gate change how long it takes, and nothing that
+/// is written.
+///
+/// # Errors
+/// `Memory` leaves nothing written. `Write` leaves a prefix of the text written, and not all of it.
+pub fn explore<
+    S: RandomSource + Threads + Wait + Sync,
+    R: ByteSource + Send + Drop,
+    W: Write,
+    G: Gate + Sync,
+>(
+    rt: &S,
+    alloc: Global,
+    inquiry: Inquiry<'_>,
+    readers: Vec<R>,
+    workers: u64,
+    gate: &G,
+    writer: &mut W,
+) -> Result<Option<Report>, EngineFault>
+    requires open { All (λ r. R.has_ended r ≡ false) readers.items }
+    requires some_workers { 1 ≤ workers }
+    requires few_workers { workers ≤ worker_limit }
+    ensures { Explores (inquiry_view inquiry.entry) (map R.remaining readers.items) R.never_fails result
+        (W.contents writer.old) (W.contents writer.new) }
+{
+    explore_by(
+        &Crew::new(rt, workers, gate),
+        alloc,
+        inquiry,
+        readers,
+        writer,
+    )
+}

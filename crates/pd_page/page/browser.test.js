@@ -1,0 +1,399 @@
+"use strict";
+// Tests of the page in a headless Chromium, which is driven over a pipe: clicks, drags, keys, the film, finding, the
+// link, ids that look like mark-up, large runs. No message may stand on the console, and nothing but the page be asked
+// for. `MONITOR=PROGRAM EXAMPLES=FOLDER CHROMIUM=PROGRAM node --test browser.test.js`.
+const { test } = require("node:test");
+const assert = require("node:assert");
+const { spawn, spawnSync } = require("node:child_process");
+const fs = require("node:fs");
+const os = require("node:os");
+const path = require("node:path");
+
+const { MONITOR, EXAMPLES, CHROMIUM } = process.env;
+const folder = fs.mkdtempSync(path.join(os.tmpdir(), "explore-browser-"));
+
+// ---- the browser ------------------------------------------------------------------------------------------------
+
+class Browser {
+  constructor() {
+    this.process = spawn(CHROMIUM, ["--headless=new", "--no-sandbox", "--disable-gpu", "--disable-dev-shm-usage",
+      "--no-first-run", "--user-data-dir=" + path.join(folder, "profile"), "--remote-debugging-pipe", "about:blank"],
+      { stdio: ["ignore", "ignore", "ignore", "pipe", "pipe"] });
+    this.waiting = new Map();
+    this.heard = new Map();
+    this.next = 0;
+    let rest = Buffer.alloc(0);
+    this.process.stdio[4].on("data", (piece) => {
+      rest = Buffer.concat([rest, piece]);
+      for (let end = rest.indexOf(0); end >= 0; end = rest.indexOf(0)) {
+        this.receive(JSON.parse(rest.subarray(0, end).toString()));
+        rest = rest.subarray(end + 1);
+      }
+    });
+  }
+
+  receive(message) {
+    if (message.id === undefined) return this.heard.get(message.sessionId)?.(message);
+    const { resolve, reject } = this.waiting.get(message.id);
+    this.waiting.delete(message.id);
+    if (message.error !== undefined) reject(new Error(message.error.message));
+    else resolve(message.result);
+  }
+
+  call(method, params = {}, sessionId = undefined) {
+    const id = ++this.next;
+    return new Promise((resolve, reject) => {
+      this.waiting.set(id, { resolve, reject });
+      this.process.stdio[3].write(JSON.stringify({ id, method, params, sessionId }) + "\0");
+    });
+  }
+}
+
+let browser = null;
+test.before(() => { browser = new Browser(); });
+test.after(() => {
+  browser.process.kill("SIGKILL");
+  browser.process.once("exit", () => fs.rmSync(folder, { recursive: true, force: true }));
+});
+
+const KEYS = { ArrowLeft: 37, ArrowUp: 38, ArrowRight: 39, ArrowDown: 40, Home: 36, End: 35, Enter: 13, Escape: 27,
+               Backspace: 8, " ": 32 };
+
+class Page {
+  static async open(file, fragment = "", { width = 1400, height = 900, dark = false } = {}) {
+    const page = new Page();
+    page.url = "file://" + file;
+    page.messages = [];
+    page.asked = new Set();
+    const { targetId } = await browser.call("Target.createTarget", { url: "about:blank" });
+    page.target = targetId;
+    page.session = (await browser.call("Target.attachToTarget", { targetId, flatten: true })).sessionId;
+    browser.heard.set(page.session, ({ method, params }) => page.hear(method, params));
+    for (const domain of ["Page", "Runtime", "Log", "Network"]) await page.call(domain + ".enable");
+    await page.call("Emulation.setDeviceMetricsOverride", { width, height, deviceScaleFactor: 1, mobile: false });
+    await page.call("Emulation.setEmulatedMedia",
+      { features: [{ name: "prefers-color-scheme", value: dark ? "dark" : "light" }] });
+    const loaded = new Promise((resolve) => { page.onload = resolve; });
+    await page.call("Page.navigate", { url: page.url + fragment });
+    await loaded;
+    await page.settle();
+    return page;
+  }
+
+  hear(method, params) {
+    if (method === "Page.loadEventFired") this.onload();
+    if (method === "Log.entryAdded") this.messages.push(params.entry.text);
+    if (method === "Runtime.consoleAPICalled") this.messages.push(JSON.stringify(params.args));
+    if (method === "Runtime.exceptionThrown") this.messages.push(params.exceptionDetails.text);
+    if (method === "Network.requestWillBeSent") this.asked.add(params.request.url.split("#")[0]);
+  }
+
+  call(method, params) {
+    return browser.call(method, params, this.session);
+  }
+
+  async js(expression) {
+    const { result, exceptionDetails } = await this.call("Runtime.evaluate",
+      { expression, returnByValue: true, awaitPromise: true, replMode: true });
+    assert.equal(exceptionDetails, undefined, expression);
+    return result.value;
+  }
+
+  // Waits for two frames.
+  settle() {
+    return this.js("new Promise((done) => requestAnimationFrame(() => requestAnimationFrame(() => done(0))))");
+  }
+
+  // Waits until something holds in the page; the test's own limit ends it if it never does.
+  async until(expression) {
+    while (!(await this.js(expression))) await new Promise((resolve) => setTimeout(resolve, 20));
+  }
+
+  cut() {
+    return this.js("state.cut");
+  }
+
+  text(id) {
+    return this.js(`byId(${JSON.stringify(id)}).textContent`);
+  }
+
+  // Where an event stands in the window, and where the cut's grip of a lane does.
+  place(p, i) {
+    return this.js(`[canvas.getBoundingClientRect().left + xOf(state.view, run.columns[${p}][${i}]),
+                     canvas.getBoundingClientRect().top + laneY(size, ${p})]`);
+  }
+
+  grip(p) {
+    return this.js(`[canvas.getBoundingClientRect().left + cutX(run, state, ${p}),
+                     canvas.getBoundingClientRect().top + laneY(size, ${p})]`);
+  }
+
+  mouse(type, x, y, more = {}) {
+    return this.call("Input.dispatchMouseEvent", { type, x, y, button: "left", clickCount: 1, ...more });
+  }
+
+  async click(p, i, more = {}) {
+    const [x, y] = await this.place(p, i);
+    await this.mouse("mousePressed", x, y, more);
+    await this.mouse("mouseReleased", x, y, more);
+    await this.settle();
+  }
+
+  async drag(start, end, steps = 8) {
+    await this.mouse("mousePressed", ...start);
+    for (let k = 1; k <= steps; k++) {
+      const [x, y] = start.map((from, axis) => from + (end[axis] - from) * k / steps);
+      await this.mouse("mouseMoved", x, y, { buttons: 1 });
+    }
+    await this.mouse("mouseReleased", ...end);
+    await this.settle();
+  }
+
+  async press(...keys) {
+    for (const key of keys) {
+      const windowsVirtualKeyCode = KEYS[key] ?? key.toUpperCase().charCodeAt(0);
+      const text = key === "Enter" ? "\r" : key.length === 1 ? key : undefined;
+      await this.call("Input.dispatchKeyEvent",
+        { type: text === undefined ? "rawKeyDown" : "keyDown", key, text, windowsVirtualKeyCode });
+      await this.call("Input.dispatchKeyEvent", { type: "keyUp", key, windowsVirtualKeyCode });
+    }
+    await this.settle();
+  }
+
+  async button(words, number = 0) {
+    await this.js(`[...document.querySelectorAll("button")].filter((each) => each.textContent === ` +
+      `${JSON.stringify(words)})[${number}].click()`);
+    await this.settle();
+  }
+
+  async close() {
+    await browser.call("Target.closeTarget", { targetId: this.target });
+    browser.heard.delete(this.session);
+    assert.deepEqual(this.messages, []);
+    assert.deepEqual([...this.asked], [this.url]);
+  }
+}
+
+// ---- pages ------------------------------------------------------------------------------------------------------
+
+function pageOf(name, spec, streams) {
+  const { stdout, status } = spawnSync(MONITOR, ["explore", spec, ...streams], { maxBuffer: 2 ** 30 });
+  assert.equal(status, 0, stdout.toString().slice(0, 200));
+  const file = path.join(folder, name + ".html");
+  fs.writeFileSync(file, stdout);
+  return file;
+}
+
+function example(name) {
+  const here = path.join(EXAMPLES, name);
+  const streams = fs.readdirSync(here).filter((file) => file.endsWith(".stream")).map((file) => path.join(here, file));
+  return pageOf(name, path.join(here, "session.json"), streams);
+}
+
+function made(name, document, streams) {
+  const spec = path.join(folder, name + ".json");
+  fs.writeFileSync(spec, JSON.stringify(document));
+  return pageOf(name, spec, streams.map((lines, p) => {
+    const file = path.join(folder, name + p);
+    fs.writeFileSync(file, [...lines, { end: true }].map((line) => JSON.stringify(line)).join("\n") + "\n");
+    return file;
+  }));
+}
+
+// A ring: each process gets a message from the one before it, now and then, and counts.
+function ring(processes, events) {
+  const names = Array.from({ length: processes }, (_, p) => "p" + p);
+  const streams = names.map((process, p) => [{ process }, ...Array.from({ length: events }, (_, i) => {
+    if (i % 10 === 3) return { send: `m${p}.${i}` };
+    if (i % 10 === 7 && i > 13) return { recv: `m${(p + processes - 1) % processes}.${i - 14}`, set: { x: i } };
+    return { set: { x: i } };
+  })]);
+  return made("ring" + processes, { width: 1, processes: names.map((name) => ({ name, vars: { x: 0 } })),
+    predicates: [{ name: "high", text: "p0.x > 5" }, { name: "never", text: "p1.x < 0 and p2.x < 0" }] }, streams);
+}
+
+const needed = { skip: [MONITOR, EXAMPLES, CHROMIUM].includes(undefined) && "MONITOR, EXAMPLES or CHROMIUM isn't set",
+                 timeout: 120000 };
+
+// ---- the tests --------------------------------------------------------------------------------------------------
+
+test("the cut is moved by clicks and drags", needed, async () => {
+  const page = await Page.open(example("failover"));
+  assert.deepEqual(await page.cut(), [2, 0, 2], "the evidence is shown first");
+  await page.click(1, 3);
+  assert.deepEqual(await page.cut(), [2, 3, 2], "forward");
+  await page.click(0, 1);
+  assert.deepEqual(await page.cut(), [1, 3, 0], "backward, west leaves with its message");
+  assert.match(await page.text("status"), /west#1 went with it, for it receives manager-2 from manager#2/);
+  assert.match(await page.text("status"), /two_leaders is false now\./);
+  await page.click(0, 4);
+  assert.deepEqual(await page.cut(), [4, 5, 4], "forward, both come with it");
+  assert.match(await page.text("status"), /east#5 came with it, for it sends east-1 to manager#3/);
+  await page.click(1, 1, { modifiers: 8 });
+  assert.deepEqual(await page.cut(), [4, 5, 4], "with Shift it is only selected");
+  assert.equal(await page.text("event-title"), "Event east#1");
+  await page.press("u");
+  assert.deepEqual(await page.cut(), [1, 3, 0], "undone");
+  const [x, y] = await page.grip(0);
+  await page.drag([x, y], [(await page.place(0, 3))[0] + 10, y]);
+  assert.deepEqual(await page.cut(), [3, 5, 0], "dragged on, east comes with it");
+  const [u, v] = await page.grip(1);
+  await page.mouse("mousePressed", u, v);
+  await page.mouse("mouseMoved", (await page.place(1, 1))[0] - 10, v, { buttons: 1 });
+  await page.settle();
+  assert.deepEqual(await page.cut(), [2, 0, 0], "dragged back, manager goes with it");
+  await page.mouse("mouseMoved", u, v, { buttons: 1 });
+  await page.settle();
+  assert.deepEqual(await page.cut(), [3, 5, 0], "and in the same drag it comes back");
+  await page.mouse("mouseReleased", u, v);
+  await page.close();
+});
+
+test("all is done by keys", needed, async () => {
+  const page = await Page.open(example("failover"));
+  assert.equal(await page.js("document.querySelectorAll('[role=slider][tabindex=\"0\"]').length"), 1);
+  await page.js("lanes[2].lane.focus()");
+  await page.press("ArrowRight");
+  assert.deepEqual(await page.cut(), [2, 0, 3]);
+  assert.equal(await page.js("document.activeElement.getAttribute('aria-valuenow')"), "3");
+  assert.match(await page.js("document.activeElement.getAttribute('aria-valuetext')"), /written = 1/);
+  await page.press("ArrowUp");
+  assert.equal(await page.js("document.activeElement.getAttribute('aria-label')"), "east");
+  await page.press("End");
+  assert.deepEqual(await page.cut(), [2, 5, 3]);
+  await page.press("Home");
+  assert.deepEqual(await page.cut(), [2, 0, 3]);
+  await page.press("ArrowUp", "Home");
+  assert.deepEqual(await page.cut(), [0, 0, 0]);
+  await page.press(".", "m");
+  assert.equal(await page.text("event-title"), "Event east#2", "to the message's other end");
+  await page.press("Enter");
+  assert.deepEqual(await page.cut(), [1, 2, 0]);
+  await page.press("Escape");
+  assert.equal(await page.js("state.selected"), null);
+  await page.press("/");
+  assert.equal(await page.js("document.activeElement.id"), "query");
+  await page.press(..."west-1", "Enter");
+  assert.equal(await page.text("event-title"), "Event west#4");
+  await page.press("Enter");
+  assert.equal(await page.text("event-title"), "Event manager#4");
+  await page.press("Escape", "Escape", "?");
+  assert.equal(await page.js("byId('help').open"), true);
+  await page.press("Escape");
+  assert.equal(await page.js("byId('help').open"), false);
+  await page.until("byId('live').textContent === byId('status').textContent");
+  await page.close();
+});
+
+test("predicates, values and evidence are said in words", needed, async () => {
+  const page = await Page.open(example("failover"));
+  const badges = () => page.js("[...document.querySelectorAll('.badge')].map((each) => each.textContent)");
+  assert.deepEqual(await badges(), ["✓ true", "✗ false", "✗ false"]);
+  await page.button("Show the cut", 2);
+  assert.deepEqual(await page.cut(), [1, 4, 0]);
+  assert.deepEqual(await badges(), ["✗ false", "✗ false", "✓ true"]);
+  assert.match(await page.text("predicates"), /0 \+ 0 = 0 equals 0/);
+  assert.match(await page.text("predicates"), /0 isn't 1/);
+  const changed = "[...document.querySelectorAll('#values .changed th')].map((each) => each.textContent)";
+  assert.deepEqual(await page.js(changed), ["leader", "written", "leader"], "what changed is marked");
+  await page.close();
+  const unknown = await Page.open(example("unknown"));
+  assert.match(await unknown.text("predicates"), /more cuts than the width/);
+  await unknown.close();
+});
+
+test("an observation is a film", needed, async () => {
+  const page = await Page.open(example("failover"));
+  await page.button("Show the film", 0);
+  assert.deepEqual(await page.cut(), [0, 0, 0]);
+  await page.js("byId('film-on').click(); byId('film-on').click()");
+  assert.deepEqual(await page.cut(), [2, 0, 0]);
+  await page.js("byId('film-step').value = 11; byId('film-step').dispatchEvent(new Event('input'))");
+  assert.deepEqual(await page.cut(), [2, 5, 4]);
+  await page.js("byId('film-back').click()");
+  assert.deepEqual(await page.cut(), [2, 4, 4]);
+  await page.js("byId('film-speed').value = '30'; document.activeElement.blur()");
+  await page.press(" ");
+  await page.until("state.film.step === run.eventCount && byId('film-play').textContent === 'Play'");
+  assert.deepEqual(await page.cut(), [4, 5, 4], "played to its end");
+  await page.press("Escape");
+  assert.equal(await page.js("byId('film').hidden"), true);
+  await page.close();
+});
+
+test("the address has the cut, the view, the event and the film", needed, async () => {
+  const file = example("failover");
+  const page = await Page.open(file);
+  await page.click(1, 3);
+  await page.js("openFilm(1, 4)");
+  await page.until("location.hash.includes('film=two_writers.4') && location.hash.includes('event=east.3')");
+  const fragment = await page.js("location.hash");
+  const cut = await page.cut();
+  await page.close();
+  const again = await Page.open(file, fragment);
+  assert.deepEqual(await again.cut(), cut);
+  assert.deepEqual(await again.js("[state.selected.p, state.selected.i, state.film.k, state.film.step]"), [1, 3, 1, 4]);
+  await again.js("location.hash = '#cut=1,0,0'");
+  await again.until("String(state.cut) === '1,0,0'");
+  await again.close();
+});
+
+test("a message with several receipts has all of them, and ids are never mark-up", needed, async () => {
+  const ids = ["</script><script>alert(1)</script>", "<!--<script>", "<img src=x onerror=alert(1)>", "\"\\\u0001"];
+  const page = await Page.open(made("copied", { version: 2, predicates: [{ name: "q", text: "a.x < 5" }],
+    processes: ["a", "b", "c"].map((name) => ({ name, vars: { x: 0 } })) },
+    [[{ process: "a" }, ...ids.map((send) => ({ send }))], [{ process: "b" }, ...ids.map((recv) => ({ recv }))],
+     [{ process: "c" }, { recv: ids[0] }, { set: { x: 1 } }]]));
+  await page.js("for (let p = 0; p < run.size; p++) for (let i = 1; i <= run.counts[p]; i++) select(p, i)");
+  assert.equal(await page.js("document.querySelectorAll('img, iframe, a').length"), 0);
+  assert.equal(await page.js("document.querySelectorAll('script').length"), 4);
+  await page.js("select(0, 1)");
+  assert.match(await page.text("event-body"), /received by b#1 c#1/);
+  await page.js("setCut([0, 0, 0]); cutTo(2, 1)");
+  assert.deepEqual(await page.cut(), [1, 0, 1]);
+  assert.match(await page.text("status"), /a#1 came with it, for it sends .* to c#1/);
+  await page.js("setCut(run.counts.slice()); cutTo(0, 0)");
+  assert.deepEqual(await page.cut(), [0, 0, 0]);
+  await page.close();
+});
+
+test("no other script runs", needed, async () => {
+  const page = await Page.open(example("failover"));
+  await page.js("document.body.append(Object.assign(document.createElement('script'), { text: 'window.ran = 1' })); 0");
+  assert.equal(await page.js("window.ran ?? 0"), 0);
+  assert.ok(page.messages.every((message) => message.includes("Content Security Policy")));
+  page.messages = [];
+  await page.close();
+});
+
+test("a page without events, narrow and dark", needed, async () => {
+  const page = await Page.open(made("empty", { predicates: [{ name: "q", text: "a.x > 5" }],
+    processes: [{ name: "a", vars: { x: 0 } }] }, [[{ process: "a" }]]), "", { width: 400, dark: true });
+  await page.button("Show the film", 0);
+  await page.press(" ", "Escape", "0", "c", ",", ".", "u");
+  await page.js("lanes[0].lane.focus()");
+  await page.press("ArrowRight", "End");
+  assert.deepEqual(await page.cut(), [0]);
+  await page.close();
+});
+
+test("a large run is opened, drawn and moved in", needed, async () => {
+  const page = await Page.open(ring(16, 10000));
+  const drawn = await page.js(`(() => {
+    const times = [26, 6, 1, 0].map((scale) => {
+      setView(run.lastColumn / 2, scale);
+      const start = performance.now();
+      draw();
+      return Math.round(performance.now() - start);
+    });
+    const [entry] = performance.getEntriesByType("navigation");
+    return [Math.round(entry.loadEventEnd), ...times];
+  })()`);
+  await page.js("cutTo(0, 5000); select(0, 4997)");
+  assert.equal(await page.js("isConsistent(run, state.cut)"), true);
+  await page.js("lanes[3].lane.focus()");
+  await page.press("ArrowRight", "End", "Home");
+  assert.equal(await page.js("isConsistent(run, state.cut)"), true);
+  console.log(`  160,000 events: loaded after ${drawn[0]} ms, drawn in ${drawn.slice(1).join(", ")} ms`);
+  await page.close();
+});

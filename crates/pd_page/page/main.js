@@ -1,0 +1,594 @@
+"use strict";
+// The page: its state, and what keys, pointer and buttons do to it.
+
+const FILM_SPEEDS = [1, 2, 4, 10, 30, 100, 300, 1000];
+const UNDO_LIMIT = 200;
+const HOW_TO_MOVE = "Move it: click an event, drag a grip, or use the arrow keys on a lane.";
+
+window.addEventListener("error", (event) => { byId("status").textContent = "The page failed: " + event.message; });
+
+const run = readRun(JSON.parse(byId("data").textContent));
+byId("data").remove();
+
+const state = {
+  cut: run.counts.map(() => 0), before: run.counts.map(() => 0), forced: [], undo: [],
+  lane: 0, focused: false, selected: null, cone: null, shown: -1, film: null, query: "", hits: [], hit: -1,
+  view: { left: 0, scale: 1 }, listing: { p: 0, first: 1 },
+};
+const actions = { show, showCut, openFilm, select, cutTo, unselect: () => select(null) };
+const canvas = byId("diagram");
+const overview = byId("overview");
+const size = { width: 0, height: 0, top: 0, lane: 0, ratio: 1 };
+const strip = { width: 0, height: 0, ground: null };
+let palette = readPalette();
+let cards = [];
+let rows = [];
+let lanes = [];
+let asked = false;
+let timer = 0;
+let said = 0;
+let searching = 0;
+
+// ---- drawing ----------------------------------------------------------------------------------------------------
+
+function measure() {
+  const shell = byId("picture");
+  size.ratio = Math.max(1, window.devicePixelRatio || 1);
+  const sought = Math.min(window.innerHeight * 0.6, 720) / run.size;
+  size.lane = Math.round(Math.max(34, Math.min(96, sought)));
+  size.width = Math.max(120, Math.floor(shell.clientWidth));
+  size.height = size.top * 2 + size.lane * run.size;
+  document.documentElement.style.setProperty("--lane-height", size.lane + "px");
+  fitCanvas(canvas, size.width, size.height);
+  strip.width = Math.max(120, Math.floor(byId("stage").clientWidth));
+  strip.height = Math.max(26, Math.min(60, 8 + 3 * run.size));
+  fitCanvas(overview, strip.width, strip.height);
+  strip.ground = drawGround(run, palette, strip.width, strip.height, size.ratio);
+  setView(state.view.left, state.view.scale);
+}
+
+function fitCanvas(which, width, height) {
+  which.width = Math.round(width * size.ratio);
+  which.height = Math.round(height * size.ratio);
+  which.style.width = width + "px";
+  which.style.height = height + "px";
+}
+
+function draw() {
+  asked = false;
+  const context = canvas.getContext("2d", { alpha: false });
+  context.setTransform(size.ratio, 0, 0, size.ratio, 0, 0);
+  const told = drawDiagram(context, run, state, palette, size);
+  byId("level").textContent = byId("level").title = (told.drawn < told.all
+    ? "1 of " + Math.round(told.all / told.drawn) + " messages drawn. " : "") +
+    "Level " + levelOf(state.cut) + ", cut " + state.cut.join(",");
+  const small = overview.getContext("2d", { alpha: false });
+  small.setTransform(size.ratio, 0, 0, size.ratio, 0, 0);
+  drawOverview(small, run, state, palette, strip.ground, strip.width, strip.height, size.width);
+}
+
+// Asks for one drawing at the next frame, however often it is called before.
+function redraw() {
+  if (asked) return;
+  asked = true;
+  requestAnimationFrame(draw);
+}
+
+function setView(left, scale) {
+  state.view = clampView(run, size.width, { left, scale });
+  redraw();
+  remember();
+}
+
+function zoom(factor, x = size.width / 2) {
+  const column = columnAt(state.view, x);
+  const { scale } = clampView(run, size.width, { left: 0, scale: state.view.scale * factor });
+  setView(column - x / scale, scale);
+}
+
+// Moves the view so that a column stands in it, if it doesn't.
+function reveal(column) {
+  const x = xOf(state.view, column);
+  if (x < 30 || x > size.width - 30) setView(column - size.width / 2 / state.view.scale, state.view.scale);
+}
+
+// Moves the view so that the whole cut stands in it, or at least that of the lane, if it can't.
+function revealCut() {
+  const columns = state.cut.map((count, p) => run.columns[p][count]);
+  const [first, last] = [Math.min(...columns), Math.max(...columns)];
+  const { scale } = state.view;
+  if ((last - first + 2) * scale > size.width) return reveal(columns[state.lane]);
+  if (xOf(state.view, first) < 30 || xOf(state.view, last) > size.width - 60) {
+    setView((first + last) / 2 - size.width / 2 / scale, scale);
+  }
+}
+
+// ---- the state --------------------------------------------------------------------------------------------------
+
+// Shows another cut. `from` is the one that it is compared with, if not the one before.
+function setCut(next, { forced = [], text = "", from = state.cut, keep = true } = {}) {
+  if (keep && String(next) !== String(state.cut)) {
+    state.undo.push(state.cut);
+    if (state.undo.length > UNDO_LIMIT) state.undo.shift();
+  }
+  state.before = from;
+  state.cut = next;
+  state.forced = forced;
+  list(state.lane, next[state.lane]);
+  say([text, ...turned(run, from, next)].join(" "));
+  update();
+}
+
+function move(p, count) {
+  const before = state.cut;
+  const { cut, forced, direction } = moveTo(run, before, p, count);
+  if (direction === 0) return;
+  state.lane = p;
+  setCut(cut, { forced, text: moveText(run, before, cut, p, forced) });
+  reveal(run.columns[p][cut[p]]);
+}
+
+function cutTo(p, count) {
+  pause();
+  move(p, count);
+}
+
+function undo() {
+  if (state.undo.length === 0) return;
+  pause();
+  setCut(state.undo.pop(), { keep: false, text: "The cut before." });
+  revealCut();
+}
+
+function select(p, i) {
+  state.selected = p === null ? null : { p, i };
+  state.cone = p === null ? null : coneOf(run, p, i);
+  if (p !== null) {
+    state.lane = p;
+    list(p, i);
+    reveal(run.columns[p][i]);
+    say(eventText(run, p, i));
+  }
+  update();
+}
+
+function list(p, i) {
+  const { first } = state.listing;
+  if (state.listing.p !== p || i < first || i >= first + LISTING_ROWS) {
+    state.listing = { p, first: Math.max(1, i - Math.floor(LISTING_ROWS / 2)) };
+  }
+}
+
+function show(k) {
+  state.shown = state.shown === k ? -1 : k;
+  update();
+}
+
+function showCut(k) {
+  closeFilm();
+  state.shown = k;
+  const { name, node, possibly } = run.predicates[k];
+  const cut = possibly[1].slice();
+  setCut(cut, { text: isTrue(node, reader(run, cut)) ? name + " is true at this cut."
+    : "This page and the report disagree on " + name + " at this cut: the page is wrong." });
+  revealCut();
+}
+
+function update() {
+  updatePredicates(run, state, cards);
+  updateValues(run, state, rows);
+  updateEvent(run, state, actions);
+  updateListing(run, state, actions);
+  updateLanes();
+  updateFilm();
+  byId("undo").disabled = state.undo.length === 0;
+  redraw();
+  remember();
+}
+
+function say(text) {
+  byId("status").textContent = text;
+  clearTimeout(said);
+  said = setTimeout(() => { byId("live").textContent = text; }, 400);
+}
+
+// ---- lanes ------------------------------------------------------------------------------------------------------
+
+function makeLanes() {
+  lanes = run.names.map((name, p) => {
+    const count = element("span", { class: "count" });
+    const lane = element("div", { class: "lane", role: "slider", "aria-label": name, "aria-valuemin": "0",
+      "aria-valuemax": String(run.counts[p]), "aria-orientation": "horizontal", title: name },
+      element("span", { class: "name" }, name), count);
+    lane.addEventListener("focus", () => {
+      state.focused = true;
+      state.lane = p;
+      updateLanes();
+      redraw();
+    });
+    lane.addEventListener("blur", () => { state.focused = false; redraw(); });
+    lane.addEventListener("keydown", (event) => laneKey(event, p));
+    byId("lanes").append(lane);
+    return { lane, count };
+  });
+}
+
+function updateLanes() {
+  lanes.forEach(({ lane, count }, p) => {
+    const events = state.cut[p];
+    lane.tabIndex = p === state.lane ? 0 : -1;
+    lane.setAttribute("aria-valuenow", String(events));
+    lane.setAttribute("aria-valuetext", events + " of " + run.counts[p] + " events in the cut" +
+      (events === 0 ? "" : "; the last is " + eventText(run, p, events)));
+    count.textContent = events + "/" + run.counts[p];
+  });
+}
+
+function laneKey(event, p) {
+  if (event.ctrlKey || event.altKey || event.metaKey || event.shiftKey) return;
+  const step = { ArrowLeft: -1, ArrowRight: 1, PageUp: 10, PageDown: -10, Home: -Infinity, End: Infinity }[event.key];
+  if (step !== undefined) cutTo(p, Math.max(0, Math.min(run.counts[p], state.cut[p] + step)));
+  else if (event.key === "ArrowUp" || event.key === "ArrowDown") {
+    const q = p + (event.key === "ArrowUp" ? -1 : 1);
+    if (q >= 0 && q < run.size) lanes[q].lane.focus();
+  } else return;
+  event.preventDefault();
+}
+
+// ---- the film ---------------------------------------------------------------------------------------------------
+
+function openFilm(k, step = 0) {
+  pause();
+  const path = run.predicates[k].definitely[1];
+  state.film = { k, path, steps: stepsOf(run, path), step: 0 };
+  state.shown = k;
+  const wanted = Math.max(2, run.eventCount / 20);
+  byId("film-speed").value = String(FILM_SPEEDS.find((speed) => speed >= wanted) ?? 1000);
+  byId("film-step").max = String(path.length);
+  toStep(step);
+}
+
+function toStep(step) {
+  const { film } = state;
+  const before = film.step === step ? state.cut : cutAtStep(film.steps, Math.max(0, step - 1));
+  film.step = step;
+  const p = step > 0 ? film.path[step - 1] : -1;
+  const next = cutAtStep(film.steps, step);
+  if (p >= 0) state.lane = p;
+  const name = run.predicates[film.k].name;
+  setCut(next, { from: before, keep: timer === 0, text: p < 0 ? name + " is avoided from here: no event has happened."
+    : "Step " + step + ": " + eventText(run, p, next[p]) + "." });
+  if (p >= 0) reveal(run.columns[p][next[p]]);
+}
+
+function play() {
+  if (timer !== 0) return pause();
+  if (state.film.step >= run.eventCount) toStep(0);
+  let last = performance.now();
+  const turn = (now) => {
+    const steps = Math.floor((now - last) * Number(byId("film-speed").value) / 1000);
+    if (steps > 0) {
+      last = now;
+      toStep(Math.min(run.eventCount, state.film.step + steps));
+      if (state.film.step >= run.eventCount) return pause();
+    }
+    timer = requestAnimationFrame(turn);
+  };
+  timer = requestAnimationFrame(turn);
+  updateFilm();
+}
+
+function pause() {
+  cancelAnimationFrame(timer);
+  timer = 0;
+  updateFilm();
+}
+
+function closeFilm() {
+  pause();
+  state.film = null;
+  update();
+}
+
+function updateFilm() {
+  const { film } = state;
+  byId("film").hidden = film === null;
+  if (film === null) return;
+  byId("film-name").textContent = run.predicates[film.k].name + " avoided";
+  byId("film-play").textContent = timer === 0 ? "Play" : "Pause";
+  byId("film-step").value = String(film.step);
+  byId("film-text").textContent = film.step + " of " + run.eventCount +
+    (String(cutAtStep(film.steps, film.step)) === String(state.cut) ? "" : ", the cut was moved off it");
+  byId("film-back").disabled = film.step === 0;
+  byId("film-on").disabled = film.step === run.eventCount;
+}
+
+// ---- finding ----------------------------------------------------------------------------------------------------
+
+function search() {
+  const query = byId("query").value;
+  clearTimeout(searching);
+  if (query === state.query) return;
+  state.query = query;
+  state.hits = find(run, query);
+  state.hit = -1;
+  byId("matches").textContent = query.trim() === "" ? "" : state.hits.length === 0 ? "nothing found"
+    : counted(state.hits.length, "event");
+  redraw();
+}
+
+function toHit(step) {
+  search();
+  if (state.hits.length === 0) return;
+  const count = state.hits.length;
+  state.hit = state.hit < 0 ? (step > 0 ? 0 : count - 1) : (state.hit + step + count) % count;
+  const { p, i, why } = state.hits[state.hit];
+  select(p, i);
+  byId("matches").textContent = state.hit + 1 + " of " + count.toLocaleString("en") + ": " + why;
+}
+
+// ---- keys -------------------------------------------------------------------------------------------------------
+
+function pageKey(event) {
+  if (event.ctrlKey || event.altKey || event.metaKey || byId("help").open) return;
+  const field = event.target.closest("input, select, textarea");
+  if (event.key === "Escape") {
+    if (state.film !== null) closeFilm();
+    else if (state.selected !== null) select(null);
+    else if (field !== null) field.blur();
+    return;
+  }
+  if (field !== null || event.defaultPrevented) return;
+  const onButton = event.target.closest("button") !== null;
+  const span = size.width / state.view.scale;
+  const { selected } = state;
+  const near = selected ?? { p: state.lane, i: state.cut[state.lane] };
+  const beside = (step) => {
+    const i = near.i + step;
+    if (i >= 1 && i <= run.counts[near.p]) select(near.p, i);
+  };
+  const keys = {
+    "/": () => byId("query").focus(), "?": () => byId("help").showModal(),
+    n: () => toHit(1), p: () => toHit(-1), u: undo, c: revealCut,
+    "+": () => zoom(1.5), "=": () => zoom(1.5), "-": () => zoom(1 / 1.5), 0: () => setView(0, 0),
+    ",": () => beside(-1), ".": () => beside(1),
+    m: () => {
+      const end = selected === null ? undefined : messageOf(run, selected.p, selected.i)?.ends[0];
+      if (end !== undefined) select(end.p, end.i);
+    },
+  };
+  if (event.shiftKey && event.key === "ArrowLeft") setView(state.view.left - span / 4, state.view.scale);
+  else if (event.shiftKey && event.key === "ArrowRight") setView(state.view.left + span / 4, state.view.scale);
+  else if (event.key === "Enter" && !onButton && selected !== null) cutTo(selected.p, selected.i);
+  else if (event.key === " " && !onButton && state.film !== null) play();
+  else if (keys[event.key] !== undefined) keys[event.key]();
+  else return;
+  event.preventDefault();
+}
+
+// ---- the pointer ------------------------------------------------------------------------------------------------
+
+function watchPointer() {
+  let drag = null;
+  const place = (event) => {
+    const box = canvas.getBoundingClientRect();
+    return { x: event.clientX - box.left, y: event.clientY - box.top };
+  };
+  canvas.addEventListener("pointerdown", (event) => {
+    if (event.button !== 0) return;
+    const { x, y } = place(event);
+    const grip = gripNear(run, state, size, x, y);
+    hideTip();
+    if (grip !== null && grip.edge) return reveal(run.columns[grip.p][state.cut[grip.p]]);
+    canvas.setPointerCapture(event.pointerId);
+    if (grip !== null) {
+      pause();
+      drag = { p: grip.p, start: state.cut, kept: false };
+    } else drag = { x, left: state.view.left, moved: false };
+  });
+  canvas.addEventListener("pointermove", (event) => {
+    const { x, y } = place(event);
+    if (drag === null) return hover(x, y);
+    if (drag.start === undefined) {
+      if (Math.abs(x - drag.x) > 4) drag.moved = true;
+      if (drag.moved) setView(drag.left - (x - drag.x) / state.view.scale, state.view.scale);
+      canvas.style.cursor = drag.moved ? "grabbing" : "";
+      return;
+    }
+    const margin = 24;
+    if (x < margin || x > size.width - margin) {
+      setView(state.view.left + (x < margin ? -8 : 8) / state.view.scale, state.view.scale);
+    }
+    const count = countUpTo(run.columns[drag.p], columnAt(state.view, x));
+    const { cut, forced } = moveTo(run, drag.start, drag.p, count);
+    if (String(cut) === String(state.cut)) return;
+    state.lane = drag.p;
+    setCut(cut, { forced, from: drag.start, keep: !drag.kept, text: moveText(run, drag.start, cut, drag.p, forced) });
+    drag.kept = true;
+  });
+  canvas.addEventListener("pointerup", (event) => {
+    if (drag !== null && drag.start === undefined && !drag.moved) click(event, place(event));
+    drag = null;
+    canvas.style.cursor = "";
+  });
+  canvas.addEventListener("pointercancel", () => { drag = null; });
+  canvas.addEventListener("pointerleave", hideTip);
+  canvas.addEventListener("wheel", (event) => {
+    const { x } = place(event);
+    if (event.ctrlKey) {
+      event.preventDefault();
+      return zoom(Math.exp(-event.deltaY * (event.deltaMode === 1 ? 0.05 : 0.0025)), x);
+    }
+    const delta = (Math.abs(event.deltaX) > Math.abs(event.deltaY) ? event.deltaX : event.deltaY) *
+      (event.deltaMode === 1 ? 20 : 1);
+    const { left } = state.view;
+    setView(left + delta / state.view.scale, state.view.scale);
+    if (state.view.left !== left) event.preventDefault();
+  }, { passive: false });
+  let held = false;
+  const pan = (event) => {
+    const box = overview.getBoundingClientRect();
+    const column = (event.clientX - box.left) / (strip.width / (run.lastColumn + 1));
+    setView(column - size.width / 2 / state.view.scale, state.view.scale);
+  };
+  overview.addEventListener("pointerdown", (event) => {
+    held = true;
+    overview.setPointerCapture(event.pointerId);
+    pan(event);
+  });
+  overview.addEventListener("pointermove", (event) => { if (held) pan(event); });
+  overview.addEventListener("pointerup", () => { held = false; });
+}
+
+function click(event, { x, y }) {
+  const near = eventNear(run, state, size, x, y);
+  if (near === null) {
+    if (state.selected !== null) select(null);
+    return;
+  }
+  select(near.p, near.i);
+  if (!event.shiftKey) cutTo(near.p, near.i);
+}
+
+function hover(x, y) {
+  const grip = gripNear(run, state, size, x, y);
+  const near = eventNear(run, state, size, x, y);
+  canvas.style.cursor = grip !== null ? (grip.edge ? "pointer" : "ew-resize") : near !== null ? "pointer" : "grab";
+  if (grip !== null && !grip.edge) return hideTip();
+  if (near !== null) return showTip(eventText(run, near.p, near.i), x, y);
+  const m = state.view.scale >= DOT_SCALE ? messageNear(run, state, size, x, y) : null;
+  if (m === null) return hideTip();
+  const { from, fromEvent, to, toEvent, ids } = run.messages;
+  showTip(ids[m] + ": " + placeText(run, from[m], fromEvent[m]) +
+    (to[m] < 0 ? ", in flight" : " to " + placeText(run, to[m], toEvent[m])), x, y);
+}
+
+function showTip(text, x, y) {
+  const tip = byId("tip");
+  tip.hidden = false;
+  tip.textContent = text;
+  const left = Math.max(4, Math.min(x + 14, size.width - tip.offsetWidth - 4));
+  const below = y + 18;
+  tip.style.left = left + "px";
+  tip.style.top = (below + tip.offsetHeight > size.height ? y - tip.offsetHeight - 12 : below) + "px";
+}
+
+function hideTip() {
+  byId("tip").hidden = true;
+}
+
+// ---- the address ------------------------------------------------------------------------------------------------
+
+let written = "";
+let writing = 0;
+function remember() {
+  clearTimeout(writing);
+  writing = setTimeout(() => {
+    written = "#" + fragmentOf(run, state);
+    if (written !== location.hash) history.replaceState(null, "", written);
+  }, 250);
+}
+
+function readAddress() {
+  const given = readFragment(run, location.hash);
+  if (given.view !== null) state.view = given.view;
+  if (given.film !== null) openFilm(given.film.k, given.film.step);
+  if (given.cut !== null) setCut(given.cut, { from: given.cut, text: byId("status").textContent });
+  if (given.selected !== null) {
+    state.selected = given.selected;
+    state.cone = coneOf(run, given.selected.p, given.selected.i);
+    state.lane = given.selected.p;
+    list(given.selected.p, given.selected.i);
+  }
+  if (given.view !== null) setView(given.view.left, given.view.scale);
+  update();
+  return given;
+}
+
+// ---- the start --------------------------------------------------------------------------------------------------
+
+function start() {
+  document.title = "monitor: " + run.predicates.map((each) => each.name).join(", ");
+  byId("counts").textContent = counted(run.size, "process", "processes") + ", " + counted(run.eventCount, "event") +
+    ", " + counted(run.received, "message") +
+    (run.inFlight > 0 ? " and " + run.inFlight.toLocaleString("en") + " in flight" : "");
+  makeLanes();
+  cards = makePredicates(run, actions);
+  rows = makeValues(run, actions);
+  run.names.forEach((name, p) => byId("listing-process").append(element("option", { value: String(p) }, name)));
+  FILM_SPEEDS.forEach((speed) => byId("film-speed").append(element("option", { value: String(speed) }, String(speed))));
+  canvas.setAttribute("aria-label", "The run: " + byId("counts").textContent + ". The cut is moved on the lanes " +
+    "beside; the events are listed as a table below.");
+  overview.hidden = run.lastColumn < 24;
+  byId("stage").classList.toggle("last", overview.hidden);
+  measure();
+  const evident = run.predicates.findIndex((each) => each.possibly[0] === "yes");
+  state.shown = Math.max(0, evident);
+  if (evident >= 0) {
+    state.cut = state.before = run.predicates[evident].possibly[1].slice();
+    say(run.predicates[evident].name + " is true at this cut. " + HOW_TO_MOVE);
+  } else say("The cut before all events. " + HOW_TO_MOVE);
+  if (fitScale(run, size.width) < 14) state.view.scale = 26;
+  setView(0, state.view.scale === 1 ? 0 : state.view.scale);
+  state.lane = Math.max(0, state.cut.findIndex((count) => count > 0));
+  list(state.lane, state.cut[state.lane]);
+  const given = readAddress();
+  if (given.view === null) revealCut();
+  watchPointer();
+  const onClick = (id, act) => byId(id).addEventListener("click", act);
+  const cutAt = (cut, text) => { pause(); setCut(cut, { text }); revealCut(); };
+  onClick("to-empty", () => cutAt(run.counts.map(() => 0), "Nothing has happened."));
+  onClick("to-full", () => cutAt(run.counts.slice(), "All has happened."));
+  onClick("undo", undo);
+  onClick("zoom-in", () => zoom(1.5));
+  onClick("zoom-out", () => zoom(1 / 1.5));
+  onClick("fit", () => setView(0, 0));
+  onClick("to-cut", revealCut);
+  onClick("film-play", play);
+  onClick("film-back", () => { pause(); toStep(state.film.step - 1); });
+  onClick("film-on", () => { pause(); toStep(state.film.step + 1); });
+  onClick("film-close", closeFilm);
+  onClick("help-button", () => byId("help").showModal());
+  onClick("previous", () => toHit(-1));
+  onClick("listing-earlier", () => { state.listing.first -= LISTING_ROWS; updateListing(run, state, actions); });
+  onClick("listing-later", () => { state.listing.first += LISTING_ROWS; updateListing(run, state, actions); });
+  byId("listing-process").addEventListener("change", (event) => {
+    const p = Number(event.target.value);
+    state.listing = { p, first: Math.max(1, state.cut[p] - LISTING_ROWS / 2) };
+    updateListing(run, state, actions);
+  });
+  byId("film-step").addEventListener("input", (event) => {
+    const step = Number(event.target.value);
+    pause();
+    toStep(step);
+  });
+  byId("find").addEventListener("submit", (event) => { event.preventDefault(); toHit(1); });
+  byId("query").addEventListener("keydown", (event) => {
+    if (event.key === "Enter" && event.shiftKey) { event.preventDefault(); toHit(-1); }
+  });
+  byId("query").addEventListener("input", () => {
+    clearTimeout(searching);
+    searching = setTimeout(search, 120);
+  });
+  document.addEventListener("keydown", pageKey);
+  window.addEventListener("hashchange", () => { if (location.hash !== written) readAddress(); });
+  new ResizeObserver(() => {
+    if (Math.floor(byId("picture").clientWidth) !== size.width) measure();
+  }).observe(byId("picture"));
+  window.addEventListener("resize", measure);
+  const recolour = () => { palette = readPalette(); measure(); };
+  for (const wish of ["(prefers-color-scheme: dark)", "(forced-colors: active)"]) {
+    matchMedia(wish).addEventListener("change", recolour);
+  }
+  const printed = (on) => {
+    document.documentElement.classList.toggle("printed", on);
+    palette = readPalette();
+    strip.ground = drawGround(run, palette, strip.width, strip.height, size.ratio);
+    draw();
+  };
+  window.addEventListener("beforeprint", () => printed(true));
+  window.addEventListener("afterprint", () => printed(false));
+  document.documentElement.classList.add("ready");
+}
+
+start();

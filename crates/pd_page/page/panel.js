@@ -1,0 +1,282 @@
+"use strict";
+// The words beside the drawing: predicates with their evidence, values, the selected event, the events as a table. Each
+// text is set as text, never as mark-up.
+
+const LISTING_ROWS = 12;
+const REASONS_SHOWN = 6;
+
+function element(tag, attributes, ...children) {
+  const made = document.createElement(tag);
+  for (const [name, value] of Object.entries(attributes ?? {})) {
+    if (name === "click") made.addEventListener("click", value);
+    else if (value !== null) made.setAttribute(name, value);
+  }
+  made.append(...children.filter((child) => child !== null));
+  return made;
+}
+
+function byId(id) {
+  return document.getElementById(id);
+}
+
+// Makes what stands in a node anew, unless it was made for the same key.
+const madeFor = new WeakMap();
+function renew(node, key, make) {
+  if (madeFor.get(node) === key) return;
+  madeFor.set(node, key);
+  node.replaceChildren(...make());
+}
+
+function counted(number, one, many) {
+  return number.toLocaleString("en") + " " + (number === 1 ? one : many ?? one + "s");
+}
+
+function placeText(run, p, i) {
+  return run.names[p] + "#" + i;
+}
+
+// A cut's counts, which may be broken after a comma.
+function cutNodes(cut) {
+  return cut.flatMap((count, p) => (p + 1 < cut.length ? [count + ",", element("wbr")] : [String(count)]));
+}
+
+// ---- predicates -------------------------------------------------------------------------------------------------
+
+function makePredicates(run, actions) {
+  return run.predicates.map((predicate, k) => {
+    const badge = element("span", { class: "badge" });
+    const why = element("ul", { class: "why" });
+    const answers = element("dl", { class: "answers" },
+      element("dt", {}, "Possibly"), possiblyOf(run, predicate, k, actions),
+      element("dt", {}, "Definitely"), definitelyOf(run, predicate, k, actions));
+    const name = element("button", { type: "button", class: "plain", title: "write its variables beside the cut",
+                                     click: () => actions.show(k) }, predicate.name);
+    const open = predicate.possibly[0] === "unknown" || predicate.definitely[0] === "unknown";
+    const card = element("article", { class: "predicate" }, element("h3", {}, name, badge),
+      element("code", {}, predicate.text), why, answers,
+      open ? element("p", { class: "hint" }, whatToDo(run)) : null);
+    byId("predicates").append(card);
+    return { card, badge, why, name };
+  });
+}
+
+function given(word, words, button = null) {
+  return element("dd", { class: "given" }, element("span", {}, element("strong", {}, word), ...[words].flat()), button);
+}
+
+function possiblyOf(run, { possibly: [word, evidence] }, k, actions) {
+  if (word === "yes") {
+    return given(word, [", at ", ...cutNodes(evidence)],
+      element("button", { type: "button", click: () => actions.showCut(k) }, "Show the cut"));
+  }
+  if (word === "no") return given(word, ": no consistent cut satisfies it");
+  return given(word, ": no cut below level " + evidence + " satisfies it, and that level has more cuts than the " +
+    "width, " + run.width);
+}
+
+function definitelyOf(run, { definitely: [word, evidence] }, k, actions) {
+  if (word === "no") {
+    return given(word, ", an observation avoids it",
+      element("button", { type: "button", click: () => actions.openFilm(k) }, "Show the film"));
+  }
+  if (word === "yes") {
+    return given(word, ", by level " + evidence + ": in whichever order the events were observed, it was true at " +
+      "some cut of at most " + evidence + (evidence === 1 ? " event" : " events"));
+  }
+  return given(word, ": level " + evidence + " has more cuts that avoid it than the width, " + run.width);
+}
+
+function whatToDo(run) {
+  return "Unknown isn't no. To decide it: " + (run.beyondWidth ? ""
+    : "the option --beyond-width, if it names two processes at most or each comparison names one; ") +
+    (run.width < 65536 ? "a greater width in the session document, up to 65536; " : "") +
+    "a recording with fewer events between the messages.";
+}
+
+function updatePredicates(run, state, cards) {
+  const read = reader(run, state.cut);
+  cards.forEach(({ card, badge, why, name }, k) => {
+    const { node } = run.predicates[k];
+    const truth = isTrue(node, read);
+    badge.textContent = truth ? "✓ true" : "✗ false";
+    badge.className = "badge " + truth;
+    card.classList.toggle("shown", k === state.shown);
+    name.setAttribute("aria-pressed", String(k === state.shown));
+    const reasons = deciding(node, read).filter((reason) => reason.why !== "");
+    renew(why, reasons.map((reason) => reason.text + reason.why).join(), () => [
+      ...reasons.slice(0, REASONS_SHOWN).map(({ text, holds, negated, why: words }) =>
+        element("li", { class: holds ? "holds" : "fails" }, element("code", {}, text), (holds ? " holds" : " fails") +
+          (negated ? ", under not: " : ": ") + words)),
+      ...(reasons.length <= REASONS_SHOWN ? []
+        : [element("li", {}, "and " + counted(reasons.length - REASONS_SHOWN, "comparison") + " more")]),
+    ]);
+  });
+}
+
+// The predicates whose truth differs between two cuts, in words.
+function turned(run, before, after) {
+  if (String(before) === String(after)) return [];
+  return run.predicates.flatMap(({ name, node }) => {
+    const truth = isTrue(node, reader(run, after));
+    return truth === isTrue(node, reader(run, before)) ? [] : [name + " is " + truth + " now."];
+  });
+}
+
+// ---- values -----------------------------------------------------------------------------------------------------
+
+function makeValues(run, actions) {
+  const rows = [];
+  run.names.forEach((name, p) => {
+    const body = element("tbody", {});
+    const count = element("span", { class: "count" });
+    body.append(element("tr", { class: "process" }, element("th", { colspan: "3", scope: "rowgroup" }, name, count)));
+    run.vars[p].forEach((variable, v) => {
+      const value = element("td", { class: "value" });
+      const by = element("td", { class: "by" });
+      const row = element("tr", {}, element("th", { scope: "row" }, variable.name), value, by);
+      rows.push({ p, v, row, value, by });
+      body.append(row);
+    });
+    rows.push({ p, v: -1, count });
+    byId("values").append(body);
+  });
+  return rows.map((row) => ({ ...row, select: (i) => actions.select(row.p, i) }));
+}
+
+function updateValues(run, state, rows) {
+  for (const { p, v, row, value, by, count, select } of rows) {
+    const events = state.cut[p];
+    if (v < 0) {
+      count.textContent = events + " of " + run.counts[p];
+      continue;
+    }
+    const now = valueAt(run, p, v, events);
+    const before = valueAt(run, p, v, state.before[p]);
+    const setter = settingEvent(run, p, v, events);
+    const fresh = setter === events && events > 0;
+    renew(value, now + " " + before,
+      () => [now, ...(now === before ? [] : [element("span", { class: "was" }, " was " + before)])]);
+    row.classList.toggle("changed", now !== before);
+    row.classList.toggle("fresh", fresh);
+    renew(by, setter + " " + fresh, () => (setter === 0 ? ["initial"]
+      : [element("button", { type: "button", class: "plain", "aria-label": "select event " + placeText(run, p, setter),
+                             click: () => select(setter) }, "#" + setter),
+         fresh ? element("span", { class: "last", title: "the last event of this process in the cut set it" }, " last")
+           : null].filter((each) => each !== null)));
+  }
+}
+
+// ---- an event ---------------------------------------------------------------------------------------------------
+
+function setsOf(run, p, i) {
+  const event = run.events[p][i];
+  const sets = [];
+  for (let k = 1; k < event.length; k += 2) {
+    sets.push({ name: run.vars[p][event[k]].name, value: event[k + 1], before: valueAt(run, p, event[k], i - 1) });
+  }
+  return sets;
+}
+
+// The message of an event in words, with its other ends: of a receipt one, of a send those that receive it.
+function messageOf(run, p, i) {
+  const m = run.messageAt[p][i];
+  if (m < 0) return null;
+  const { from, fromEvent, to, toEvent, ids } = run.messages;
+  if (from[m] !== p || fromEvent[m] !== i) {
+    return { verb: "receives", id: ids[m], ends: [{ p: from[m], i: fromEvent[m] }], words: "sent by" };
+  }
+  const ends = sentBy(run, p, i).filter((sent) => to[sent] >= 0).map((sent) => ({ p: to[sent], i: toEvent[sent] }));
+  return { verb: "sends", id: ids[m], ends,
+           words: ends.length === 0 ? "which nothing receives: it is in flight" : "received by" };
+}
+
+function eventText(run, p, i) {
+  const parts = [placeText(run, p, i)];
+  for (const { name, value, before } of setsOf(run, p, i)) {
+    parts.push(name + " = " + value + (before === value ? "" : " (was " + before + ")"));
+  }
+  const message = messageOf(run, p, i);
+  if (message !== null) {
+    parts.push(message.verb + " " + message.id + (message.ends.length === 0 ? ", in flight"
+      : ", " + message.words + " " + message.ends.map((end) => placeText(run, end.p, end.i)).join(", ")));
+  }
+  return parts.join("; ");
+}
+
+function updateEvent(run, state, actions) {
+  const body = byId("event-body");
+  const focused = body.contains(document.activeElement);
+  if (state.selected === null) {
+    byId("event-title").textContent = "Event";
+    body.replaceChildren(element("p", { class: "hint" },
+      "Click an event, and the cut moves there. With Shift, or by the keys , and . it is only selected."));
+    return;
+  }
+  const { p, i } = state.selected;
+  const { before, after, beside } = state.cone;
+  byId("event-title").textContent = "Event " + placeText(run, p, i);
+  const list = element("dl", {});
+  const add = (term, ...words) => list.append(element("dt", {}, term), element("dd", {}, ...words));
+  add("At the cut", i <= state.cut[p] ? "it has happened" : "it has not happened");
+  const sets = setsOf(run, p, i);
+  add("Sets", sets.length === 0 ? "nothing"
+    : sets.map(({ name, value, before: old }) => name + " = " + value + " (was " + old + ")").join(", "));
+  const message = messageOf(run, p, i);
+  if (message !== null) {
+    add(message.verb === "sends" ? "Sends" : "Receives", element("code", {}, message.id), ", " + message.words,
+      ...message.ends.flatMap((end) => [" ", element("button",
+        { type: "button", class: "plain", click: () => actions.select(end.p, end.i) }, placeText(run, end.p, end.i))]));
+  }
+  add("Around it", counted(before, "event") + " before it, " + after.toLocaleString("en") + " after it, " +
+    beside.toLocaleString("en") + " concurrent with it");
+  body.replaceChildren(list, element("p", { class: "actions" },
+    element("button", { type: "button", click: () => actions.cutTo(p, i) }, "Cut after it"),
+    element("button", { type: "button", click: () => actions.cutTo(p, i - 1) }, "Cut before it"),
+    element("button", { type: "button", click: () => actions.unselect() }, "Let go")));
+  if (focused) body.querySelector("button").focus();
+}
+
+// ---- the events as a table --------------------------------------------------------------------------------------
+
+function updateListing(run, state, actions) {
+  const { p } = state.listing;
+  const last = Math.max(1, run.counts[p] - LISTING_ROWS + 1);
+  const first = Math.max(1, Math.min(state.listing.first, last));
+  state.listing.first = first;
+  byId("listing-process").value = String(p);
+  const end = Math.min(run.counts[p], first + LISTING_ROWS - 1);
+  byId("listing-range").textContent = run.counts[p] === 0 ? "no events"
+    : first + " to " + end + " of " + run.counts[p].toLocaleString("en");
+  byId("listing-earlier").disabled = first <= 1;
+  byId("listing-later").disabled = end >= run.counts[p];
+  const row = (i) => {
+    const message = messageOf(run, p, i);
+    return element("tr", { class: (i <= state.cut[p] ? "in" : "out") + (i === chosen ? " chosen" : "") },
+      element("th", { scope: "row" }, element("button", { type: "button", class: "plain",
+        click: () => actions.select(p, i), "aria-label": "select event " + placeText(run, p, i) }, "#" + i)),
+      element("td", {}, setsOf(run, p, i).map(({ name, value }) => name + " = " + value).join(", ")),
+      element("td", {}, message === null ? "" : message.verb + " " + message.id),
+      element("td", {}, i <= state.cut[p] ? "yes" : ""));
+  };
+  const chosen = state.selected !== null && state.selected.p === p ? state.selected.i : 0;
+  const body = byId("listing-table").tBodies[0];
+  const focused = body.contains(document.activeElement);
+  renew(body, [p, first, chosen, Math.max(first - 1, Math.min(end, state.cut[p]))].join(),
+    () => Array.from({ length: end - first + 1 }, (_, k) => row(first + k)));
+  if (focused && chosen >= first && chosen <= end) body.rows[chosen - first].querySelector("button").focus();
+}
+
+// ---- what a move did --------------------------------------------------------------------------------------------
+
+function moveText(run, before, after, p, forced) {
+  const where = run.names[p] + " at " + after[p] + " of " + run.counts[p] + ".";
+  const { from, fromEvent, to, toEvent, ids } = run.messages;
+  const told = forced.slice(0, 3).map((m) => {
+    const send = placeText(run, from[m], fromEvent[m]);
+    const receipt = placeText(run, to[m], toEvent[m]);
+    return after[p] > before[p] ? send + " came with it, for it sends " + ids[m] + " to " + receipt
+      : receipt + " went with it, for it receives " + ids[m] + " from " + send;
+  });
+  if (forced.length > 3) told.push("and " + counted(forced.length - 3, "process", "processes") + " more moved");
+  return where + (told.length === 0 ? "" : " " + told.join("; ") + ".");
+}

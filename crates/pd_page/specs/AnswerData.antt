@@ -1,0 +1,36 @@
+-- What stands in a page for the answers of a report.
+use Rattle.std.specs.Prelude.{ℕ, List, ◌++◌, codes, decimal, unwrap_or}
+use Rattle.pd_format.specs.Names.{ProcessNames, process_named}
+use Rattle.pd_format.specs.Reports.{Answer, Possibly, Definitely}
+use Rattle.pd_page.specs.JsonTexts.{listed, quoted}
+
+-- the number of the process of this name, from 0
+abbrev pub process_number : List ProcessNames → List ℕ → ℕ
+process_number names name = unwrap_or (process_named names name) 0
+
+-- a step of an observation, by the name of the process whose event happens
+abbrev pub step_text : List ProcessNames → List ℕ → List ℕ
+step_text names name = decimal (process_number names name)
+
+-- the level by which it is unknown
+unfoldable pub unknown_text : ℕ → List ℕ
+unknown_text level = codes "[\"unknown\"," ++ decimal level ++ codes "]"
+
+-- the cut's counts of events, or the level
+abbrev pub possibly_text : Possibly → List ℕ
+possibly_text (Possibly.Yes counts) = codes "[\"yes\",[" ++ listed decimal counts ++ codes "]]"
+possibly_text Possibly.No = codes "[\"no\"]"
+possibly_text (Possibly.Unknown level) = unknown_text level
+
+-- the process of each event of the observation, or the level
+abbrev pub definitely_text : List ProcessNames → Definitely → List ℕ
+definitely_text names (Definitely.Yes level) = codes "[\"yes\"," ++ decimal level ++ codes "]"
+definitely_text names (Definitely.No path) =
+    codes "[\"no\",[" ++ listed (step_text names) path ++ codes "]]"
+definitely_text names (Definitely.Unknown level) = unknown_text level
+
+-- the answers for one predicate
+unfoldable pub answer_text : List ProcessNames → Answer → List ℕ
+answer_text names answer =
+    codes "{\"name\":" ++ quoted answer.name ++ codes ",\"possibly\":" ++ possibly_text answer.possibly
+    ++ codes ",\"definitely\":" ++ definitely_text names answer.definitely ++ codes "}"

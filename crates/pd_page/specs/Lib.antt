@@ -1,0 +1,5 @@
+pub mod JsonTexts
+pub mod PredicateData
+pub mod EventData
+pub mod AnswerData
+pub mod Pages

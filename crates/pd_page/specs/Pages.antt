@@ -1,0 +1,59 @@
+-- The page of a session and of its report: the text before the data, the data, and the text after it. Both texts are
+-- the same for each session, and the data holds no `<`.
+use Rattle.std.specs.Prelude.{ℕ, Bool, true, false, List, ◌++◌, codes, decimal}
+use Rattle.pd_model.specs.Events.{Computation, Place}
+use Rattle.pd_format.specs.Documents.{Document}
+use Rattle.pd_format.specs.Reports.{Answer}
+use Rattle.pd_page.specs.JsonTexts.{listed}
+use Rattle.pd_page.specs.PredicateData.{named_text}
+use Rattle.pd_page.specs.EventData.{process_text, values_text, events_text, message_text}
+use Rattle.pd_page.specs.AnswerData.{answer_text}
+use Rattle.pd_page.specs.declared.text_after.TheConstants.{AFTER}
+use Rattle.pd_page.specs.declared.text_before.TheConstants.{BEFORE}
+
+abbrev pub truth_text : Bool → List ℕ
+truth_text true = codes "true"
+truth_text false = codes "false"
+
+-- the width, and whether more was asked for
+unfoldable pub limits_text : Document → List ℕ
+limits_text document =
+    codes "{\"format\":1,\n\"width\":" ++ decimal document.width ++ codes ",\n\"beyond_width\":"
+    ++ truth_text document.beyond_width
+
+-- the processes with their variables, and what these are before any event
+unfoldable pub session_text : Document → List ℕ
+session_text document =
+    codes ",\n\"processes\":[" ++ listed process_text document.names ++ codes "],\n\"initial\":["
+    ++ listed values_text document.initial ++ codes "]"
+
+-- the events of each process, and the messages
+unfoldable pub run_text : Computation → List (Place × Place) → List ℕ
+run_text events messages =
+    codes ",\n\"events\":[" ++ listed events_text events ++ codes "],\n\"messages\":[" ++ listed message_text messages
+    ++ codes "]"
+
+-- the predicates, and the answers for them, in their order
+unfoldable pub report_text : Document → List Answer → List ℕ
+report_text document answers =
+    codes ",\n\"predicates\":[" ++ listed named_text document.predicates ++ codes "],\n\"answers\":["
+    ++ listed (answer_text document.names) answers ++ codes "]"
+
+-- What stands in the page for a document, the events of its processes, the messages, each as its send and its receipt,
+-- and the answers of the report: one object of JSON.
+unfoldable pub data_text : Document → Computation → List (Place × Place) → List Answer → List ℕ
+data_text document events messages answers =
+    limits_text document ++ session_text document ++ run_text events messages ++ report_text document answers
+    ++ codes "}\n"
+
+-- the page's text before its data
+unfoldable pub text_before : List ℕ
+text_before = BEFORE.now
+
+-- the page's text after its data
+unfoldable pub text_after : List ℕ
+text_after = AFTER.now
+
+unfoldable pub page_text : Document → Computation → List (Place × Place) → List Answer → List ℕ
+page_text document events messages answers =
+    text_before ++ data_text document events messages answers ++ text_after

@@ -1,0 +1,30 @@
+//! The page on which a run is explored: one text of HTML, complete in itself.
+//!
+//! The page is the text before its data, the data, and the text after it. Both texts are the files of `page/`, put
+//! together, and the same for each session. The data is one object of JSON that holds the session's processes,
+//! variables, events and messages, its predicates and the answers of its report, as the definitions give it. No byte of
+//! it is `<`, so nothing in it can end the element that it stands in, whatever an id is.
+//!
+//! - `text_before`, `text_after`: the page's text before its data and after it
+//! - `json_texts`: texts of JSON
+//! - `predicate_data`: a predicate's tree
+//! - `event_data`: processes, variables, events and messages
+//! - `answer_data`: the answers of a report
+//! - `content`: what a page shows
+//! - `page_data`: the data of a page
+//! - `page`: a page's text, also written
+#![tactic(auto)]
+
+mod answer_data;
+mod content;
+mod event_data;
+mod json_texts;
+mod page;
+mod page_data;
+mod predicate_data;
+mod text_after;
+mod text_before;
+
+pub use content::Content;
+pub use page::{text, write};
+pub use page_data::{data, data_lacks_less};

@@ -1,0 +1,415 @@
+//! The page's text before its data, as the files in `page/` make it. `.ci/explore_page.py --write` writes it.
+
+/// The page's text before its data.
+pub(crate) const BEFORE: &[u8] = b"\
+    <!doctype html>\n\
+    <html lang=\"en\">\n\
+    <head>\n\
+    <meta charset=\"utf-8\">\n\
+    <meta http-equiv=\"Content-Security-Policy\" content=\"default-src 'none'; script-src 'sha256-kylRvuxIFp5DHCj\
+    lvhVdnwGiW98ma1GjpkKHm0RcTG0=' 'sha256-eoj3ue2nsV5inWqjUYkyjbKiFrv7BjYLXV2WWgPJ3cQ=' 'sha256-lsL+A7jTWLaJY5Av\
+    tx8FV6/3XhHxmKghoRnpegJq81I=' 'sha256-d6P3VSirLHadhBno3G1bXnTEKpFTEX4fDLQcMM0Zfhc='; style-src 'sha256-pXwpQg\
+    sW7eW/l3epPISjbOd7/1dqPQ5EMuC1lzQEvsk='; base-uri 'none'; form-action 'none'\">\n\
+    <meta name=\"viewport\" content=\"width=device-width, initial-scale=1\">\n\
+    <meta name=\"referrer\" content=\"no-referrer\">\n\
+    <meta name=\"color-scheme\" content=\"light dark\">\n\
+    <title>A run, to be explored</title>\n\
+    <style>\n\
+    :root {\n\
+    \x20 color-scheme: light dark;\n\
+    \x20 --font: system-ui, \"Segoe UI\", Roboto, \"DejaVu Sans\", sans-serif;\n\
+    \x20 --mono: ui-monospace, \"SF Mono\", Menlo, Consolas, \"DejaVu Sans Mono\", monospace;\n\
+    \x20 --lane-height: 80px;\n\
+    \x20 --ground: #f5f5f2;\n\
+    \x20 --surface: #ffffff;\n\
+    \x20 --ink: #1c2127;\n\
+    \x20 --muted: #5a6470;\n\
+    \x20 --faint: #a5adb5;\n\
+    \x20 --lane: #b9bfc6;\n\
+    \x20 --line: #dcdfe2;\n\
+    \x20 --message: #0072b2;\n\
+    \x20 --forced: #003a5d;\n\
+    \x20 --cut: #d55e00;\n\
+    \x20 --cut-text: #a84a00;\n\
+    \x20 --cut-tint: #d55e000d;\n\
+    \x20 --film: #00714f;\n\
+    \x20 --select: #7a3e9d;\n\
+    \x20 --found: #7a3e9d;\n\
+    \x20 --past: #0072b21f;\n\
+    \x20 --future: #e69f0012;\n\
+    \x20 --future-line: #c2860055;\n\
+    \x20 --band: #1c212708;\n\
+    \x20 --true: #00664a;\n\
+    \x20 --true-ground: #e3f3ec;\n\
+    \x20 --false: #6b4a1f;\n\
+    \x20 --false-ground: #f5eee2;\n\
+    }\n\
+    @media (prefers-color-scheme: dark) {\n\
+    \x20 :root:not(.printed) {\n\
+    \x20   --ground: #131619;\n\
+    \x20   --surface: #1a1e23;\n\
+    \x20   --ink: #e4e8ec;\n\
+    \x20   --muted: #9aa5b1;\n\
+    \x20   --faint: #68737e;\n\
+    \x20   --lane: #4a525b;\n\
+    \x20   --line: #2e343b;\n\
+    \x20   --message: #62b6e8;\n\
+    \x20   --forced: #d3efff;\n\
+    \x20   --cut: #ff8f3f;\n\
+    \x20   --cut-text: #ffae74;\n\
+    \x20   --cut-tint: #ffffff09;\n\
+    \x20   --film: #4fd0a4;\n\
+    \x20   --select: #c79be6;\n\
+    \x20   --found: #c79be6;\n\
+    \x20   --past: #62b6e830;\n\
+    \x20   --future: #e6b04014;\n\
+    \x20   --future-line: #e6b0404d;\n\
+    \x20   --band: #ffffff0a;\n\
+    \x20   --true: #7fdcb8;\n\
+    \x20   --true-ground: #17352b;\n\
+    \x20   --false: #e2bd85;\n\
+    \x20   --false-ground: #352a19;\n\
+    \x20 }\n\
+    }\n\
+    @media (forced-colors: active) {\n\
+    \x20 :root {\n\
+    \x20   --surface: Canvas; --ink: CanvasText; --muted: CanvasText; --faint: GrayText; --lane: GrayText;\n\
+    \x20   --message: LinkText; --forced: LinkText; --cut: Highlight; --cut-text: CanvasText; --select: VisitedTe\
+    xt;\n\
+    \x20 }\n\
+    }\n\
+    \n\
+    * { box-sizing: border-box; }\n\
+    html { background: var(--ground); color: var(--ink); font: 14px/1.45 var(--font); }\n\
+    body { margin: 0; max-width: 1900px; margin-inline: auto; padding: 0 20px; }\n\
+    h1, h2, h3, p, dl, dd, ul { margin: 0; padding: 0; }\n\
+    h1 { font-size: 16px; font-weight: 650; letter-spacing: -0.01em; }\n\
+    h1 span { font-weight: 400; color: var(--muted); }\n\
+    h2 { font-size: 13px; font-weight: 650; margin-bottom: 8px; }\n\
+    h3 { font-size: 14px; font-weight: 600; display: flex; align-items: center; justify-content: space-between; g\
+    ap: 8px; }\n\
+    code { font: 0.9em/1.5 var(--mono); overflow-wrap: anywhere; }\n\
+    [hidden] { display: none !important; }\n\
+    .unseen { position: absolute; width: 1px; height: 1px; overflow: hidden; clip-path: inset(50%); white-space: \
+    nowrap; }\n\
+    \n\
+    button, select, input {\n\
+    \x20 font: inherit; color: inherit; background: var(--surface); border: 1px solid var(--line); border-radius:\
+    \x206px;\n\
+    \x20 padding: 3px 10px; min-height: 28px;\n\
+    }\n\
+    button { cursor: pointer; }\n\
+    button:hover:not(:disabled) { border-color: var(--muted); }\n\
+    button:disabled { color: var(--muted); opacity: 0.55; cursor: default; }\n\
+    button.plain {\n\
+    \x20 background: none; border: 0; padding: 0; min-height: 0; color: var(--message); text-align: left;\n\
+    \x20 text-decoration: underline; text-decoration-color: transparent; text-underline-offset: 3px;\n\
+    }\n\
+    button.plain:hover { text-decoration-color: currentColor; }\n\
+    :focus-visible { outline: 2px solid var(--message); outline-offset: 2px; }\n\
+    \n\
+    header { display: flex; align-items: center; gap: 8px 20px; padding: 12px 0; flex-wrap: wrap; }\n\
+    #counts { color: var(--muted); flex: 1; }\n\
+    #find { display: flex; align-items: center; gap: 4px; }\n\
+    #query { width: min(340px, 60vw); }\n\
+    #query::placeholder { color: var(--muted); opacity: 1; }\n\
+    #matches { color: var(--muted); margin-left: 6px; max-width: 260px; overflow: hidden; text-overflow: ellipsis\
+    ;\n\
+    \x20 white-space: nowrap; }\n\
+    #help-button { border-radius: 50%; width: 28px; padding: 0; }\n\
+    \n\
+    main { display: grid; grid-template-columns: minmax(0, 1fr) 380px; gap: 20px; align-items: start; }\n\
+    .bar, .card, #stage, #overview, #panel > section { background: var(--surface); border: 1px solid var(--line);\
+    \x20}\n\
+    .bar { display: flex; align-items: center; gap: 6px 12px; flex-wrap: wrap; padding: 7px 10px; }\n\
+    .bar .group { display: flex; gap: 4px; }\n\
+    #tools { border-radius: 10px 10px 0 0; border-bottom: 0; }\n\
+    #level { flex: 1 1 120px; min-width: 0; color: var(--muted); font-variant-numeric: tabular-nums; overflow: hi\
+    dden;\n\
+    \x20 text-overflow: ellipsis; white-space: nowrap; }\n\
+    #stage { display: flex; border-bottom: 0; padding: 8px 0; }\n\
+    #stage.last { border-bottom: 1px solid var(--line); border-radius: 0 0 10px 10px; }\n\
+    #lanes { flex: none; width: 138px; }\n\
+    .lane {\n\
+    \x20 height: var(--lane-height); display: flex; flex-direction: column; justify-content: center; align-items:\
+    \x20flex-end;\n\
+    \x20 padding: 0 12px 0 10px; line-height: 1.25; cursor: default; border-radius: 6px;\n\
+    }\n\
+    .lane:focus-visible { outline-offset: -3px; background: var(--band); }\n\
+    .lane .name { font-weight: 600; max-width: 100%; overflow: hidden; text-overflow: ellipsis; white-space: nowr\
+    ap; }\n\
+    .count { color: var(--muted); font-size: 12px; font-variant-numeric: tabular-nums; }\n\
+    #picture { flex: 1; min-width: 0; position: relative; overflow: hidden; }\n\
+    #diagram { display: block; touch-action: pan-y; }\n\
+    #overview { display: block; touch-action: none; cursor: pointer; border-radius: 0 0 10px 10px; max-width: 100\
+    %; }\n\
+    #tip {\n\
+    \x20 position: absolute; pointer-events: none; background: var(--ink); color: var(--surface); padding: 3px 9p\
+    x;\n\
+    \x20 border-radius: 6px; font-size: 12.5px; max-width: min(460px, 90%); overflow-wrap: anywhere; z-index: 2;\n\
+    }\n\
+    #film { margin-top: 10px; border-radius: 10px; border-color: var(--film); }\n\
+    #film strong { color: var(--film); }\n\
+    #film-step { flex: 1; min-width: 140px; padding: 0; accent-color: var(--film); border: 0; background: none; }\
+    \n\
+    #film-play { min-width: 64px; }\n\
+    #film-text { font-variant-numeric: tabular-nums; color: var(--muted); }\n\
+    #film label { color: var(--muted); }\n\
+    #status { min-height: 21px; margin: 8px 2px 10px; color: var(--muted); overflow-wrap: anywhere; }\n\
+    \n\
+    .cards { display: grid; align-items: start; gap: 14px;\n\
+    \x20 grid-template-columns: repeat(auto-fit, minmax(min(100%, 340px), 1fr)); }\n\
+    .card { border-radius: 10px; padding: 12px 14px; min-width: 0; }\n\
+    .card dl, .answers { display: grid; grid-template-columns: max-content minmax(0, 1fr); gap: 3px 12px; }\n\
+    dt { color: var(--muted); }\n\
+    dd { overflow-wrap: anywhere; }\n\
+    .hint { color: var(--muted); }\n\
+    .actions { display: flex; gap: 6px; margin-top: 10px; flex-wrap: wrap; }\n\
+    .pager { display: flex; gap: 6px; align-items: center; margin-bottom: 8px; color: var(--muted); }\n\
+    table { border-collapse: collapse; width: 100%; font-variant-numeric: tabular-nums; }\n\
+    th { font-weight: 500; text-align: left; }\n\
+    thead th { color: var(--muted); font-size: 12px; font-weight: 400; padding: 2px 8px 4px 0; }\n\
+    td, tbody th { padding: 2px 8px 2px 0; vertical-align: top; overflow-wrap: anywhere; }\n\
+    #listing-table td:nth-child(3), #listing-table td:nth-child(4) { font: 12.5px/1.6 var(--mono); }\n\
+    #listing-table .out { color: var(--muted); }\n\
+    #listing-table .chosen { box-shadow: inset 3px 0 var(--select); }\n\
+    #listing-table tr.chosen th { padding-left: 8px; }\n\
+    \n\
+    #panel { position: sticky; top: 10px; max-height: calc(100vh - 20px); overflow-y: auto; display: grid; gap: 1\
+    4px; }\n\
+    #panel > section { border-radius: 10px; padding: 12px 14px; }\n\
+    .predicate { padding: 10px 0 10px 11px; border-top: 1px solid var(--line); border-left: 3px solid transparent\
+    ;\n\
+    \x20 margin-left: -14px; }\n\
+    .predicate:first-child { border-top: 0; padding-top: 2px; }\n\
+    .predicate:last-child { padding-bottom: 0; }\n\
+    .predicate.shown { border-left-color: var(--cut); }\n\
+    .predicate h3 button.plain { color: var(--ink); font-weight: 600; overflow-wrap: anywhere; }\n\
+    .badge { font-size: 12.5px; font-weight: 600; border-radius: 999px; padding: 1px 10px; white-space: nowrap; }\
+    \n\
+    .badge.true { color: var(--true); background: var(--true-ground); }\n\
+    .badge.false { color: var(--false); background: var(--false-ground); }\n\
+    .predicate > code { color: var(--muted); }\n\
+    .why { list-style: none; margin: 4px 0 8px; }\n\
+    .why li { padding-left: 18px; position: relative; overflow-wrap: anywhere; }\n\
+    .why li::before { position: absolute; left: 2px; color: var(--muted); }\n\
+    .why .holds::before { content: \"\xe2\x9c\x93\"; color: var(--true); }\n\
+    .why .fails::before { content: \"\xe2\x9c\x97\"; color: var(--false); }\n\
+    .answers { align-items: start; }\n\
+    .answers .given { display: flex; gap: 8px; justify-content: space-between; align-items: start; }\n\
+    .answers button { min-height: 22px; padding: 0 9px; font-size: 0.93em; flex: none; }\n\
+    .predicate .hint { margin-top: 4px; font-size: 0.93em; }\n\
+    #values .process th { font-weight: 600; padding-top: 9px; }\n\
+    #values .process .count { margin-left: 8px; font-weight: 400; }\n\
+    #values tbody:first-of-type .process th { padding-top: 2px; }\n\
+    #values tbody tr:not(.process) th { padding-left: 10px; font-weight: 400; overflow-wrap: anywhere; }\n\
+    #values .value { font-weight: 600; }\n\
+    #values .was, #values .last { font-weight: 400; color: var(--muted); font-size: 12.5px; }\n\
+    #values .by { color: var(--muted); white-space: nowrap; }\n\
+    #values .changed > * { background: color-mix(in srgb, var(--cut) 13%, transparent); }\n\
+    #values .changed th { box-shadow: inset 3px 0 var(--cut); }\n\
+    \n\
+    footer { color: var(--muted); font-size: 12.5px; padding: 20px 0 26px; display: grid; gap: 6px; max-width: 11\
+    0ch; }\n\
+    footer strong { color: var(--ink); font-weight: 600; }\n\
+    .noscript { padding: 20px; }\n\
+    \n\
+    dialog { border: 1px solid var(--line); border-radius: 12px; background: var(--surface); color: var(--ink);\n\
+    \x20 max-width: min(640px, 94vw); padding: 20px 24px; }\n\
+    dialog::backdrop { background: #0006; }\n\
+    dialog th { white-space: nowrap; padding-right: 18px; }\n\
+    kbd { font: 12px/1.4 var(--mono); border: 1px solid var(--line); border-radius: 4px; padding: 1px 5px;\n\
+    \x20 background: var(--ground); }\n\
+    .signs { list-style: none; margin: 14px 0; display: grid; gap: 4px; }\n\
+    .sign { display: inline-block; width: 26px; height: 12px; margin-right: 8px; vertical-align: -1px; }\n\
+    .sign.dot, .sign.ring { width: 12px; border-radius: 50%; border: 2px solid var(--ink); margin: 0 15px 0 7px; \
+    }\n\
+    .sign.dot { background: var(--ink); }\n\
+    .sign.cut, .sign.forced, .sign.flight { height: 0; border-top: 3px solid var(--cut); vertical-align: 4px; }\n\
+    .sign.forced { border-top-color: var(--forced); position: relative; }\n\
+    .sign.forced::after { content: \"\"; position: absolute; right: -2px; top: -6.5px; border: 5px solid transpar\
+    ent;\n\
+    \x20 border-right: 0; border-left: 9px solid var(--forced); }\n\
+    .sign.flight { border-top: 2px dashed var(--message); }\n\
+    .sign.past { background: var(--past); }\n\
+    .sign.future { background: repeating-linear-gradient(135deg, var(--future-line) 0 2px, var(--future) 2px 5px)\
+    ; }\n\
+    \n\
+    @media (max-width: 1080px) {\n\
+    \x20 main { display: flex; flex-direction: column; align-items: stretch; gap: 0; }\n\
+    \x20 #run { display: contents; }\n\
+    \x20 .cards { order: 2; margin-top: 14px; }\n\
+    \x20 #panel { order: 1; position: static; max-height: none; overflow: visible;\n\
+    \x20   grid-template-columns: repeat(auto-fit, minmax(min(100%, 340px), 1fr)); align-items: start; }\n\
+    }\n\
+    @media (max-width: 640px) {\n\
+    \x20 body { padding: 0 10px; }\n\
+    \x20 header { gap: 8px 12px; }\n\
+    \x20 #help-button { margin-left: auto; }\n\
+    \x20 #counts { flex: 1 0 100%; order: 1; }\n\
+    \x20 #find { order: 2; flex: 1 0 100%; }\n\
+    \x20 #query { flex: 1; width: auto; min-width: 0; }\n\
+    \x20 #matches { max-width: 40vw; }\n\
+    \x20 #lanes { width: 86px; }\n\
+    \x20 .lane { padding: 0 8px 0 6px; }\n\
+    \x20 #level { order: 3; flex-basis: 100%; }\n\
+    }\n\
+    @media print {\n\
+    \x20 @page { size: landscape; margin: 12mm; }\n\
+    \x20 html { background: #fff; font-size: 11px; }\n\
+    \x20 body { padding: 0; max-width: none; }\n\
+    \x20 header form, #help-button, .bar .group, #film, .card, #overview, #status, button:not(.plain), .pager {\n\
+    \x20   display: none !important;\n\
+    \x20 }\n\
+    \x20 main { display: block; }\n\
+    \x20 #stage { border: 0; }\n\
+    \x20 #tools { border: 0; padding: 0; }\n\
+    \x20 #diagram { max-width: 100%; }\n\
+    \x20 #panel { display: grid; grid-template-columns: 1fr 1fr; position: static; max-height: none; overflow: vi\
+    sible; }\n\
+    \x20 #panel > section { border: 0; padding: 0; break-inside: avoid; }\n\
+    \x20 .predicate { break-inside: avoid; }\n\
+    }\n\
+    </style>\n\
+    </head>\n\
+    <body>\n\
+    <header>\n\
+    \x20 <h1>monitor <span>explore</span></h1>\n\
+    \x20 <p id=\"counts\"></p>\n\
+    \x20 <form id=\"find\" role=\"search\" autocomplete=\"off\">\n\
+    \x20   <label for=\"query\" class=\"unseen\">Find an event</label>\n\
+    \x20   <input id=\"query\" type=\"search\" placeholder=\"Find: process, message, x = 3, number\" spellcheck=\"\
+    false\">\n\
+    \x20   <button type=\"button\" id=\"previous\" title=\"previous (p)\" aria-label=\"Previous match\">\xe2\x80\xb9\
+    </button>\n\
+    \x20   <button type=\"submit\" id=\"next\" title=\"next (n)\" aria-label=\"Next match\">\xe2\x80\xba</button>\
+    \n\
+    \x20   <output id=\"matches\" for=\"query\"></output>\n\
+    \x20 </form>\n\
+    \x20 <button type=\"button\" id=\"help-button\" aria-label=\"Keys and signs\" title=\"keys and signs (?)\">?<\
+    /button>\n\
+    </header>\n\
+    <main>\n\
+    \x20 <section id=\"run\" aria-label=\"The run\">\n\
+    \x20   <div class=\"bar\" id=\"tools\">\n\
+    \x20     <div class=\"group\">\n\
+    \x20       <button type=\"button\" id=\"to-empty\" title=\"the cut before all events\">Nothing yet</button>\n\
+    \x20       <button type=\"button\" id=\"to-full\" title=\"the cut after all events\">All</button>\n\
+    \x20       <button type=\"button\" id=\"undo\" title=\"the cut before this one (u)\">Undo</button>\n\
+    \x20     </div>\n\
+    \x20     <p id=\"level\"></p>\n\
+    \x20     <div class=\"group\">\n\
+    \x20       <button type=\"button\" id=\"zoom-out\" aria-label=\"Zoom out\" title=\"zoom out (-)\">\xe2\x88\x92\
+    </button>\n\
+    \x20       <button type=\"button\" id=\"zoom-in\" aria-label=\"Zoom in\" title=\"zoom in (+)\">+</button>\n\
+    \x20       <button type=\"button\" id=\"fit\" title=\"the whole run (0)\">Fit</button>\n\
+    \x20       <button type=\"button\" id=\"to-cut\" title=\"bring the cut into view (c)\">To the cut</button>\n\
+    \x20     </div>\n\
+    \x20   </div>\n\
+    \x20   <div id=\"stage\">\n\
+    \x20     <div id=\"lanes\" role=\"group\" aria-label=\"The cut: how many events of each process it has\"></di\
+    v>\n\
+    \x20     <div id=\"picture\">\n\
+    \x20       <canvas id=\"diagram\" role=\"img\" aria-label=\"The run as lanes, events and messages\"></canvas>\
+    \n\
+    \x20       <div id=\"tip\" hidden aria-hidden=\"true\"></div>\n\
+    \x20     </div>\n\
+    \x20   </div>\n\
+    \x20   <canvas id=\"overview\" aria-hidden=\"true\" hidden></canvas>\n\
+    \x20   <div class=\"bar\" id=\"film\" role=\"group\" aria-label=\"The observation as a film\" hidden>\n\
+    \x20     <strong id=\"film-name\"></strong>\n\
+    \x20     <button type=\"button\" id=\"film-back\" aria-label=\"One step back\" title=\"one step back\">\xe2\x97\
+    \x82</button>\n\
+    \x20     <button type=\"button\" id=\"film-play\" title=\"play and pause (space)\">Play</button>\n\
+    \x20     <button type=\"button\" id=\"film-on\" aria-label=\"One step on\" title=\"one step on\">\xe2\x96\xb8\
+    </button>\n\
+    \x20     <input type=\"range\" id=\"film-step\" min=\"0\" step=\"1\" aria-label=\"Step of the observation\">\n\
+    \x20     <output id=\"film-text\" for=\"film-step\"></output>\n\
+    \x20     <label>Steps a second <select id=\"film-speed\"></select></label>\n\
+    \x20     <button type=\"button\" id=\"film-close\">Close</button>\n\
+    \x20   </div>\n\
+    \x20   <p id=\"status\"></p>\n\
+    \x20   <p id=\"live\" class=\"unseen\" role=\"status\" aria-live=\"polite\"></p>\n\
+    \x20   <div class=\"cards\">\n\
+    \x20     <section id=\"event\" class=\"card\" aria-labelledby=\"event-title\">\n\
+    \x20       <h2 id=\"event-title\">Event</h2>\n\
+    \x20       <div id=\"event-body\"></div>\n\
+    \x20     </section>\n\
+    \x20     <section id=\"listing\" class=\"card\" aria-labelledby=\"listing-title\">\n\
+    \x20       <h2 id=\"listing-title\">The events of <select id=\"listing-process\" aria-label=\"Process\"></sel\
+    ect></h2>\n\
+    \x20       <div class=\"pager\">\n\
+    \x20         <button type=\"button\" id=\"listing-earlier\">Earlier</button>\n\
+    \x20         <button type=\"button\" id=\"listing-later\">Later</button>\n\
+    \x20         <span id=\"listing-range\"></span>\n\
+    \x20       </div>\n\
+    \x20       <table id=\"listing-table\">\n\
+    \x20         <thead><tr><th scope=\"col\">Event</th><th scope=\"col\">Sets</th><th scope=\"col\">Message</th>\
+    <th scope=\"col\">In the cut</th></tr></thead>\n\
+    \x20         <tbody></tbody>\n\
+    \x20       </table>\n\
+    \x20     </section>\n\
+    \x20   </div>\n\
+    \x20 </section>\n\
+    \x20 <aside id=\"panel\" aria-label=\"The cut\">\n\
+    \x20   <section aria-labelledby=\"predicates-title\">\n\
+    \x20     <h2 id=\"predicates-title\">Predicates at the cut</h2>\n\
+    \x20     <div id=\"predicates\"></div>\n\
+    \x20   </section>\n\
+    \x20   <section aria-labelledby=\"values-title\">\n\
+    \x20     <h2 id=\"values-title\">Values at the cut</h2>\n\
+    \x20     <table id=\"values\">\n\
+    \x20       <thead><tr><th scope=\"col\">Variable</th><th scope=\"col\">Value</th><th scope=\"col\">Set by</th\
+    ></tr></thead>\n\
+    \x20     </table>\n\
+    \x20   </section>\n\
+    \x20 </aside>\n\
+    </main>\n\
+    <footer>\n\
+    \x20 <p><strong>Proved</strong> of the program that wrote this page: that it holds the session's events, mess\
+    ages, values and predicates, and the answers of its report, as they are; that the answers are right; and that\
+    \x20nothing of what it holds is read as mark-up.\n\
+    \x20 <strong>Not proved, only tested:</strong> the script of this page, which draws, moves the cut, reads val\
+    ues and decides predicates at it.</p>\n\
+    \x20 <p>The page asks nothing of any network.</p>\n\
+    </footer>\n\
+    <dialog id=\"help\" aria-labelledby=\"help-title\">\n\
+    \x20 <h2 id=\"help-title\">Keys and signs</h2>\n\
+    \x20 <table>\n\
+    \x20   <tbody>\n\
+    \x20     <tr><th scope=\"row\"><kbd>\xe2\x86\x90</kbd> <kbd>\xe2\x86\x92</kbd></th><td>one event of the lane \
+    taken out of the cut, or into it; with <kbd>Page</kbd> ten, <kbd>Home</kbd> and <kbd>End</kbd> all</td></tr>\n\
+    \x20     <tr><th scope=\"row\"><kbd>\xe2\x86\x91</kbd> <kbd>\xe2\x86\x93</kbd></th><td>the lane above, the la\
+    ne below</td></tr>\n\
+    \x20     <tr><th scope=\"row\"><kbd>,</kbd> <kbd>.</kbd></th><td>the event before, the event after, selected;\
+    \x20the cut stays</td></tr>\n\
+    \x20     <tr><th scope=\"row\"><kbd>Enter</kbd></th><td>the cut moved to the selected event</td></tr>\n\
+    \x20     <tr><th scope=\"row\"><kbd>m</kbd></th><td>to the other end of the selected event's message</td></tr\
+    >\n\
+    \x20     <tr><th scope=\"row\"><kbd>Shift</kbd> <kbd>\xe2\x86\x90</kbd> <kbd>\xe2\x86\x92</kbd></th><td>along\
+    \x20the run</td></tr>\n\
+    \x20     <tr><th scope=\"row\"><kbd>+</kbd> <kbd>-</kbd> <kbd>0</kbd> <kbd>c</kbd></th><td>in, out, the whole\
+    \x20run, to the cut</td></tr>\n\
+    \x20     <tr><th scope=\"row\"><kbd>/</kbd> <kbd>n</kbd> <kbd>p</kbd></th><td>find, next, previous</td></tr>\n\
+    \x20     <tr><th scope=\"row\"><kbd>Space</kbd></th><td>the film: play and pause</td></tr>\n\
+    \x20     <tr><th scope=\"row\"><kbd>u</kbd> <kbd>Esc</kbd></th><td>the cut before, selection and film away</t\
+    d></tr>\n\
+    \x20     <tr><th scope=\"row\">Pointer</th><td>click an event: the cut moves there; with <kbd>Shift</kbd> it \
+    is only selected. Drag a grip of the cut. Drag the ground or turn the wheel to go along the run; with <kbd>Ct\
+    rl</kbd> the wheel zooms</td></tr>\n\
+    \x20   </tbody>\n\
+    \x20 </table>\n\
+    \x20 <ul class=\"signs\">\n\
+    \x20   <li><span class=\"sign dot\"></span> has happened at the cut</li>\n\
+    \x20   <li><span class=\"sign ring\"></span> has not happened</li>\n\
+    \x20   <li><span class=\"sign cut\"></span> the cut</li>\n\
+    \x20   <li><span class=\"sign past\"></span> before the selected event</li>\n\
+    \x20   <li><span class=\"sign future\"></span> after it; what is left bright is concurrent</li>\n\
+    \x20   <li><span class=\"sign forced\"></span> a message that moved the cut of another process</li>\n\
+    \x20   <li><span class=\"sign flight\"></span> a message in flight: no one received it</li>\n\
+    \x20 </ul>\n\
+    \x20 <form method=\"dialog\"><button>Close</button></form>\n\
+    </dialog>\n\
+    <noscript><p class=\"noscript\">This page draws its run by its own script, and the browser lets no script run\
+    .</p></noscript>\n\
+    <script type=\"application/json\" id=\"data\">";
