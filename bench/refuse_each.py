@@ -5,10 +5,11 @@ An input is a bundle, or a folder with `session.json`, `report` and files `NAME.
 files, by one worker and by two, with --beyond-width and --fail-on, and as a bundle; its report is checked and drawn;
 its run is explored; and its streams are served, with a watcher. Small sessions are run beside them: one that is judged,
 one with messages, one with a causal cycle, one with wide levels, and one of sixteen processes; and one of width 1, that
-is judged and served with these two options alone, and has predicates for each way to answer. For each of these runs and
-each N, counted upward until a run meets no refusal, the program runs with its Nth allocation refused; then with its Nth
-read failing, and with its Nth write. Before these it runs once with each allocation slow: a thread that asks for memory
-under a lock lets the others wait for the lock meanwhile, so an unlock that wakes nobody leaves a run without an end.
+is judged and served with these two options alone, has predicates for each way to answer, and is judged once with others
+in their place. For each of these runs and each N, counted upward until a run meets no refusal, the program runs with
+its Nth allocation refused; then with its Nth read failing, and with its Nth write. Before these it runs once with each
+allocation slow: a thread that asks for memory under a lock lets the others wait for the lock meanwhile, so an unlock
+that wakes nobody leaves a run without an end.
 
 It must end as a run that is refused nothing; or, for an allocation, with status 4, nothing on standard output and
 `monitor: memory` on standard error; for a read, with status 3 and `monitor: read`, or with what is made of a stream
@@ -185,7 +186,9 @@ def runs_of(program, path, beyond_alone):
     fail_on = ["--beyond-width", "--fail-on", "unknown,possibly,definitely-no"]
     beyond = ("judge beyond the width", run, [*judge, *fail_on], b"")
     if beyond_alone:
-        return [beyond, ("serve beyond the width", serve, [program, "serve", *fail_on, document], parts[1:])]
+        asked = ["--width", "2", "--ask", "true", "--ask", "false"]
+        return [beyond, ("serve beyond the width", serve, [program, "serve", *fail_on, document], parts[1:]),
+                ("judge what is asked", run, [*judge, *asked], b"")]
     return [("judge", run, judge, b""), ("judge by two workers", run, [*judge, "--workers", "2"], b""), beyond,
             ("a bundle", run, [program], b"---\n".join(parts)),
             ("check", run, [program, "check", document, report, *streams], b""),

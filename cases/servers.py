@@ -83,7 +83,7 @@ class Server(contextlib.ExitStack):
     """The program as a server on a free port, and the connections to it. All of it ends with the context."""
 
     def __init__(self, program, folder, document=DOCUMENT, watchers=0, workers=None, taken=(), beyond=False,
-                 fail_on=None):
+                 fail_on=None, asked=()):
         super().__init__()
         if document is not None:
             with open(os.path.join(folder, "session.json"), "wb") as file:
@@ -94,6 +94,7 @@ class Server(contextlib.ExitStack):
         words += ["--workers", str(workers)] if workers else []
         words += ["--beyond-width"] if beyond else []
         words += ["--fail-on", fail_on] if fail_on else []
+        words += asked
         self.process = self.enter_context(subprocess.Popen(
             [program, "serve", "session.json", *words], cwd=folder, stdout=subprocess.PIPE, stderr=subprocess.PIPE))
         self.callback(self.process.kill)
@@ -201,6 +202,12 @@ def cases():
     options = {"document": BROADCAST[:-1] + b',"width":1}', "beyond": True}
     undecided = OF_BROADCAST.replace(b"possibly yes 1,0,1", b"possibly unknown 2")
     yield "beyond width 1, and not decided", three, options, (0, undecided, b"")
+    options = {"document": NARROW, "watchers": 1, "asked": ["--width", "9"]}
+    yield "width 1, and another is asked", two, options, (0, REPORT, b"")
+    options = {"document": NARROW, "watchers": 1, "asked": ["--width", "9", "--ask", "a.x == 1 and b.y == 1"]}
+    yield "a predicate is asked", two, options, (0, REPORT.replace(b"both", b"ask1"), b"")
+    options = {"asked": ["--ask", "a.x = 1"]}
+    yield "a predicate is asked that is none", nobody, options, (1, b"refused predicate 1 character at 5\n", b"")
     options = {"watchers": 1, "fail_on": "both:definitely,possibly"}
     yield "a condition that is met", two, options, (5, REPORT, b"")
     yield "a condition that isn't met", two, {**options, "fail_on": "unknown,both:definitely"}, (0, REPORT, b"")

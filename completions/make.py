@@ -22,7 +22,9 @@ VALUES = {
     "LIST": CONDITIONS,
     "PORT": None,
     "PREDICATE": None,
+    "TEXT": None,
     "WATCHERS": None,
+    "WIDTH": None,
     "WORKERS": [str(number) for number in range(1, 17)],
 }
 # The option that may stand anywhere, as the end of the program's help says; no help text lists it.
@@ -296,7 +298,7 @@ def wrong_completions(files):
         "monitor ": every,
         "monitor j": ["judge"],
         "monitor --v": ["--version"],
-        "monitor judge -": ["--workers", "--beyond-width", "--fail-on", "-h", "--help", "--explain"],
+        "monitor judge -": ["--width", "--ask", "--workers", "--beyond-width", "--fail-on", "-h", "--help", "--explain"],
         "monitor judge --f": ["--fail-on"],
         "monitor judge session --fail-on ": CONDITIONS,
         "monitor judge session --fail-on possibly,u": ["possibly,unknown"],
@@ -306,7 +308,7 @@ def wrong_completions(files):
         "monitor judge --workers 1": ["1", "10", "11", "12", "13", "14", "15", "16"],
         "monitor serve session --p": ["--port"],
         "monitor serve session --port ": [],
-        "monitor draw --": ["--predicate", "--help", "--explain"],
+        "monitor draw --": ["--width", "--ask", "--predicate", "--help", "--explain"],
         "monitor help s": ["serve"],
         "monitor check ": [],
     }

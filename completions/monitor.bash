@@ -25,6 +25,10 @@ _monitor() {
     return
   fi
   case "$previous" in
+    --width)
+      return ;;
+    --ask)
+      return ;;
     --workers)
       COMPREPLY=($(compgen -W '1 2 3 4 5 6 7 8 9 10 11 12 13 14 15 16' -- "$current"))
       return ;;
@@ -39,11 +43,11 @@ _monitor() {
       return ;;
   esac
   case "$command" in
-    judge) options='--workers --beyond-width --fail-on -h --help --explain' ;;
-    check) options='-h --help --explain' ;;
-    draw) options='--predicate -h --help --explain' ;;
-    serve) options='--port --watchers --workers --beyond-width --fail-on -h --help --explain' ;;
-    explore) options='--workers --beyond-width -h --help --explain' ;;
+    judge) options='--width --ask --workers --beyond-width --fail-on -h --help --explain' ;;
+    check) options='--width --ask -h --help --explain' ;;
+    draw) options='--width --ask --predicate -h --help --explain' ;;
+    serve) options='--width --ask --port --watchers --workers --beyond-width --fail-on -h --help --explain' ;;
+    explore) options='--width --ask --workers --beyond-width -h --help --explain' ;;
     help)
       COMPREPLY=($(compgen -W 'judge check draw serve explore help' -- "$current"))
       return ;;

@@ -3,12 +3,13 @@ use Rattle.std.specs.Prelude.{◌≡◌, ◌≢◌, ◌⊎◌, ◌↔◌, ◌<�
 use Rattle.std.specs.Str.Parse.{IsNumeral, digits_value, without_leading_plus}
 use Rattle.clap.specs.Lexer.{usize_max}
 use Rattle.clap.specs.Words.{App, Row, Rule, Shape, Text, IsAmong, all_of, app_of, fault_of, first_of, new_app, new_rule, one_of, subcommand_of, with_rule, with_subcommand}
-use Rattle.clap.specs.declared.builder.action.ArgAction.TheVariants.{SetTrue}
+use Rattle.clap.specs.declared.builder.action.ArgAction.TheVariants.{Append, SetTrue}
 use Rattle.clap.specs.declared.builder.command.Command.{Command}
 use Rattle.clap.specs.declared.builder.value_parser.ValueParser.TheVariants.{Unsigned}
 use Rattle.clap.specs.declared.error.kind.ErrorKind.{ErrorKind}
 use Rattle.clap.specs.declared.error.kind.ErrorKind.TheVariants.{DisplayHelp, DisplayVersion, OutOfMemory}
-use Rattle.pd_format.specs.Limits.{worker_limit}
+use Rattle.pd_asked.specs.Asked.{Asks}
+use Rattle.pd_format.specs.Limits.{width_limit, worker_limit}
 use Rattle.pd_fail_on.specs.Conditions.{AreLawful, Condition, list_text}
 use Rattle.pd_arguments.specs.Statuses.{Request, JudgeInput, JudgeFiles, CheckFiles, ServeStreams, ShowHelp, Unclear}
 
@@ -59,13 +60,21 @@ beyond_width_rule =
 abbrev pub fail_on_rule : Rule
 fail_on_rule = record (new_rule (codes "LIST")) { long = Some (codes "fail-on") }
 
+-- a width in place of the document's
+abbrev pub width_rule : Rule
+width_rule = number_rule (codes "WIDTH") (codes "width") 1 width_limit
+
+-- a predicate in place of the document's, again and again
+abbrev pub ask_rule : Rule
+ask_rule = record (new_rule (codes "TEXT")) { long = Some (codes "ask"); action = Some Append }
+
 -- the name of a predicate
 abbrev pub predicate_rule : Rule
 predicate_rule = record (new_rule (codes "PREDICATE")) { long = Some (codes "predicate") }
 
--- `NAME SPEC`
+-- `NAME SPEC [--width WIDTH] [--ask TEXT]...`: all that follow have these two options
 abbrev pub document_app : (name : Text) → App
-document_app name = with_rule (new_app name) (required_rule (codes "SPEC"))
+document_app name = with_rule (with_rule (with_rule (new_app name) (required_rule (codes "SPEC"))) width_rule) ask_rule
 
 -- `NAME SPEC REPORT STREAM...`
 abbrev pub report_app : (name : Text) → App
@@ -177,6 +186,21 @@ SaysFlag rows id is_given = IsTrue is_given ↔ (one_of id rows ≡ Some (codes 
 abbrev pub SaysBeyondWidth : List Row → (beyond_width : Bool) → Type 0
 SaysBeyondWidth rows beyond_width = SaysFlag rows (codes "BEYOND_WIDTH") beyond_width
 
+-- the width that is asked for, if its option has a number
+abbrev pub NamesWidth : List Row → (width : Option ℕ) → Type 0
+NamesWidth rows None = (n : ℕ) → ¬ NamesNumber rows (codes "WIDTH") n
+NamesWidth rows (Some width) = NamesNumber rows (codes "WIDTH") width
+
+-- the texts of predicates that are asked for: none if no option has one
+abbrev pub NamesPredicates : Option (List Text) → (texts : List Text) → Type 0
+NamesPredicates None texts = texts ≡ []
+NamesPredicates (Some found) texts = texts ≡ found
+
+-- what is asked for in place of what the document says
+pub record NamesAsks (rows : List Row) (asks : Asks) : Type 0 where
+  pub names_width : NamesWidth rows asks.width
+  pub names_predicates : NamesPredicates (all_of (codes "TEXT") rows) asks.predicates
+
 -- the conditions of a list, or none if there is no list
 abbrev pub AreConditions : Option Text → List Condition → Type 0
 AreConditions None conditions = conditions ≡ []
@@ -233,16 +257,18 @@ pub data AsksFor (arguments : List Text) : Request → Type 0 where
       → ¬ ((rows : List Row) × AreOf (codes "serve") arguments rows)
       → ¬ ((rows : List Row) × AreOf (codes "explore") arguments rows) → AsksFor arguments JudgeInput
   of_judge : (rows : List Row) (document : Text) (streams : List Text) (workers : ℕ) (beyond_width : Bool)
-      (fail_on : List Condition) → AreTaken arguments → AreOf (codes "judge") arguments rows
-      → NamesSession rows document streams → NamesWorkers rows workers → SaysBeyondWidth rows beyond_width
-      → NamesConditions rows fail_on → AsksFor arguments (JudgeFiles beyond_width fail_on document streams)
-  of_check : (rows : List Row) (document report : Text) (streams : List Text) → AreTaken arguments
-      → AreOf (codes "check") arguments rows → NamesSession rows document streams → NamesReport rows report
-      → AsksFor arguments (CheckFiles document report streams)
+      (fail_on : List Condition) (asks : Asks) → AreTaken arguments → AreOf (codes "judge") arguments rows
+      → NamesSession rows document streams → NamesAsks rows asks → NamesWorkers rows workers
+      → SaysBeyondWidth rows beyond_width → NamesConditions rows fail_on
+      → AsksFor arguments (JudgeFiles beyond_width fail_on asks document streams)
+  of_check : (rows : List Row) (document report : Text) (streams : List Text) (asks : Asks) → AreTaken arguments
+      → AreOf (codes "check") arguments rows → NamesSession rows document streams → NamesAsks rows asks
+      → NamesReport rows report → AsksFor arguments (CheckFiles asks document report streams)
   of_serve : (rows : List Row) (document : Text) (port watchers workers : ℕ) (beyond_width : Bool)
-      (fail_on : List Condition) → AreTaken arguments → AreOf (codes "serve") arguments rows
-      → NamesService rows document port watchers → NamesWorkers rows workers → SaysBeyondWidth rows beyond_width
-      → NamesConditions rows fail_on → AsksFor arguments (ServeStreams beyond_width fail_on document port watchers)
+      (fail_on : List Condition) (asks : Asks) → AreTaken arguments → AreOf (codes "serve") arguments rows
+      → NamesService rows document port watchers → NamesAsks rows asks → NamesWorkers rows workers
+      → SaysBeyondWidth rows beyond_width → NamesConditions rows fail_on
+      → AsksFor arguments (ServeStreams beyond_width fail_on asks document port watchers)
   of_help : (kind : ErrorKind) → IsShownKind kind → HasFault arguments kind → AsksFor arguments ShowHelp
   of_fault : (kind : ErrorKind) → ¬ IsShownKind kind → HasFault arguments kind → AsksFor arguments Unclear
   of_missing : (command : Text) (rows : List Row) → TakesStreams command → AreOf command arguments rows
@@ -258,23 +284,25 @@ pub data AsksFor (arguments : List Text) : Request → Type 0 where
 
 -- The arguments ask for a picture of a session in files of these names, and of the evidence of the predicate of this
 -- name, or without a name of the first that has evidence.
-pub record AsksToDraw (arguments : List Text) (document report : Text) (streams : List Text) (name : Option Text) :
-    Type 0 where
+pub record AsksToDraw (arguments : List Text) (asks : Asks) (document report : Text) (streams : List Text)
+    (name : Option Text) : Type 0 where
   pub rows : List Row
   pub are_taken : AreTaken arguments
   pub are_of : AreOf (codes "draw") arguments rows
   pub names_session : NamesSession rows document streams
+  pub names_asks : NamesAsks rows asks
   pub names_report : NamesReport rows report
   pub names_predicate : first_of (codes "PREDICATE") rows ≡ name
 
 -- The arguments ask for the page of a session in files of these names, and of what is decided whatever the width, if
 -- that is asked for. How many workers there are changes nothing of it.
-pub record AsksToExplore (arguments : List Text) (beyond_width : Bool) (document : Text) (streams : List Text) :
-    Type 0 where
+pub record AsksToExplore (arguments : List Text) (beyond_width : Bool) (asks : Asks) (document : Text)
+    (streams : List Text) : Type 0 where
   pub rows : List Row
   pub are_taken : AreTaken arguments
   pub are_of : AreOf (codes "explore") arguments rows
   pub names_session : NamesSession rows document streams
+  pub names_asks : NamesAsks rows asks
   pub workers : ℕ
   pub names_workers : NamesWorkers rows workers
   pub says_beyond_width : SaysBeyondWidth rows beyond_width

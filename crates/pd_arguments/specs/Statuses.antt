@@ -4,6 +4,7 @@ use Rattle.std.specs.Io.KnownBytes.{Keeps}
 use Rattle.pd_format.specs.Documents.{Document, DocumentFault, IsDocument, IsRefusedDocument, Inquiry, inquiry}
 use Rattle.pd_format.specs.Limits.{report_byte_limit}
 use Rattle.pd_format.specs.Reports.{Report}
+use Rattle.pd_asked.specs.Asked.{Asks, IsAsked}
 use Rattle.pd_fail_on.specs.Conditions as conditions
 use Rattle.pd_fail_on.specs.Conditions.{Condition, Conclusion, conclusion}
 use Rattle.pd_judgement.specs.Writes.{Writes, Whole, Partial, IsAnyReport, IsJudged, IsRefused, IsWholeInput, IsTextOfBundle, IsTextOfStreams, IsTooLong, IsFindingTextOf}
@@ -15,12 +16,14 @@ pub data Request : Type 0 where
   JudgeInput : Request
   -- to judge a session document and streams of events, each in a file of this name, and what is decided whatever the
   -- width beyond it, if that is asked for; and to fail on these answers
-  JudgeFiles : (beyond_width : Bool) (fail_on : List Condition) (document : List ℕ) (streams : List (List ℕ)) → Request
+  JudgeFiles : (beyond_width : Bool) (fail_on : List Condition) (asks : Asks) (document : List ℕ)
+      (streams : List (List ℕ)) → Request
   -- to check a report by a session document and streams of events, each in a file of this name
-  CheckFiles : (document report : List ℕ) (streams : List (List ℕ)) → Request
+  CheckFiles : (asks : Asks) (document report : List ℕ) (streams : List (List ℕ)) → Request
   -- to judge a session document, in the file of this name, and streams of events that come by connections to this port,
   -- in the same way; and to show meanwhile how far they are read to this many watchers
-  ServeStreams : (beyond_width : Bool) (fail_on : List Condition) (document : List ℕ) (port watchers : ℕ) → Request
+  ServeStreams : (beyond_width : Bool) (fail_on : List Condition) (asks : Asks) (document : List ℕ) (port watchers : ℕ)
+      → Request
   -- to show the help
   ShowHelp : Request
   -- the arguments ask for nothing that can be done
@@ -286,21 +289,26 @@ MisuseLeaves (Failed WriteFailure) old new = ⊥
 MisuseLeaves (Failed BundleFailure) old new = ⊥
 MisuseLeaves (Failed NetworkFailure) old new = ⊥
 
+-- P holds of the document that stands in a file, with what is asked in place of what it says; or of every document.
+pub data HoldsAsked (asks : Asks) (file : Option (List ℕ)) (P : List ℕ → Type 0) : Type 0 where
+  of_asked : (document asked : List ℕ) → IsWholeInput file document → IsAsked asks document asked → P asked
+      → HoldsAsked asks file P
+  of_any : ((document : List ℕ) → P document) → HoldsAsked asks file P
+
 -- By what is asked for, where the input and the file of each name hold these bytes, if that is known, and a connection
 -- to each port may have left what is said of it.
 abbrev pub Leaves : (on : Reliance) (input : Option (List ℕ)) (files : List ℕ → Option (List ℕ))
     (connections : ℕ → Option (List ℕ) → Type 0) → Request → Ending → (old new : Option (List ℕ)) → Type 0
 Leaves on input files connections JudgeInput ending old new = JudgementLeaves input on.input_is_read ending old new
-Leaves on input files connections (JudgeFiles beyond_width fail_on document streams) ending old new =
-    FilesJudgementLeaves beyond_width fail_on (files document) (map files streams) on.files_are_read (FilesMayFail
-    on) ending
-    old new
-Leaves on input files connections (CheckFiles document report streams) ending old new =
-    CheckLeaves (files document) (files report) (map files streams) on.files_are_read
-    (FilesMayFail on ⊎ IsLongReport (files report)) ending old new
-Leaves on input files connections (ServeStreams beyond_width fail_on document port watchers) ending old new =
-    ServiceLeaves beyond_width fail_on (files document) (connections port) on.connections_are_read (FilesMayFail on)
-    (on.network_serves ≡ true → ⊥) ending old new
+Leaves on input files connections (JudgeFiles beyond_width fail_on asks document streams) ending old new =
+    HoldsAsked asks (files document) (λ d. FilesJudgementLeaves beyond_width fail_on (Some d) (map files streams)
+    on.files_are_read (FilesMayFail on) ending old new)
+Leaves on input files connections (CheckFiles asks document report streams) ending old new =
+    HoldsAsked asks (files document) (λ d. CheckLeaves (Some d) (files report) (map files streams) on.files_are_read
+    (FilesMayFail on ⊎ IsLongReport (files report)) ending old new)
+Leaves on input files connections (ServeStreams beyond_width fail_on asks document port watchers) ending old new =
+    HoldsAsked asks (files document) (λ d. ServiceLeaves beyond_width fail_on (Some d) (connections port)
+    on.connections_are_read (FilesMayFail on) (on.network_serves ≡ true → ⊥) ending old new)
 Leaves on input files connections ShowHelp ending old new = HelpLeaves ending old new
 Leaves on input files connections Unclear ending old new = MisuseLeaves ending old new
 

@@ -3,6 +3,7 @@ use Rattle.std.specs.Prelude.{List, ℕ, map, option_map, Option, Some, None}
 use Rattle.std.specs.Borrow.{Bor}
 use Rattle.pd_arguments.specs.Statuses as asked
 use Rattle.clap.specs.Words.{Text}
+use Rattle.pd_asked.specs.Views.{asks_view}
 use Rattle.pd_fail_on.specs.Views.{fail_on_view}
 use Rattle.pd_arguments.specs.Arguments.{AsksFor, AsksToDraw, AsksToExplore}
 use Rattle.pd_arguments.specs.declared.request.Request.{Request}
@@ -18,18 +19,18 @@ abbrev pub IsAsked : List Text → Request → Type 0
 IsAsked arguments Bundle = AsksFor arguments asked.JudgeInput
 IsAsked arguments (Judge judgement) =
     AsksFor arguments (asked.JudgeFiles judgement.beyond_width (fail_on_view judgement.fail_on)
-    (session_view judgement.names).0 (session_view judgement.names).1)
+    (asks_view judgement.names.asks) (session_view judgement.names).0 (session_view judgement.names).1)
 IsAsked arguments (Check report names) =
-    AsksFor arguments (asked.CheckFiles (session_view names).0 report.now (session_view names).1)
+    AsksFor arguments (asked.CheckFiles (asks_view names.asks) (session_view names).0 report.now (session_view names).1)
 IsAsked arguments (Draw report predicate names) =
-    AsksToDraw arguments (session_view names).0 report.now (session_view names).1
+    AsksToDraw arguments (asks_view names.asks) (session_view names).0 report.now (session_view names).1
     (option_map (λ (name : Bor (List ℕ)). name.now) predicate)
 IsAsked arguments (Serve service) =
-    AsksFor arguments (asked.ServeStreams service.beyond_width (fail_on_view service.fail_on) service.spec.now
-    service.port service.watchers)
+    AsksFor arguments (asked.ServeStreams service.beyond_width (fail_on_view service.fail_on) (asks_view service.asks)
+    service.spec.now service.port service.watchers)
 IsAsked arguments (Explore exploration) =
-    AsksToExplore arguments exploration.beyond_width (session_view exploration.names).0
-    (session_view exploration.names).1
+    AsksToExplore arguments exploration.beyond_width (asks_view exploration.names.asks)
+    (session_view exploration.names).0 (session_view exploration.names).1
 
 -- the same of a request; with none the arguments ask for nothing that can be done
 abbrev pub IsAskedIf : List Text → Option Request → Type 0

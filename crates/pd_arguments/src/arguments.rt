@@ -2,8 +2,9 @@
 ghost use Rattle.clap.specs.Matches.{found_of};
 ghost use Rattle.clap.specs.Simple.{app_of, subcommand_of, subcommand_rows_of};
 ghost use Rattle.clap.specs.Values.{kind_of};
-ghost use Rattle.clap.specs.Walk.{Text, rows_of};
-ghost use Rattle.pd_arguments.specs.Arguments.{AreOf, AreTaken, FindsConditions, FindsSession, IsErrorOf, IsNumberText, IsPort, IsShownKind, NamesConditions, NamesNumber, NamesWorkers, SaysFlag, monitor_app};
+ghost use Rattle.clap.specs.Walk.{Text, all_of, rows_of};
+ghost use Rattle.pd_arguments.specs.Arguments.{AreOf, AreTaken, FindsConditions, FindsSession, IsErrorOf, IsNumberText, IsPort, IsShownKind, NamesAsks, NamesConditions, NamesNumber, NamesPredicates, NamesWidth, NamesWorkers, SaysFlag, monitor_app};
+ghost use Rattle.pd_asked.specs.Views.{asks_view};
 ghost use Rattle.pd_fail_on.specs.Views.{fail_on_view};
 ghost use Rattle.pd_arguments.specs.Views.{IsAsked, IsAskedIf, session_view};
 ghost use Rattle.std.specs.Prelude.{◌≡◌, ◌≢◌, ℕ, IfErr, IfOk, IfSome, List, None, codes, map, option_map};
@@ -13,15 +14,49 @@ use super::request::{Exploration, Judgement, Request, Service, SessionNames};
 use super::workers::Workers;
 use clap::error::ErrorKind;
 use clap::{ArgMatches, Command, Error};
+use pd_asked::Asks;
 use pd_fail_on::FailOn;
 use std::alloc::{AllocError, Global};
 
-/// The names of a session's files, if all are there.
+/// The texts of the predicates that are asked for.
+fn predicates_of<'a>(alloc: Global, matches: &ArgMatches<'a>) -> Result<Vec<&'a str>, AllocError>
+    ensures { IfOk result (λ texts. NamesPredicates (all_of (codes "TEXT") (rows_of (found_of matches.now)))
+        (map (λ text. text.now) texts.items)) }
+{
+    let Some(texts) = matches.get_strs("TEXT") else {
+        return Ok(Vec::new(alloc));
+    };
+    let texts = texts.to_vec(alloc)?;
+    Ok(texts)
+}
+
+/// The width that is asked for, if one is.
+fn width_of(matches: &ArgMatches<'_>) -> Option<u64>
+    ensures { NamesWidth (rows_of (found_of matches.now)) result }
+{
+    number_of(matches, "WIDTH")
+}
+
+/// What is asked in place of what the document says.
+fn asks_of<'a>(alloc: Global, matches: &ArgMatches<'a>) -> Result<Asks<'a>, AllocError>
+    ensures { IfOk result (λ asks. NamesAsks (rows_of (found_of matches.now)) (asks_view asks)) }
+{
+    let predicates = predicates_of(alloc, matches)?;
+    Ok(Asks {
+        width: width_of(matches),
+        predicates,
+    })
+}
+
+/// The names of a session's files, if all are there, and what is asked of it.
 fn session_names<'a>(
     alloc: Global,
     matches: &ArgMatches<'a>,
 ) -> Result<Option<SessionNames<'a>>, AllocError>
-    ensures { IfOk result (λ names. FindsSession (rows_of (found_of matches.now)) (option_map session_view names)) }
+    ensures names { IfOk result (λ names.
+        FindsSession (rows_of (found_of matches.now)) (option_map session_view names)) }
+    ensures asks { IfOk result (λ names. IfSome names (λ names.
+        NamesAsks (rows_of (found_of matches.now)) (asks_view names.asks))) }
 {
     let (Some(spec), Some(streams)) = (matches.get_str("SPEC"), matches.get_strs("STREAM")) else {
         return Ok(None);
@@ -29,6 +64,7 @@ fn session_names<'a>(
     Ok(Some(SessionNames {
         spec,
         streams: streams.to_vec(alloc)?,
+        asks: asks_of(alloc, matches)?,
     }))
 }
 
@@ -162,9 +198,14 @@ fn port_of(number: u64) -> Option<u16>
 }
 
 /// What the arguments of `serve` ask for with these conditions, if all else is there.
-fn service_request<'a>(matches: &ArgMatches<'a>, fail_on: FailOn<'a>) -> Option<Request<'a>>
+fn service_request<'a>(
+    matches: &ArgMatches<'a>,
+    asks: Asks<'a>,
+    fail_on: FailOn<'a>,
+) -> Option<Request<'a>>
     ensures { (arguments : List Text) → AreTaken arguments
         → AreOf (codes "serve") arguments (rows_of (found_of matches.now))
+        → NamesAsks (rows_of (found_of matches.now)) (asks_view asks.entry)
         → NamesConditions (rows_of (found_of matches.now)) (fail_on_view fail_on.entry)
         → IsAskedIf arguments result }
 {
@@ -188,6 +229,7 @@ fn service_request<'a>(matches: &ArgMatches<'a>, fail_on: FailOn<'a>) -> Option<
     };
     Some(Request::Serve(Service {
         spec,
+        asks,
         port,
         watchers,
         beyond_width: flag_of(matches, "BEYOND_WIDTH"),
@@ -208,7 +250,8 @@ fn serve_request<'a>(
     let Some(fail_on) = conditions_of(alloc, matches)? else {
         return Ok(None);
     };
-    Ok(service_request(matches, fail_on))
+    let asks = asks_of(alloc, matches)?;
+    Ok(service_request(matches, asks, fail_on))
 }
 
 /// What the arguments of `explore` ask for, if all names are there.

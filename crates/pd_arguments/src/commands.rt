@@ -2,12 +2,12 @@
 ghost use Rattle.clap.specs.Simple.{app_of};
 ghost use Rattle.clap.specs.Walk.{rule_of};
 ghost use Rattle.clap.specs.declared.builder.command.Command.TheViews.{out-Command};
-ghost use Rattle.pd_arguments.specs.Arguments.{AddsCommand, beyond_width_rule, check_app, document_app, draw_app, explore_app, fail_on_rule, judge_app, judging_app, monitor_app, number_rule, plain_app, port_rule, predicate_rule, report_app, required_rule, serve_app, stream_rule, watchers_rule, workers_rule};
+ghost use Rattle.pd_arguments.specs.Arguments.{AddsCommand, ask_rule, beyond_width_rule, check_app, document_app, draw_app, explore_app, fail_on_rule, judge_app, judging_app, monitor_app, number_rule, plain_app, port_rule, predicate_rule, report_app, required_rule, serve_app, stream_rule, watchers_rule, width_rule, workers_rule};
 ghost use Rattle.std.specs.Prelude.{◌≡◌, IfOk, false};
 
 use clap::builder::ValueParser;
 use clap::{Arg, ArgAction, Command};
-use pd_format::WORKER_LIMIT;
+use pd_format::{WIDTH_LIMIT, WORKER_LIMIT};
 use std::alloc::{AllocError, Global};
 
 /// The program's version.
@@ -214,6 +214,29 @@ fn beyond_width_option<'a>(alloc: Global) -> Arg<'a>
         )
 }
 
+/// The option that names a width in place of the document's.
+fn width_option<'a>(alloc: Global) -> Arg<'a>
+    ensures rule { rule_of result ≡ width_rule }
+    ensures local { result.global ≡ false }
+{
+    number_option(alloc, "WIDTH", "width", 1, WIDTH_LIMIT).help(
+        "How many cuts a level may have, at most 65536, in place of the document's width",
+    )
+}
+
+/// The option that names a predicate in place of the document's, again and again.
+fn ask_option<'a>(alloc: Global) -> Arg<'a>
+    ensures rule { rule_of result ≡ ask_rule }
+    ensures local { result.global ≡ false }
+{
+    Arg::new(alloc, "TEXT")
+        .long("ask")
+        .action(ArgAction::Append)
+        .help(
+            "A predicate in place of the document's, named ask1; given again, one more, named ask2, and so on",
+        )
+}
+
 /// The option that names the conditions on which a judgement is to fail.
 fn fail_on_option<'a>(alloc: Global) -> Arg<'a>
     ensures rule { rule_of result ≡ fail_on_rule }
@@ -237,7 +260,9 @@ fn document_command<'a>(
     Command::new(alloc, name)
         .about(about)
         .after_help(after_help)
-        .arg(file_argument(alloc, "SPEC", "The session document"))
+        .arg(file_argument(alloc, "SPEC", "The session document"))?
+        .arg(width_option(alloc))?
+        .arg(ask_option(alloc))
 }
 
 /// The command line of the command of this name, on a report with its session document and streams.

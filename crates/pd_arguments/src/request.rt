@@ -1,15 +1,18 @@
 //! What the program is asked for.
 
 use super::workers::Workers;
+use pd_asked::Asks;
 use pd_fail_on::FailOn;
 
-/// The names of the files of a session.
+/// The names of the files of a session, and what is asked of it.
 #[derive(Drop)]
 pub struct SessionNames<'a> {
     /// Of the session document.
     pub spec: &'a str,
     /// Of the streams of events, in their order.
     pub streams: Vec<&'a str>,
+    /// What is asked in place of what the document says.
+    pub asks: Asks<'a>,
 }
 
 /// What a judgement of files is asked for.
@@ -41,6 +44,8 @@ pub struct Exploration<'a> {
 pub struct Service<'a> {
     /// The name of the session document's file.
     pub spec: &'a str,
+    /// What is asked in place of what the document says.
+    pub asks: Asks<'a>,
     /// The port on which the streams are accepted, from 1 to 65,534.
     pub port: u16,
     /// How many watchers are accepted on the next port, at most 64.

@@ -1,18 +1,22 @@
 -- What is left written by the bytes that were read holds of all that the files hold.
 use Rattle.std.proofs.Common.{◌≡◌, ℕ, suc, ◌+◌, ◌≤◌, ◌<◌, List, [], ◌∷◌, ◌++◌, length, length-take, take, map, refl, sym, ap, ap₂, subst, ◌∙◌, arith, None, Some, Option, true, false, inl, inr}
-use Rattle.std.specs.Prelude.{Bool, IfSome}
+use Rattle.std.specs.Prelude.{◌⊎◌, Bool, IfSome}
 use Rattle.std.specs.List.{AllZip}
 use Rattle.pd_judgement.specs.Judgements.{RawStream}
 use Rattle.pd_format.specs.Limits.{document_byte_limit}
 use Rattle.pd_format.specs.Reports.{Report}
-use Rattle.pd_judgement.specs.Writes.{Whole, Partial, IsAnyReport, IsRefused, IsGivenAs, IsWholeInput, IsFindingTextOf, IsTextOfStreams, WritesTruth}
+use Rattle.pd_judgement.specs.Writes.{Whole, Partial, IsAnyReport, IsRefused, IsGivenAs, IsWholeInput, IsFindingTextOf, IsTextOfStreams}
 use Rattle.pd_judgement.proofs.Writing.{writes_weaker}
 use Rattle.pd_format.specs.Documents.{inquiry}
-use Rattle.pd_arguments.specs.Statuses.{Ending, Success, Negative, Alarm, NoPredicate, Misuse, Failed, ComesTo, MemoryFailure, ReadFailure, WriteFailure, BundleFailure, NetworkFailure, CheckLeaves, FilesJudgementLeaves, OfDocument, OfFiles, WritesUpTo}
+use Rattle.pd_arguments.specs.Statuses.{Ending, Success, Negative, Alarm, NoPredicate, Misuse, Failed, ComesTo, MemoryFailure, ReadFailure, WriteFailure, BundleFailure, NetworkFailure, CheckLeaves, FilesJudgementLeaves, HoldsAsked, OfDocument, OfFiles, WritesUpTo, of_asked}
 use Rattle.pd_fail_on.specs.Conditions as conditions
 use Rattle.pd_fail_on.specs.Conditions.{Condition}
-use Rattle.pd_cli.specs.FileSources.{HasWholeFile, SameOutline, StandsFor}
-use Rattle.pd_cli.proofs.DocumentPrefixes.{outline_of_prefix, same_report_text, same_text, same_written_truth}
+use Rattle.pd_asked.specs.Asked.{Asks, IsAsked}
+use Rattle.pd_asked.proofs.AskedDocuments.{asked_of_longer}
+use Rattle.std.proofs.lemmas.Bool.{cases_lt}
+use Rattle.std.proofs.lemmas.List.{take_all}
+use Rattle.pd_cli.specs.FileSources.{AreAsked, HasWholeFile, IsReadOf, SameOutline, StandsFor}
+use Rattle.pd_cli.proofs.DocumentPrefixes.{same_report_text, same_text}
 use Rattle.std.proofs.lemmas.List.{map-append}
 use Rattle.std.proofs.Math.Seq.{take-suc}
 use Rattle.std.specs.List.{slice_index_or}
@@ -35,13 +39,51 @@ if_more_left (Some input) bytes n prefix lt =
     let shorter : length bytes ≡ length (take (n + 1) input) = ap length prefix in
     omega (arith, lt, shorter, length-take (n + 1) input)
 
--- the first bytes of a document, up to one more than its limit, stand for all
-pub prefix_stands : (input : Option (List ℕ)) (read : List ℕ)
-    → IfSome input (λ bytes. read ≡ take (document_byte_limit + 1) bytes) → StandsFor read input
-prefix_stands None read prefix = tt
-prefix_stands (Some bytes) read prefix =
-    subst (λ (l : List ℕ). SameOutline l bytes) (sym prefix)
-    (outline_of_prefix document_byte_limit bytes (omega arith))
+-- the first bytes of a document, up to one more than its limit, are all of it, or it is too long
+pub read_of_prefix : (input : Option (List ℕ)) (read : List ℕ)
+    → IfSome input (λ bytes. read ≡ take (document_byte_limit + 1) bytes) → IsReadOf read input
+read_of_prefix None read prefix = tt
+read_of_prefix (Some bytes) read prefix = go (cases_lt document_byte_limit (length bytes))
+  where
+    count : length read ≡ length (take (document_byte_limit + 1) bytes)
+    count = ap length prefix
+
+    go : (document_byte_limit < length bytes) ⊎ (length bytes ≤ document_byte_limit) → IsReadOf read (Some bytes)
+    go (inl long) = inr (omega (arith, count, length-take (document_byte_limit + 1) bytes), long)
+    go (inr short) = inl (prefix ∙ take_all (document_byte_limit + 1) bytes (omega arith))
+
+-- what is asked of a document that was read is asked of all that its reader had left
+pub read_as_asked : (asks : Asks) (input : Option (List ℕ)) (read asked : List ℕ) → IsReadOf read input
+    → IsAsked asks read asked → AreAsked asks input asked
+read_as_asked asks None read asked is a = record { document = read; whole = tt; is_asked = a }
+read_as_asked asks (Some bytes) read asked (inl same) a = record {
+  document = bytes;
+  whole = refl;
+  is_asked = subst (λ (r : List ℕ). IsAsked asks r asked) same a;
+}
+read_as_asked asks (Some bytes) read asked (inr long) a = record {
+  document = bytes;
+  whole = refl;
+  is_asked = asked_of_longer asks read bytes asked long.0 long.1 a;
+}
+
+-- and of all that its file holds
+pub asked_of_file : (asks : Asks) (file left : Option (List ℕ)) (asked : List ℕ) → HasWholeFile file left
+    → AreAsked asks left asked → AreAsked asks file asked
+asked_of_file asks None left asked has are = record {
+  document = are.document;
+  whole = tt;
+  is_asked = are.is_asked;
+}
+asked_of_file asks (Some bytes) left asked has are = record {
+  document = are.document;
+  whole = subst (λ (l : Option (List ℕ)). IsWholeInput l are.document) has are.whole;
+  is_asked = are.is_asked;
+}
+
+pub holds_asked : (asks : Asks) (file : Option (List ℕ)) (asked : List ℕ) (P : List ℕ → Type 0)
+    → AreAsked asks file asked → P asked → HoldsAsked asks file P
+holds_asked asks file asked P are holds = of_asked are.document asked are.whole are.is_asked holds
 
 -- ---- files, of whose bytes readers have all left
 
@@ -88,12 +130,6 @@ given_as_files never_fails (f ∷ files) [] streams are given = absurd are
 given_as_files never_fails (f ∷ files) (l ∷ lefts) [] are given = absurd given
 given_as_files never_fails (f ∷ files) (l ∷ lefts) (s ∷ streams) are given =
     (given_as_file never_fails f l s are.0 given.0, given_as_files never_fails files lefts streams are.1 given.1)
-
--- what holds of all that a reader had left holds of its file
-pub of_file : (P : List ℕ → Type 0) (file left : Option (List ℕ)) → HasWholeFile file left → IfSome left P
-    → IfSome file P
-of_file P None left is h = tt
-of_file P (Some bytes) left is h = subst (λ (l : Option (List ℕ)). IfSome l P) is h
 
 -- ---- the texts that are owed
 
@@ -190,16 +226,6 @@ lefts_of_known files lefts known are same = go lefts known (subst (λ fs. AllZip
     go [] (k ∷ known) are = absurd are
     go (l ∷ lefts) [] are = absurd are
     go (l ∷ lefts) (k ∷ known) are = ap₂ (λ x xs. x ∷ xs) are.0 (go lefts known are.1)
-
--- the truth by the bytes that were read is the truth by the files
-pub truth_of_files : (beyond : Bool) (file : Option (List ℕ)) (read document : List ℕ) (streams : List RawStream)
-    (IsJudged : Type 0)
-    (old new : Option (List ℕ)) → StandsFor read file → file ≡ Some document
-    → WritesTruth (inquiry beyond read) streams IsJudged old new
-    → WritesTruth (inquiry beyond document) streams IsJudged old new
-truth_of_files beyond file read document streams IsJudged old new stands known truth =
-    same_written_truth beyond read document streams IsJudged old new
-    (subst (λ (f : Option (List ℕ)). StandsFor read f) known stands) truth
 
 -- ---- a check
 

@@ -9,3 +9,4 @@ mod WrittenSoFar
 mod DrawingEnds
 mod ExplorationEnds
 mod DrawingsRead
+mod UnreadFiles

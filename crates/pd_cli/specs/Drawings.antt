@@ -1,8 +1,9 @@
 -- What a run that draws leaves on its output and on its errors.
-use Rattle.std.specs.Prelude.{◌≡◌, ◌⊎◌, ℕ, Bool, List, [], ◌++◌, codes, map, Option, Result, Ok, Err, IsOkAnd}
+use Rattle.std.specs.Prelude.{◌≡◌, ◌⊎◌, ℕ, Bool, List, [], ◌++◌, codes, map, Option, Result, Ok, Err, IsOkAnd, Some}
 use Rattle.std.specs.Io.KnownBytes.{Keeps}
 use Rattle.clap.specs.Words.{Text}
-use Rattle.pd_arguments.specs.Statuses.{EndsAsAsked, FilesMayFail, IsLongReport, OfFiles, Reliance, WritesUpTo, line_of_failure, status_of_failure}
+use Rattle.pd_asked.specs.Asked.{Asks}
+use Rattle.pd_arguments.specs.Statuses.{EndsAsAsked, FilesMayFail, HoldsAsked, IsLongReport, OfFiles, Reliance, WritesUpTo, line_of_failure, status_of_failure}
 use Rattle.pd_judgement.specs.Writes.{Whole, Writes}
 use Rattle.pd_claims.specs.Drawings.{IsDrawingTextOf, IsRefusalTextOf, LacksPredicate}
 use Rattle.pd_claims.specs.declared.drawings.DrawOutcome.{DrawOutcome}
@@ -69,23 +70,25 @@ draw_notice (Ok NoPredicate) = codes "monitor: no predicate of this name\n"
 draw_notice (Err fault) = line_of_failure (failure_view fault)
 
 -- A run that draws came to some end, by which this is left on the output and on the errors.
-pub record EndsDrawn (document report : Option (List ℕ)) (streams : List (Option (List ℕ))) (never_fails : Bool)
-    (MayBeUnread : Type 0) (name : Option (List ℕ)) (status : ℕ) (old new errors_old errors_new : Option (List ℕ)) :
-    Type 0 where
+pub record EndsDrawn (asks : Asks) (document report : Option (List ℕ)) (streams : List (Option (List ℕ)))
+    (never_fails : Bool) (MayBeUnread : Type 0) (name : Option (List ℕ)) (status : ℕ)
+    (old new errors_old errors_new : Option (List ℕ)) : Type 0 where
   pub ending : Result DrawOutcome EngineFault
   pub is_status : status ≡ draw_status ending
-  pub output : DrawLeaves document report streams never_fails MayBeUnread name ending old new
+  pub output : HoldsAsked asks document
+      (λ d. DrawLeaves (Some d) report streams never_fails MayBeUnread name ending old new)
   pub errors : WritesUpTo (λ text. text ≡ draw_notice ending) errors_old errors_new
 
 -- the arguments ask for a picture, and the run came to such an end
 pub record DrawsAsAsked (arguments : List Text) (on : Reliance) (files : List ℕ → Option (List ℕ)) (status : ℕ)
     (old new errors_old errors_new : Option (List ℕ)) : Type 0 where
+  pub asks : Asks
   pub document : Text
   pub report : Text
   pub streams : List Text
   pub name : Option Text
-  pub asked : AsksToDraw arguments document report streams name
-  pub ends : EndsDrawn (files document) (files report) (map files streams) on.files_are_read
+  pub asked : AsksToDraw arguments asks document report streams name
+  pub ends : EndsDrawn asks (files document) (files report) (map files streams) on.files_are_read
       (FilesMayFail on ⊎ IsLongReport (files report)) name status old new errors_old errors_new
 
 -- A run did what its arguments ask for.

@@ -3,7 +3,8 @@ use Rattle.std.specs.Prelude.{◌≡◌, ℕ, Bool, true, false, List, map, Opti
 use Rattle.std.specs.Io.KnownBytes.{Keeps}
 use Rattle.clap.specs.Words.{Text}
 use Rattle.pd_format.specs.Documents.{inquiry}
-use Rattle.pd_arguments.specs.Statuses.{Alarm, BundleFailure, Ending, Ends, Failed, FilesMayFail, MemoryFailure, Misuse, Negative, NetworkFailure, NoPredicate, OfDocument, ReadFailure, Reliance, Success, WriteFailure, WritesUpTo}
+use Rattle.pd_asked.specs.Asked.{Asks}
+use Rattle.pd_arguments.specs.Statuses.{Alarm, BundleFailure, Ending, Ends, Failed, FilesMayFail, HoldsAsked, MemoryFailure, Misuse, Negative, NetworkFailure, NoPredicate, OfDocument, ReadFailure, Reliance, Success, WriteFailure, WritesUpTo}
 use Rattle.pd_judgement.specs.Writes.{Whole, Writes}
 use Rattle.pd_explore.specs.Explored.{IsOwed}
 use Rattle.pd_arguments.specs.Arguments.{AsksToExplore}
@@ -31,8 +32,9 @@ ExploreLeaves beyond_width document streams never_fails MayBeUnread (Failed Netw
 pub record ExploresAsAsked (arguments : List Text) (on : Reliance) (files : List ℕ → Option (List ℕ)) (status : ℕ)
     (old new errors_old errors_new : Option (List ℕ)) : Type 0 where
   pub beyond_width : Bool
+  pub asks : Asks
   pub document : Text
   pub streams : List Text
-  pub asked : AsksToExplore arguments beyond_width document streams
-  pub ends : Ends (λ ending. ExploreLeaves beyond_width (files document) (map files streams) on.files_are_read
-      (FilesMayFail on) ending old new) status errors_old errors_new
+  pub asked : AsksToExplore arguments beyond_width asks document streams
+  pub ends : Ends (λ ending. HoldsAsked asks (files document) (λ d. ExploreLeaves beyond_width (Some d)
+      (map files streams) on.files_are_read (FilesMayFail on) ending old new)) status errors_old errors_new

@@ -1,7 +1,8 @@
 //! Checks a report against the session in files.
 ghost use Rattle.pd_cli.specs.Faults.{ending_view};
 ghost use Rattle.pd_format.specs.Limits.{report_byte_limit};
-ghost use Rattle.pd_arguments.specs.Statuses.{CheckLeaves, IsLongReport};
+ghost use Rattle.pd_arguments.specs.Statuses.{CheckLeaves, HoldsAsked, IsLongReport};
+ghost use Rattle.pd_asked.specs.Views.{asks_view};
 ghost use Rattle.std.specs.Prelude.{◌≡◌, ◌≤◌, ◌⊎◌, All, Err, Some, false, length, map, true};
 
 use super::claim_files::read_claim;
@@ -57,12 +58,17 @@ pub(crate) fn check_files<S: RandomSource + Threads + Wait + Sync, F: FileSource
     names: &SessionNames<'_>,
     output: &mut O,
 ) -> Result<bool, EngineFault>
-    ensures { CheckLeaves (F.bytes_of files.now names.now.spec.now) (F.bytes_of files.now report.now)
+    ensures { HoldsAsked (asks_view names.now.asks) (F.bytes_of files.now names.now.spec.now) (λ d. CheckLeaves (Some d)
+        (F.bytes_of files.now report.now)
         (map (λ name. F.bytes_of files.now name.now) names.now.streams.items) F.File.never_fails
         ((F.always_opens ≡ true → F.File.never_fails ≡ true → ⊥) ⊎ IsLongReport (F.bytes_of files.now report.now))
-        (ending_view result) (O.contents output.old) (O.contents output.new) }
+        (ending_view result) (O.contents output.old) (O.contents output.new)) }
 {
-    let read = read_claim(files, alloc, report, names)?;
-    let streams = read.streams;
-    check_read(rt, alloc, &read.document, &read.report, streams, output)
+    match read_claim(files, alloc, report, names) {
+        Ok(read) => {
+            let streams = read.streams;
+            check_read(rt, alloc, &read.document, &read.report, streams, output)
+        }
+        Err(fault) => Err(fault),
+    }
 }

@@ -1,5 +1,6 @@
 //! The files of a report and of the session that it is said to be of.
-ghost use Rattle.pd_cli.specs.FileSources.{HasWholeFile, StandsFor};
+ghost use Rattle.pd_asked.specs.Views.{asks_view};
+ghost use Rattle.pd_cli.specs.FileSources.{AreAsked, HasWholeFile};
 ghost use Rattle.pd_format.specs.Limits.{report_byte_limit};
 ghost use Rattle.pd_arguments.specs.Statuses.{IsLongReport};
 ghost use Rattle.pd_judgement.specs.Writes.{IsWholeInput};
@@ -7,14 +8,14 @@ ghost use Rattle.std.specs.List.{AllZip};
 ghost use Rattle.std.specs.Prelude.{◌≡◌, ◌≤◌, ◌⊎◌, All, Err, IfErr, IfOk, false, map, true, vec_len};
 
 use super::file_source::FileSource;
-use super::session_files::{open_streams, read_document};
+use super::session_files::{open_streams, read_asked};
 use pd_arguments::SessionNames;
 use pd_engine::{ByteSource, within_limit};
 use pd_format::REPORT_BYTE_LIMIT;
 use pd_sessions::{EngineFault, read_upto};
 use std::alloc::Global;
 
-/// The bytes of a document and of a report, and the streams, which are open and unread.
+/// The bytes of a document, with what is asked, and of a report, and the streams, which are open and unread.
 #[derive(Drop)]
 pub(crate) struct ClaimFiles<R: Drop> {
     pub(crate) document: Vec<u8>,
@@ -49,8 +50,8 @@ pub(crate) fn read_claim<F: FileSource>(
     report: &str,
     names: &SessionNames<'_>,
 ) -> Result<ClaimFiles<F::File>, EngineFault>
-    ensures document { IfOk result (λ read.
-        StandsFor read.document.items (F.bytes_of files.now names.now.spec.now)) }
+    ensures document { IfOk result (λ read. AreAsked (asks_view names.now.asks)
+        (F.bytes_of files.now names.now.spec.now) read.document.items) }
     ensures report { IfOk result (λ read. IsWholeInput (F.bytes_of files.now report.now) read.report.items) }
     ensures short { IfOk result (λ read. vec_len read.report ≤ report_byte_limit) }
     ensures streams { IfOk result (λ read. AllZip HasWholeFile
@@ -64,7 +65,7 @@ pub(crate) fn read_claim<F: FileSource>(
     let document = files.open(names.spec)?;
     let report = files.open(report)?;
     let streams = open_streams(files, alloc, &names.streams)?;
-    let document = read_document(alloc, document)?;
+    let document = read_asked(alloc, document, &names.asks)?;
     let report = read_report(alloc, report)?;
     Ok(ClaimFiles {
         document,

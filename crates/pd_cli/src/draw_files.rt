@@ -2,7 +2,8 @@
 ghost use Rattle.pd_cli.specs.Drawings.{DrawLeaves, Finishes, draw_notice, draw_status, refusal_heading};
 ghost use Rattle.pd_draw.specs.Choices.{name_view};
 ghost use Rattle.pd_format.specs.Limits.{report_byte_limit};
-ghost use Rattle.pd_arguments.specs.Statuses.{IsLongReport, WritesUpTo};
+ghost use Rattle.pd_arguments.specs.Statuses.{HoldsAsked, IsLongReport, WritesUpTo};
+ghost use Rattle.pd_asked.specs.Views.{asks_view};
 ghost use Rattle.std.specs.Prelude.{◌≡◌, ◌⊎◌, ◌≤◌, ◌++◌, All, IfOk, Some, false, length, map, true};
 
 use super::claim_files::read_claim;
@@ -88,22 +89,27 @@ pub(crate) fn draw_files<S: RandomSource + Threads + Wait + Sync, F: FileSource,
     names: &SessionNames<'_>,
     output: &mut O,
 ) -> Result<DrawOutcome, EngineFault>
-    ensures { DrawLeaves (F.bytes_of files.now names.now.spec.now) (F.bytes_of files.now report.now)
+    ensures { HoldsAsked (asks_view names.now.asks) (F.bytes_of files.now names.now.spec.now) (λ d. DrawLeaves (Some d)
+        (F.bytes_of files.now report.now)
         (map (λ name. F.bytes_of files.now name.now) names.now.streams.items) F.File.never_fails
         ((F.always_opens ≡ true → F.File.never_fails ≡ true → ⊥) ⊎ IsLongReport (F.bytes_of files.now report.now))
-        (name_view predicate.entry) result (O.contents output.old) (O.contents output.new) }
+        (name_view predicate.entry) result (O.contents output.old) (O.contents output.new)) }
 {
-    let read = read_claim(files, alloc, report, names)?;
-    let streams = read.streams;
-    draw_read(
-        rt,
-        alloc,
-        &read.document,
-        &read.report,
-        streams,
-        predicate,
-        output,
-    )
+    match read_claim(files, alloc, report, names) {
+        Ok(read) => {
+            let streams = read.streams;
+            draw_read(
+                rt,
+                alloc,
+                &read.document,
+                &read.report,
+                streams,
+                predicate,
+                output,
+            )
+        }
+        Err(fault) => Err(fault),
+    }
 }
 
 /// The exit status by how a run that draws ended, which is reported if no picture is written.

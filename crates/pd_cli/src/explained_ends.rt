@@ -26,7 +26,7 @@ fn put_report<F: FileSource>(
     match report {
         Report::Judged { answers, .. } => {
             let spec = match seen.spec {
-                Some(name) => spec_again(files, alloc, name),
+                Some(name) => spec_again(files, alloc, name, seen.asks),
                 None => None,
             };
             let judged = Judged {
@@ -98,6 +98,7 @@ fn put_judgement<F: FileSource>(
     let names = &judgement.names;
     let seen = Seen {
         spec: Some(names.spec),
+        asks: Some(&names.asks),
         streams: &names.streams,
         beyond_width: judgement.beyond_width,
     };
@@ -133,6 +134,7 @@ fn put_exploration<F: FileSource>(
     let names = &exploration.names;
     let seen = Seen {
         spec: Some(names.spec),
+        asks: Some(&names.asks),
         streams: &names.streams,
         beyond_width: exploration.beyond_width,
     };
@@ -168,6 +170,7 @@ fn put_bundle<F: FileSource>(
 ) -> Result<(), AllocError> {
     let seen = Seen {
         spec: None,
+        asks: None,
         streams: &[],
         beyond_width: false,
     };
@@ -229,6 +232,7 @@ fn put_service<F: FileSource, N: Network>(
 ) -> Result<(), AllocError> {
     let seen = Seen {
         spec: Some(service.spec),
+        asks: Some(&service.asks),
         streams: &[],
         beyond_width: service.beyond_width,
     };
@@ -295,7 +299,12 @@ fn put_drawing<F: FileSource>(
     end: &Result<DrawOutcome, EngineFault>,
 ) -> Result<(), AllocError> {
     match end {
-        Ok(DrawOutcome::NoPredicate) => match spec_again(files, alloc, names.spec) {
+        Ok(DrawOutcome::NoPredicate) => match spec_again(
+            files,
+            alloc,
+            names.spec,
+            Some(&names.asks),
+        ) {
             Some(spec) => explain_no_predicate(out, spec.predicates()),
             None => Ok(()),
         },

@@ -3,6 +3,7 @@ use super::file_source::FileSource;
 use super::second_look::{
     Seen, document_again, process_again, spec_again, stream_again, stream_of,
 };
+use pd_asked::Asks;
 use pd_explain::{
     EventName, Others, PredicateFault, Source, StreamFault, advise_absent, advise_cycle,
     advise_messages, explain_absent, explain_cycle, explain_document, explain_document_word,
@@ -26,6 +27,14 @@ fn name_at<'a>(streams: &[&'a str], number: u64) -> &'a str {
     ""
 }
 
+/// Whether something else is asked than what the document says.
+fn is_changed(asks: Option<&Asks<'_>>) -> bool {
+    match asks {
+        Some(asks) => !asks.are_none(),
+        None => false,
+    }
+}
+
 /// Explains a document that is refused by this word.
 fn put_document<F: FileSource>(
     out: &mut Vec<u8>,
@@ -37,7 +46,10 @@ fn put_document<F: FileSource>(
     let Some(name) = seen.spec else {
         return explain_document_word(out, word);
     };
-    match document_again(files, alloc, name) {
+    if is_changed(seen.asks) {
+        return explain_document_word(out, word);
+    }
+    match document_again(files, alloc, name, seen.asks) {
         Some(bytes) => {
             let source = Source {
                 name,
@@ -46,6 +58,14 @@ fn put_document<F: FileSource>(
             explain_document(out, alloc, &source, word)
         }
         None => explain_document_word(out, word),
+    }
+}
+
+/// Where the texts of the predicates come from.
+fn predicates_of<'a>(document: &'a str, asks: Option<&Asks<'_>>) -> &'a str {
+    match asks {
+        Some(asks) if !asks.predicates.is_empty() => "--ask",
+        _ => document,
     }
 }
 
@@ -60,10 +80,10 @@ fn put_predicate<F: FileSource>(
     let Some(name) = seen.spec else {
         return explain_predicate_word(out, fault);
     };
-    match document_again(files, alloc, name) {
+    match document_again(files, alloc, name, seen.asks) {
         Some(bytes) => {
             let source = Source {
-                name,
+                name: predicates_of(name, seen.asks),
                 bytes: &bytes,
             };
             explain_predicate(out, alloc, &source, fault)
@@ -123,7 +143,7 @@ fn put_line<F: FileSource>(
     let Some(spec) = seen.spec else {
         return explain_stream_with(out, fault, name, "");
     };
-    let Some(spec) = spec_again(files, alloc, spec) else {
+    let Some(spec) = spec_again(files, alloc, spec, seen.asks) else {
         return explain_stream_with(out, fault, name, "");
     };
     let Some(bytes) = stream_again(files, alloc, name) else {

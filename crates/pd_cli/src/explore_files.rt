@@ -1,10 +1,12 @@
 //! Explores the session in files.
+ghost use Rattle.pd_arguments.specs.Statuses.{HoldsAsked};
+ghost use Rattle.pd_asked.specs.Views.{asks_view};
 ghost use Rattle.pd_cli.specs.Explorations.{ExploreLeaves};
 ghost use Rattle.pd_cli.specs.Faults.{exploration_ending};
 ghost use Rattle.std.specs.Prelude.{◌≡◌, All, Some, false, map, true};
 
 use super::file_source::FileSource;
-use super::session_files::{open_streams, read_document};
+use super::session_files::read_session;
 use pd_arguments::{Exploration, Workers};
 use pd_engine::{ByteSource, Inquiry, NoGate, Report};
 use pd_explore::explore;
@@ -62,17 +64,21 @@ pub(crate) fn explore_files<S: RandomSource + Threads + Wait + Sync, F: FileSour
     exploration: &Exploration<'_>,
     output: &mut O,
 ) -> Result<Option<Report>, EngineFault>
-    ensures { ExploreLeaves exploration.now.beyond_width (F.bytes_of files.now exploration.now.names.spec.now)
+    ensures { HoldsAsked (asks_view exploration.now.names.asks)
+        (F.bytes_of files.now exploration.now.names.spec.now) (λ d. ExploreLeaves exploration.now.beyond_width (Some d)
         (map (λ name. F.bytes_of files.now name.now) exploration.now.names.streams.items) F.File.never_fails
         (F.always_opens ≡ true → F.File.never_fails ≡ true → ⊥) (exploration_ending result) (O.contents output.old)
-        (O.contents output.new) }
+        (O.contents output.new)) }
 {
-    let spec = files.open(exploration.names.spec)?;
-    let streams = open_streams(files, alloc, &exploration.names.streams)?;
-    let document = read_document(alloc, spec)?;
-    let inquiry = Inquiry {
-        document: &document,
-        beyond_width: exploration.beyond_width,
-    };
-    explore_read(rt, alloc, inquiry, streams, &exploration.workers, output)
+    match read_session(files, alloc, &exploration.names) {
+        Ok(read) => {
+            let streams = read.streams;
+            let inquiry = Inquiry {
+                document: &read.document,
+                beyond_width: exploration.beyond_width,
+            };
+            explore_read(rt, alloc, inquiry, streams, &exploration.workers, output)
+        }
+        Err(fault) => Err(fault),
+    }
 }

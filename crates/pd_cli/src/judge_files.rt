@@ -1,17 +1,19 @@
 //! Judges the session in files.
+ghost use Rattle.pd_asked.specs.Views.{asks_view};
+ghost use Rattle.pd_cli.specs.FileSources.{AreAsked};
 ghost use Rattle.pd_cli.specs.Faults.{judgement_ending};
 ghost use Rattle.pd_fail_on.specs.Conditions.{Condition};
 ghost use Rattle.pd_format.specs.Documents.{inquiry};
 ghost use Rattle.pd_judgement.specs.Headline.{is_judged};
 ghost use Rattle.pd_judgement.specs.Judgements.{ended_streams};
-ghost use Rattle.pd_arguments.specs.Statuses.{FilesJudgementLeaves};
+ghost use Rattle.pd_arguments.specs.Statuses.{FilesJudgementLeaves, HoldsAsked};
 ghost use Rattle.pd_judgement.specs.Writes.{WritesTruth};
 ghost use Rattle.pd_report.specs.Views.{report_view};
 ghost use Rattle.pd_sessions.specs.Inquiries.{inquiry_view};
 ghost use Rattle.std.specs.Prelude.{◌≡◌, ◌⊎◌, ℕ, List, All, IfErr, IfOk, Some, false, true, map};
 
 use super::file_source::FileSource;
-use super::session_files::{open_streams, read_document};
+use super::session_files::read_session;
 use pd_arguments::{Judgement, Workers};
 use pd_engine::{ByteSource, Inquiry, NoGate, Report, judge_inquiry};
 use pd_sessions::EngineFault;
@@ -65,7 +67,8 @@ pub(crate) fn judge_read<
     Ok(report)
 }
 
-/// Opens the files of a session, the document and then the streams, reads the document, judges it and the streams,
+/// Opens the files of a session, the document and then the streams, reads the document, judges it, with what is asked
+/// in place of what it says, and the streams,
 /// writes the report, and flushes the output. It gives the report. All files are opened before one is read. A stream
 /// whose read fails later is a fault of that stream in the report.
 ///
@@ -79,27 +82,31 @@ pub(crate) fn judge_files<S: RandomSource + Threads + Wait + Sync, F: FileSource
     judgement: &Judgement<'_>,
     output: &mut O,
 ) -> Result<Report, EngineFault>
-    ensures written { (fail_on : List Condition) → FilesJudgementLeaves judgement.now.beyond_width fail_on
-        (F.bytes_of files.now judgement.now.names.spec.now)
-        (map (λ name. F.bytes_of files.now name.now) judgement.now.names.streams.items) F.File.never_fails
-        (F.always_opens ≡ true → F.File.never_fails ≡ true → ⊥) (judgement_ending fail_on result)
-        (O.contents output.old) (O.contents output.new) }
-    // If the bytes of the files are known and no read of them fails: if they hold a well-formed session, it is judged,
+    ensures written { (fail_on : List Condition) → HoldsAsked (asks_view judgement.now.names.asks)
+        (F.bytes_of files.now judgement.now.names.spec.now) (λ d. FilesJudgementLeaves judgement.now.beyond_width
+        fail_on (Some d) (map (λ name. F.bytes_of files.now name.now) judgement.now.names.streams.items)
+        F.File.never_fails (F.always_opens ≡ true → F.File.never_fails ≡ true → ⊥)
+        (judgement_ending fail_on result) (O.contents output.old) (O.contents output.new)) }
+    // If the bytes of the streams' files are known and no read fails: if they and the document, with what is asked,
+    // hold a well-formed session, it is judged,
     // and what is written is true: with no level over the width of each predicate, and if that is asked for, however
     // wide it is, of each that is decided.
-    ensures headline { F.File.never_fails ≡ true → IfOk result (λ report. (document : List ℕ)
-        (streams : List (List ℕ)) → F.bytes_of files.now judgement.now.names.spec.now ≡ Some document
+    ensures headline { F.File.never_fails ≡ true → IfOk result (λ report. (streams : List (List ℕ))
         → map (λ name. F.bytes_of files.now name.now) judgement.now.names.streams.items ≡ map Some streams
-        → WritesTruth (inquiry judgement.now.beyond_width document) (ended_streams streams) (is_judged (report_view
-        report) ≡ true)
-        (O.contents output.old) (O.contents output.new)) }
+        → (asked : List ℕ) × AreAsked (asks_view judgement.now.names.asks)
+        (F.bytes_of files.now judgement.now.names.spec.now) asked
+        × WritesTruth (inquiry judgement.now.beyond_width asked) (ended_streams streams)
+        (is_judged (report_view report) ≡ true) (O.contents output.old) (O.contents output.new)) }
 {
-    let spec = files.open(judgement.names.spec)?;
-    let streams = open_streams(files, alloc, &judgement.names.streams)?;
-    let document = read_document(alloc, spec)?;
-    let inquiry = Inquiry {
-        document: &document,
-        beyond_width: judgement.beyond_width,
-    };
-    judge_read(rt, alloc, inquiry, streams, &judgement.workers, output)
+    match read_session(files, alloc, &judgement.names) {
+        Ok(read) => {
+            let streams = read.streams;
+            let inquiry = Inquiry {
+                document: &read.document,
+                beyond_width: judgement.beyond_width,
+            };
+            judge_read(rt, alloc, inquiry, streams, &judgement.workers, output)
+        }
+        Err(fault) => Err(fault),
+    }
 }

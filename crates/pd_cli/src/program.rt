@@ -1,13 +1,14 @@
 //! One run of the program.
 ghost use Rattle.pd_arguments.specs.Arguments.{port_limit};
+ghost use Rattle.pd_asked.specs.Views.{asks_view};
 ghost use Rattle.pd_cli.specs.Drawings.{EndsDrawn, RunsAsAsked};
 ghost use Rattle.pd_cli.specs.Explained.{Explained};
 ghost use Rattle.pd_cli.specs.Explorations.{ExploreLeaves};
 ghost use Rattle.pd_draw.specs.Choices.{name_view};
 ghost use Rattle.pd_fail_on.specs.Views.{fail_on_view};
-ghost use Rattle.pd_arguments.specs.Statuses.{CheckLeaves, Ends, FilesJudgementLeaves, IsLongReport, JudgementLeaves, ServiceLeaves, reliance};
+ghost use Rattle.pd_arguments.specs.Statuses.{CheckLeaves, Ends, FilesJudgementLeaves, HoldsAsked, IsLongReport, JudgementLeaves, ServiceLeaves, reliance};
 ghost use Rattle.pd_judgement.specs.Writes.{WritesTruthOfBundle};
-ghost use Rattle.std.specs.Prelude.{◌≡◌, ◌⊎◌, ◌≤◌, drop, false, length, map, true, vec_len};
+ghost use Rattle.std.specs.Prelude.{◌≡◌, ◌⊎◌, ◌≤◌, drop, false, length, map, true, vec_len, Some};
 
 use super::bundle::judge_input;
 use super::check_files::check_files;
@@ -44,11 +45,11 @@ fn run_check<S: RandomSource + Threads + Wait + Sync, F: FileSource, O: Write, E
     output: &mut O,
     errors: &mut E,
 ) -> u8
-    ensures { Explained explain (λ start. Ends (λ ending. CheckLeaves (F.bytes_of files.now names.now.spec.now)
-        (F.bytes_of files.now report.now)
+    ensures { Explained explain (λ start. Ends (λ ending. HoldsAsked (asks_view names.now.asks)
+        (F.bytes_of files.now names.now.spec.now) (λ d. CheckLeaves (Some d) (F.bytes_of files.now report.now)
         (map (λ name. F.bytes_of files.now name.now) names.now.streams.items) F.File.never_fails
         ((F.always_opens ≡ true → F.File.never_fails ≡ true → ⊥) ⊎ IsLongReport (F.bytes_of files.now report.now))
-        ending (O.contents output.old) (O.contents output.new)) result start (E.contents errors.new))
+        ending (O.contents output.old) (O.contents output.new))) result start (E.contents errors.new))
         (E.contents errors.old) }
 {
     let end = check_files(rt, files, alloc, report, names, output);
@@ -69,7 +70,7 @@ fn run_draw<S: RandomSource + Threads + Wait + Sync, F: FileSource, O: Write, E:
     output: &mut O,
     errors: &mut E,
 ) -> u8
-    ensures { Explained explain (λ start. EndsDrawn (F.bytes_of files.now names.now.spec.now)
+    ensures { Explained explain (λ start. EndsDrawn (asks_view names.now.asks) (F.bytes_of files.now names.now.spec.now)
         (F.bytes_of files.now report.now)
         (map (λ name. F.bytes_of files.now name.now) names.now.streams.items) F.File.never_fails
         ((F.always_opens ≡ true → F.File.never_fails ≡ true → ⊥) ⊎ IsLongReport (F.bytes_of files.now report.now))
@@ -101,12 +102,12 @@ fn run_service<
 ) -> u8
     requires some { 1 ≤ service.now.port }
     requires port { service.now.port ≤ port_limit }
-    ensures { Explained explain (λ start. Ends (λ ending. ServiceLeaves service.now.beyond_width
-        (fail_on_view service.now.fail_on)
-        (F.bytes_of files.now service.now.spec.now)
+    ensures { Explained explain (λ start. Ends (λ ending. HoldsAsked (asks_view service.now.asks)
+        (F.bytes_of files.now service.now.spec.now) (λ d. ServiceLeaves service.now.beyond_width
+        (fail_on_view service.now.fail_on) (Some d)
         (N.may_give network.now service.now.port) N.Connection.never_fails
         (F.always_opens ≡ true → F.File.never_fails ≡ true → ⊥) (N.never_fails ≡ true → ⊥) ending
-        (O.contents output.old) (O.contents output.new)) result start (E.contents errors.new))
+        (O.contents output.old) (O.contents output.new))) result start (E.contents errors.new))
         (E.contents errors.old) }
 {
     let end = serve(rt, files, network, alloc, service, output);
@@ -125,12 +126,12 @@ fn run_files<S: RandomSource + Threads + Wait + Sync, F: FileSource, O: Write, E
     output: &mut O,
     errors: &mut E,
 ) -> u8
-    ensures { Explained explain (λ start. Ends (λ ending. FilesJudgementLeaves judgement.now.beyond_width
-        (fail_on_view judgement.now.fail_on)
-        (F.bytes_of files.now judgement.now.names.spec.now)
+    ensures { Explained explain (λ start. Ends (λ ending. HoldsAsked (asks_view judgement.now.names.asks)
+        (F.bytes_of files.now judgement.now.names.spec.now) (λ d. FilesJudgementLeaves judgement.now.beyond_width
+        (fail_on_view judgement.now.fail_on) (Some d)
         (map (λ name. F.bytes_of files.now name.now) judgement.now.names.streams.items) F.File.never_fails
         (F.always_opens ≡ true → F.File.never_fails ≡ true → ⊥) ending (O.contents output.old)
-        (O.contents output.new)) result start (E.contents errors.new)) (E.contents errors.old) }
+        (O.contents output.new))) result start (E.contents errors.new)) (E.contents errors.old) }
 {
     let end = judge_files(rt, files, alloc, judgement, output);
     let text = judgement_text(explain, files, alloc, judgement, &end);
@@ -148,11 +149,11 @@ fn run_explore<S: RandomSource + Threads + Wait + Sync, F: FileSource, O: Write,
     output: &mut O,
     errors: &mut E,
 ) -> u8
-    ensures { Explained explain (λ start. Ends (λ ending. ExploreLeaves exploration.now.beyond_width
-        (F.bytes_of files.now exploration.now.names.spec.now)
+    ensures { Explained explain (λ start. Ends (λ ending. HoldsAsked (asks_view exploration.now.names.asks)
+        (F.bytes_of files.now exploration.now.names.spec.now) (λ d. ExploreLeaves exploration.now.beyond_width (Some d)
         (map (λ name. F.bytes_of files.now name.now) exploration.now.names.streams.items) F.File.never_fails
         (F.always_opens ≡ true → F.File.never_fails ≡ true → ⊥) ending (O.contents output.old)
-        (O.contents output.new)) result start (E.contents errors.new)) (E.contents errors.old) }
+        (O.contents output.new))) result start (E.contents errors.new)) (E.contents errors.old) }
 {
     let end = explore_files(rt, files, alloc, exploration, output);
     let text = exploration_text(explain, files, alloc, exploration, &end);

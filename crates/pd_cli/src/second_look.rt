@@ -1,6 +1,7 @@
 //! Reads the files of a session again, for an explanation.
 use super::file_source::FileSource;
-use super::session_files::read_document;
+use super::session_files::{read_asked, read_document};
+use pd_asked::Asks;
 use pd_engine::Spec;
 use pd_explain::joined_name;
 use pd_format::STREAM_BYTE_LIMIT;
@@ -16,30 +17,41 @@ const START_LENGTH: usize = 131_072;
 pub(crate) struct Seen<'a> {
     /// The name of the document's file.
     pub(crate) spec: Option<&'a str>,
+    /// What was asked in place of what the document says, if there is one.
+    pub(crate) asks: Option<&'a Asks<'a>>,
     /// The names of the streams' files.
     pub(crate) streams: &'a [&'a str],
     /// Whether predicates were to be answered beyond the width.
     pub(crate) beyond_width: bool,
 }
 
-/// The bytes of the document in the file of this name, if they can be read again.
+/// The bytes of the document in the file of this name, with what is asked, if they can be read again.
 pub(crate) fn document_again<F: FileSource>(
     files: &F,
     alloc: Global,
     name: &str,
+    asks: Option<&Asks<'_>>,
 ) -> Option<Vec<u8>> {
     if !files.can_be_reread(name) {
         return None;
     }
-    match files.open(name) {
-        Ok(file) => read_document(alloc, file).ok(),
-        Err(_) => None,
+    let Ok(file) = files.open(name) else {
+        return None;
+    };
+    match asks {
+        Some(asks) => read_asked(alloc, file, asks).ok(),
+        None => read_document(alloc, file).ok(),
     }
 }
 
-/// The document in the file of this name, if it can be read again and isn't refused.
-pub(crate) fn spec_again<F: FileSource>(files: &F, alloc: Global, name: &str) -> Option<Spec> {
-    let bytes = document_again(files, alloc, name)?;
+/// The document in the file of this name, with what is asked, if it can be read again and isn't refused.
+pub(crate) fn spec_again<F: FileSource>(
+    files: &F,
+    alloc: Global,
+    name: &str,
+    asks: Option<&Asks<'_>>,
+) -> Option<Spec> {
+    let bytes = document_again(files, alloc, name, asks)?;
     Spec::read(alloc, &bytes).ok()
 }
 

@@ -1,11 +1,13 @@
 //! Judges a session whose streams come by connections.
 ghost use Rattle.pd_arguments.specs.Arguments.{port_limit};
+ghost use Rattle.pd_asked.specs.Views.{asks_view};
+ghost use Rattle.pd_cli.specs.FileSources.{AreAsked};
 ghost use Rattle.pd_cli.specs.Faults.{is_out_of_memory, judgement_ending, service_ending};
 ghost use Rattle.pd_cli.specs.declared.service_fault.ServiceFault.TheVariants as faults;
 ghost use Rattle.pd_fail_on.specs.Conditions.{Condition};
 ghost use Rattle.pd_format.specs.Documents.{IsDocument};
 ghost use Rattle.pd_judgement.specs.Headline.{is_judged};
-ghost use Rattle.pd_arguments.specs.Statuses.{FilesJudgementLeaves, ServiceLeaves};
+ghost use Rattle.pd_arguments.specs.Statuses.{FilesJudgementLeaves, HoldsAsked, ServiceLeaves};
 ghost use Rattle.pd_report.specs.Views.{report_view};
 ghost use Rattle.pd_spec.specs.Views.{IsFaultOf, document_view};
 ghost use Rattle.std.specs.Prelude.{◌≡◌, ◌⊎◌, ◌↔◌, ◌+◌, ◌<◌, ◌≤◌, ℕ, All, List, Err, IfErr, IfOk, IfSome, IsOk, IsSome, MatchResult, Ok, Some, [], false, length, map, true};
@@ -14,7 +16,7 @@ use super::file_source::FileSource;
 use super::judge_files::judge_read;
 use super::network::Network;
 use super::service_fault::ServiceFault;
-use super::session_files::read_document;
+use super::session_files::read_asked;
 use super::watchers::Watchers;
 use pd_arguments::{Service, Workers};
 use pd_engine::{
@@ -252,10 +254,56 @@ fn refuse_document<S: RandomSource + Threads + Wait + Sync, N: Network, O: Write
     service_end(judge_no_streams::<S, N, O>(rt, alloc, inquiry, output))
 }
 
-/// Opens and reads the document of a session; binds the ports, unless the document is refused; accepts a stream for
-/// each process; judges the document and the streams, writes the report, and flushes the output. It gives the report.
-/// Meanwhile the watchers are accepted, and each is shown how far the streams are
-/// read; it returns once all of them have come, or one can't be accepted.
+/// Judges a document's bytes and the streams that come, or reports why the document is refused.
+///
+/// # Errors
+/// As `serve`, but for `Read`.
+fn serve_document<S: RandomSource + Threads + Wait + Sync, N: Network + Sync, O: Write>(
+    rt: &S,
+    network: &N,
+    alloc: Global,
+    document: &[u8],
+    service: &Service<'_>,
+    output: &mut O,
+) -> Result<Report, ServiceFault>
+    requires { service.now.port ≤ port_limit }
+    ensures { (fail_on : List Condition) → ServiceLeaves service.now.beyond_width fail_on (Some document.now)
+        (N.may_give network.now service.now.port) N.Connection.never_fails ⊥ (N.never_fails ≡ true → ⊥)
+        (service_ending fail_on result) (O.contents output.old) (O.contents output.new) }
+{
+    let inquiry = Inquiry {
+        document,
+        beyond_width: service.beyond_width,
+    };
+    match Spec::read(alloc, inquiry.document) {
+        Ok(spec) => serve_session(rt, network, alloc, inquiry, &spec, service, output),
+        Err(fault) => refuse_document(rt, network, alloc, inquiry, &fault, output),
+    }
+}
+
+/// Opens and reads the document of a server's session, with what is asked in place of what it says.
+///
+/// # Errors
+/// `Read`, if it can't be opened or read, and `Memory`.
+fn read_service<F: FileSource>(
+    files: &F,
+    alloc: Global,
+    service: &Service<'_>,
+) -> Result<Vec<u8>, EngineFault>
+    ensures document { IfOk result (λ bytes. AreAsked (asks_view service.now.asks)
+        (F.bytes_of files.now service.now.spec.now) bytes.items) }
+    ensures unread { result ≡ Err EngineFault.Read → F.always_opens ≡ true → F.File.never_fails ≡ true → ⊥ }
+    ensures err { IfErr result (λ fault. (fault ≡ EngineFault.Memory) ⊎ (fault ≡ EngineFault.Read)) }
+{
+    let file = files.open(service.spec)?;
+    let document = read_asked(alloc, file, &service.asks)?;
+    Ok(document)
+}
+
+/// Opens and reads the document of a session; binds the ports, unless the document, with what is asked in place of what
+/// it says, is refused; accepts a stream for each process; judges the document and the streams, writes the report, and
+/// flushes the output. It gives the report. Meanwhile the watchers are accepted, and each is shown how far the streams
+/// are read; it returns once all of them have come, or one can't be accepted.
 ///
 /// # Errors
 /// `Read`, if the document can't be opened or read, `Network`, if a port can't be bound or a stream not be accepted,
@@ -276,19 +324,14 @@ pub(crate) fn serve<
 ) -> Result<Report, ServiceFault>
     requires { service.now.port ≤ port_limit }
     // This is said for all answers on which the run may be to fail.
-    ensures { (fail_on : List Condition) → ServiceLeaves service.now.beyond_width fail_on
-        (F.bytes_of files.now service.now.spec.now) (N.may_give network.now service.now.port)
-        N.Connection.never_fails (F.always_opens ≡ true → F.File.never_fails ≡ true → ⊥) (N.never_fails ≡ true → ⊥)
-        (service_ending fail_on result) (O.contents output.old) (O.contents output.new) }
+    ensures { (fail_on : List Condition) → HoldsAsked (asks_view service.now.asks)
+        (F.bytes_of files.now service.now.spec.now) (λ d. ServiceLeaves service.now.beyond_width fail_on (Some d)
+        (N.may_give network.now service.now.port) N.Connection.never_fails
+        (F.always_opens ≡ true → F.File.never_fails ≡ true → ⊥) (N.never_fails ≡ true → ⊥)
+        (service_ending fail_on result) (O.contents output.old) (O.contents output.new)) }
 {
-    let file = files.open(service.spec)?;
-    let document = read_document(alloc, file)?;
-    let inquiry = Inquiry {
-        document: &document,
-        beyond_width: service.beyond_width,
-    };
-    match Spec::read(alloc, inquiry.document) {
-        Ok(spec) => serve_session(rt, network, alloc, inquiry, &spec, service, output),
-        Err(fault) => refuse_document(rt, network, alloc, inquiry, &fault, output),
+    match read_service(files, alloc, service) {
+        Ok(document) => serve_document(rt, network, alloc, &document, service, output),
+        Err(fault) => Err(ServiceFault::Engine(fault)),
     }
 }

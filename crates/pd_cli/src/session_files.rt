@@ -1,9 +1,12 @@
 //! Opens and reads the files of a session.
-ghost use Rattle.pd_cli.specs.FileSources.{HasWholeFile, StandsFor};
+ghost use Rattle.pd_asked.specs.Views.{asks_view};
+ghost use Rattle.pd_cli.specs.FileSources.{AreAsked, HasWholeFile, IsReadOf};
 ghost use Rattle.std.specs.List.{AllZip};
-ghost use Rattle.std.specs.Prelude.{◌≡◌, ◌⊎◌, All, IfErr, IfOk, false, map, true};
+ghost use Rattle.std.specs.Prelude.{◌≡◌, ◌⊎◌, All, Err, IfErr, IfOk, false, map, true};
 
 use super::file_source::FileSource;
+use pd_arguments::SessionNames;
+use pd_asked::{Asks, asked_document};
 use pd_engine::ByteSource;
 use pd_format::DOCUMENT_BYTE_LIMIT;
 use pd_sessions::{EngineFault, read_upto};
@@ -41,9 +44,60 @@ pub(crate) fn read_document<R: ByteSource + Drop>(
     reader: R,
 ) -> Result<Vec<u8>, EngineFault>
     requires { R.has_ended reader ≡ false }
-    ensures same { IfOk result (λ bytes. StandsFor bytes.items (R.remaining reader)) }
+    ensures read { IfOk result (λ bytes. IsReadOf bytes.items (R.remaining reader)) }
     ensures sure { R.never_fails ≡ true → IfErr result (λ fault. fault ≡ EngineFault.Memory) }
     ensures err { IfErr result (λ fault. (fault ≡ EngineFault.Memory) ⊎ (fault ≡ EngineFault.Read)) }
 {
     read_upto(alloc, reader, DOCUMENT_BYTE_LIMIT)
+}
+
+/// The bytes of a session document with what is asked in place of what it says.
+///
+/// # Errors
+/// `Read`, if a read fails, and `Memory`.
+pub(crate) fn read_asked<R: ByteSource + Drop>(
+    alloc: Global,
+    reader: R,
+    asks: &Asks<'_>,
+) -> Result<Vec<u8>, EngineFault>
+    requires { R.has_ended reader ≡ false }
+    ensures asked { IfOk result (λ bytes. AreAsked (asks_view asks.now) (R.remaining reader) bytes.items) }
+    ensures sure { R.never_fails ≡ true → IfErr result (λ fault. fault ≡ EngineFault.Memory) }
+    ensures err { IfErr result (λ fault. (fault ≡ EngineFault.Memory) ⊎ (fault ≡ EngineFault.Read)) }
+{
+    let document = read_document(alloc, reader)?;
+    let asked = asked_document(alloc, document, asks)?;
+    Ok(asked)
+}
+
+/// The bytes of a session's document, with what is asked, and its streams, which are open and unread.
+#[derive(Drop)]
+pub(crate) struct SessionFiles<R: Drop> {
+    pub(crate) document: Vec<u8>,
+    pub(crate) streams: Vec<R>,
+}
+
+/// Opens the files of a session, the document and then the streams, and reads the document. All files are opened before
+/// one is read.
+///
+/// # Errors
+/// `Read`, if a file can't be opened or the document can't be read, and `Memory`.
+pub(crate) fn read_session<F: FileSource>(
+    files: &F,
+    alloc: Global,
+    names: &SessionNames<'_>,
+) -> Result<SessionFiles<F::File>, EngineFault>
+    ensures document { IfOk result (λ read. AreAsked (asks_view names.now.asks)
+        (F.bytes_of files.now names.now.spec.now) read.document.items) }
+    ensures streams { IfOk result (λ read. AllZip HasWholeFile
+        (map (λ name. F.bytes_of files.now name.now) names.now.streams.items)
+        (map F.File.remaining read.streams.items)) }
+    ensures open { IfOk result (λ read. All (λ stream. F.File.has_ended stream ≡ false) read.streams.items) }
+    ensures unread { result ≡ Err EngineFault.Read → F.always_opens ≡ true → F.File.never_fails ≡ true → ⊥ }
+    ensures err { IfErr result (λ fault. (fault ≡ EngineFault.Memory) ⊎ (fault ≡ EngineFault.Read)) }
+{
+    let spec = files.open(names.spec)?;
+    let streams = open_streams(files, alloc, &names.streams)?;
+    let document = read_asked(alloc, spec, &names.asks)?;
+    Ok(SessionFiles { document, streams })
 }

@@ -12,10 +12,13 @@ use std::thread::Threads;
 /// What the help of `check` says.
 const CHECK_HELP: &str =
     "Checks whether the cuts and paths in a report show what they are printed for\n\n\
-Usage: monitor check <SPEC> <REPORT> <STREAM>...\n\n\
+Usage: monitor check [OPTIONS] <SPEC> <REPORT> <STREAM>...\n\n\
 Arguments:\n  <SPEC>       The session document\n  <REPORT>     The report\n  \
 <STREAM>...  The streams of events, one file for each\n\n\
-Options:\n  -h, --help  Print help\n\n\
+Options:\n      --width <WIDTH>  \
+How many cuts a level may have, at most 65536, in place of the document's width\n      \
+--ask <TEXT>     A predicate in place of the document's, named ask1; given again, one more, named ask2, and so on\n  \
+-h, --help           Print help\n\n\
 What is found is written to the standard output. The status is 0 if nothing in it is bad, 1 if something is, \
 2 if the arguments are refused, 3 if a file can't be opened or read or the output can't be written, \
 and 4 if memory runs out.\n\n\

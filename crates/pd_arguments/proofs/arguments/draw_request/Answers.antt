@@ -3,7 +3,9 @@ use Rattle.std.proofs.Common.{codes, inl, inr, option_map, refl, subst, sym, ◌
 use Rattle.clap.specs.Matches.{found_of}
 use Rattle.clap.specs.Walk.{rows_of}
 use Rattle.clap.proofs.WalkLemmas.{first_value-rows}
-use Rattle.pd_arguments.specs.Arguments.{FindsSession, of_missing, of_missing_report}
+use Rattle.std.specs.Prelude.{IfSome}
+use Rattle.pd_asked.specs.Views.{asks_view}
+use Rattle.pd_arguments.specs.Arguments.{NamesAsks, FindsSession, of_missing, of_missing_report}
 use Rattle.pd_arguments.specs.Views.{session_view}
 use Rattle.pd_arguments.specs.declared.request.SessionNames.{SessionNames}
 use Rattle.pd_arguments.proofs.Parsed.{not_none}
@@ -19,7 +21,7 @@ pub returns-in_default-2 : goal.returns-in_default-2
 returns-in_default-2 c arguments taken are =
     of_missing (codes "draw") (rows_of (found_of c.args.matches.now)) (inr (inr (inl refl))) are
     (subst (λ (names : Option SessionNames). FindsSession (rows_of (found_of c.args.matches.now))
-    (option_map session_view names)) c.in_default-2.is c.in_ok-names.ensures)
+    (option_map session_view names)) c.in_default-2.is c.in_ok-names.ensures.names)
 
 pub returns : goal.returns
 returns c arguments taken are = record {
@@ -27,7 +29,10 @@ returns c arguments taken are = record {
   are_taken = taken;
   are_of = are;
   names_session = subst (λ (names : Option SessionNames). FindsSession (rows_of (found_of c.args.matches.now))
-      (option_map session_view names)) c.in-Some-2.is c.in_ok-names.ensures;
+      (option_map session_view names)) c.in-Some-2.is c.in_ok-names.ensures.names;
+  names_asks = subst (λ (names : Option SessionNames). IfSome names (λ names.
+      NamesAsks (rows_of (found_of c.args.matches.now)) (asks_view names.asks))) c.in-Some-2.is
+      c.in_ok-names.ensures.asks;
   names_report = sym (first_value-rows (found_of c.args.matches.now) (codes "REPORT")) ∙ sym c.in-Some.ensures;
   names_predicate = sym (c.get_str-predicate.ensures
       ∙ first_value-rows (found_of c.args.matches.now) (codes "PREDICATE"));

@@ -2,7 +2,9 @@
 use Rattle.std.proofs.Common.{codes, inr, option_map, refl, subst, Option}
 use Rattle.clap.specs.Matches.{found_of}
 use Rattle.clap.specs.Walk.{rows_of}
-use Rattle.pd_arguments.specs.Arguments.{FindsSession, of_missing, of_missing_workers}
+use Rattle.std.specs.Prelude.{IfSome}
+use Rattle.pd_asked.specs.Views.{asks_view}
+use Rattle.pd_arguments.specs.Arguments.{NamesAsks, FindsSession, of_missing, of_missing_workers}
 use Rattle.pd_arguments.specs.Views.{session_view}
 use Rattle.pd_arguments.specs.declared.request.SessionNames.{SessionNames}
 use Rattle.pd_arguments.proofs.Numbers.{lacks_workers}
@@ -18,7 +20,7 @@ pub returns-in_default-2 : goal.returns-in_default-2
 returns-in_default-2 c arguments taken are =
     of_missing (codes "explore") (rows_of (found_of c.args.matches.now)) (inr (inr (inr refl))) are
     (subst (λ (names : Option SessionNames). FindsSession (rows_of (found_of c.args.matches.now))
-    (option_map session_view names)) c.in_default-2.is c.in_ok-names.ensures)
+    (option_map session_view names)) c.in_default-2.is c.in_ok-names.ensures.names)
 
 pub returns : goal.returns
 returns c arguments taken are = record {
@@ -26,7 +28,10 @@ returns c arguments taken are = record {
   are_taken = taken;
   are_of = are;
   names_session = subst (λ (names : Option SessionNames). FindsSession (rows_of (found_of c.args.matches.now))
-      (option_map session_view names)) c.in-Some-2.is c.in_ok-names.ensures;
+      (option_map session_view names)) c.in-Some-2.is c.in_ok-names.ensures.names;
+  names_asks = subst (λ (names : Option SessionNames). IfSome names (λ names.
+      NamesAsks (rows_of (found_of c.args.matches.now)) (asks_view names.asks))) c.in-Some-2.is
+      c.in_ok-names.ensures.asks;
   workers = _;
   names_workers = c.in-Some.ensures.some;
   says_beyond_width = c.flag_of-beyond_width.ensures;

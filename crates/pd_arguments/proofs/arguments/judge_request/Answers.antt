@@ -2,7 +2,9 @@
 use Rattle.std.proofs.Common.{codes, inl, option_map, refl, subst, Option}
 use Rattle.clap.specs.Matches.{found_of}
 use Rattle.clap.specs.Walk.{rows_of}
-use Rattle.pd_arguments.specs.Arguments.{FindsConditions, FindsSession, of_judge, of_missing, of_missing_workers, of_no_conditions}
+use Rattle.std.specs.Prelude.{IfSome}
+use Rattle.pd_asked.specs.Views.{asks_view}
+use Rattle.pd_arguments.specs.Arguments.{NamesAsks, FindsConditions, FindsSession, of_judge, of_missing, of_missing_workers, of_no_conditions}
 use Rattle.pd_fail_on.specs.Views.{fail_on_view}
 use Rattle.pd_fail_on.specs.declared.fail_on.FailOn.{FailOn}
 use Rattle.pd_arguments.specs.Views.{session_view}
@@ -20,7 +22,7 @@ pub returns-in_default-2 : goal.returns-in_default-2
 returns-in_default-2 c arguments taken are =
     of_missing (codes "judge") (rows_of (found_of c.args.matches.now)) (inl refl) are
     (subst (λ (names : Option SessionNames). FindsSession (rows_of (found_of c.args.matches.now))
-    (option_map session_view names)) c.in_default-2.is c.in_ok-names.ensures)
+    (option_map session_view names)) c.in_default-2.is c.in_ok-names.ensures.names)
 
 pub returns-in_default-3 : goal.returns-in_default-3
 returns-in_default-3 c arguments taken are =
@@ -30,9 +32,12 @@ returns-in_default-3 c arguments taken are =
 
 pub returns : goal.returns
 returns c arguments taken are =
-    of_judge (rows_of (found_of c.args.matches.now)) _ _ _ _ _ taken are
+    of_judge (rows_of (found_of c.args.matches.now)) _ _ _ _ _ _ taken are
     (subst (λ (names : Option SessionNames). FindsSession (rows_of (found_of c.args.matches.now))
-    (option_map session_view names)) c.in-Some-2.is c.in_ok-names.ensures) c.in-Some.ensures.some
+    (option_map session_view names)) c.in-Some-2.is c.in_ok-names.ensures.names)
+    (subst (λ (names : Option SessionNames). IfSome names (λ names.
+    NamesAsks (rows_of (found_of c.args.matches.now)) (asks_view names.asks))) c.in-Some-2.is
+    c.in_ok-names.ensures.asks) c.in-Some.ensures.some
     c.flag_of-beyond_width.ensures
     (subst (λ (fail_on : Option FailOn). FindsConditions (rows_of (found_of c.args.matches.now))
     (option_map fail_on_view fail_on)) c.in-Some-3.is c.in_ok-fail_on.ensures)

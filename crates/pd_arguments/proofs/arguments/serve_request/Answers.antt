@@ -15,6 +15,6 @@ returns-in_default c arguments taken are =
 
 pub returns : goal.returns
 returns c arguments taken are =
-    c.service_request.ensures arguments taken are
+    c.service_request.ensures arguments taken are c.in_ok-asks.ensures
     (subst (λ (fail_on : Option FailOn). FindsConditions (rows_of (found_of c.args.matches.now))
     (option_map fail_on_view fail_on)) c.in-Some.is c.in_ok-fail_on.ensures)

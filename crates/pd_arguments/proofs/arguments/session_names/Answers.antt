@@ -6,8 +6,8 @@ use Rattle.pd_arguments.proofs.Parsed.{not_none}
 use Rattle.pd_arguments.proofs.arguments.session_names.Goals.{in_default-via-in-Some+in_default, in_default-via-in_default}
 use Rattle.pd_arguments.proofs.arguments.session_names.Goals as goal
 
-pub returns-in_default : goal.returns-in_default
-returns-in_default c (document, streams, names) =
+pub returns-in_default-clause-names : goal.returns-in_default-clause-names
+returns-in_default-clause-names c (document, streams, names) =
     let spec_found = c.get_str.ensures ∙ (first_value-rows (found_of c.args.matches.now) (codes "SPEC") ∙ names.0) in
     let streams_found =
     c.get_strs.ensures ∙ (raw_values-rows (found_of c.args.matches.now) (codes "STREAM") ∙ names.1) in
@@ -16,8 +16,8 @@ returns-in_default c (document, streams, names) =
       | in_default-via-in_default w ↦ not_none _ c.get_str.result document spec_found w.in_default.is-0
     ]
 
-pub returns : goal.returns
-returns c = (
+pub returns-clause-names : goal.returns-clause-names
+returns-clause-names c = (
   sym (first_value-rows (found_of c.args.matches.now) (codes "SPEC")) ∙ sym c.in-Some-Some.ensures,
   sym (raw_values-rows (found_of c.args.matches.now) (codes "STREAM")) ∙ sym c.in-Some-Some.ensures'
       ∙ ap (λ items. Some (map (λ name. name.now) items))

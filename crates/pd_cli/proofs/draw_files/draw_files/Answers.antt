@@ -1,21 +1,32 @@
 -- What a run that draws leaves by the files of these names.
-use Rattle.std.proofs.Common.{map, subst, sym, List, ℕ}
+use Rattle.std.proofs.Common.{List, ℕ, Some, Err, ap, map, refl, subst, sym}
+use Rattle.pd_arguments.specs.Statuses.{of_any}
+use Rattle.pd_asked.specs.Views.{asks_view}
 use Rattle.pd_draw.specs.Choices.{name_view}
 use Rattle.pd_judgement.specs.Writes.{IsWholeInput}
-use Rattle.pd_cli.specs.FileSources.{StandsFor}
+use Rattle.pd_cli.specs.FileSources.{AreAsked}
 use Rattle.pd_cli.proofs.DrawingsRead.{drawn_of_files}
+use Rattle.pd_cli.proofs.FilesRead.{holds_asked}
+use Rattle.pd_cli.proofs.UnreadFiles.{unread_drawing}
 use Rattle.pd_cli.proofs.draw_files.draw_files.Goals as goal
 
-pub returns : goal.returns
-returns g c =
+pub returns-in-Ok : goal.returns-in-Ok
+returns-in-Ok g c =
+    let asks = asks_view c.args.names.now.asks in
     let file = g.F.FileSource.bytes_of c.args.files.now c.args.names.now.spec.now in
     let report_file = g.F.FileSource.bytes_of c.args.files.now c.args.report.now in
-    let stands : StandsFor c.deref.result.now file =
-    subst (λ (read : List ℕ). StandsFor read file) (sym c.deref.ensures.value) c.in_ok-read.ensures.document in
-    let claimed : IsWholeInput report_file c.deref-2.result.now =
-    subst (λ (read : List ℕ). IsWholeInput report_file read) (sym c.deref-2.ensures.value)
-    c.in_ok-read.ensures.report in
-    drawn_of_files file report_file c.deref.result.now c.deref-2.result.now _
-    (map g.F.File.ByteSource.remaining c.in_ok-read.read.streams.items) g.F.File.ByteSource.never_fails _
+    let asked : AreAsked asks file c.deref.result.now =
+    subst (λ (read : List ℕ). AreAsked asks file read) (sym c.deref.ensures.value) c.in-Ok.ensures.document in
+    let claimed : IsWholeInput report_file c.deref-in-Ok.result.now =
+    subst (λ (read : List ℕ). IsWholeInput report_file read) (sym c.deref-in-Ok.ensures.value) c.in-Ok.ensures.report in
+    holds_asked asks file c.deref.result.now _ asked
+    (drawn_of_files (Some c.deref.result.now) report_file c.deref.result.now c.deref-in-Ok.result.now _
+    (map g.F.File.ByteSource.remaining c.in-Ok.read.streams.items) g.F.File.ByteSource.never_fails _
     (name_view c.args.predicate) (g.O.Write.contents c.args.output.now) (g.O.Write.contents c.draw_read.new.output)
-    stands claimed c.in_ok-read.ensures.streams c.draw_read.result c.draw_read.ensures
+    refl claimed c.in-Ok.ensures.streams c.draw_read.result c.draw_read.ensures)
+
+pub returns-in-Err : goal.returns-in-Err
+returns-in-Err g c =
+    of_any (unread_drawing _ g.F.File.ByteSource.never_fails _ (g.O.Write.contents c.args.output.now)
+    (g.F.FileSource.bytes_of c.args.files.now c.args.report.now) (name_view c.args.predicate) c.in-Err.fault
+    c.in-Err.ensures.err (λ e. c.in-Err.ensures.unread (ap Err e)))

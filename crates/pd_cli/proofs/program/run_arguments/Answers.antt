@@ -1,10 +1,11 @@
 -- What is done is what the arguments ask for.
 use Rattle.std.proofs.Common.{◌≡◌, ◌⊎◌, inl, inr, map, option_map, refl, subst, true, List, ℕ, Option, Some, None, Bor}
-use Rattle.pd_arguments.specs.Statuses.{CheckFiles, CheckLeaves, Ends, FilesJudgementLeaves, IsLongReport, JudgeFiles, ServeStreams, reliance}
+use Rattle.pd_arguments.specs.Statuses.{CheckFiles, CheckLeaves, Ends, FilesJudgementLeaves, HoldsAsked, IsLongReport, JudgeFiles, ServeStreams, reliance}
 use Rattle.pd_cli.proofs.Explanations.{unexplained}
 use Rattle.pd_cli.proofs.FilesRead.{files_of_names}
 use Rattle.clap.specs.Values.{kind_of}
 use Rattle.pd_draw.specs.Choices.{name_view}
+use Rattle.pd_asked.specs.Views.{asks_view}
 use Rattle.pd_fail_on.specs.Views.{fail_on_view}
 use Rattle.pd_cli.specs.Drawings.{EndsDrawn}
 use Rattle.pd_cli.specs.Explorations.{ExploreLeaves}
@@ -43,16 +44,17 @@ returns-in-Ok-Judge g c = record {
       is_status = c.run_files.ensures.reported.is_status;
       output = inr (
         JudgeFiles c.in-Ok-Judge.judgement.beyond_width (fail_on_view c.in-Ok-Judge.judgement.fail_on)
+            (asks_view c.in-Ok-Judge.judgement.names.asks)
             (session_view c.in-Ok-Judge.judgement.names).0 (session_view c.in-Ok-Judge.judgement.names).1,
         subst (IsAsked (map (λ argument. argument.bytes.items) c.args.arguments.now)) c.in-Ok-Judge.field-0-is
             c.in-Ok-Judge.ensures.asked,
-        (subst (λ (streams : List (Option (List ℕ))). FilesJudgementLeaves
-            c.in-Ok-Judge.judgement.beyond_width (fail_on_view c.in-Ok-Judge.judgement.fail_on)
-            (g.F.FileSource.bytes_of c.args.files.now c.in-Ok-Judge.judgement.names.spec.now) streams
-            g.F.File.ByteSource.never_fails (g.F.FileSource.always_opens ≡ true → g.F.File.ByteSource.never_fails ≡ true
-            → ⊥)
+        (subst (λ (streams : List (Option (List ℕ))). HoldsAsked (asks_view c.in-Ok-Judge.judgement.names.asks)
+            (g.F.FileSource.bytes_of c.args.files.now c.in-Ok-Judge.judgement.names.spec.now)
+            (λ d. FilesJudgementLeaves c.in-Ok-Judge.judgement.beyond_width
+            (fail_on_view c.in-Ok-Judge.judgement.fail_on) (Some d) streams g.F.File.ByteSource.never_fails
+            (g.F.FileSource.always_opens ≡ true → g.F.File.ByteSource.never_fails ≡ true → ⊥)
             c.run_files.ensures.reported.ending (g.O.Write.contents c.args.output.now)
-            (g.O.Write.contents c.run_files.new.output))
+            (g.O.Write.contents c.run_files.new.output)))
             (files_of_names (g.F.FileSource.bytes_of c.args.files.now) (λ (name : Bor (List ℕ)). name.now)
             c.in-Ok-Judge.judgement.names.streams.items) c.run_files.ensures.reported.output),
       );
@@ -70,17 +72,18 @@ returns-in-Ok-Check g c = record {
       ending = c.run_check.ensures.reported.ending;
       is_status = c.run_check.ensures.reported.is_status;
       output = inr (
-        CheckFiles (session_view c.in-Ok-Check.names).0 c.in-Ok-Check.report.now (session_view c.in-Ok-Check.names).1,
+        CheckFiles (asks_view c.in-Ok-Check.names.asks) (session_view c.in-Ok-Check.names).0
+            c.in-Ok-Check.report.now (session_view c.in-Ok-Check.names).1,
         subst (IsAsked (map (λ argument. argument.bytes.items) c.args.arguments.now)) c.in-Ok-Check.field-0-is
             c.in-Ok-Check.ensures.asked,
-        (subst (λ (streams : List (Option (List ℕ))). CheckLeaves
-            (g.F.FileSource.bytes_of c.args.files.now c.in-Ok-Check.names.spec.now)
+        (subst (λ (streams : List (Option (List ℕ))). HoldsAsked (asks_view c.in-Ok-Check.names.asks)
+            (g.F.FileSource.bytes_of c.args.files.now c.in-Ok-Check.names.spec.now) (λ d. CheckLeaves (Some d)
             (g.F.FileSource.bytes_of c.args.files.now c.in-Ok-Check.report.now) streams
             g.F.File.ByteSource.never_fails
             ((g.F.FileSource.always_opens ≡ true → g.F.File.ByteSource.never_fails ≡ true → ⊥)
             ⊎ IsLongReport (g.F.FileSource.bytes_of c.args.files.now c.in-Ok-Check.report.now))
-            c.run_check.ensures.reported.ending
-            (g.O.Write.contents c.args.output.now) (g.O.Write.contents c.run_check.new.output))
+            c.run_check.ensures.reported.ending (g.O.Write.contents c.args.output.now)
+            (g.O.Write.contents c.run_check.new.output)))
             (files_of_names (g.F.FileSource.bytes_of c.args.files.now) (λ (name : Bor (List ℕ)). name.now)
             c.in-Ok-Check.names.streams.items) c.run_check.ensures.reported.output),
       );
@@ -99,6 +102,7 @@ returns-in-Ok-Serve g c = record {
       is_status = c.run_service.ensures.reported.is_status;
       output = inr (
         ServeStreams c.in-Ok-Serve.service.beyond_width (fail_on_view c.in-Ok-Serve.service.fail_on)
+            (asks_view c.in-Ok-Serve.service.asks)
             c.in-Ok-Serve.service.spec.now c.in-Ok-Serve.service.port c.in-Ok-Serve.service.watchers,
         subst (IsAsked (map (λ argument. argument.bytes.items) c.args.arguments.now)) c.in-Ok-Serve.field-0-is
             c.in-Ok-Serve.ensures.asked,
@@ -115,17 +119,18 @@ returns-in-Ok-Draw g c = record {
     start = c.run_draw.ensures.start;
     explanation = c.run_draw.ensures.explanation;
     reported = inr (inl (record {
+      asks = asks_view c.in-Ok-Draw.names.asks;
       document = (session_view c.in-Ok-Draw.names).0;
       report = c.in-Ok-Draw.report.now;
       streams = (session_view c.in-Ok-Draw.names).1;
       name = name_view c.in-Ok-Draw.predicate;
       asked = subst (λ (name : Option (List ℕ)). AsksToDraw
-          (map (λ argument. argument.bytes.items) c.args.arguments.now)
+          (map (λ argument. argument.bytes.items) c.args.arguments.now) (asks_view c.in-Ok-Draw.names.asks)
           (session_view c.in-Ok-Draw.names).0 c.in-Ok-Draw.report.now (session_view c.in-Ok-Draw.names).1 name)
           (named c.in-Ok-Draw.predicate)
           (subst (IsAsked (map (λ argument. argument.bytes.items) c.args.arguments.now)) c.in-Ok-Draw.field-0-is
           c.in-Ok-Draw.ensures.asked);
-      ends = subst (λ (streams : List (Option (List ℕ))). EndsDrawn
+      ends = subst (λ (streams : List (Option (List ℕ))). EndsDrawn (asks_view c.in-Ok-Draw.names.asks)
           (g.F.FileSource.bytes_of c.args.files.now c.in-Ok-Draw.names.spec.now)
           (g.F.FileSource.bytes_of c.args.files.now c.in-Ok-Draw.report.now) streams
           g.F.File.ByteSource.never_fails
@@ -147,16 +152,18 @@ returns-in-Ok-Explore g c = record {
     explanation = c.run_explore.ensures.explanation;
     reported = inr (inr (record {
       beyond_width = c.in-Ok-Explore.exploration.beyond_width;
+      asks = asks_view c.in-Ok-Explore.exploration.names.asks;
       document = (session_view c.in-Ok-Explore.exploration.names).0;
       streams = (session_view c.in-Ok-Explore.exploration.names).1;
       asked = subst (IsAsked (map (λ argument. argument.bytes.items) c.args.arguments.now)) c.in-Ok-Explore.field-0-is
           c.in-Ok-Explore.ensures.asked;
-      ends = subst (λ (streams : List (Option (List ℕ))). Ends (λ ending. ExploreLeaves
-          c.in-Ok-Explore.exploration.beyond_width
-          (g.F.FileSource.bytes_of c.args.files.now c.in-Ok-Explore.exploration.names.spec.now) streams
+      ends = subst (λ (streams : List (Option (List ℕ))). Ends (λ ending. HoldsAsked
+          (asks_view c.in-Ok-Explore.exploration.names.asks)
+          (g.F.FileSource.bytes_of c.args.files.now c.in-Ok-Explore.exploration.names.spec.now)
+          (λ d. ExploreLeaves c.in-Ok-Explore.exploration.beyond_width (Some d) streams
           g.F.File.ByteSource.never_fails
           (g.F.FileSource.always_opens ≡ true → g.F.File.ByteSource.never_fails ≡ true → ⊥) ending
-          (g.O.Write.contents c.args.output.now) (g.O.Write.contents c.run_explore.new.output)) c.run_explore.result
+          (g.O.Write.contents c.args.output.now) (g.O.Write.contents c.run_explore.new.output))) c.run_explore.result
           c.run_explore.ensures.start (g.E.Write.contents c.run_explore.new.errors))
           (files_of_names (g.F.FileSource.bytes_of c.args.files.now) (λ (name : Bor (List ℕ)). name.now)
           c.in-Ok-Explore.exploration.names.streams.items) c.run_explore.ensures.reported;

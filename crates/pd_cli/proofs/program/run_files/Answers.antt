@@ -1,0 +1,16 @@
+-- What is left is said for the answers on which this run is to fail.
+use Rattle.pd_fail_on.specs.Views.{fail_on_view}
+use Rattle.pd_cli.specs.Faults.{judgement_ending}
+use Rattle.pd_cli.proofs.program.run_files.Goals as goal
+
+pub returns : goal.returns
+returns g c = record {
+  start = g.E.Write.contents c.write_explanation.new.errors;
+  explanation = c.write_explanation.ensures;
+  reported = record {
+    ending = judgement_ending (fail_on_view c.args.judgement.now.fail_on) c.judge_files-end.result;
+    is_status = c.report_judgement.ensures.status;
+    output = c.judge_files-end.ensures.written (fail_on_view c.args.judgement.now.fail_on);
+    errors = c.report_judgement.ensures.errors;
+  };
+}

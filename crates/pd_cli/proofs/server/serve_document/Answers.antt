@@ -1,0 +1,8 @@
+-- By what the document is.
+use Rattle.pd_cli.proofs.server.serve_document.Goals as goal
+
+pub returns-in-Ok : goal.returns-in-Ok
+returns-in-Ok g c fail_on = c.serve_session.ensures.written fail_on
+
+pub returns-in-Err : goal.returns-in-Err
+returns-in-Err g c fail_on = c.refuse_document.ensures.written c.args.service.now.port fail_on
