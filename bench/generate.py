@@ -25,6 +25,7 @@ lists     8 processes of 20 local events each and no messages; an `or` of 14 sum
           are nearly level, so that the avoiding cuts stand in lists
 leaders   16 processes of 10,000 events each, of which one in fifty is a send; 16 predicates, of which the first asks
           whether any two lead at once, by an `or` of 120 pairs, and each other one the same of a number that nobody has
+followers the same streams, and 16 predicates that all ask of a number that nobody has
 pairs     2 processes of 10,000 events each and no messages; a sum of both that has no such value
 ors       6 processes in 8 rounds of 6 local events; an `or` of 64 equalities of three terms, or of as many as another
           number says, which no cut satisfies
@@ -309,18 +310,27 @@ def everyone():
     rounds(16, 0, size(150, 3), NEGATIVE, meet=to_each_other)
 
 
-def leaders():
-    """Few change their role, and all have other things to do."""
+def who_leads(first):
+    """Few change their role, and all have other things to do. A predicate asks whether any two have a role at once, by
+    its number, from `first` on; only role 1 is ever taken."""
     names = [f"p{k}" for k in range(16)]
 
     def asked(number):
         return " or ".join(f"{p}.l=={number} and {q}.l==1" for k, q in enumerate(names) for p in names[k + 1:])
     head = document([(name, ["l", "n"]) for name in names],
-                    [(f"two{number}", asked(number)) for number in range(1, 17)], size(65536, 256))
+                    [(f"two{number}", asked(number)) for number in range(first, first + 16)], size(65536, 256))
     talks = rare_talk(16, size(10000, 200), lambda rng: {"l": rng.randrange(2)} if rng.random() < 0.1
                       else {"n": rng.randrange(10)}, 1)
     bundle(head, [[json.dumps({"process": name}), *map(json.dumps, events), json.dumps({"end": True})]
                   for name, events in zip(names, talks)])
+
+
+def leaders():
+    who_leads(1)
+
+
+def followers():
+    who_leads(2)
 
 
 def pairs():
@@ -347,5 +357,5 @@ def locals_alone():
 
 {"lattice": lattice, "several": several, "terms": terms, "streams": streams, "messages": messages,
  "locals": locals_alone, "avoiding": avoiding, "sums": open_sums, "heavy": heavy_sums, "marked": marked_sums,
- "many": many_sums, "uneven": uneven_sums, "wide": wide, "lists": listed_sums, "leaders": leaders, "pairs": pairs,
- "ors": ors, "hub": hub, "ring": ring, "everyone": everyone}[sys.argv[1]]()
+ "many": many_sums, "uneven": uneven_sums, "wide": wide, "lists": listed_sums, "leaders": leaders,
+ "followers": followers, "pairs": pairs, "ors": ors, "hub": hub, "ring": ring, "everyone": everyone}[sys.argv[1]]()
