@@ -6,4 +6,3 @@ pub mod ReaderSteps
 pub mod PlainReading
 pub mod PlainSettings
 pub mod PlainLines
-pub mod PlainNumbers

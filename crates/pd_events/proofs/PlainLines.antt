@@ -1,6 +1,6 @@
 -- What a line of the plain shape says, from its fields.
 use Rattle.std.proofs.Common.{◌≡◌, ℕ, ℤ, Bool, true, false, true≢false, List, [], ◌∷◌, Option, Some, None, codes, refl, sym, ◌∙◌}
-use Rattle.std.specs.Prelude.{IsUtf8, MatchOption, is_some, not, Ok, Err, if◌then◌else◌}
+use Rattle.std.specs.Prelude.{IsUtf8, is_some, not, Ok, Err, if◌then◌else◌}
 use Rattle.std.specs.List.{list_all}
 use Rattle.json.specs.Token.{Token}
 use Rattle.json.specs.Lex.{tokens}
@@ -127,14 +127,14 @@ statement_is (Send id) (Some settings) = refl
 statement_is (Receive id) None = refl
 statement_is (Receive id) (Some settings) = refl
 
-pub line_read : (names : List ProcessNames) (p : ℕ) (bytes text : List ℕ) (now : List Token) (kind : Kind)
-    (settings : Option Members) → text ≡ bytes → IsUtf8 bytes → tokens text ≡ Token.begin_object ∷ now
+line_read : (names : List ProcessNames) (p : ℕ) (bytes : List ℕ) (now : List Token) (kind : Kind)
+    (settings : Option Members) → IsUtf8 bytes → tokens bytes ≡ Token.begin_object ∷ now
     → GivesFields 126 no_members now (line_fields kind settings) []
     → record_of names (Some p) bytes ≡ event_record (vars_of names p) kind (settings_or_none settings)
-line_read names p bytes text now kind settings same utf8 e gives =
+line_read names p bytes now kind settings utf8 e gives =
     record_of_its_value names (Some p) bytes (object (line_fields kind settings))
     (Some (SaysEvent kind (settings_or_none settings)))
-    (json_value-some bytes _ utf8 (rw (← same) (whole_object text now (line_fields kind settings) e gives)))
+    (json_value-some bytes _ utf8 (whole_object bytes now (line_fields kind settings) e gives))
     (sym (statement_is kind settings))
 
 event_due_by : (known whole fits : Bool) (kind : Kind) (found sets : List (ℕ × ℤ))
@@ -153,17 +153,11 @@ event_is_due vars kind settings sets e =
     event_due_by (has_only vars settings) (list_all (λ value. is_some (whole_number value)) (values settings))
     (id_fits kind) kind (sets_from 0 vars settings) sets e
 
--- nothing comes next
-pub nothing_next : {A : Type 0} (next : Option A) (P : Type 0) (Q : A → Type 0) → MatchOption next P Q
-    → false ≡ is_some next → P
-nothing_next None P Q match e = match
-nothing_next (Some x) P Q match e = absurd (true≢false (sym e))
-
-pub whole_line_read : (names : List ProcessNames) (p : ℕ) (vars : List (List ℕ)) (bytes text : List ℕ)
+pub whole_line_read : (names : List ProcessNames) (p : ℕ) (vars : List (List ℕ)) (bytes : List ℕ)
     (start now rest : List Token) (kind : Kind) (settings : Option Members) (sets : List (ℕ × ℤ))
-    → vars ≡ vars_of names p → text ≡ bytes → IsUtf8 bytes → start ≡ tokens text → start ≡ Token.begin_object ∷ now
+    → vars ≡ vars_of names p → IsUtf8 bytes → start ≡ tokens bytes → start ≡ Token.begin_object ∷ now
     → GivesFields 126 no_members now (line_fields kind settings) rest → rest ≡ []
     → sets_due vars (settings_or_none settings) ≡ Ok sets → record_of names (Some p) bytes ≡ event_due kind sets
-whole_line_read names p vars bytes text start now rest kind settings sets known same utf8 e f gives none due =
-    (rw known (line_read names p bytes text now kind settings same utf8 (sym e ∙ f) (rw none at gives)))
+whole_line_read names p vars bytes start now rest kind settings sets known utf8 e f gives none due =
+    (rw known (line_read names p bytes now kind settings utf8 (sym e ∙ f) (rw none at gives)))
     ∙ event_is_due vars kind (settings_or_none settings) sets due

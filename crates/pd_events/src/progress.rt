@@ -5,21 +5,19 @@ ghost use Rattle.pd_frames.specs.Views.{line_view, lines_view};
 ghost use Rattle.pd_format.specs.Readings.{IsClosed, NothingMore, with_end};
 ghost use Rattle.std.specs.Bool.{OnFalse, OnTrue};
 ghost use Rattle.pd_format.specs.ReadingLaws.{after_record, read_line, read_on, unless_stopped};
-ghost use Rattle.pd_format.specs.Records.{Happens};
+ghost use Rattle.pd_format.specs.Records.{Happens, id_fits};
 ghost use Rattle.pd_spec.specs.Views.{document_view};
 ghost use Rattle.pd_traces.specs.Columns.{event_with, seen_kind_view};
 ghost use Rattle.pd_events.specs.Faults.{record_fault_view};
 ghost use Rattle.pd_events.specs.Parts.{event_due};
 ghost use Rattle.pd_events.specs.Progress.{in_record, join_view, joined_of, joined_view, open_reading, reading_view, stop_of, stop_of_fault};
-ghost use Rattle.pd_events.specs.Statements.{kind_said};
 ghost use Rattle.pd_events.specs.Views.{record_view, stream_kind_view};
 
 use super::plain::plain_event;
 use super::record::read_record;
 use super::room::Room;
-use super::statement::Said;
 use super::{LineRecord, RecordFault, StreamFault, StreamKind};
-use pd_format::EVENT_LIMIT;
+use pd_format::{EVENT_LIMIT, ID_BYTE_LIMIT};
 use pd_frames::Line;
 use pd_pred::Names;
 use pd_spec::Spec;
@@ -154,20 +152,30 @@ fn take_record(
     }
 }
 
-/// Takes the event that a line of the plain shape says, or the fault of its id.
-fn take_said(
+/// Whether the id of this kind of event has 1 to 64 bytes, if there is one.
+fn has_fitting_id(kind: Kind<'_>) -> bool
+    ensures { result ≡ id_fits (seen_kind_view kind.entry) }
+{
+    match kind {
+        Kind::Local => true,
+        Kind::Send(id) | Kind::Recv(id) => !id.is_empty() && id.len() <= ID_BYTE_LIMIT,
+    }
+}
+
+/// Takes the event of this kind that a line of the plain shape says, or the fault of its id.
+fn take_kind(
     join: Join,
     events: &mut Events,
     number: u64,
-    said: Said<'_>,
+    kind: Kind<'_>,
     sets: &[(usize, i64)],
 ) -> Result<Phase, AllocError>
     ensures after { IfOk result (λ phase. reading_view phase events.new
         ≡ after_record (Some (join_view join)) (open_reading (Some (join_view join)) events.old)
-        number (event_due (kind_said said.entry) sets.now)) }
+        number (event_due (seen_kind_view kind.entry) sets.now)) }
     ensures keeps { take (length events.old) events.new ≡ events.old }
 {
-    if !said.id_fits() {
+    if !has_fitting_id(kind) {
         return Ok(Phase::Faulted(
             Some(join),
             StreamFault {
@@ -176,7 +184,7 @@ fn take_said(
             },
         ));
     }
-    add_event(join, events, number, said.seen(), sets)
+    add_event(join, events, number, kind, sets)
 }
 
 /// Takes a line after the join, if it has the plain shape.
@@ -192,17 +200,11 @@ fn take_plain(
     ensures not_plain { IfOk result (λ found. IfNone found (events.new ≡ events.old)) }
     ensures keeps { take (length events.old) events.new ≡ events.old }
 {
-    let found = plain_event(
-        names,
-        &mut room.scratch,
-        &mut room.settings,
-        join.process,
-        line.bytes.as_slice(),
-    )?;
-    let Some(said) = found else {
+    let found = plain_event(names, room, join.process, line.bytes.as_slice())?;
+    let Some(kind) = found else {
         return Ok(None);
     };
-    let after = take_said(join, events, line.number, said, &room.settings.sets)?;
+    let after = take_kind(join, events, line.number, kind, &room.sets)?;
     Ok(Some(after))
 }
 

@@ -3,13 +3,11 @@ ghost use Rattle.std.specs.Prelude.{◌≡◌, ◌&&◌, length, nat_le, option_
 ghost use Rattle.serde_json.specs.View.{view, members_view};
 ghost use Rattle.pd_format.specs.Limits.{id_byte_limit};
 ghost use Rattle.pd_format.specs.Lists.{first_some};
-ghost use Rattle.pd_format.specs.Records.{end_statement, event_statement, id_fits, join_statement, kind_by_fields, settings_of, statement_of};
-ghost use Rattle.pd_traces.specs.Columns.{seen_kind_view};
+ghost use Rattle.pd_format.specs.Records.{end_statement, event_statement, join_statement, kind_by_fields, settings_of, statement_of};
 ghost use Rattle.pd_events.specs.Statements.{kind_said, settings_view, statement_view};
 
 use super::fields::only_field;
 use pd_spec::{has_only, value_at};
-use pd_traces::Kind;
 use serde_json::{Map, Value};
 
 /// The kind of event that a line says.
@@ -28,29 +26,6 @@ pub fn has_id_length(id: &str) -> bool
     ensures { result ≡ (nat_le 1 (length id.now) && nat_le (length id.now) id_byte_limit) }
 {
     !id.is_empty() && id.len() <= pd_format::ID_BYTE_LIMIT
-}
-
-impl<'a> Said<'a> {
-    /// Whether the id has 1 to 64 bytes, if there is one.
-    pub fn id_fits(self) -> bool
-        ensures { result ≡ id_fits (kind_said self.entry) }
-    {
-        match self {
-            Said::Local => true,
-            Said::Send(id) | Said::Recv(id) => has_id_length(id),
-        }
-    }
-
-    /// The kind of event, as it is seen among others.
-    pub fn seen(self) -> Kind<'a>
-        ensures { seen_kind_view result ≡ kind_said self.entry }
-    {
-        match self {
-            Said::Local => Kind::Local,
-            Said::Send(id) => Kind::Send(id.as_bytes()),
-            Said::Recv(id) => Kind::Recv(id.as_bytes()),
-        }
-    }
 }
 
 /// What a line says, before its names and values are looked at.

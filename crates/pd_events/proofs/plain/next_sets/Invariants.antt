@@ -4,7 +4,7 @@ use Rattle.pd_events.proofs.PlainSettings.{HaveRead}
 use Rattle.pd_events.proofs.plain.next_sets.Given as goal
 
 abbrev pub invariant-members : goal.invariant-members
-invariant-members l = HaveRead (map string_bytes l.vars) l.room.row.items l.initial.reader l.reader
+invariant-members l = HaveRead (map string_bytes l.vars) l.room.row.items l.initial.tokens l.tokens
 
 abbrev pub decreases-members : goal.decreases-members
-decreases-members l = length l.reader
+decreases-members l = length l.tokens

@@ -1,0 +1,4 @@
+mod Lexing
+mod Digits
+mod Numbers
+mod Steps
