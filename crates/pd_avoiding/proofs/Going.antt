@@ -1,12 +1,14 @@
 -- The walk by lists, one level further.
 use Rattle.std.proofs.Common.{◌≡◌, ℕ, ◌+◌, ◌-◌, Bool, List, [], ◌∷◌, ◌++◌, length, get_or, take, drop, sym, ap, ◌∙◌, subst, arith}
+use Rattle.pd_model.specs.Answers.{IsListOf}
 use Rattle.pd_model.specs.Cuts.{full_cut, total}
 use Rattle.pd_model.specs.Events.{Computation}
 use Rattle.pd_model.specs.Laws.{AvoidingLevel, FullLevel}
 use Rattle.pd_model.specs.Observations.{IsAvoiding}
 use Rattle.pd_model.specs.Walks.{IsAvoidedBelow}
-use Rattle.pd_back.specs.Ways.{IsAvoidingLevel}
+use Rattle.pd_back.specs.Ways.{AreKept, IsAvoidingLevel, last_number}
 use Rattle.pd_level.specs.Levels.{Levelled}
+use Rattle.pd_lists.specs.Splits.{AreKeptBelow}
 use Rattle.pd_avoiding.specs.Listed.{IsAt}
 
 -- the only level that is held
@@ -21,6 +23,34 @@ pub level_at : (c : Computation) (test : List ℕ → Bool) (k : ℕ) (levels : 
 level_at c test k levels level at read =
     subst (λ (l : Levelled). IsAvoidingLevel c test l × (l.number ≡ k)) (sym (only_level c test k levels level at read))
     (at.2, at.3)
+
+-- the list of its cuts
+pub list_here : (c : Computation) (test : List ℕ → Bool) (k : ℕ) (levels : List Levelled) (level : Levelled)
+    → IsAt c test k levels → ((d : Levelled) → level ≡ get_or levels (length levels - 1) d)
+    → IsListOf (IsAvoiding c test k) level.cuts
+list_here c test k levels level at read =
+    let is : IsAvoidingLevel c test level × (level.number ≡ k) = level_at c test k levels level at read in
+    subst (λ (n : ℕ). IsListOf (IsAvoiding c test n) level.cuts) is.1 is.0
+
+-- its number is the last one
+pub last_at : (c : Computation) (test : List ℕ → Bool) (k : ℕ) (levels : List Levelled) → IsAt c test k levels
+    → last_number levels ≡ k
+last_at c test k levels (held, is, list, number) = ap last_number is ∙ number
+
+pub at_last : (c : Computation) (test : List ℕ → Bool) (k : ℕ) (levels : List Levelled) → IsAt c test k levels
+    → IsAt c test (last_number levels) levels
+at_last c test k levels at = subst (λ (n : ℕ). IsAt c test n levels) (sym (last_at c test k levels at)) at
+
+-- what is kept below the next number, up to this one
+pub kept_to : (c : Computation) (test : List ℕ → Bool) (first gap k : ℕ) (levels : List Levelled)
+    → AreKeptBelow c test first gap (k + 1) levels → AreKept c test first gap k levels
+kept_to c test first gap k levels kept = record {
+  lists = kept.lists;
+  begins = kept.begins;
+  steps = kept.steps;
+  ends = λ lt. (omega (arith, (kept.near lt).0), omega (arith, (kept.near lt).1));
+  none = λ none. omega (arith, kept.none none);
+}
 
 -- the next level in its place
 pub next_at : (c : Computation) (test : List ℕ → Bool) (k : ℕ) (levels pushed left : List Levelled) (next : Levelled)

@@ -7,7 +7,7 @@ ghost use Rattle.std.specs.Prelude.{◌+◌, ◌*◌, ◌<◌, ◌≤◌, IfOk};
 
 use super::listed::{settle_listed, walk_listed};
 use super::question::Question;
-use pd_back::{Held, first_avoiding};
+use pd_back::{Holder, first_avoiding};
 use pd_clock::Computation;
 use pd_expand::Crew;
 use pd_level::Gate;
@@ -16,9 +16,6 @@ use pd_pred::Pred;
 use std::alloc::{AllocError, Global};
 use std::sync::Wait;
 use std::thread::Threads;
-
-/// How many levels the walk for Possibly holds at once, at most.
-const POSSIBLY_LEVELS: u64 = 2;
 
 /// Both answers for one predicate, under a width from 1 on. From one level that is kept to the next are `gap` levels,
 /// and the square of that number is above the number of events.
@@ -38,12 +35,13 @@ pub fn answers_by_lists<T: Threads + Wait + Sync, G: Gate + Sync>(
     ensures { IfOk result (AreAnswers computation.now.events (test_of computation.now (predicate_view pred.now)) width
         (2 * gap + 2)) }
 {
-    let possibly = possibly_by_lists(crew, alloc, computation, pred, width)?;
-    let level = first_avoiding(alloc, computation, pred)?;
+    let mut held = Holder::new(alloc);
+    let possibly = possibly_by_lists(crew, alloc, computation, pred, width, &mut held)?;
+    held.walk(first_avoiding(alloc, computation, pred)?)?;
     let split = Split {
         possibly,
         first: 0,
-        held: Held::new(alloc),
+        held,
     };
     let question = Question {
         crew,
@@ -53,8 +51,8 @@ pub fn answers_by_lists<T: Threads + Wait + Sync, G: Gate + Sync>(
         width,
         gap,
     };
-    match settle_listed(&question, split, &level, POSSIBLY_LEVELS)? {
-        Ok(on) => walk_listed(&question, None, on, level, 0, POSSIBLY_LEVELS),
+    match settle_listed(&question, split)? {
+        Ok(on) => walk_listed(&question, None, on),
         Err(answers) => Ok(answers),
     }
 }

@@ -167,3 +167,8 @@ kept_filter {A} test (x ∷ xs) = go (kept_filter test xs) (test x)
 pub one_kept : {A : Type 0} (test : A → Bool) (x : A) (mark : Bool) → mark ≡ test x
     → kept_by false (mark ∷ []) (x ∷ []) ≡ filter (λ y. not (test y)) (x ∷ [])
 one_kept test x mark e = ap (λ (b : Bool). kept_by false (b ∷ []) (x ∷ [])) e ∙ kept_filter test (x ∷ [])
+
+-- what is read of the last place of a list of one level
+pub only_read : (levels : List Levelled) (level read : Levelled) → levels ≡ level ∷ []
+    → ((d : Levelled) → read ≡ get_or levels (length levels - 1) d) → read ≡ level
+only_read levels level read only is = is level ∙ ap (λ (ls : List Levelled). get_or ls (length ls - 1) level) only

@@ -1,4 +1,5 @@
 //! The whole way back.
+ghost use Rattle.pd_back.specs.Counts.{others};
 ghost use Rattle.pd_back.specs.Ways.{AreKept};
 ghost use Rattle.pd_model.specs.Answers.{IsPrintedPath};
 ghost use Rattle.pd_model.specs.Cuts.{full_cut, total};
@@ -8,13 +9,13 @@ ghost use Rattle.pd_model.specs.Walks.{NoneBelow};
 ghost use Rattle.pd_pred.specs.Views.{predicate_view};
 ghost use Rattle.std.specs.Prelude.{◌≡◌, ◌+◌, ◌≤◌, IfOk, [], length, max};
 
-use super::Held;
+use super::Holder;
 use super::descent::descend;
 use super::free::free_way;
 use super::undo::whole_cut;
 use pd_clock::Computation;
 use pd_expand::Crew;
-use pd_level::{Gate, Level};
+use pd_level::Gate;
 use pd_pred::Pred;
 use std::alloc::{AllocError, Global};
 use std::sync::Wait;
@@ -25,7 +26,7 @@ use std::thread::Threads;
 ///
 /// Levels of avoiding cuts are held from level `_split` on, none more than `_gap` above the one before it; no cut of a
 /// lower level satisfies. They are let go of on the way, and at most `_gap` more are held at once than at the
-/// beginning. The crew shares the work on levels that are made again.
+/// beginning. What is walked stays, and so do whole levels. The crew shares the work on levels that are made again.
 ///
 /// # Errors
 /// An allocation was refused. Which levels are still held then is left open: they aren't used again.
@@ -36,7 +37,7 @@ pub fn way_back<T: Threads + Wait + Sync, G: Gate + Sync>(
     pred: &Pred,
     _split: u64,
     _gap: u64,
-    held: &mut Held<Level>,
+    held: &mut Holder,
 ) -> Result<Vec<usize>, AllocError>
     requires none_below { NoneBelow computation.now.events
         (test_of computation.now (predicate_view pred.now)) _split }
@@ -49,7 +50,7 @@ pub fn way_back<T: Threads + Wait + Sync, G: Gate + Sync>(
     ensures levels { IfOk result (λ _. held.new.levels.items ≡ []) }
     ensures no_fewer { IfOk result (λ _. held.old.most ≤ held.new.most) }
     ensures most { IfOk result (λ _. held.new.most
-        ≤ max held.old.most (length held.old.levels.items + _gap)) }
+        ≤ max held.old.most (length held.old.levels.items + _gap + others held.old)) }
 {
     let mut path = Vec::new(alloc);
     let mut cut = whole_cut(alloc, computation);

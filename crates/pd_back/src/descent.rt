@@ -1,10 +1,11 @@
 //! The way down to a kept level.
+ghost use Rattle.pd_back.specs.Counts.{others};
 ghost use Rattle.pd_back.specs.Ways.{AreAvoidingLevels, AreInTurn, IsAvoidingLevel, IsReached, last_number};
 ghost use Rattle.pd_model.specs.Predicates.{test_of};
 ghost use Rattle.pd_pred.specs.Views.{predicate_view};
 ghost use Rattle.std.specs.Prelude.{◌≡◌, ◌+◌, ◌-◌, ◌<◌, ◌≤◌, IfOk, length, max, sum, take};
 
-use super::Held;
+use super::Holder;
 use super::avoiding::next_avoiding;
 use super::depth::search_down;
 use super::undo::least_undone;
@@ -25,7 +26,7 @@ pub(crate) fn descend<T: Threads + Wait + Sync, G: Gate + Sync>(
     pred: &Pred,
     k: u64,
     cut: Cut,
-    held: &mut Held<Level>,
+    held: &mut Holder,
     path: &mut Vec<usize>,
 ) -> Result<Cut, AllocError>
     requires some { 0 < length held.old.levels.items }
@@ -40,8 +41,10 @@ pub(crate) fn descend<T: Threads + Wait + Sync, G: Gate + Sync>(
     ensures number { IfOk result (λ low. sum low ≡ last_number held.old.levels.items) }
     ensures levels { IfOk result (λ _. held.new.levels.items ≡ held.old.levels.items) }
     ensures no_fewer { IfOk result (λ _. held.old.most ≤ held.new.most) }
+    ensures same_others { IfOk result (λ _. others held.new ≡ others held.old) }
     ensures most { IfOk result (λ _. held.new.most
-        ≤ max held.old.most (length held.old.levels.items + (k - last_number held.old.levels.items - 1))) }
+        ≤ max held.old.most (length held.old.levels.items + (k - last_number held.old.levels.items - 1)
+        + others held.old)) }
 {
     if k == held.last().number() {
         return Ok(cut);
@@ -61,7 +64,7 @@ fn expand<T: Threads + Wait + Sync, G: Gate + Sync>(
     computation: &Computation<'_>,
     pred: &Pred,
     k: u64,
-    held: &mut Held<Level>,
+    held: &mut Holder,
 ) -> Result<(), AllocError>
     requires some { 0 < length held.old.levels.items }
     requires lists { AreAvoidingLevels computation.now.events
@@ -76,7 +79,9 @@ fn expand<T: Threads + Wait + Sync, G: Gate + Sync>(
     ensures count { IfOk result (λ _. length held.new.levels.items + last_number held.old.levels.items + 1
         ≡ length held.old.levels.items + k) }
     ensures no_fewer { IfOk result (λ _. held.old.most ≤ held.new.most) }
-    ensures most { IfOk result (λ _. held.new.most ≤ max held.old.most (length held.new.levels.items)) }
+    ensures same_others { IfOk result (λ _. others held.new ≡ others held.old) }
+    ensures most { IfOk result (λ _. held.new.most
+        ≤ max held.old.most (length held.new.levels.items + others held.old)) }
 {
     for _ in held.last().number() + 1..k {
         let next = next_avoiding(crew, alloc, computation, pred, held.last())?;
@@ -92,7 +97,7 @@ fn step_down(
     pred: &Pred,
     kept: usize,
     cut: Cut,
-    held: &mut Held<Level>,
+    held: &mut Holder,
     path: &mut Vec<usize>,
 ) -> Result<Cut, AllocError>
     requires some { 0 < kept }
@@ -107,6 +112,7 @@ fn step_down(
         (test_of computation.now (predicate_view pred.now)) path.new.items low) }
     ensures number { IfOk result (λ low. sum low ≡ last_number (take kept held.old.levels.items)) }
     ensures levels { IfOk result (λ _. held.new.levels.items ≡ take kept held.old.levels.items) }
+    ensures same_others { others held.new ≡ others held.old }
     ensures most { held.new.most ≡ held.old.most }
 {
     let mut cut = cut;

@@ -1,9 +1,10 @@
-//! Levels that are held at once, and the greatest number of them.
+//! Whole levels that are held at once, and the greatest number of them.
 ghost use Rattle.std.specs.Prelude.{◌≡◌, ◌+◌, ◌-◌, ◌<◌, ◌≤◌, ◌++◌, IfErr, IfOk, [], ◌∷◌, drop, length, max, slice_index_or, take};
 
 use std::alloc::{AllocError, Global};
 
-/// Levels in the order in which they were added, and how many there were at most.
+/// Levels in the order in which they were added, and how many there were at most. Those of a walk up the whole levels
+/// serve all predicates: a `Holder` counts them, too.
 #[derive(Drop)]
 pub struct Held<T> {
     levels: Vec<T>,
@@ -31,7 +32,7 @@ impl<T: Drop> Held<T> {
     }
 
     /// How many levels were held at once at most.
-    pub fn most(&self) -> u64
+    pub(crate) fn most(&self) -> u64
         ensures { result ≡ self.now.most }
     {
         self.most
@@ -66,15 +67,6 @@ impl<T: Drop> Held<T> {
         self.levels.push(level)?;
         self.most = self.most.max(self.levels.len() as u64);
         Ok(())
-    }
-
-    /// Lets go of the last level, if there is one.
-    pub fn drop_last(&mut self)
-        ensures levels { self.new.levels.items
-            ≡ take (length self.old.levels.items - 1) self.old.levels.items }
-        ensures most { self.new.most ≡ self.old.most }
-    {
-        let _ = self.levels.pop();
     }
 
     /// Lets go of the last level but one.

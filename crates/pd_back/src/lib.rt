@@ -1,12 +1,14 @@
 //! An avoiding observation, found from the full cut backward through a few kept levels of avoiding cuts.
 //!
-//! Levels of avoiding cuts stand in a holder, which counts how many of them there were at once. Of a walk up the levels
-//! only some are kept. From the full cut the way leads down from one kept level to the next, and each step undoes the
+//! The levels that are held for a predicate stand in a holder, which counts how many there were at once. Of a walk up
+//! the levels only some are kept. From the full cut the way leads down from one to the next, and each step undoes the
 //! event of the least process that leaves an avoiding cut. Between two kept levels the way is searched depth first;
 //! where the search finds too many dead ends, the levels in between are made again. Below the lowest kept level no cut
 //! satisfies, so every cut there avoids, and no level is needed.
 //!
-//! - `held`: levels that are held at once, and the greatest number of them
+//! - `held`: whole levels that are held at once, and the greatest number of them
+//! - `holder`: the levels that are held at once for a predicate
+//! - `count`: how many they were at most
 //! - `avoiding`: the avoiding cuts of a level
 //! - `undo`: cuts without the last event of a process
 //! - `dead`: the dead ends of a search
@@ -19,14 +21,18 @@
 
 mod avoiding;
 mod back;
+mod count;
 mod dead;
 mod depth;
 mod descent;
 mod free;
 mod held;
+mod holder;
 mod search;
 mod undo;
 
 pub use avoiding::{first_avoiding, next_avoiding, next_of_any};
 pub use back::way_back;
+pub use count::Count;
 pub use held::Held;
+pub use holder::Holder;

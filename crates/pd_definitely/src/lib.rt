@@ -12,5 +12,5 @@
 
 mod question;
 
-pub use pd_lists::DefinitelyAnswer;
+pub use pd_lists::{Count, DefinitelyAnswer};
 pub use question::{definitely, definitely_counted};

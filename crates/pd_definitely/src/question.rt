@@ -10,7 +10,7 @@ ghost use Rattle.std.specs.Prelude.{◌+◌, ◌*◌, ◌≤◌, ℕ, IfOk};
 use pd_clock::Computation;
 use pd_expand::Crew;
 use pd_level::Gate;
-use pd_lists::DefinitelyAnswer;
+use pd_lists::{Count, DefinitelyAnswer};
 use pd_pred::Pred;
 use pd_walk::answer_one;
 use std::alloc::{AllocError, Global};
@@ -45,7 +45,7 @@ pub fn definitely<T: Threads + Wait + Sync, G: Gate + Sync>(
     Ok(answer)
 }
 
-/// The answer as `definitely` gives it, and how many levels were held at once, at most.
+/// The answer as `definitely` gives it, and how many levels were held at once, at most: what their holder has counted.
 ///
 /// # Errors
 /// An allocation was refused.
@@ -57,7 +57,7 @@ pub fn definitely_counted<T: Threads + Wait + Sync, G: Gate + Sync>(
     width: u64,
     workers: u64,
     gate: &G,
-) -> Result<(DefinitelyAnswer, u64), AllocError>
+) -> Result<(DefinitelyAnswer, Count), AllocError>
     requires wide { 1 ≤ width }
     requires narrow { width ≤ width_limit }
     requires some_workers { 1 ≤ workers }
@@ -65,10 +65,10 @@ pub fn definitely_counted<T: Threads + Wait + Sync, G: Gate + Sync>(
     ensures answer { IfOk result (λ found. IsDefinitelyAnswer computation.now.events
         (test_of computation.now (predicate_view pred.now)) width (definitely_answer_view found.0)) }
     ensures few { IfOk result (λ found. (s : ℕ) → IsLeastRoot s (total computation.now.events + 1)
-        → found.1 ≤ 2 * s + 2) }
-    ensures some { IfOk result (λ found. 1 ≤ found.1) }
+        → found.1.most ≤ 2 * s + 2) }
+    ensures some { IfOk result (λ found. 1 ≤ found.1.most) }
     ensures past_first { IfOk result (λ found. IsPastFirst computation.now.events (definitely_answer_view found.0)
-        → 2 ≤ found.1) }
+        → 2 ≤ found.1.most) }
 {
     let crew = Crew::new(rt, workers, gate);
     let answers = answer_one(&crew, alloc, computation, pred, width)?;

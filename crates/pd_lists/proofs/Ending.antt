@@ -9,7 +9,8 @@ use Rattle.pd_model.specs.Observations.{IsAvoiding}
 use Rattle.pd_model.specs.Walks.{FreeLevel, IsAvoidedBelow, IsNarrowlyAvoidedBelow, ShortAvoiding}
 use Rattle.pd_model.proofs.ListedCuts.{listed_at, some_listed}
 use Rattle.pd_lists.specs.Answers.{AreAnswers, IsEndAt, IsPastFirst, definitely_answer_view, possibly_answer_view}
-use Rattle.pd_lists.specs.Splits.{AreBeside, AreKeptBelow, IsSplitBelow}
+use Rattle.pd_back.specs.Counts.{others}
+use Rattle.pd_lists.specs.Splits.{AreHeld, AreKeptBelow, IsSplitBelow}
 use Rattle.pd_lists.specs.declared.answers.Answers.{Answers}
 use Rattle.pd_lists.specs.declared.definitely_answer.DefinitelyAnswer.{DefinitelyAnswer}
 use Rattle.pd_lists.specs.declared.definitely_answer.DefinitelyAnswer.TheVariants as definitely
@@ -50,14 +51,14 @@ no_past c path answer same past =
     subst (λ (a : DefinitelyAnswer). IsPastFirst c (definitely_answer_view a)) same past
 
 -- both answers there
-pub both_ended : FreeLevel → (c : Computation) (test : List ℕ → Bool) (width gap k beside : ℕ) (split : Split)
+pub both_ended : FreeLevel → (c : Computation) (test : List ℕ → Bool) (width gap k : ℕ) (split : Split)
     (cuts : List (List ℕ)) → IsSplitBelow c test width gap k split → IsListOf (IsAvoiding c test k) cuts → k ≤ total c
-    → AreBeside gap k beside → (answers : Answers) (definitely : DefinitelyAnswer)
+    → 0 < gap → AreHeld k split.held.most → (answers : Answers) (definitely : DefinitelyAnswer)
     → IsEndAt (length cuts) k width (definitely_answer_view definitely) → answers.possibly ≡ split.possibly
-    → answers.definitely ≡ definitely → beside ≤ answers.held → answers.held ≤ gap + beside
+    → answers.definitely ≡ definitely → answers.held.most ≡ split.held.most
     → AreAnswers c test width (2 * gap + 2) answers
-both_ended free c test width gap k beside split cuts known list within count answers definitely at same_possibly same
-    enough few =
+both_ended free c test width gap k split cuts known list within some count answers definitely at same_possibly same
+    counted =
     record {
       possibly_right = subst (λ (a : PossiblyAnswer). IsPossiblyAnswer c test width (possibly_answer_view a))
           (sym same_possibly) known.possibly;
@@ -65,22 +66,22 @@ both_ended free c test width gap k beside split cuts known list within count ans
           (sym same)
           (ended free c test width k cuts list known.narrow known.avoided within
           (definitely_answer_view definitely) at);
-      few = omega (arith, count.few);
-      some = omega (arith, count.some);
+      few = omega (arith, known.few, counted);
+      some = omega (arith, count.some, counted);
       past_first = λ past.
-          let two : 2 ≤ beside =
+          let two : 2 ≤ split.held.most =
           count.two (end_past c (length cuts) k width (definitely_answer_view definitely) at
           (subst (λ (a : DefinitelyAnswer). IsPastFirst c (definitely_answer_view a)) same past)) in
-          omega arith;
+          omega (arith, counted);
     }
 
 -- the walk goes on
 pub gone_on : ShortAvoiding → (c : Computation) (test : List ℕ → Bool) (width gap k : ℕ) (split after : Split)
     (cuts : List (List ℕ)) → IsSplitBelow c test width gap k split → IsListOf (IsAvoiding c test k) cuts
     → 1 ≤ length cuts → length cuts ≤ width → after.possibly ≡ split.possibly → after.first ≡ split.first
-    → AreKeptBelow c test after.first gap (k + 1) after.held.levels.items → after.held.most ≤ gap
-    → IsSplitBelow c test width gap (k + 1) after
-gone_on short c test width gap k split after cuts known list some narrow same same_first kept few =
+    → AreKeptBelow c test after.first gap (k + 1) after.held.levels.items → after.held.most ≤ gap + 3
+    → others after.held ≤ 2 → IsSplitBelow c test width gap (k + 1) after
+gone_on short c test width gap k split after cuts known list some narrow same same_first kept few beside =
     record {
       possibly = subst (λ (a : PossiblyAnswer). IsPossiblyAnswer c test width (possibly_answer_view a)) (sym same)
           known.possibly;
@@ -91,4 +92,5 @@ gone_on short c test width gap k split after cuts known list some narrow same sa
           (get_or cuts 0 [], listed_at (IsAvoiding c test k) cuts 0 [] list some);
       kept = kept;
       few = few;
+      beside = beside;
     }

@@ -1,11 +1,16 @@
 -- The levels of avoiding cuts that are kept, with one more.
 use Rattle.std.proofs.Common.{◌≡◌, ℕ, ◌+◌, ◌-◌, ◌*◌, ◌<◌, ◌≤◌, ◌⊎◌, inl, inr, zero, suc, suc-mul, zero-mul, Bool, List, [], ◌∷◌, ◌++◌, length, length-append, get_or, refl, sym, ap, ◌∙◌, subst, arith}
+use Rattle.std.proofs.Math.Nat.{mul-le-mul_right}
 use Rattle.std.proofs.lemmas.Bool.{cases_lt}
 use Rattle.std.proofs.lemmas.List.{get_or_append_left, get_or-append_right, get_or_default}
+use Rattle.pd_model.specs.Cuts.{total}
 use Rattle.pd_model.specs.Events.{Computation}
 use Rattle.pd_back.specs.Ways.{IsAvoidingLevel, IsWithinGap, last_number}
 use Rattle.pd_level.specs.Levels.{Levelled}
-use Rattle.pd_lists.specs.Splits.{AreKeptBelow}
+use Rattle.pd_back.specs.Counts.{others}
+use Rattle.pd_back.specs.declared.holder.Holder.{Holder}
+use Rattle.pd_lists.specs.Splits.{AreKeptBelow, IsSplitBelow}
+use Rattle.pd_lists.specs.declared.split.Split.{Split}
 
 module _ (levels : List Levelled) (level : Levelled) where
   abbrev pub more : List Levelled
@@ -35,6 +40,18 @@ module _ (levels : List Levelled) (level : Levelled) where
 pub some_gap : (n gap : ℕ) → n < gap * gap → 0 < gap
 some_gap n zero root = let none : 0 * 0 ≡ 0 = zero-mul 0 in absurd (omega arith)
 some_gap n (suc gap) root = omega arith
+
+-- no more than the gap are kept
+pub few_kept : (c : Computation) (test : List ℕ → Bool) (first gap k : ℕ) (levels : List Levelled)
+    → total c < gap * gap → k ≤ total c + 1 → AreKeptBelow c test first gap k levels → length levels ≤ gap
+few_kept c test first gap k levels root within kept = go (cases_lt gap (length levels))
+  where
+    go : (gap < length levels) ⊎ (length levels ≤ gap) → length levels ≤ gap
+    go (inr few) = few
+    go (inl many) =
+        let some : 0 < length levels = omega arith in
+        let product : suc gap * gap ≤ length levels * gap = mul-le-mul_right gap (omega arith) in
+        absurd (omega (arith, product, suc-mul gap gap, kept.count some, (kept.near some).0))
 
 -- one level more is kept
 pub kept_more : (c : Computation) (test : List ℕ → Bool) (first gap k : ℕ) (levels : List Levelled) (level : Levelled)
@@ -131,3 +148,19 @@ kept_on c test first gap k levels kept not_due =
         go : (k < last_number levels + gap) ⊎ (last_number levels + gap ≤ k) → k + 1 ≤ last_number levels + gap
         go (inl low) = omega arith
         go (inr high) = let near = kept.near lt in absurd (not_due (inr (omega arith)))
+
+-- the same is known of the predicate with other levels held beside those that are kept, if they are few
+pub with_held : (c : Computation) (test : List ℕ → Bool) (width gap k : ℕ) (split : Split) (held : Holder)
+    → IsSplitBelow c test width gap k split → held.levels.items ≡ split.held.levels.items → held.most ≤ gap + 3
+    → others held ≤ 2
+    → IsSplitBelow c test width gap k (record { possibly = split.possibly; first = split.first; held = held })
+with_held c test width gap k split held known same few beside =
+    record {
+      possibly = known.possibly;
+      none = known.none;
+      narrow = known.narrow;
+      avoided = known.avoided;
+      kept = subst (AreKeptBelow c test split.first gap k) (sym same) known.kept;
+      few = few;
+      beside = beside;
+    }

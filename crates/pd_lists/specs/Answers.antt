@@ -31,9 +31,9 @@ IsPastFirst c (model.DefinitelyUnknown level) = 0 < level
 pub record AreAnswers (c : Computation) (test : List ℕ → Bool) (width most : ℕ) (answers : Answers) : Type 0 where
   pub possibly_right : IsPossiblyAnswer c test width (possibly_answer_view answers.possibly)
   pub definitely_right : IsDefinitelyAnswer c test width (definitely_answer_view answers.definitely)
-  pub few : answers.held ≤ most
-  pub some : 1 ≤ answers.held
-  pub past_first : IsPastFirst c (definitely_answer_view answers.definitely) → 2 ≤ answers.held
+  pub few : answers.held.most ≤ most
+  pub some : 1 ≤ answers.held.most
+  pub past_first : IsPastFirst c (definitely_answer_view answers.definitely) → 2 ≤ answers.held.most
 
 -- the answer at the first level that has no avoiding cut, or more of them than the bound
 abbrev pub IsEndAt : ℕ → ℕ → ℕ → model.DefinitelyAnswer → Type 0

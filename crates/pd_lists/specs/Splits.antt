@@ -4,6 +4,7 @@ use Rattle.std.specs.Prelude.{◌≡◌, ℕ, ◌+◌, ◌*◌, ◌<◌, ◌≤�
 use Rattle.pd_model.specs.Answers.{IsPossiblyAnswer}
 use Rattle.pd_model.specs.Events.{Computation}
 use Rattle.pd_model.specs.Walks.{IsAvoidedBelow, IsNarrowlyAvoidedBelow, NoneBelow}
+use Rattle.pd_back.specs.Counts.{others}
 use Rattle.pd_back.specs.Ways.{AreAvoidingLevels, IsWithinGap, last_number}
 use Rattle.pd_level.specs.Levels.{Levelled}
 use Rattle.pd_lists.specs.Answers.{possibly_answer_view}
@@ -21,17 +22,18 @@ pub record AreKeptBelow (c : Computation) (test : List ℕ → Bool) (first gap 
   pub count : 0 < length levels → length levels * gap + first ≡ last_number levels + gap
   pub none : length levels ≡ 0 → k ≡ first
 
--- Possibly is answered, and each level below k has avoiding cuts, no more than the width.
+-- Possibly is answered, and each level below k has avoiding cuts, no more than the width. So few levels were held at
+-- once, and so few are beside those that are kept.
 pub record IsSplitBelow (c : Computation) (test : List ℕ → Bool) (width gap k : ℕ) (split : Split) : Type 0 where
   pub possibly : IsPossiblyAnswer c test width (possibly_answer_view split.possibly)
   pub none : NoneBelow c test split.first
   pub narrow : IsNarrowlyAvoidedBelow c test width k
   pub avoided : IsAvoidedBelow c test k
   pub kept : AreKeptBelow c test split.first gap k split.held.levels.items
-  pub few : split.held.most ≤ gap
+  pub few : split.held.most ≤ gap + 3
+  pub beside : others split.held ≤ 2
 
--- beside the levels that are kept so many were held at once up to this level: two at least above level 0
-pub record AreBeside (gap number beside : ℕ) : Type 0 where
-  pub some : 1 ≤ beside
-  pub few : beside ≤ gap + 2
-  pub two : 0 < number → 2 ≤ beside
+-- up to this level so many were held at once: two at least above level 0
+pub record AreHeld (number most : ℕ) : Type 0 where
+  pub some : 1 ≤ most
+  pub two : 0 < number → 2 ≤ most

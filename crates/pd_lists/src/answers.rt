@@ -1,6 +1,7 @@
 //! Both answers for a predicate.
 
 use super::{DefinitelyAnswer, PossiblyAnswer};
+use pd_back::Count;
 
 /// Both answers for a predicate.
 #[derive(Drop)]
@@ -10,5 +11,5 @@ pub struct Answers {
     /// Whether every observation passes through a cut that does.
     pub definitely: DefinitelyAnswer,
     /// How many levels were held at once for it, at most: whole levels, and lists of cuts.
-    pub held: u64,
+    pub held: Count,
 }

@@ -4,9 +4,10 @@ ghost use Rattle.pd_model.specs.Answers.{IsPossiblyAnswer};
 ghost use Rattle.pd_model.specs.Cuts.{IsConsistent};
 ghost use Rattle.pd_model.specs.Predicates.{test_of};
 ghost use Rattle.pd_pred.specs.Views.{predicate_view};
-ghost use Rattle.std.specs.Prelude.{◌≡◌, ◌≤◌, false, All, Err, IfErr, IfOk, IfNone, IfSome, map, MatchOption, Ok};
+ghost use Rattle.std.specs.Prelude.{◌≡◌, ◌+◌, ◌≤◌, false, All, Err, IfErr, IfOk, IfNone, IfSome, [], ◌∷◌, length, map, max, MatchOption, Ok};
 
 use super::PossiblyAnswer;
+use pd_back::Holder;
 use pd_clock::{Computation, Cut};
 use pd_expand::Crew;
 use pd_level::{Gate, Level, LevelFault};
@@ -15,7 +16,8 @@ use std::alloc::{AllocError, Global};
 use std::sync::Wait;
 use std::thread::Threads;
 
-/// Whether some consistent cut satisfies a predicate, under a width from 1 on.
+/// Whether some consistent cut satisfies a predicate, under a width from 1 on. The holder, by which no list is walked,
+/// counts the levels that are walked for it, two at once; after that it holds what it held before.
 ///
 /// # Errors
 /// An allocation was refused.
@@ -25,28 +27,74 @@ pub fn possibly_by_lists<T: Threads + Wait + Sync, G: Gate + Sync>(
     computation: &Computation<'_>,
     pred: &Pred,
     width: u64,
+    held: &mut Holder,
 ) -> Result<PossiblyAnswer, AllocError>
     requires wide { 1 ≤ width }
-    ensures { IfOk result (λ answer. IsPossiblyAnswer computation.now.events
+    requires fresh { held.old.walked.items ≡ [] }
+    ensures answer { IfOk result (λ answer. IsPossiblyAnswer computation.now.events
         (test_of computation.now (predicate_view pred.now)) width (possibly_answer_view answer)) }
+    ensures levels { held.new.levels.items ≡ held.old.levels.items }
+    ensures walked { IfOk result (λ _. held.new.walked.items ≡ []) }
+    ensures beside { held.new.beside ≡ held.old.beside }
+    ensures most { IfOk result (λ _. held.new.most
+        ≤ max held.old.most (length held.old.levels.items + held.old.beside + 2)) }
+{
+    let answer = walk_for_possibly(crew, alloc, computation, pred, width, held)?;
+    held.end_walk();
+    Ok(answer)
+}
+
+/// The same. The last list that is walked stays.
+fn walk_for_possibly<T: Threads + Wait + Sync, G: Gate + Sync>(
+    crew: &Crew<'_, '_, T, G>,
+    alloc: Global,
+    computation: &Computation<'_>,
+    pred: &Pred,
+    width: u64,
+    held: &mut Holder,
+) -> Result<PossiblyAnswer, AllocError>
+    requires wide { 1 ≤ width }
+    requires fresh { held.old.walked.items ≡ [] }
+    ensures answer { IfOk result (λ answer. IsPossiblyAnswer computation.now.events
+        (test_of computation.now (predicate_view pred.now)) width (possibly_answer_view answer)) }
+    ensures levels { held.new.levels.items ≡ held.old.levels.items }
+    ensures beside { held.new.beside ≡ held.old.beside }
+    ensures most { IfOk result (λ _. held.new.most
+        ≤ max held.old.most (length held.old.levels.items + held.old.beside + 2)) }
 {
     // the laws that the proof uses
     pd_model::levels();
     pd_model::possibly_walk();
     computation.limits();
     let total = computation.total();
-    let mut level = Level::first(alloc, computation)?;
+    let first = Level::first(alloc, computation)?;
+    held.walk(first)?;
     for k in 0..total + 1 {
-        match first_satisfying(crew, alloc, computation, pred, &level)? {
+        let level = held.at();
+        match first_satisfying(crew, alloc, computation, pred, level)? {
             Some(cut) => return Ok(PossiblyAnswer::Yes(cut)),
             None => {}
         }
-        match unless_wide(crew.next(alloc, computation, &level, width))? {
-            Some(next) => level = next,
+        match unless_wide(crew.next(alloc, computation, level, width))? {
+            Some(next) => go_to(held, next)?,
             None => return Ok(PossiblyAnswer::Unknown(k + 1)),
         }
     }
     Ok(PossiblyAnswer::No)
+}
+
+/// Walks on to the next list, and lets go of the one before it.
+fn go_to(held: &mut Holder, next: Level) -> Result<(), AllocError>
+    requires one { length held.old.walked.items ≡ 1 }
+    ensures walked { IfOk result (λ _. held.new.walked.items ≡ next ∷ []) }
+    ensures levels { held.new.levels.items ≡ held.old.levels.items }
+    ensures beside { held.new.beside ≡ held.old.beside }
+    ensures most { IfOk result (λ _. held.new.most
+        ≡ max held.old.most (length held.old.levels.items + held.old.beside + 2)) }
+{
+    held.walk(next)?;
+    held.leave();
+    Ok(())
 }
 
 /// The next level, or none exactly if it is too wide. It fails exactly where the level did so out of memory.

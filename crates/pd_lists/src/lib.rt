@@ -19,6 +19,7 @@ pub use answers::Answers;
 pub use by_lists::possibly_by_lists;
 pub use definitely_answer::DefinitelyAnswer;
 pub use ends::end_at;
+pub use pd_back::Count;
 pub use possibly_answer::PossiblyAnswer;
 pub use root::least_root;
 pub use split::{Split, is_due};

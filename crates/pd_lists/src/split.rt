@@ -3,8 +3,7 @@ ghost use Rattle.pd_back.specs.Ways.{last_number};
 ghost use Rattle.std.specs.Prelude.{◌≡◌, ◌+◌, ◌<◌, ◌⊎◌, ◌↔◌, IsTrue, length};
 
 use super::{Answers, DefinitelyAnswer, PossiblyAnswer};
-use pd_back::Held;
-use pd_level::Level;
+use pd_back::Holder;
 
 /// What is kept of a predicate for which Possibly is answered, while Definitely is not.
 #[derive(Drop)]
@@ -13,21 +12,21 @@ pub struct Split {
     pub possibly: PossiblyAnswer,
     /// The level at which it was found.
     pub first: u64,
-    /// Some levels of avoiding cuts, from that one on.
-    pub held: Held<Level>,
+    /// The levels that are held: some of avoiding cuts are kept, from that one on.
+    pub held: Holder,
 }
 
 impl Split {
-    /// Both answers, if this many levels were held at once.
-    pub fn answered(self, definitely: DefinitelyAnswer, held: u64) -> Answers
+    /// Both answers, with the count of the levels that were held.
+    pub fn answered(self, definitely: DefinitelyAnswer) -> Answers
         ensures possibly { result.possibly ≡ self.possibly }
         ensures definitely { result.definitely ≡ definitely }
-        ensures held { result.held ≡ held }
+        ensures held { result.held.most ≡ self.held.most }
     {
         Answers {
             possibly: self.possibly,
             definitely,
-            held,
+            held: self.held.count(),
         }
     }
 }

@@ -1,5 +1,5 @@
 -- What a whole level decides for a predicate that no lower cut satisfies.
-use Rattle.std.proofs.Common.{◌≡◌, ℕ, ◌+◌, ◌<◌, ◌≤◌, ◌⊎◌, inl, inr, suc, Bool, true, false, List, [], length, get_or, Contains, sym, ◌∙◌, subst, below_more, refl, arith}
+use Rattle.std.proofs.Common.{◌≡◌, ℕ, ◌+◌, ◌<◌, ◌≤◌, ◌⊎◌, inl, inr, suc, Bool, true, false, List, [], length, get_or, Contains, sym, ap, ◌∙◌, subst, below_more, refl, arith}
 use Rattle.std.proofs.lemmas.Bool.{cases_order, true≢false}
 use Rattle.pd_model.specs.Answers.{IsFirstSatisfying, IsListOf, IsPossiblyAnswer, IsPossiblyUnknown, MoreThan, PossiblyYes}
 use Rattle.pd_model.specs.Cuts.{IsOfLevel, empty_cut, full_cut, total}
@@ -104,8 +104,9 @@ open_avoided all c acyclic test w k opened within j lt =
 -- what is known of the levels below, if Possibly is answered here
 pub split_here : AllAvoid → (c : Computation) → HasNoCycle c → (test : List ℕ → Bool) (w gap k : ℕ) (split : Split)
     → IsOpenBelow c test w k → k ≤ total c → IsPossiblyAnswer c test w (possibly_answer_view split.possibly)
-    → split.first ≡ k → split.held.levels.items ≡ [] → split.held.most ≡ 0 → IsSplitBelow c test w gap k split
-split_here all c acyclic test w gap k split opened within answer first empty none =
+    → split.first ≡ k → split.held.levels.items ≡ [] → split.held.walked.items ≡ [] → split.held.beside ≡ 0
+    → split.held.most ≡ 0 → IsSplitBelow c test w gap k split
+split_here all c acyclic test w gap k split opened within answer first empty still alone none =
     record {
       possibly = answer;
       none = λ j cut lt level. opened.none j cut (subst (λ (n : ℕ). j < n) first lt) level;
@@ -114,6 +115,7 @@ split_here all c acyclic test w gap k split opened within answer first empty non
       kept = subst (AreKeptBelow c test split.first gap k) (sym empty)
           (subst (λ (n : ℕ). AreKeptBelow c test n gap k []) (sym first) nothing_kept);
       few = omega (arith, none);
+      beside = omega (arith, ap length still, alone);
     }
   where
     nothing_kept : AreKeptBelow c test k gap k []

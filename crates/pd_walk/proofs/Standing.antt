@@ -14,8 +14,7 @@ use Rattle.pd_skips.specs.SkippedRuns.{AreSkipped}
 use Rattle.pd_runs.specs.Levels.{IsWholeLevel, WholeLevel}
 use Rattle.pd_tables.specs.Views.{CompiledView}
 use Rattle.pd_lists.specs.Answers.{AreAnswers, possibly_answer_view}
-use Rattle.pd_lists.specs.Splits.{AreBeside}
-use Rattle.pd_walk.specs.Stages.{AllStand, AreCompiled, HasComeTo, HasEnded, OneStands, Stands, number_held, possibly_known}
+use Rattle.pd_walk.specs.Stages.{AllStand, AreBeside, AreCompiled, HasComeTo, HasEnded, OneStands, Stands, number_held, possibly_known}
 use Rattle.pd_lists.specs.declared.answers.Answers.{Answers}
 use Rattle.pd_walk.specs.declared.stage.Stage.{Stage}
 use Rattle.pd_walk.specs.declared.stage.Stage.TheVariants.{Open, Marked, Answered}
@@ -113,7 +112,7 @@ pub record HaveFinished (recorded : Recorded) (preds : List (Bor Pred)) (width g
   pub only : levels ≡ level ∷ []
   pub whole : IsWholeLevel recorded.events level
   pub within : level.number ≤ total recorded.events
-  pub beside : AreBeside gap level.number most
+  pub beside : AreBeside level.number most
   pub one_each : length stages ≡ length preds
   pub left : (j : ℕ) (pred : Bor Pred) (stage : Stage) → i ≤ j → j < length preds
       → Stands recorded.events (test_of recorded (predicate_view (get_or preds j pred).now)) width gap level
@@ -192,12 +191,12 @@ upper_whole levels pushed level next read only push is =
     (push ∙ ap (λ (ls : List WholeLevel). ls ++ next ∷ []) only)
 
 -- level 0 was held alone
-pub beside_one : (gap most : ℕ) → most ≡ 1 → AreBeside gap 0 most
-beside_one gap most same = record { some = omega arith; few = omega arith; two = λ lt. absurd (omega arith) }
+pub beside_one : (most : ℕ) → most ≡ 1 → AreBeside 0 most
+beside_one most same = record { some = omega arith; few = omega arith; two = λ lt. absurd (omega arith) }
 
 -- two levels were held at once
-pub beside_two : (gap k old most : ℕ) → AreBeside gap k old → most ≡ max old 2 → AreBeside gap (k + 1) most
-beside_two gap k old most count same = record {
+pub beside_two : (k old most : ℕ) → AreBeside k old → most ≡ max old 2 → AreBeside (k + 1) most
+beside_two k old most count same = record {
   some = omega arith;
   few = omega (arith, count.few);
   two = λ _. omega arith;
@@ -206,7 +205,7 @@ beside_two gap k old most count same = record {
 -- the walk has come to level 0
 pub come_first : (c : Computation) (tests : List CompiledView) (width gap most : ℕ) (pushed : List WholeLevel)
     (read first : WholeLevel) (words : List ℕ) (stages : List Stage) → pushed ≡ first ∷ [] → IsWholeLevel c first
-    → first.number ≡ 0 → AreBeside gap 0 most → ((d : WholeLevel) → read ≡ get_or pushed (length pushed - 1) d)
+    → first.number ≡ 0 → AreBeside 0 most → ((d : WholeLevel) → read ≡ get_or pushed (length pushed - 1) d)
     → AreSkipped tests read words → AllStand tests width gap read stages
     → HasComeTo c tests width gap most pushed words stages
 come_first c tests width gap most pushed read first words stages only whole number beside is skipped stand = record {
@@ -214,7 +213,7 @@ come_first c tests width gap most pushed read first words stages only whole numb
   only = only;
   whole = whole;
   within = omega (arith, number);
-  beside = subst (λ (n : ℕ). AreBeside gap n most) (sym number) beside;
+  beside = subst (λ (n : ℕ). AreBeside n most) (sym number) beside;
   skipped = subst (λ (level : WholeLevel). AreSkipped tests level words) (only_whole pushed first read only is)
       skipped;
   stand = subst (λ (level : WholeLevel). AllStand tests width gap level stages)
@@ -240,7 +239,7 @@ module _ (c : Computation) (tests : List CompiledView) (width gap old most : ℕ
 
   -- the walk has come one level further
   pub come_next : (read : WholeLevel) → number_held levels < total c → IsWholeLevel c next
-      → next.number ≡ number_held levels + 1 → AreBeside gap (number_held levels + 1) most
+      → next.number ≡ number_held levels + 1 → AreBeside (number_held levels + 1) most
       → ((d : WholeLevel) → read ≡ get_or pushed (length pushed - 1) d) → AreSkipped tests read skipped
       → AllStand tests width gap read stages → HasComeTo c tests width gap most left skipped stages
   come_next read below whole number beside is right stand = record {
@@ -248,7 +247,7 @@ module _ (c : Computation) (tests : List CompiledView) (width gap old most : ℕ
     only = next_only;
     whole = whole;
     within = omega (arith, number, below);
-    beside = subst (λ (n : ℕ). AreBeside gap n most) (sym number) beside;
+    beside = subst (λ (n : ℕ). AreBeside n most) (sym number) beside;
     skipped = subst (λ (level : WholeLevel). AreSkipped tests level skipped)
         (upper_whole levels pushed come.level next read come.only push is) right;
     stand = subst (λ (level : WholeLevel). AllStand tests width gap level stages)

@@ -1,23 +1,22 @@
 -- What holds of a round: all predicates at a whole level.
 use Rattle.std.specs.Prelude.{◌≡◌, ◌+◌, ◌*◌, ◌<◌, ◌≤◌, List}
-use Rattle.pd_lists.specs.Splits.{AreBeside}
 use Rattle.pd_model.specs.Cuts.{total}
 use Rattle.pd_model.specs.Events.{Computation}
 use Rattle.pd_skips.specs.SkippedRuns.{AreSkipped}
 use Rattle.pd_runs.specs.Levels.{IsWholeLevel, WholeLevel}
-use Rattle.pd_walk.specs.Stages.{AllStand, AreFor}
+use Rattle.pd_walk.specs.Stages.{AllStand, AreBeside, AreFor}
 use Rattle.pd_walk.specs.declared.round.Round.{Round}
 use Rattle.pd_walk.specs.declared.stage.Stage.{Stage}
 
 -- The predicates are compiled for the computation, and the level is one of its whole levels. These of its runs are
--- skipped, and this many whole levels were held at once.
+-- skipped, and so many whole levels were held at once.
 pub record IsRound {K : Type 0} (round : Round K) : Type 0 where
   pub tests_for : AreFor round.computation.now round.tests.now
   pub whole : IsWholeLevel round.computation.now.events round.level.now
   pub within : round.level.now.number ≤ total round.computation.now.events
   pub narrow : round.width < 18446744073709551615
   pub root : total round.computation.now.events < round.gap * round.gap
-  pub few : AreBeside round.gap round.level.now.number round.beside
+  pub few : AreBeside round.level.now.number round.wholes.now.most
   pub skipped : AreSkipped round.tests.now round.level.now round.skipped.now
   pub some_threads : 0 < round.threads
 

@@ -1,5 +1,5 @@
 -- What was seen of a predicate at a level.
-use Rattle.std.specs.Prelude.{ℕ}
+use Rattle.std.specs.Prelude.{◌≡◌, ℕ, []}
 use Rattle.pd_avoiding.specs.CompiledTests.{events_of, meaning_of}
 use Rattle.pd_lists.specs.Splits.{IsSplitBelow}
 use Rattle.pd_marks.specs.Marks.{IsMarking, Marking}
@@ -17,7 +17,7 @@ use Rattle.pd_walk.specs.declared.task.Task.{Task}
 abbrev pub AreNextMarks : CompiledView → ℕ → ℕ → WholeLevel → Marking → Stage → Type 0
 AreNextMarks test width gap level next (Marked split marks) =
     IsSplitBelow (events_of test) (meaning_of test) width gap level.number split
-    × IsMarking (events_of test) (meaning_of test) level next
+    × IsMarking (events_of test) (meaning_of test) level next × (split.held.walked.items ≡ [])
 AreNextMarks test width gap level next Open = OneStands test width gap level Open
 AreNextMarks test width gap level next (Answered answers) = OneStands test width gap level (Answered answers)
 

@@ -13,7 +13,7 @@ use Rattle.pd_skips.specs.SkippedRuns.{AreSkipped}
 use Rattle.pd_runs.specs.Levels.{IsWholeLevel, WholeLevel}
 use Rattle.pd_tables.specs.Views.{CompiledView}
 use Rattle.pd_lists.specs.Answers.{AreAnswers}
-use Rattle.pd_lists.specs.Splits.{AreBeside, IsSplitBelow}
+use Rattle.pd_lists.specs.Splits.{IsSplitBelow}
 use Rattle.pd_lists.specs.declared.answers.Answers.{Answers}
 use Rattle.pd_avoiding.specs.CompiledTests.{events_of, meaning_of}
 use Rattle.pd_lists.specs.declared.possibly_answer.PossiblyAnswer.{PossiblyAnswer}
@@ -26,11 +26,18 @@ pub record IsOpenBelow (c : Computation) (test : List ℕ → Bool) (width k : �
   pub none : NoneBelow c test k
   pub narrow : IsNarrowBelow c width k
 
+-- up to this level so many whole levels were held at once: two at most, and no fewer above level 0
+pub record AreBeside (number most : ℕ) : Type 0 where
+  pub some : 1 ≤ most
+  pub few : most ≤ 2
+  pub two : 0 < number → 2 ≤ most
+
 -- what is known after this level
 abbrev pub Stands : Computation → (List ℕ → Bool) → ℕ → ℕ → WholeLevel → Stage → Type 0
 Stands c test width gap level Open = IsOpenBelow c test width (level.number + 1)
 Stands c test width gap level (Marked split marks) =
     IsSplitBelow c test width gap (level.number + 1) split × IsMarking c test level marks
+    × (split.held.walked.items ≡ [])
 Stands c test width gap level (Answered answers) = AreAnswers c test width (2 * gap + 2) answers
 
 -- what is known of one predicate after this level
@@ -57,7 +64,7 @@ pub record HasComeTo (c : Computation) (tests : List CompiledView) (width gap mo
   pub only : levels ≡ level ∷ []
   pub whole : IsWholeLevel c level
   pub within : level.number ≤ total c
-  pub beside : AreBeside gap level.number most
+  pub beside : AreBeside level.number most
   pub skipped : AreSkipped tests level words
   pub stand : AllStand tests width gap level stages
 
@@ -80,7 +87,7 @@ pub record HasEnded (recorded : Recorded) (preds : List (Bor Pred)) (width gap m
   pub only : levels ≡ level ∷ []
   pub whole : IsWholeLevel recorded.events level
   pub within : level.number ≤ total recorded.events
-  pub beside : AreBeside gap level.number most
+  pub beside : AreBeside level.number most
   pub one_each : length stages ≡ length preds
   pub each : (i : ℕ) (pred : Bor Pred) (stage : Stage) → i < length preds
       → Stands recorded.events (test_of recorded (predicate_view (slice_index_or preds i pred).now)) width gap level

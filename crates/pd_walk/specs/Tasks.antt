@@ -2,7 +2,6 @@
 use Rattle.std.specs.Prelude.{◌≡◌, ℕ, ◌*◌, ◌<◌, ◌≤◌, Bool, List, slice_index_or}
 use Rattle.pd_avoiding.specs.CompiledTests.{events_of, meaning_of}
 use Rattle.pd_format.specs.Limits.{event_limit}
-use Rattle.pd_lists.specs.Splits.{AreBeside}
 use Rattle.pd_marks.specs.Skips.{HaveNoHits}
 use Rattle.pd_model.specs.Cuts.{total}
 use Rattle.pd_model.specs.Events.{Computation, event_count}
@@ -10,7 +9,7 @@ use Rattle.pd_model.specs.Order.{HasNoCycle}
 use Rattle.pd_runs.specs.Levels.{IsWholeLevel, WholeLevel}
 use Rattle.pd_tables.specs.Views.{CompiledView}
 use Rattle.pd_walk.specs.Rounds.{IsNextOfWhole}
-use Rattle.pd_walk.specs.Stages.{OneStands}
+use Rattle.pd_walk.specs.Stages.{AreBeside, OneStands}
 use Rattle.pd_walk.specs.declared.round.Round.{Round}
 use Rattle.pd_walk.specs.declared.stage.Stage.{Stage}
 use Rattle.pd_walk.specs.declared.task.Task.{Task}
@@ -24,7 +23,7 @@ abbrev pub task_test : {K : Type 0} → Task K → List ℕ → Bool
 task_test task = meaning_of task.test.now
 
 -- The predicate's computation is within the limits, and the level is one of its whole levels. No cut of a run that is
--- skipped satisfies, and this many whole levels were held at once.
+-- skipped satisfies, and so many whole levels were held at once.
 pub record IsTask {K : Type 0} (task : Task K) : Type 0 where
   pub acyclic : HasNoCycle (task_events task)
   pub short : (p : ℕ) → event_count (task_events task) p ≤ event_limit
@@ -32,7 +31,7 @@ pub record IsTask {K : Type 0} (task : Task K) : Type 0 where
   pub within : task.level.now.number ≤ total (task_events task)
   pub narrow : task.width < 18446744073709551615
   pub root : total (task_events task) < task.gap * task.gap
-  pub few : AreBeside task.gap task.level.now.number task.beside
+  pub few : AreBeside task.level.now.number task.wholes.now.most
   pub skips : HaveNoHits (task_events task) (task_test task) task.level.now.runs task.skips
 
 -- it is that of predicate i in the round

@@ -1,19 +1,18 @@
 //! The answers after the last whole level.
 ghost use Rattle.pd_lists.specs.Answers.{AreAnswers};
-ghost use Rattle.pd_lists.specs.Splits.{AreBeside};
 ghost use Rattle.pd_model.specs.Cuts.{total};
 ghost use Rattle.pd_model.specs.Predicates.{test_of};
 ghost use Rattle.pd_pred.specs.Views.{predicate_view};
 ghost use Rattle.pd_runs.specs.Levels.{IsWholeLevel};
-ghost use Rattle.pd_walk.specs.Stages.{AllAnswered, HasEnded, IsOpenBelow, Stands};
+ghost use Rattle.pd_walk.specs.Stages.{AllAnswered, AreBeside, HasEnded, IsOpenBelow, Stands};
 ghost use Rattle.pd_walk.specs.declared.stage.Stage.TheVariants.{Open};
-ghost use Rattle.std.specs.Prelude.{◌≡◌, ◌+◌, ◌*◌, ◌≤◌, IfOk};
+ghost use Rattle.std.specs.Prelude.{◌≡◌, ◌+◌, ◌*◌, ◌≤◌, IfOk, length};
 
 use super::setting::Setting;
 use super::stage::Stage;
 use super::walk::TABLE_BYTES;
 use pd_avoiding::{Question, walk_listed};
-use pd_back::{Held, way_back};
+use pd_back::{Held, Holder, way_back};
 use pd_level::{Gate, LevelKey};
 use pd_lists::{Answers, DefinitelyAnswer, PossiblyAnswer};
 use pd_pred::Pred;
@@ -39,18 +38,18 @@ pub(crate) fn finish_all<T: Threads + Wait + Sync, G: Gate + Sync, K: LevelKey +
     let mut answers = Vec::with_capacity(setting.alloc, preds.len())?;
     for i in 0..preds.len() {
         let stage = mem::replace(&mut stages[i], Stage::Open);
-        answers.push(finish(setting, preds[i], wholes.last(), wholes.most(), stage)?)?;
+        answers.push(finish(setting, preds[i], wholes.last(), wholes, stage)?)?;
     }
     Ok(answers)
 }
 
-/// Both answers for a predicate of which this is known after a level, which stays. `most` whole levels were held at
-/// once. If no cut so far satisfies, it is the last level.
+/// Both answers for a predicate of which this is known after a level, the only whole one that is held. If no cut so far
+/// satisfies, it is the last level.
 fn finish<T: Threads + Wait + Sync, G: Gate + Sync, K: LevelKey + Send + Sync>(
     setting: &Setting<'_, '_, '_, '_, T, G>,
     pred: &Pred,
     level: &Whole<K>,
-    most: u64,
+    wholes: &Held<Whole<K>>,
     stage: Stage,
 ) -> Result<Answers, AllocError>
     requires level { IsWholeLevel setting.now.computation.now.events level.now }
@@ -59,7 +58,8 @@ fn finish<T: Threads + Wait + Sync, G: Gate + Sync, K: LevelKey + Send + Sync>(
     requires stands { Stands setting.now.computation.now.events
         (test_of setting.now.computation.now (predicate_view pred.now)) setting.now.width setting.now.gap level.now
         stage }
-    requires most { AreBeside setting.now.gap level.now.number most }
+    requires one { length wholes.now.levels.items ≡ 1 }
+    requires most { AreBeside level.now.number wholes.now.most }
     ensures { IfOk result (AreAnswers setting.now.computation.now.events
         (test_of setting.now.computation.now (predicate_view pred.now)) setting.now.width
         (2 * setting.now.gap + 2)) }
@@ -67,11 +67,14 @@ fn finish<T: Threads + Wait + Sync, G: Gate + Sync, K: LevelKey + Send + Sync>(
     let computation = setting.computation;
     computation.limits();
     match stage {
-        Stage::Open => answer_none(setting, pred, most),
+        Stage::Open => answer_none(setting, pred, wholes),
         Stage::Marked { split, marks } => {
             let mut room = TABLE_BYTES;
             let test = Compiled::compile(setting.alloc, computation, pred, &mut room)?;
+            let mut split = split;
+            split.held.stand_on(wholes)?;
             let listed = marks.to_level(setting.alloc, level)?;
+            split.held.walk(listed)?;
             let question = Question {
                 crew: setting.crew,
                 alloc: setting.alloc,
@@ -80,19 +83,20 @@ fn finish<T: Threads + Wait + Sync, G: Gate + Sync, K: LevelKey + Send + Sync>(
                 width: setting.width,
                 gap: setting.gap,
             };
-            walk_listed(&question, Some(&test), split, listed, 1, most)
+            walk_listed(&question, Some(&test), split)
         }
         Stage::Answered(answers) => Ok(answers),
     }
 }
 
-/// Both answers, if no cut satisfies. A whole level stays, and `most` were held at once.
-fn answer_none<T: Threads + Wait + Sync, G: Gate + Sync>(
+/// Both answers, if no cut satisfies. One whole level is held.
+fn answer_none<T: Threads + Wait + Sync, G: Gate + Sync, K: LevelKey + Send + Sync>(
     setting: &Setting<'_, '_, '_, '_, T, G>,
     pred: &Pred,
-    most: u64,
+    wholes: &Held<Whole<K>>,
 ) -> Result<Answers, AllocError>
-    requires most { AreBeside setting.now.gap (total setting.now.computation.now.events) most }
+    requires one { length wholes.now.levels.items ≡ 1 }
+    requires most { AreBeside (total setting.now.computation.now.events) wholes.now.most }
     requires opened { IsOpenBelow setting.now.computation.now.events
         (test_of setting.now.computation.now (predicate_view pred.now)) setting.now.width
         (total setting.now.computation.now.events + 1) }
@@ -108,7 +112,8 @@ fn answer_none<T: Threads + Wait + Sync, G: Gate + Sync>(
     pd_model::avoidance();
     let computation = setting.computation;
     computation.limits();
-    let mut held = Held::new(setting.alloc);
+    let mut held = Holder::new(setting.alloc);
+    held.stand_on(wholes)?;
     let path = way_back(
         setting.crew,
         setting.alloc,
@@ -121,6 +126,6 @@ fn answer_none<T: Threads + Wait + Sync, G: Gate + Sync>(
     Ok(Answers {
         possibly: PossiblyAnswer::No,
         definitely: DefinitelyAnswer::No(path),
-        held: most.max(held.most().saturating_add(1)),
+        held: held.count(),
     })
 }

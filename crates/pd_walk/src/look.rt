@@ -15,7 +15,7 @@ use super::seen::Seen;
 use super::settle::settle;
 use super::stage::Stage;
 use super::task::Task;
-use pd_back::Held;
+use pd_back::Holder;
 use pd_clock::Cut;
 use pd_level::LevelKey;
 use pd_lists::{PossiblyAnswer, Split};
@@ -97,7 +97,7 @@ fn look_open<T: Threads + Sync, K: LevelKey + Send + Sync>(
     let split = Split {
         possibly,
         first: task.level.number(),
-        held: Held::new(alloc),
+        held: Holder::new(alloc),
     };
     let stage = settle(alloc, task, split, marks)?;
     Ok(Some(stage))

@@ -12,7 +12,7 @@ use super::all::answer_all;
 use super::setting::Setting;
 use super::stage::Stage;
 use super::walk::walk_up;
-use pd_back::Held;
+use pd_back::{Held, Holder};
 use pd_clock::Computation;
 use pd_expand::Crew;
 use pd_keys::{Pair, SINGLE_LIMIT};
@@ -40,7 +40,7 @@ pub fn answer_one<T: Threads + Wait + Sync, G: Gate + Sync>(
     ensures right { IfOk result (λ answers. (most : ℕ) × AreAnswers computation.now.events
         (test_of computation.now (predicate_view pred.now)) width most answers) }
     ensures few { IfOk result (λ answers. (s : ℕ) → IsLeastRoot s (total computation.now.events + 1)
-        → answers.held ≤ 2 * s + 2) }
+        → answers.held.most ≤ 2 * s + 2) }
 {
     let mut answers = answer_all(crew, alloc, computation, &[pred], width)?;
     Ok(answers.remove(0))
@@ -65,15 +65,32 @@ pub fn answer_possibly<T: Threads + Wait + Sync, G: Gate + Sync>(
     computation.limits();
     let processes = computation.processes();
     if processes < 2 {
-        return possibly_by_lists(crew, alloc, computation, pred, width);
+        return possibly_listed(crew, alloc, computation, pred, width);
     }
     if width == u64::MAX {
-        return possibly_by_lists(crew, alloc, computation, pred, width);
+        return possibly_listed(crew, alloc, computation, pred, width);
     }
     if processes <= SINGLE_LIMIT {
         return possibly_by_runs::<T, G, u128>(crew, alloc, computation, pred, width);
     }
     possibly_by_runs::<T, G, Pair>(crew, alloc, computation, pred, width)
+}
+
+/// The same by lists of cuts, however many processes there are.
+fn possibly_listed<T: Threads + Wait + Sync, G: Gate + Sync>(
+    crew: &Crew<'_, '_, T, G>,
+    alloc: Global,
+    computation: &Computation<'_>,
+    pred: &Pred,
+    width: u64,
+) -> Result<PossiblyAnswer, AllocError>
+    requires wide { 1 ≤ width }
+    ensures { IfOk result (λ answer. IsPossiblyAnswer computation.now.events
+        (test_of computation.now (predicate_view pred.now)) width (possibly_answer_view answer)) }
+{
+    let mut held = Holder::new(alloc);
+    let answer = possibly_by_lists(crew, alloc, computation, pred, width, &mut held)?;
+    Ok(answer)
 }
 
 /// The same for several processes, by whole levels of runs with this kind of key.

@@ -1,13 +1,14 @@
 //! The predicates at a whole level.
 
+use pd_back::Held;
 use pd_clock::Computation;
 use pd_level::LevelKey;
 use pd_runs::Whole;
 use pd_skips::SkippedRuns;
 use pd_tables::Compiled;
 
-/// All predicates and the level that they are looked at at: which of its runs are skipped, how many whole levels were
-/// held at once, and how many threads there are.
+/// All predicates and the level that they are looked at at: which of its runs are skipped, the whole levels that there
+/// are, and how many threads there are.
 #[derive(Clone, Copy)]
 pub(crate) struct Round<'a, 'b, 'c, 'd, K: LevelKey> {
     pub computation: &'a Computation<'b>,
@@ -16,6 +17,6 @@ pub(crate) struct Round<'a, 'b, 'c, 'd, K: LevelKey> {
     pub gap: u64,
     pub level: &'a Whole<K>,
     pub skipped: &'a SkippedRuns,
-    pub beside: u64,
+    pub wholes: &'a Held<Whole<K>>,
     pub threads: usize,
 }

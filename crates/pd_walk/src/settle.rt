@@ -1,8 +1,9 @@
 //! What the marks of a level decide.
+ghost use Rattle.pd_back.specs.Counts.{others};
 ghost use Rattle.pd_lists.specs.Splits.{AreKeptBelow, IsSplitBelow};
 ghost use Rattle.pd_marks.specs.Marks.{IsMarking};
 ghost use Rattle.pd_walk.specs.Tasks.{IsTask, StandsAt, task_events, task_test};
-ghost use Rattle.std.specs.Prelude.{◌≡◌, ◌+◌, ◌≤◌, IfOk};
+ghost use Rattle.std.specs.Prelude.{◌≡◌, ◌+◌, ◌≤◌, IfOk, []};
 
 use super::stage::Stage;
 use super::task::Task;
@@ -21,16 +22,16 @@ pub(crate) fn settle<K: LevelKey>(
     requires task { IsTask task.now }
     requires split { IsSplitBelow (task_events task.now) (task_test task.now) task.now.width task.now.gap
         task.now.level.now.number split }
+    requires walked { split.held.walked.items ≡ [] }
     requires marks { IsMarking (task_events task.now) (task_test task.now) task.now.level.now marks }
     ensures { IfOk result (StandsAt task.now task.now.level.now) }
 {
     // the laws that the proof uses
     pd_model::definitely_walk();
+    let mut split = split;
+    split.held.stand_on(task.wholes)?;
     match end_at(marks.count(), task.level.number(), task.width) {
-        Some(definitely) => {
-            let held = split.held.most().saturating_add(task.beside);
-            Ok(Stage::Answered(split.answered(definitely, held)))
-        }
+        Some(definitely) => Ok(Stage::Answered(split.answered(definitely))),
         None => {
             let split = keep(alloc, task, split, &marks)?;
             Ok(Stage::Marked { split, marks })
@@ -48,11 +49,14 @@ fn keep<K: LevelKey>(
     requires task { IsTask task.now }
     requires kept { AreKeptBelow (task_events task.now) (task_test task.now) split.first task.now.gap
         task.now.level.now.number split.held.levels.items }
-    requires few { split.held.most ≤ task.now.gap }
+    requires few { split.held.most ≤ task.now.gap + 3 }
+    requires beside { others split.held ≤ 2 }
     requires marks { IsMarking (task_events task.now) (task_test task.now) task.now.level.now marks.now }
     ensures kept { IfOk result (λ split. AreKeptBelow (task_events task.now) (task_test task.now) split.first
         task.now.gap (task.now.level.now.number + 1) split.held.levels.items) }
-    ensures few { IfOk result (λ split. split.held.most ≤ task.now.gap) }
+    ensures few { IfOk result (λ after. after.held.most ≤ task.now.gap + 3) }
+    ensures walked { IfOk result (λ after. after.held.walked.items ≡ split.held.walked.items) }
+    ensures beside { IfOk result (λ after. after.held.beside ≡ split.held.beside) }
     ensures first { IfOk result (λ after. after.first ≡ split.first) }
     ensures possibly { IfOk result (λ after. after.possibly ≡ split.possibly) }
 {

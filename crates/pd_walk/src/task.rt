@@ -5,13 +5,14 @@ ghost use Rattle.std.specs.Prelude.{◌<◌, length};
 
 use super::round::Round;
 use super::worth::threads_for;
+use pd_back::Held;
 use pd_level::LevelKey;
 use pd_marks::Skips;
 use pd_runs::Whole;
 use pd_tables::Compiled;
 
-/// One predicate and the level that it is looked at at: the runs that are skipped there, how many whole levels were
-/// held at once, and by how many threads it is shared.
+/// One predicate and the level that it is looked at at: the runs that are skipped there, the whole levels that
+/// there are, and by how many threads it is shared.
 #[derive(Clone, Copy)]
 pub(crate) struct Task<'a, 'b, 'c, K: LevelKey> {
     pub test: &'a Compiled<'b, 'c>,
@@ -19,7 +20,7 @@ pub(crate) struct Task<'a, 'b, 'c, K: LevelKey> {
     pub gap: u64,
     pub level: &'a Whole<K>,
     pub skips: Skips<'a>,
-    pub beside: u64,
+    pub wholes: &'a Held<Whole<K>>,
     pub threads: usize,
 }
 
@@ -42,7 +43,7 @@ pub(crate) fn task_of<'a, 'b, 'c, K: LevelKey>(
         gap: round.gap,
         level: round.level,
         skips,
-        beside: round.beside,
+        wholes: round.wholes,
         threads: threads_for(threads, test, round.level, skips),
     }
 }

@@ -165,8 +165,9 @@ fn step_up<T: Threads + Wait + Sync, G: Gate + Sync, K: LevelKey + Send + Sync>(
     let alloc = setting.alloc;
     let next = Whole::next(alloc, steps, wholes.last())?;
     wholes.push(next)?;
-    let before = wholes.last_but_one();
-    let level = wholes.last();
+    let held: &Held<Whole<K>> = wholes;
+    let before = held.last_but_one();
+    let level = held.last();
     let threads = setting.crew.count() as usize;
     let rt = setting.crew.runtime();
     let after = SkippedRuns::next(rt, threads, alloc, tests, before, skipped, level)?;
@@ -177,7 +178,7 @@ fn step_up<T: Threads + Wait + Sync, G: Gate + Sync, K: LevelKey + Send + Sync>(
         gap: setting.gap,
         level,
         skipped: &after,
-        beside: wholes.most(),
+        wholes: held,
         threads,
     };
     look_all(rt, alloc, &round, before, stages)?;
@@ -206,7 +207,8 @@ pub(crate) fn walk_up<T: Threads + Wait + Sync, G: Gate + Sync, K: LevelKey + Se
     let steps = Steps::of(alloc, computation)?;
     let tests = compile_all(alloc, computation, preds)?;
     wholes.push(Whole::first(alloc, &steps)?)?;
-    let first = wholes.last();
+    let held: &Held<Whole<K>> = wholes;
+    let first = held.last();
     let mut skipped = SkippedRuns::first(alloc, &tests, first)?;
     let round = Round {
         computation,
@@ -215,7 +217,7 @@ pub(crate) fn walk_up<T: Threads + Wait + Sync, G: Gate + Sync, K: LevelKey + Se
         gap: setting.gap,
         level: first,
         skipped: &skipped,
-        beside: wholes.most(),
+        wholes: held,
         threads: setting.crew.count() as usize,
     };
     let mut stages = look_first(setting.crew.runtime(), alloc, &round)?;

@@ -32,11 +32,14 @@ fn counted<T: Threads + Wait + Sync>(
     pred: &Pred,
     again: &mut bool,
 ) -> Option<(DefinitelyAnswer, u64)> {
-    if let Ok(found) = definitely_counted(rt, alloc, computation, pred, 91, 2, &NoGate) {
-        return Some(found);
+    if let Ok((answer, held)) = definitely_counted(rt, alloc, computation, pred, 91, 2, &NoGate) {
+        return Some((answer, held.number()));
     }
     *again = true;
-    definitely_counted(rt, alloc, computation, pred, 91, 2, &NoGate).ok()
+    match definitely_counted(rt, alloc, computation, pred, 91, 2, &NoGate) {
+        Ok((answer, held)) => Some((answer, held.number())),
+        Err(_) => None,
+    }
 }
 
 /// What is found of a path, which is looked at again if memory is refused.

@@ -51,7 +51,7 @@ fn alone<T: Threads + Wait + Sync>(
     pred: &Pred,
     width: u64,
     is_listed: bool,
-) -> Result<Answers, AllocError> {
+) -> Result<(PossiblyAnswer, DefinitelyAnswer), AllocError> {
     if width < 1 {
         return Err(AllocError);
     }
@@ -59,11 +59,9 @@ fn alone<T: Threads + Wait + Sync>(
         return Err(AllocError);
     }
     let under = if is_listed { u64::MAX } else { width };
-    Ok(Answers {
-        possibly: possibly(rt, alloc, computation, pred, under, 1, &NoGate)?,
-        definitely: definitely(rt, alloc, computation, pred, width, 1, &NoGate)?,
-        held: 0,
-    })
+    let first = possibly(rt, alloc, computation, pred, under, 1, &NoGate)?;
+    let last = definitely(rt, alloc, computation, pred, width, 1, &NoGate)?;
+    Ok((first, last))
 }
 
 /// Whether both answers for Possibly are the same.
@@ -99,11 +97,13 @@ fn is_same_definitely(one: &DefinitelyAnswer, other: &DefinitelyAnswer) -> bool 
     }
 }
 
-/// Whether both pairs of answers are the same, and the last has no more than 14 levels held.
-fn are_same_answers(whole: &Answers, listed: &Answers) -> bool {
-    is_same_possibly(&whole.possibly, &listed.possibly)
-        && is_same_definitely(&whole.definitely, &listed.definitely)
-        && listed.held <= 14
+/// Whether these are the same answers.
+fn are_same_answers(
+    whole: &Answers,
+    possibly: &PossiblyAnswer,
+    definitely: &DefinitelyAnswer,
+) -> bool {
+    is_same_possibly(&whole.possibly, possibly) && is_same_definitely(&whole.definitely, definitely)
 }
 
 /// Whether each limit gives the same answers under this width, and so does each question alone.
@@ -115,13 +115,12 @@ fn is_same_at_each_limit<T: Threads + Wait + Sync>(
     width: u64,
 ) -> Result<bool, AllocError> {
     let whole = answers_of(rt, alloc, computation, pred, width, u64::MAX)?;
-    let mut right = are_same_answers(
-        &whole,
-        &alone(rt, alloc, computation, pred, width, width == 1_000)?,
-    );
+    let (first, last) = alone(rt, alloc, computation, pred, width, width == 1_000)?;
+    let mut right = are_same_answers(&whole, &first, &last);
     for limit in LIMITS {
         let listed = answers_of(rt, alloc, computation, pred, width, limit)?;
-        right = right && are_same_answers(&whole, &listed);
+        right = right && are_same_answers(&whole, &listed.possibly, &listed.definitely);
+        right = right && listed.held.number() <= 14;
     }
     Ok(right)
 }

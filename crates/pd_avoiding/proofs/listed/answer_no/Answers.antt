@@ -1,12 +1,14 @@
 -- The answers, if the full cut avoids.
-use Rattle.std.proofs.Common.{◌+◌, ◌≤◌, sym, subst, arith}
+use Rattle.std.proofs.Common.{◌+◌, ◌<◌, ◌≤◌, ap, length, sym, subst, arith}
 use Rattle.pd_model.specs.Answers.{IsDefinitelyAnswer, IsPossiblyAnswer}
 use Rattle.pd_model.specs.Cuts.{total}
 use Rattle.pd_lists.specs.Answers.{definitely_answer_view, possibly_answer_view}
 use Rattle.pd_lists.specs.declared.definitely_answer.DefinitelyAnswer.{DefinitelyAnswer}
 use Rattle.pd_lists.specs.declared.possibly_answer.PossiblyAnswer.{PossiblyAnswer}
+use Rattle.pd_back.specs.Ways.{AreKept}
 use Rattle.pd_lists.proofs.Ending.{no_past}
-use Rattle.pd_avoiding.proofs.Going.{full_avoids}
+use Rattle.pd_lists.proofs.Keeping.{few_kept, some_gap}
+use Rattle.pd_avoiding.proofs.Going.{full_avoids, kept_to}
 use Rattle.pd_avoiding.specs.Questions.{question_events, question_test}
 use Rattle.pd_avoiding.proofs.listed.answer_no.Goals as goal
 
@@ -15,8 +17,22 @@ way_back-requires-clause-full g c _ _ =
     full_avoids c.avoiding_levels.ensures.level c.levels.ensures.full (question_events c.args.question.now)
     (question_test c.args.question.now) c.requires.split.avoided
 
+pub way_back-requires-clause-kept : goal.way_back-requires-clause-kept
+way_back-requires-clause-kept g c _ _ =
+    subst (AreKept (question_events c.args.question.now) (question_test c.args.question.now) c.args.split.first
+    c.args.question.now.gap (total (question_events c.args.question.now))) (sym c.end_walk.ensures.levels)
+    (kept_to (question_events c.args.question.now) (question_test c.args.question.now) c.args.split.first
+    c.args.question.now.gap (total (question_events c.args.question.now)) c.args.split.held.levels.items
+    c.requires.split.kept)
+
 pub returns : goal.returns
 returns g c =
+    let few : length c.args.split.held.levels.items ≤ c.args.question.now.gap =
+    few_kept (question_events c.args.question.now) (question_test c.args.question.now) c.args.split.first
+    c.args.question.now.gap (total (question_events c.args.question.now) + 1) c.args.split.held.levels.items
+    c.args.question.now.root (omega arith) c.requires.split.kept in
+    let some : 0 < c.args.question.now.gap =
+    some_gap (total (question_events c.args.question.now)) c.args.question.now.gap c.args.question.now.root in
     record {
       possibly_right = subst (λ (a : PossiblyAnswer). IsPossiblyAnswer (question_events c.args.question.now)
           (question_test c.args.question.now) c.args.question.now.width (possibly_answer_view a))
@@ -32,26 +48,26 @@ returns g c =
       few = omega (
         arith,
         c.answered.ensures.held,
-        c.max-held.ensures,
-        c.saturating_add-before.ensures,
-        c.saturating_add.ensures,
-        c.most.ensures,
         c.in_ok-path.ensures.most,
-        c.args.split.held.enough,
+        c.end_walk.ensures.most,
+        ap length c.end_walk.ensures.levels,
+        ap length c.end_walk.ensures.walked,
+        c.end_walk.ensures.beside,
+        c.requires.one,
         c.requires.split.few,
-        c.requires.most.few,
+        c.requires.split.beside,
       );
       some = omega (
         arith,
         c.answered.ensures.held,
-        c.max-held.ensures,
-        c.saturating_add-before.ensures,
-        c.requires.most.some,
+        c.in_ok-path.ensures.no_fewer,
+        c.end_walk.ensures.most,
+        c.requires.held.some,
       );
       past_first = λ past.
-          let two : 2 ≤ c.args.most =
-          c.requires.most.two (no_past (question_events c.args.question.now) c.in_ok-path.path
+          let two : 2 ≤ c.args.split.held.most =
+          c.requires.held.two (no_past (question_events c.args.question.now) c.in_ok-path.path
           c.answered.result.definitely
           c.answered.ensures.definitely past) in
-          omega (arith, c.answered.ensures.held, c.max-held.ensures, c.saturating_add-before.ensures);
+          omega (arith, c.answered.ensures.held, c.in_ok-path.ensures.no_fewer, c.end_walk.ensures.most);
     }

@@ -1,16 +1,30 @@
 -- The walk by lists.
-use Rattle.std.proofs.Common.{◌≡◌, ℕ, ◌+◌, ◌<◌, sym, subst, arith}
-use Rattle.pd_model.specs.Cuts.{total}
-use Rattle.pd_lists.specs.Splits.{IsSplitBelow}
-use Rattle.pd_avoiding.proofs.Going.{level_at}
-use Rattle.pd_lists.proofs.Keeping.{some_gap}
-use Rattle.pd_avoiding.specs.Questions.{question_events, question_test}
+use Rattle.std.proofs.Common.{◌≡◌, ℕ, ◌+◌, ◌≤◌, List, length, ap, sym, ◌∙◌, subst, arith}
+use Rattle.pd_back.specs.Ways.{last_number}
+use Rattle.pd_level.specs.Levels.{Levelled}
+use Rattle.pd_avoiding.specs.Listed.{IsAt}
+use Rattle.pd_avoiding.specs.Questions.{IsSplitTo, question_events, question_test}
+use Rattle.pd_avoiding.proofs.Going.{at_last, last_at, level_at}
 use Rattle.pd_avoiding.proofs.listed.walk_listed.Goals as goal
 
-pub settle_listed-requires-clause-list : goal.settle_listed-requires-clause-list
-settle_listed-requires-clause-list g c _ _ =
-    (level_at (question_events c.args.question.now) (question_test c.args.question.now)
-    (c.loop-k.k + 1) c.go_up.new.walked.levels.items c.last.result.now c.in_ok-go_up.ensures.at c.last.ensures).0
+pub loop-k-init : goal.loop-k-init
+loop-k-init g c =
+    let number : c.number-k.result ≡ last_number c.args.split.held.walked.items =
+    c.number-k.ensures ∙ (level_at (question_events c.args.question.now) (question_test c.args.question.now)
+    (last_number c.args.split.held.walked.items) c.args.split.held.walked.items c.at.result.now c.requires.at
+    c.at.ensures).1 in
+    record {
+      within = omega (arith, number, c.requires.within);
+      at = subst (λ (n : ℕ). IsAt (question_events c.args.question.now) (question_test c.args.question.now) n
+          c.args.split.held.walked.items) (sym number) c.requires.at;
+      split = subst (λ (n : ℕ). IsSplitTo c.args.question.now (n + 1) c.args.split) (sym number) c.requires.split;
+      two = λ some. c.requires.held.two (omega (arith, number));
+    }
+
+pub settle_listed-requires-clause-at : goal.settle_listed-requires-clause-at
+settle_listed-requires-clause-at g c _ _ =
+    at_last (question_events c.args.question.now) (question_test c.args.question.now) (c.loop-k.k + 1)
+    c.in_ok-up.up.held.walked.items c.in_ok-up.ensures.at
 
 pub settle_listed-requires-clause-within : goal.settle_listed-requires-clause-within
 settle_listed-requires-clause-within g c _ _ =
@@ -18,52 +32,49 @@ settle_listed-requires-clause-within g c _ _ =
       arith,
       c.loop-k-test.true,
       c.total-total.ensures.sum,
-      (level_at (question_events c.args.question.now)
-          (question_test c.args.question.now) (c.loop-k.k + 1) c.go_up.new.walked.levels.items
-          c.last.result.now c.in_ok-go_up.ensures.at c.last.ensures).1,
+      last_at (question_events c.args.question.now) (question_test c.args.question.now) (c.loop-k.k + 1)
+          c.in_ok-up.up.held.walked.items c.in_ok-up.ensures.at,
     )
 
 pub settle_listed-requires-clause-split : goal.settle_listed-requires-clause-split
 settle_listed-requires-clause-split g c _ _ =
-    subst (λ (k : ℕ).
-    IsSplitBelow (question_events c.args.question.now) (question_test c.args.question.now)
-    c.args.question.now.width c.args.question.now.gap k c.loop-k.split)
-    (sym (level_at (question_events c.args.question.now) (question_test c.args.question.now)
-    (c.loop-k.k + 1) c.go_up.new.walked.levels.items c.last.result.now c.in_ok-go_up.ensures.at c.last.ensures).1)
-    c.loop-k.invariant.split
+    subst (λ (k : ℕ). IsSplitTo c.args.question.now k c.in_ok-up.up)
+    (sym (last_at (question_events c.args.question.now) (question_test c.args.question.now) (c.loop-k.k + 1)
+    c.in_ok-up.up.held.walked.items c.in_ok-up.ensures.at)) c.in_ok-up.ensures.split
+
+pub settle_listed-requires-clause-held : goal.settle_listed-requires-clause-held
+settle_listed-requires-clause-held g c _ _ = record {
+  some = omega (arith, c.in_ok-up.ensures.two);
+  two = λ _. c.in_ok-up.ensures.two;
+}
 
 pub loop-k-preserved : goal.loop-k-preserved
 loop-k-preserved g c =
+    let same : c.in-Ok.on.held.walked.items ≡ c.in_ok-up.up.held.walked.items =
+    rw c.in-Ok.is at c.in_ok-settled.ensures.walked in
     record {
       within = omega (arith, c.loop-k-test.true, c.total-total.ensures.sum);
-      at = c.in_ok-go_up.ensures.at;
-      split = subst (λ (k : ℕ).
-          IsSplitBelow (question_events c.args.question.now)
-          (question_test c.args.question.now) c.args.question.now.width c.args.question.now.gap (k + 1) c.in-Ok.on)
-          (level_at (question_events c.args.question.now) (question_test c.args.question.now)
-          (c.loop-k.k + 1) c.go_up.new.walked.levels.items c.last.result.now c.in_ok-go_up.ensures.at
-          c.last.ensures).1 (rw c.in-Ok.is at c.in_ok-on.ensures.on);
-      few = omega (arith, c.in_ok-go_up.ensures.most, c.loop-k.invariant.few);
-      beside =
-          let some : 0 < c.args.question.now.gap =
-          some_gap (total (question_events c.args.question.now)) c.args.question.now.gap c.args.question.now.root in
-          let most : c.go_up.new.walked.most ≡ 2 = omega (arith, c.in_ok-go_up.ensures.most, c.loop-k.invariant.few) in
-          record {
-            some = omega (arith, c.max-beside-in-loop-k.ensures, c.loop-k.invariant.beside.some);
-            few = omega (
-              arith,
-              c.max-beside-in-loop-k.ensures,
-              c.most-in-loop-k.ensures,
-              c.loop-k.invariant.beside.few,
-              c.requires.whole,
-            );
-            two = λ _. omega (arith, c.max-beside-in-loop-k.ensures, c.most-in-loop-k.ensures);
-          };
+      at = subst (λ (levels : List Levelled). IsAt (question_events c.args.question.now)
+          (question_test c.args.question.now) (c.loop-k.k + 1) levels) (sym same) c.in_ok-up.ensures.at;
+      split = subst (λ (k : ℕ). IsSplitTo c.args.question.now (k + 1) c.in-Ok.on)
+          (last_at (question_events c.args.question.now) (question_test c.args.question.now) (c.loop-k.k + 1)
+          c.in_ok-up.up.held.walked.items c.in_ok-up.ensures.at) (rw c.in-Ok.is at c.in_ok-settled.ensures.on);
+      two = λ _.
+          let more : c.in_ok-up.up.held.most ≤ c.in-Ok.on.held.most = rw c.in-Ok.is at c.in_ok-settled.ensures.held in
+          omega (arith, c.in_ok-up.ensures.two);
     }
 
 pub answer_no-requires-clause-split : goal.answer_no-requires-clause-split
 answer_no-requires-clause-split g c _ _ =
-    subst (λ (k : ℕ).
-    IsSplitBelow (question_events c.args.question.now) (question_test c.args.question.now)
-    c.args.question.now.width c.args.question.now.gap (k + 1) c.loop-k.split)
+    subst (λ (k : ℕ). IsSplitTo c.args.question.now (k + 1) c.loop-k.split)
     (omega (arith, c.loop-k-test.false, c.total-total.ensures.sum, c.loop-k.invariant.within)) c.loop-k.invariant.split
+
+pub answer_no-requires-clause-held : goal.answer_no-requires-clause-held
+answer_no-requires-clause-held g c _ _ = record {
+  some = omega (arith, ap length c.loop-k.invariant.at.1, c.loop-k.split.held.enough);
+  two = λ some.
+      c.loop-k.invariant.two (omega (arith, c.loop-k-test.false, c.total-total.ensures.sum, c.loop-k.invariant.within));
+}
+
+pub answer_no-requires-clause-one : goal.answer_no-requires-clause-one
+answer_no-requires-clause-one g c _ _ = omega (arith, ap length c.loop-k.invariant.at.1)

@@ -1,7 +1,6 @@
 -- What the loop of `walk_listed` keeps.
-use Rattle.std.proofs.Common.{◌≤◌, ◌+◌, ◌-◌}
+use Rattle.std.proofs.Common.{◌<◌, ◌≤◌, ◌+◌, ◌-◌}
 use Rattle.pd_model.specs.Cuts.{total}
-use Rattle.pd_lists.specs.Splits.{AreBeside}
 use Rattle.pd_avoiding.specs.Listed.{IsAt}
 use Rattle.pd_avoiding.specs.Questions.{IsSplitTo, question_events, question_test}
 use Rattle.pd_avoiding.proofs.listed.walk_listed.Given as goal
@@ -9,10 +8,9 @@ use Rattle.pd_avoiding.proofs.listed.walk_listed.Given as goal
 abbrev pub invariant-loop-k : goal.invariant-loop-k
 invariant-loop-k g l = record {
   within : l.k ≤ total (question_events l.question);
-  at : IsAt (question_events l.question) (question_test l.question) l.k l.walked.levels.items;
+  at : IsAt (question_events l.question) (question_test l.question) l.k l.split.held.walked.items;
   split : IsSplitTo l.question (l.k + 1) l.split;
-  few : l.walked.most ≤ 2;
-  beside : AreBeside l.question.gap l.k l.beside;
+  two : 0 < l.k → 2 ≤ l.split.held.most;
 }
 
 abbrev pub decreases-loop-k : goal.decreases-loop-k

@@ -1,5 +1,6 @@
 -- What the loop of `way_back` keeps.
 use Rattle.std.proofs.Common.{◌≡◌, ◌+◌, ◌≤◌, length, max, sum}
+use Rattle.pd_back.specs.Counts.{others}
 use Rattle.pd_back.specs.Ways.{AreKept, IsReached}
 use Rattle.pd_model.specs.Predicates.{test_of}
 use Rattle.pd_pred.specs.Views.{predicate_view}
@@ -13,7 +14,8 @@ invariant-loop-alloc g l = record {
   reached : IsReached l.computation.events (test_of l.computation (predicate_view l.pred)) l.path.items l.cut;
   fewer : length l.held.levels.items ≤ length l.fn.held.levels.items;
   no_fewer : l.fn.held.most ≤ l.held.most;
-  most : l.held.most ≤ max l.fn.held.most (length l.fn.held.levels.items + l._gap);
+  same_others : others l.held ≡ others l.fn.held;
+  most : l.held.most ≤ max l.fn.held.most (length l.fn.held.levels.items + l._gap + others l.fn.held);
 }
 
 abbrev pub decreases-loop-alloc : goal.decreases-loop-alloc

@@ -4,6 +4,7 @@ use Rattle.std.proofs.lemmas.List.{length_push, take-append-le}
 use Rattle.pd_model.specs.Predicates.{test_of}
 use Rattle.pd_pred.specs.Views.{predicate_view}
 use Rattle.pd_level.specs.Levels.{Levelled}
+use Rattle.pd_back.specs.Counts.{others}
 use Rattle.pd_back.specs.Ways.{AreAvoidingLevels, AreInTurn, last_number}
 use Rattle.pd_back.proofs.LevelLists.{in_turn_push, last_number_push, last_number_read, levels_push}
 use Rattle.pd_back.proofs.descent.expand.Goals as goal
@@ -21,7 +22,13 @@ loop-preserved g c =
     omega (arith, c.in_ok-next.ensures.number, c.loop.invariant.number) in
     let number : last_number c.push.new.self.levels.items ≡ c.in_ok-next.next.number =
     ap last_number pushed ∙ last_number_push c.loop.held.levels.items c.in_ok-next.next in
-    let most : c.push.new.self.most ≡ max c.loop.held.most (length c.push.new.self.levels.items) =
+    let walked : length c.push.new.self.walked.items ≡ length c.loop.held.walked.items =
+    ap (λ (levels : List Levelled). length levels) c.push.ensures.walked in
+    let same : others c.push.new.self ≡ others c.args.held.now =
+    omega (arith, c.push.ensures.beside, c.loop.invariant.same_others) in
+    let most : c.push.new.self.most
+    ≡ max c.loop.held.most
+    (length c.push.new.self.levels.items + length c.loop.held.walked.items + c.loop.held.beside) =
     c.in_ok-push.ensures.most in
     record {
       some = omega arith;
@@ -42,5 +49,6 @@ loop-preserved g c =
       number = omega arith;
       count = omega (arith, c.loop.invariant.count);
       no_fewer = omega (arith, c.loop.invariant.no_fewer);
-      most = omega (arith, c.loop.invariant.most);
+      same_others = same;
+      most = omega (arith, c.loop.invariant.most, c.loop.invariant.same_others);
     }

@@ -1,5 +1,6 @@
 -- What the loop of `expand` keeps.
 use Rattle.std.proofs.Common.{◌≡◌, ◌+◌, ◌<◌, ◌≤◌, length, max, take}
+use Rattle.pd_back.specs.Counts.{others}
 use Rattle.pd_back.specs.Ways.{AreAvoidingLevels, AreInTurn, last_number}
 use Rattle.pd_model.specs.Predicates.{test_of}
 use Rattle.pd_pred.specs.Views.{predicate_view}
@@ -16,5 +17,6 @@ invariant-loop g l = record {
   count : length l.held.levels.items + last_number l.fn.held.levels.items + 1
       ≡ length l.fn.held.levels.items + l.counter;
   no_fewer : l.fn.held.most ≤ l.held.most;
-  most : l.held.most ≤ max l.fn.held.most (length l.held.levels.items);
+  same_others : others l.held ≡ others l.fn.held;
+  most : l.held.most ≤ max l.fn.held.most (length l.held.levels.items + others l.fn.held);
 }

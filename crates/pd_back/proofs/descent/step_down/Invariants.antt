@@ -1,5 +1,6 @@
 -- What the loop of `step_down` keeps.
 use Rattle.std.proofs.Common.{◌≡◌, ◌+◌, ◌≤◌, length, sum, take}
+use Rattle.pd_back.specs.Counts.{others}
 use Rattle.pd_back.specs.Ways.{AreAvoidingLevels, AreInTurn, IsReached, last_number}
 use Rattle.pd_model.specs.Predicates.{test_of}
 use Rattle.pd_pred.specs.Views.{predicate_view}
@@ -13,6 +14,7 @@ invariant-loop-held l = record {
   in_turn : AreInTurn l.kept (last_number (take l.kept l.fn.held.levels.items)) l.held.levels.items;
   next : sum l.cut ≡ last_number l.held.levels.items + 1;
   reached : IsReached l.computation.events (test_of l.computation (predicate_view l.pred)) l.path.items l.cut;
+  same_others : others l.held ≡ others l.fn.held;
   most : l.held.most ≡ l.fn.held.most;
 }
 

@@ -1,5 +1,5 @@
 -- The answers, if no cut satisfies.
-use Rattle.std.proofs.Common.{ap, length, ◌+◌, arith}
+use Rattle.std.proofs.Common.{ap, length, ◌+◌, ◌∙◌, arith}
 use Rattle.pd_model.specs.Cuts.{total}
 use Rattle.pd_model.specs.Predicates.{test_of}
 use Rattle.pd_pred.specs.Views.{predicate_view}
@@ -37,14 +37,26 @@ returns g c =
           c.in_ok-path.ensures.path;
       few = omega (
         arith,
-        c.max.ensures,
-        c.saturating_add.ensures,
-        c.most.ensures,
+        c.count.ensures,
         c.in_ok-path.ensures.most,
+        c.in_ok-stand_on.ensures.most,
+        c.in_ok-stand_on.ensures.beside,
+        ap length (c.stand_on.ensures.levels ∙ c.new-held.ensures.levels),
+        ap length (c.stand_on.ensures.walked ∙ c.new-held.ensures.walked),
         ap length c.new-held.ensures.levels,
+        ap length c.new-held.ensures.walked,
         c.new-held.ensures.most,
+        c.requires.one,
         c.requires.most.few,
       );
-      some = omega (arith, c.max.ensures, c.requires.most.some);
-      past_first = λ past. let two = c.requires.most.two past in omega (arith, c.max.ensures);
+      some = omega (
+        arith,
+        c.count.ensures,
+        c.in_ok-path.ensures.no_fewer,
+        c.in_ok-stand_on.ensures.most,
+        c.requires.most.some,
+      );
+      past_first = λ past.
+          let two = c.requires.most.two past in
+          omega (arith, c.count.ensures, c.in_ok-path.ensures.no_fewer, c.in_ok-stand_on.ensures.most);
     }

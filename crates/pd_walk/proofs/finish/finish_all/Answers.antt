@@ -1,5 +1,5 @@
 -- One predicate after the other is answered.
-use Rattle.std.proofs.Common.{◌+◌, ◌*◌, ◌≤◌, ℕ, Bor, List, get_or, ap, sym, ◌∙◌, subst, arith}
+use Rattle.std.proofs.Common.{◌+◌, ◌*◌, ◌≤◌, Bor, List, get_or, length, ap, sym, ◌∙◌, subst, arith}
 use Rattle.std.proofs.lemmas.List.{get_or_default}
 use Rattle.std.specs.Prelude.{slice_set}
 use Rattle.pd_model.specs.Cuts.{total}
@@ -8,8 +8,7 @@ use Rattle.pd_pred.specs.Views.{predicate_view}
 use Rattle.pd_pred.specs.declared.predicate.Pred.{Pred}
 use Rattle.pd_runs.specs.Levels.{IsWholeLevel, WholeLevel}
 use Rattle.pd_lists.specs.Answers.{AreAnswers}
-use Rattle.pd_lists.specs.Splits.{AreBeside}
-use Rattle.pd_walk.specs.Stages.{Stands}
+use Rattle.pd_walk.specs.Stages.{AreBeside, Stands}
 use Rattle.pd_lists.specs.declared.answers.Answers.{Answers}
 use Rattle.pd_walk.specs.declared.stage.Stage.{Stage}
 use Rattle.pd_walk.proofs.Standing.{HaveFinished, none_finished, one_finished, only_whole}
@@ -68,10 +67,12 @@ finish-requires-clause-stands g c _ _ =
 
 pub finish-requires-clause-most : goal.finish-requires-clause-most
 finish-requires-clause-most g c _ _ =
-    subst (λ (n : ℕ). AreBeside c.args.setting.now.gap c.last.result.now.number n) (sym c.most.ensures)
-    (subst (λ (l : WholeLevel). AreBeside c.args.setting.now.gap l.number c.args.wholes.now.most)
+    subst (λ (l : WholeLevel). AreBeside l.number c.args.wholes.now.most)
     (sym (only_whole c.args.wholes.now.levels.items c.loop-i.invariant.level c.last.result.now
-    c.loop-i.invariant.only c.last.ensures)) c.loop-i.invariant.beside)
+    c.loop-i.invariant.only c.last.ensures)) c.loop-i.invariant.beside
+
+pub finish-requires-clause-one : goal.finish-requires-clause-one
+finish-requires-clause-one g c _ _ = ap length c.loop-i.invariant.only
 
 pub loop-i-preserved : goal.loop-i-preserved
 loop-i-preserved g c =

@@ -9,4 +9,4 @@ settle-requires-clause-split g c =
     c.args.task.now.width c.args.task.now.gap c.args.task.now.level.now.number
     (record { possibly = c.in-Some.possibly; first = c.number.result; held = c.new.result }) c.requires.opened
     c.requires.task.within (rw c.in-Some.is at c.in_ok-found.ensures.found) c.number.ensures c.new.ensures.levels
-    c.new.ensures.most
+    c.new.ensures.walked c.new.ensures.beside c.new.ensures.most

@@ -1,11 +1,11 @@
 -- One level more is kept.
-use Rattle.std.proofs.Common.{ℕ, refl, ◌≡◌, ◌+◌, ◌⊎◌, List, length, sym, subst}
+use Rattle.std.proofs.Common.{ℕ, refl, ◌≡◌, ◌+◌, ◌≤◌, ◌⊎◌, List, length, sym, subst, arith}
 use Rattle.pd_model.specs.Answers.{IsListOf}
 use Rattle.pd_model.specs.Observations.{IsAvoiding}
 use Rattle.pd_back.specs.Ways.{last_number}
 use Rattle.pd_level.specs.Levels.{Levelled}
 use Rattle.pd_lists.specs.Splits.{AreKeptBelow}
-use Rattle.pd_lists.proofs.Keeping.{kept_more, some_gap}
+use Rattle.pd_lists.proofs.Keeping.{few_kept, kept_more, some_gap}
 use Rattle.pd_walk.specs.Tasks.{task_events, task_test}
 use Rattle.pd_walk.proofs.settle.keep.Goals as goal
 
@@ -34,3 +34,11 @@ returns-clause-kept g c =
     (length c.args.split.held.levels.items ≡ 0) ⊎ (last_number c.args.split.held.levels.items + c.args.task.now.gap ≡
     k))
     c.number.ensures (c.if-not-is_due.ensures.0 refl)))
+
+pub returns-clause-few : goal.returns-clause-few
+returns-clause-few g c =
+    let few : length c.push.new.self.levels.items ≤ c.args.task.now.gap =
+    few_kept (task_events c.args.task.now) (task_test c.args.task.now) c.args.split.first c.args.task.now.gap
+    (c.args.task.now.level.now.number + 1) c.push.new.self.levels.items c.requires.task.root
+    (omega (arith, c.requires.task.within)) (returns-clause-kept g c) in
+    omega (arith, c.in_ok-push.ensures.most, c.requires.few, c.requires.beside)

@@ -3,8 +3,7 @@ use Rattle.std.proofs.Common.{◌≡◌, ◌+◌, ◌++◌, [], ◌∷◌, ℕ, 
 use Rattle.pd_model.specs.Events.{Computation}
 use Rattle.pd_skips.specs.SkippedRuns.{AreSkipped}
 use Rattle.pd_runs.specs.Levels.{IsWholeLevel, WholeLevel}
-use Rattle.pd_lists.specs.Splits.{AreBeside}
-use Rattle.pd_walk.specs.Stages.{AllStand, number_held}
+use Rattle.pd_walk.specs.Stages.{AllStand, AreBeside, number_held}
 use Rattle.pd_walk.proofs.Standing.{beside_two, come_next, lower_whole, next_only, number_read, only_whole, upper_whole}
 use Rattle.pd_walk.proofs.walk.step_up.Goals as goal
 
@@ -92,10 +91,9 @@ look_all-requires-clause-round g c _ _ =
       narrow = c.args.setting.now.narrow;
       root = c.args.setting.now.root;
       few =
-          subst (λ (n : ℕ). AreBeside c.args.setting.now.gap n c.most.result) (sym next)
-          (beside_two c.args.setting.now.gap c.requires.come.level.number c.args.wholes.now.most c.most.result
-          c.requires.come.beside
-          (c.most.ensures ∙ (c.in_ok-push.ensures.most ∙ ap (λ (n : ℕ). max c.args.wholes.now.most n) two)));
+          subst (λ (n : ℕ). AreBeside n c.push.new.self.most) (sym next)
+          (beside_two c.requires.come.level.number c.args.wholes.now.most c.push.new.self.most c.requires.come.beside
+          (c.in_ok-push.ensures.most ∙ ap (λ (n : ℕ). max c.args.wholes.now.most n) two));
       skipped = c.in_ok-after.ensures;
       some_threads = c.count-threads.ensures;
     }
@@ -143,9 +141,9 @@ returns-clause-come g c =
     c.in_ok-push.ensures.levels c.drop_last_but_one.ensures.levels c.last-level.result.now c.requires.below
     (subst (λ (e : Computation). IsWholeLevel e c.in_ok-next.next) c.requires.steps c.in_ok-next.ensures.level)
     (c.in_ok-next.ensures.number ∙ ap (λ (n : ℕ). n + 1) number)
-    (beside_two c.args.setting.now.gap (number_held c.args.wholes.now.levels.items) c.args.wholes.now.most
+    (beside_two (number_held c.args.wholes.now.levels.items) c.args.wholes.now.most
     c.drop_last_but_one.new.self.most
-    (subst (λ (n : ℕ). AreBeside c.args.setting.now.gap n c.args.wholes.now.most)
+    (subst (λ (n : ℕ). AreBeside n c.args.wholes.now.most)
     (sym (ap number_held c.requires.come.only)) c.requires.come.beside)
     (c.drop_last_but_one.ensures.most
     ∙ (c.in_ok-push.ensures.most ∙ ap (λ (n : ℕ). max c.args.wholes.now.most n) two))) c.last-level.ensures

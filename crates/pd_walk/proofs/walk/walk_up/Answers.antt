@@ -4,8 +4,7 @@ use Rattle.pd_model.specs.Events.{Computation}
 use Rattle.pd_skips.specs.SkippedRuns.{AreSkipped}
 use Rattle.pd_runs.specs.Levels.{IsWholeLevel, WholeLevel}
 use Rattle.pd_tables.specs.Views.{CompiledView}
-use Rattle.pd_lists.specs.Splits.{AreBeside}
-use Rattle.pd_walk.specs.Stages.{AllStand, AreFor}
+use Rattle.pd_walk.specs.Stages.{AllStand, AreBeside, AreFor}
 use Rattle.pd_walk.specs.declared.stage.Stage.{Stage}
 use Rattle.pd_walk.proofs.Standing.{beside_one, come_first, come_to_end, number_read, only_whole}
 use Rattle.pd_walk.proofs.walk.walk_up.Goals as goal
@@ -55,9 +54,9 @@ look_first-requires-clause-round g c _ _ =
       narrow = c.args.setting.now.narrow;
       root = c.args.setting.now.root;
       few =
-          subst (λ (n : ℕ). AreBeside c.args.setting.now.gap n c.most.result) (sym number)
-          (beside_one c.args.setting.now.gap c.most.result
-          (omega (arith, c.most.ensures, c.in_ok-push.ensures.most, c.requires.none, ap length only)));
+          subst (λ (n : ℕ). AreBeside n c.push.new.self.most) (sym number)
+          (beside_one c.push.new.self.most
+          (omega (arith, c.in_ok-push.ensures.most, c.requires.none, ap length only)));
       skipped =
           subst (λ (tests : List CompiledView). AreSkipped tests c.last-first.result.now c.in_ok-skipped.skipped)
           (c.deref.ensures.value ∙ sym c.deref-2.ensures.value) c.in_ok-skipped.ensures;
@@ -75,7 +74,7 @@ loop-steps-init g c =
     c.in_ok-skipped.skipped c.in_ok-stages.stages.items only
     (subst (λ (e : Computation). IsWholeLevel e c.in_ok-first.field-0) c.in_ok-steps.ensures
     c.in_ok-first.ensures.level) c.in_ok-first.ensures.number
-    (beside_one c.args.setting.now.gap c.push.new.self.most
+    (beside_one c.push.new.self.most
     (omega (arith, c.in_ok-push.ensures.most, c.requires.none, ap length only))) c.last-first.ensures
     (subst (λ (tests : List CompiledView). AreSkipped tests c.last-first.result.now c.in_ok-skipped.skipped)
     c.deref.ensures.value c.in_ok-skipped.ensures)
