@@ -162,7 +162,13 @@ def connections():
     serve = ("serve", "session.json", "--port", "FREE")
     yield session("a stream that comes by a pipe", input=B.encode() + b"{}\n")._replace(
         words=("judge", "session.json", "a.stream", "/dev/stdin"))
-    yield Case("a stream that comes by a connection", {"session.json": document()}, serve, peers=(A + "{}\n", B + END))
+    files = {"session.json": document()}
+    yield Case("a stream that comes by a connection", files, serve, peers=(A + "{}\n", B + END))
+    yield Case("a connection of a browser", files, serve, peers=("GET / HTTP/1.1\r\nHost: a\r\n\r\n", B + END))
+    yield Case("a connection that sends nothing", files, serve, peers=(A + END, ""))
+    yield Case("two connections of one process", files, serve, peers=(B + END, B + END))
+    yield Case("a connection that doesn't come in time", files, (*serve, "--wait", "2"), peers=(B + END,))
+    yield Case("no connection comes in time", files, (*serve, "--wait", "1"), peers=None)
 
 
 # So few bytes of memory that the ids of 160,000 messages have no room.
@@ -213,7 +219,7 @@ def ran(program, folder, case, words):
         with subprocess.Popen([program, *words], stdin=subprocess.PIPE, stdout=out, stderr=subprocess.PIPE, cwd=folder,
                               **options) as process:
             if case.peers:
-                send(process, int(words[-1 if words[-1] != "--explain" else -2]), case.peers)
+                send(process, int(words[words.index("--port") + 1]), case.peers)
             _, errors = process.communicate(case.input, timeout=SECONDS)
     if case.output:
         return process.returncode, "", errors.decode()
@@ -228,11 +234,12 @@ def explained(program, case):
         taken.bind(("127.0.0.1", 0))
         taken.listen()
         port = str(taken.getsockname()[1])
-        ports = {"TAKEN": port, "FREE": str(listening.free_ports(1)) if case.peers else ""}
+        ports = {"TAKEN": port, "FREE": str(listening.free_ports(1)) if case.peers != () else ""}
         words = [ports.get(word, word) for word in case.words]
         plain = ran(program, folder, case, words)
         found = [ran(program, folder, case, [*words[:at], "--explain", *words[at:]])
                  for at in sorted({0, min(1, len(words)), len(words)})]
+        found = [(*run[:2], re.sub(r"\b(127\.0\.0\.1):\d+", r"\1:40000", run[2])) for run in found]
         errors = found[0][2]
         wrong = []
         if any(other != found[0] for other in found):
@@ -244,7 +251,8 @@ def explained(program, case):
         explanation = errors.removesuffix(plain[2]) if plain[2] else errors
         if not explanation:
             wrong.append("nothing is explained")
-        return plain[2] or plain[1], explanation.replace(f"Port {port}", "Port 7411"), wrong
+        explanation = re.sub(rf"\b([Pp]ort) (?:{port}|{ports['FREE'] or port})\b", r"\1 7411", explanation)
+        return plain[2] or plain[1], explanation, wrong
 
 
 def wanted():

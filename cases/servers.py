@@ -182,6 +182,14 @@ def other_addresses(server):
     send(server.connect(), OF_B)
 
 
+def slow(server):
+    """Two streams connect, and are sent once the server waits for no more connections."""
+    senders = [server.connect(), server.connect()]
+    time.sleep(3)
+    for sender, stream in zip(senders, (OF_A, OF_B)):
+        send(sender, stream)
+
+
 def cases():
     """Of each case the name, who connects, what the server is started with, and its status, output and errors."""
     for name, (streams, report, status) in SESSIONS.items():
@@ -231,6 +239,11 @@ def cases():
     yield "the port is taken, and the document refused", nobody, options, (1, b"refused spec json\n", b"")
     options = {"taken": [0], "document": None}
     yield "the port is taken, and there is no document", nobody, options, (3, b"", b"monitor: read\n")
+    late = (3, b"", NO_NETWORK)
+    yield "nobody comes in a second", nobody, {"asked": ["--wait", "1"]}, late
+    yield "one of two comes in time", senders([OF_A]), {"asked": ["--wait", "2"], "watchers": 1}, late
+    yield "two come in time", clients([OF_A, OF_B], 1), {"asked": ["--wait", "60"], "watchers": 1}, (0, REPORT, b"")
+    yield "two come in time, and send later", slow, {"asked": ["--wait", "2"]}, (0, REPORT, b"")
     yield "another address of this machine", other_addresses, {"watchers": 1}, (0, REPORT, b"")
 
 

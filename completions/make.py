@@ -22,6 +22,7 @@ VALUES = {
     "LIST": CONDITIONS,
     "PORT": None,
     "PREDICATE": None,
+    "SECONDS": None,
     "TEXT": None,
     "WATCHERS": None,
     "WIDTH": None,

@@ -3,7 +3,7 @@ use Rattle.std.proofs.Common.{◌≡◌, ℕ, List, Option, None, Some, ap, code
 use Rattle.std.specs.Prelude.{IfSome}
 use Rattle.std.specs.Str.Parse.{digits_value, without_leading_plus}
 use Rattle.clap.specs.Walk.{Row, Text, first_of}
-use Rattle.pd_arguments.specs.Arguments.{IsNumberText, IsWorkers, LacksService, LacksWorkers, NamesNumber, NamesService, NamesWidth, NamesWorkers}
+use Rattle.pd_arguments.specs.Arguments.{IsNumberText, IsWorkers, LacksService, LacksWorkers, MayNameNumber, NamesNumber, NamesService, NamesWorkers}
 use Rattle.pd_arguments.specs.declared.workers.Workers.{Workers}
 
 pub some_same : {A : Type 0} (a b : A) → Some a ≡ Some b → a ≡ b
@@ -43,8 +43,8 @@ pub lacks : (rows : List Row)
     → ((document : Text) (port watchers : ℕ) → ¬ NamesService rows document port watchers) → LacksService rows
 lacks rows none (document, port, watchers, names) = none document port watchers names
 
--- the width that is found is the option's number
-pub width_found : (rows : List Row) (r : Option ℕ) → IfSome r (NamesNumber rows (codes "WIDTH"))
-    → (r ≡ None → (n : ℕ) → ¬ NamesNumber rows (codes "WIDTH") n) → NamesWidth rows r
-width_found rows None some none = none refl
-width_found rows (Some n) some none = some
+-- the number that is found is the option's
+pub number_found : (rows : List Row) (id : Text) (r : Option ℕ) → IfSome r (NamesNumber rows id)
+    → (r ≡ None → (n : ℕ) → ¬ NamesNumber rows id n) → MayNameNumber rows id r
+number_found rows id None some none = none refl
+number_found rows id (Some n) some none = some

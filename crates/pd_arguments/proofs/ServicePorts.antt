@@ -1,5 +1,5 @@
 -- The port that a server is asked for is within its limits.
-use Rattle.std.proofs.Common.{ℕ, Bool, List}
+use Rattle.std.proofs.Common.{ℕ, Bool, List, Option}
 use Rattle.clap.specs.Words.{Text}
 use Rattle.pd_asked.specs.Asked.{Asks}
 use Rattle.pd_asked.specs.Views.{asks_view}
@@ -12,13 +12,13 @@ use Rattle.pd_arguments.specs.declared.request.Request.TheVariants.{Serve}
 use Rattle.pd_arguments.specs.declared.request.Service.{Service}
 
 served_port : (arguments : List Text) (beyond_width : Bool) (fail_on : List Condition) (asks : Asks)
-    (document : Text) (port watchers : ℕ)
-    → AsksFor arguments (ServeStreams beyond_width fail_on asks document port watchers) → IsPort port
-served_port arguments beyond_width fail_on asks document port watchers
-    (of_serve rows _ _ _ workers _ _ _ taken are names asked some says named) = names.is_port
+    (document : Text) (port watchers : ℕ) (wait : Option ℕ)
+    → AsksFor arguments (ServeStreams beyond_width fail_on asks document port watchers wait) → IsPort port
+served_port arguments beyond_width fail_on asks document port watchers wait
+    (of_serve rows _ _ _ workers _ _ _ _ taken are names waits asked some says named) = names.is_port
 
 pub port_of_service : (arguments : List Text) (service : Service) → IsAsked arguments (Serve service)
     → IsPort service.port
 port_of_service arguments service asked =
     served_port arguments service.beyond_width (fail_on_view service.fail_on) (asks_view service.asks)
-    service.spec.now service.port service.watchers asked
+    service.spec.now service.port service.watchers service.wait asked

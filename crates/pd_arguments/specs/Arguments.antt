@@ -23,6 +23,10 @@ port_limit = 65534
 abbrev pub watcher_limit : ℕ
 watcher_limit = 64
 
+-- how many seconds are waited for streams at most: a day
+abbrev pub wait_limit : ℕ
+wait_limit = 86400
+
 -- ---- the command line
 
 -- an argument that must be given, and has its place among them and no option's name
@@ -46,6 +50,10 @@ port_rule = record (number_rule (codes "PORT") (codes "port") 1 port_limit) { re
 -- the number of watchers
 abbrev pub watchers_rule : Rule
 watchers_rule = record (number_rule (codes "WATCHERS") (codes "watchers") 0 watcher_limit) { defaults = codes "0" ∷ [] }
+
+-- how many seconds are waited for the streams
+abbrev pub wait_rule : Rule
+wait_rule = number_rule (codes "SECONDS") (codes "wait") 1 wait_limit
 
 -- the number of workers
 abbrev pub workers_rule : Rule
@@ -96,9 +104,11 @@ check_app = report_app (codes "check")
 abbrev pub draw_app : App
 draw_app = with_rule (report_app (codes "draw")) predicate_rule
 
--- `serve SPEC --port PORT [--watchers WATCHERS] [--workers WORKERS] [--beyond-width] [--fail-on LIST]`
+-- `serve SPEC --port PORT [--watchers WATCHERS] [--wait SECONDS] [--workers WORKERS] [--beyond-width]
+-- [--fail-on LIST]`
 abbrev pub serve_app : App
-serve_app = judging_app (with_rule (with_rule (document_app (codes "serve")) port_rule) watchers_rule)
+serve_app =
+    judging_app (with_rule (with_rule (with_rule (document_app (codes "serve")) port_rule) watchers_rule) wait_rule)
 
 -- `explore SPEC STREAM... [--workers WORKERS] [--beyond-width]`
 abbrev pub explore_app : App
@@ -186,10 +196,18 @@ SaysFlag rows id is_given = IsTrue is_given ↔ (one_of id rows ≡ Some (codes 
 abbrev pub SaysBeyondWidth : List Row → (beyond_width : Bool) → Type 0
 SaysBeyondWidth rows beyond_width = SaysFlag rows (codes "BEYOND_WIDTH") beyond_width
 
+-- the number of the option of this id, if it has one
+abbrev pub MayNameNumber : List Row → (id : Text) → (number : Option ℕ) → Type 0
+MayNameNumber rows id None = (n : ℕ) → ¬ NamesNumber rows id n
+MayNameNumber rows id (Some number) = NamesNumber rows id number
+
 -- the width that is asked for, if its option has a number
 abbrev pub NamesWidth : List Row → (width : Option ℕ) → Type 0
-NamesWidth rows None = (n : ℕ) → ¬ NamesNumber rows (codes "WIDTH") n
-NamesWidth rows (Some width) = NamesNumber rows (codes "WIDTH") width
+NamesWidth rows width = MayNameNumber rows (codes "WIDTH") width
+
+-- how many seconds the streams are waited for, if the option has a number
+abbrev pub NamesWait : List Row → (wait : Option ℕ) → Type 0
+NamesWait rows wait = MayNameNumber rows (codes "SECONDS") wait
 
 -- the texts of predicates that are asked for: none if no option has one
 abbrev pub NamesPredicates : Option (List Text) → (texts : List Text) → Type 0
@@ -264,11 +282,11 @@ pub data AsksFor (arguments : List Text) : Request → Type 0 where
   of_check : (rows : List Row) (document report : Text) (streams : List Text) (asks : Asks) → AreTaken arguments
       → AreOf (codes "check") arguments rows → NamesSession rows document streams → NamesAsks rows asks
       → NamesReport rows report → AsksFor arguments (CheckFiles asks document report streams)
-  of_serve : (rows : List Row) (document : Text) (port watchers workers : ℕ) (beyond_width : Bool)
+  of_serve : (rows : List Row) (document : Text) (port watchers workers : ℕ) (wait : Option ℕ) (beyond_width : Bool)
       (fail_on : List Condition) (asks : Asks) → AreTaken arguments → AreOf (codes "serve") arguments rows
-      → NamesService rows document port watchers → NamesAsks rows asks → NamesWorkers rows workers
-      → SaysBeyondWidth rows beyond_width → NamesConditions rows fail_on
-      → AsksFor arguments (ServeStreams beyond_width fail_on asks document port watchers)
+      → NamesService rows document port watchers → NamesWait rows wait → NamesAsks rows asks
+      → NamesWorkers rows workers → SaysBeyondWidth rows beyond_width → NamesConditions rows fail_on
+      → AsksFor arguments (ServeStreams beyond_width fail_on asks document port watchers wait)
   of_help : (kind : ErrorKind) → IsShownKind kind → HasFault arguments kind → AsksFor arguments ShowHelp
   of_fault : (kind : ErrorKind) → ¬ IsShownKind kind → HasFault arguments kind → AsksFor arguments Unclear
   of_missing : (command : Text) (rows : List Row) → TakesStreams command → AreOf command arguments rows

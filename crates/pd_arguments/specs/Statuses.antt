@@ -21,9 +21,10 @@ pub data Request : Type 0 where
   -- to check a report by a session document and streams of events, each in a file of this name
   CheckFiles : (asks : Asks) (document report : List ℕ) (streams : List (List ℕ)) → Request
   -- to judge a session document, in the file of this name, and streams of events that come by connections to this port,
-  -- in the same way; and to show meanwhile how far they are read to this many watchers
+  -- in the same way; to show meanwhile how far they are read to this many watchers; and to wait no longer than this
+  -- many seconds for the connections, if that is asked for
   ServeStreams : (beyond_width : Bool) (fail_on : List Condition) (asks : Asks) (document : List ℕ) (port watchers : ℕ)
-      → Request
+      (wait : Option ℕ) → Request
   -- to show the help
   ShowHelp : Request
   -- the arguments ask for nothing that can be done
@@ -73,7 +74,7 @@ pub data Failure : Type 0 where
   WriteFailure : Failure
   -- the bundle is too long
   BundleFailure : Failure
-  -- a port can't be bound, or a connection that is a stream can't be accepted
+  -- a port can't be bound, or a connection that is a stream can't be accepted, or not in time
   NetworkFailure : Failure
 
 pub data Ending : Type 0 where
@@ -203,12 +204,17 @@ pub record IsTextOfAccepted (document : Inquiry) (G : Option (List ℕ) → Type
   pub none_refused : (fault : DocumentFault) → IsRefusedDocument document.bytes fault → inputs ≡ []
   pub is_text : IsTextOfStreams document inputs never_fails IsSaid text
 
+-- Not all ports may be bound and connections accepted: the network may fail, or they are waited for no longer than some
+-- seconds.
+abbrev pub ServiceMayFail : (wait : Option ℕ) (network_serves : Bool) → Type 0
+ServiceMayFail wait network_serves = wait ≡ None → network_serves ≡ true → ⊥
+
 -- the bytes are a document, and aren't refused
 abbrev pub HoldsDocument : List ℕ → Type 0
 HoldsDocument bytes = (document : Document) × IsDocument bytes document
 
 -- The same of a document that stands in a file, and of streams that come by connections. If a port can't be bound, or a
--- stream not be accepted: nothing; and that comes only of a document that isn't refused.
+-- stream not be accepted, or not in time: nothing; and that comes only of a document that isn't refused.
 abbrev pub ServiceLeaves : (beyond_width : Bool) (fail_on : List Condition) (document : Option (List ℕ))
     (G : Option (List ℕ) → Type 0) (never_fails : Bool) (MayBeUnread MayNotServe : Type 0) → Ending
     → (old new : Option (List ℕ)) → Type 0
@@ -306,9 +312,9 @@ Leaves on input files connections (JudgeFiles beyond_width fail_on asks document
 Leaves on input files connections (CheckFiles asks document report streams) ending old new =
     HoldsAsked asks (files document) (λ d. CheckLeaves (Some d) (files report) (map files streams) on.files_are_read
     (FilesMayFail on ⊎ IsLongReport (files report)) ending old new)
-Leaves on input files connections (ServeStreams beyond_width fail_on asks document port watchers) ending old new =
+Leaves on input files connections (ServeStreams beyond_width fail_on asks document port watchers wait) ending old new =
     HoldsAsked asks (files document) (λ d. ServiceLeaves beyond_width fail_on (Some d) (connections port)
-    on.connections_are_read (FilesMayFail on) (on.network_serves ≡ true → ⊥) ending old new)
+    on.connections_are_read (FilesMayFail on) (ServiceMayFail wait on.network_serves) ending old new)
 Leaves on input files connections ShowHelp ending old new = HelpLeaves ending old new
 Leaves on input files connections Unclear ending old new = MisuseLeaves ending old new
 

@@ -27,7 +27,7 @@ IsAsked arguments (Draw report predicate names) =
     (option_map (λ (name : Bor (List ℕ)). name.now) predicate)
 IsAsked arguments (Serve service) =
     AsksFor arguments (asked.ServeStreams service.beyond_width (fail_on_view service.fail_on) (asks_view service.asks)
-    service.spec.now service.port service.watchers)
+    service.spec.now service.port service.watchers service.wait)
 IsAsked arguments (Explore exploration) =
     AsksToExplore arguments exploration.beyond_width (asks_view exploration.names.asks)
     (session_view exploration.names).0 (session_view exploration.names).1

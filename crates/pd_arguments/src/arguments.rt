@@ -3,7 +3,7 @@ ghost use Rattle.clap.specs.Matches.{found_of};
 ghost use Rattle.clap.specs.Simple.{app_of, subcommand_of, subcommand_rows_of};
 ghost use Rattle.clap.specs.Values.{kind_of};
 ghost use Rattle.clap.specs.Walk.{Text, all_of, rows_of};
-ghost use Rattle.pd_arguments.specs.Arguments.{AreOf, AreTaken, FindsConditions, FindsSession, IsErrorOf, IsNumberText, IsPort, IsShownKind, NamesAsks, NamesConditions, NamesNumber, NamesPredicates, NamesWidth, NamesWorkers, SaysFlag, monitor_app};
+ghost use Rattle.pd_arguments.specs.Arguments.{AreOf, AreTaken, FindsConditions, FindsSession, IsErrorOf, IsNumberText, IsPort, IsShownKind, NamesAsks, NamesConditions, NamesNumber, NamesPredicates, NamesWait, NamesWidth, NamesWorkers, SaysFlag, monitor_app};
 ghost use Rattle.pd_asked.specs.Views.{asks_view};
 ghost use Rattle.pd_fail_on.specs.Views.{fail_on_view};
 ghost use Rattle.pd_arguments.specs.Views.{IsAsked, IsAskedIf, session_view};
@@ -35,6 +35,13 @@ fn width_of(matches: &ArgMatches<'_>) -> Option<u64>
     ensures { NamesWidth (rows_of (found_of matches.now)) result }
 {
     number_of(matches, "WIDTH")
+}
+
+/// How many seconds the streams are waited for, if that is asked for.
+fn wait_of(matches: &ArgMatches<'_>) -> Option<u64>
+    ensures { NamesWait (rows_of (found_of matches.now)) result }
+{
+    number_of(matches, "SECONDS")
 }
 
 /// What is asked in place of what the document says.
@@ -232,6 +239,7 @@ fn service_request<'a>(
         asks,
         port,
         watchers,
+        wait: wait_of(matches),
         beyond_width: flag_of(matches, "BEYOND_WIDTH"),
         fail_on,
         workers,

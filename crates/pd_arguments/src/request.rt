@@ -50,6 +50,8 @@ pub struct Service<'a> {
     pub port: u16,
     /// How many watchers are accepted on the next port, at most 64.
     pub watchers: u64,
+    /// How many seconds the streams are waited for, from 1 to 86,400, if that has an end.
+    pub wait: Option<u64>,
     /// Whether predicates are answered whatever the width, as far as they are decided without the levels.
     pub beyond_width: bool,
     /// The answers to fail on.

@@ -5,7 +5,7 @@ use Rattle.pd_arguments.specs.Statuses.{Failure, MemoryFailure, ReadFailure, Wri
 use Rattle.pd_fail_on.specs.Conditions as conditions
 use Rattle.pd_fail_on.specs.Conditions.{Condition, Conclusion, conclusion}
 use Rattle.pd_cli.specs.declared.service_fault.ServiceFault.{ServiceFault}
-use Rattle.pd_cli.specs.declared.service_fault.ServiceFault.TheVariants.{Engine, Network}
+use Rattle.pd_cli.specs.declared.service_fault.ServiceFault.TheVariants.{Engine, Late, Network}
 use Rattle.pd_report.specs.Views.{report_view}
 use Rattle.pd_report.specs.declared.report.Report.{Report}
 use Rattle.pd_sessions.specs.declared.fault.EngineFault.{EngineFault}
@@ -52,6 +52,7 @@ abbrev pub service_ending : (fail_on : List Condition) → Result Report Service
 service_ending fail_on (Ok report) = concluded_ending (conclusion fail_on (report_view report))
 service_ending fail_on (Err (Engine fault)) = Failed (failure_view fault)
 service_ending fail_on (Err Network) = Failed NetworkFailure
+service_ending fail_on (Err Late) = Failed NetworkFailure
 
 -- how a run that explores ends: the page is written, or the report of a refusal; or the fault
 abbrev pub exploration_ending : Result (Option Report) EngineFault → Ending

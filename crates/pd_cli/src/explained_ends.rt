@@ -1,22 +1,19 @@
 //! Explains how a run ended, by a second look at what it was asked for.
 use super::explained_refusals::put_refusal;
 use super::file_source::FileSource;
-use super::network::Network;
 use super::second_look::{Seen, spec_again};
-use super::service_fault::ServiceFault;
-use pd_arguments::{Exploration, Judgement, Service, SessionNames};
+use pd_arguments::{Exploration, Judgement, SessionNames};
 use pd_claims::DrawOutcome;
 use pd_explain::{
-    Judged, explain_answers, explain_bundle_fault, explain_connection, explain_file,
-    explain_long_report, explain_memory, explain_no_file, explain_no_predicate, explain_output,
-    explain_port,
+    Judged, explain_answers, explain_bundle_fault, explain_file, explain_long_report,
+    explain_memory, explain_no_file, explain_no_predicate, explain_output,
 };
 use pd_report::Report;
 use pd_sessions::EngineFault;
 use std::alloc::{AllocError, Global};
 
 /// Explains what a report leaves unknown, or why it is a refusal.
-fn put_report<F: FileSource>(
+pub(crate) fn put_report<F: FileSource>(
     out: &mut Vec<u8>,
     files: &F,
     alloc: Global,
@@ -57,7 +54,7 @@ fn put_unread<F: FileSource>(
 }
 
 /// Explains a fault of a run that reads a document, a report, if there is one, and streams.
-fn put_fault<F: FileSource>(
+pub(crate) fn put_fault<F: FileSource>(
     out: &mut Vec<u8>,
     files: &F,
     alloc: Global,
@@ -193,70 +190,6 @@ pub(crate) fn bundle_text<F: FileSource>(
     let mut out = Vec::new(alloc);
     if is_wanted {
         let _ = put_bundle(&mut out, files, alloc, end);
-    }
-    out
-}
-
-/// Explains which port can't be bound, and why.
-fn put_network<N: Network>(
-    out: &mut Vec<u8>,
-    network: &N,
-    alloc: Global,
-    service: &Service<'_>,
-) -> Result<(), AllocError> {
-    let port = service.port;
-    if let Err(error) = network.bind_port(port) {
-        let why = format!(in alloc; "{error}")?;
-        return explain_port(out, port as u64, &why);
-    }
-    let Some(next) = port.checked_add(1) else {
-        return explain_connection(out, port as u64);
-    };
-    if service.watchers > 0 {
-        if let Err(error) = network.bind_port(next) {
-            let why = format!(in alloc; "{error}")?;
-            return explain_port(out, next as u64, &why);
-        }
-    }
-    explain_connection(out, port as u64)
-}
-
-/// Explains how a server's run ended.
-fn put_service<F: FileSource, N: Network>(
-    out: &mut Vec<u8>,
-    files: &F,
-    network: &N,
-    alloc: Global,
-    service: &Service<'_>,
-    end: &Result<Report, ServiceFault>,
-) -> Result<(), AllocError> {
-    let seen = Seen {
-        spec: Some(service.spec),
-        asks: Some(&service.asks),
-        streams: &[],
-        beyond_width: service.beyond_width,
-    };
-    match end {
-        Ok(report) => put_report(out, files, alloc, seen, report),
-        Err(ServiceFault::Engine(fault)) => {
-            put_fault(out, files, alloc, None, service.spec, &[], fault)
-        }
-        Err(ServiceFault::Network) => put_network(out, network, alloc, service),
-    }
-}
-
-/// The explanation of how a server's run ended, as far as it could be made; empty if none is wanted.
-pub(crate) fn service_text<F: FileSource, N: Network>(
-    is_wanted: bool,
-    files: &F,
-    network: &N,
-    alloc: Global,
-    service: &Service<'_>,
-    end: &Result<Report, ServiceFault>,
-) -> Vec<u8> {
-    let mut out = Vec::new(alloc);
-    if is_wanted {
-        let _ = put_service(&mut out, files, network, alloc, service, end);
     }
     out
 }

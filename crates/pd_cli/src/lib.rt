@@ -30,7 +30,9 @@
 //! - `line`: writes a line to the errors
 //! - `explaining`: whether the arguments ask for explanations
 //! - `explanation`: writes an explanation to the errors
-//! - `explained_ends`, `explained_refusals`: explains how a run ended, by a second look at what it was asked for
+//! - `explained_ends`, `explained_refusals`, `explained_services`: explains how a run ended, by a second look at what
+//!   it was asked for
+//! - `senders`: who sent the streams of a server
 //! - `second_look`: reads the files of a session again
 #![tactic(auto)]
 
@@ -40,6 +42,7 @@ mod claim_files;
 mod draw_files;
 mod explained_ends;
 mod explained_refusals;
+mod explained_services;
 mod explaining;
 mod explanation;
 mod explore_files;
@@ -50,6 +53,7 @@ mod network;
 mod parser_error;
 mod program;
 mod second_look;
+mod senders;
 mod server;
 mod service_fault;
 mod session_files;

@@ -6,7 +6,7 @@ ghost use Rattle.pd_cli.specs.Explained.{Explained};
 ghost use Rattle.pd_cli.specs.Explorations.{ExploreLeaves};
 ghost use Rattle.pd_draw.specs.Choices.{name_view};
 ghost use Rattle.pd_fail_on.specs.Views.{fail_on_view};
-ghost use Rattle.pd_arguments.specs.Statuses.{CheckLeaves, Ends, FilesJudgementLeaves, HoldsAsked, IsLongReport, JudgementLeaves, ServiceLeaves, reliance};
+ghost use Rattle.pd_arguments.specs.Statuses.{CheckLeaves, Ends, FilesJudgementLeaves, HoldsAsked, IsLongReport, JudgementLeaves, ServiceLeaves, ServiceMayFail, reliance};
 ghost use Rattle.pd_judgement.specs.Writes.{WritesTruthOfBundle};
 ghost use Rattle.std.specs.Prelude.{◌≡◌, ◌⊎◌, ◌≤◌, drop, false, length, map, true, vec_len, Some};
 
@@ -14,8 +14,9 @@ use super::bundle::judge_input;
 use super::check_files::check_files;
 use super::draw_files::{draw_files, report_drawing};
 use super::explained_ends::{
-    bundle_text, check_text, drawing_text, exploration_text, judgement_text, service_text,
+    bundle_text, check_text, drawing_text, exploration_text, judgement_text,
 };
+use super::explained_services::service_text;
 use super::explanation::write_explanation;
 use super::explore_files::explore_files;
 use super::file_source::FileSource;
@@ -28,6 +29,7 @@ use super::status::{
 };
 use pd_arguments::{Exploration, Judgement, Request, Service, SessionNames, parse};
 use pd_engine::ByteSource;
+use pd_peers::Peers;
 use std::alloc::Global;
 use std::io::Write;
 use std::random::RandomSource;
@@ -106,12 +108,13 @@ fn run_service<
         (F.bytes_of files.now service.now.spec.now) (λ d. ServiceLeaves service.now.beyond_width
         (fail_on_view service.now.fail_on) (Some d)
         (N.may_give network.now service.now.port) N.Connection.never_fails
-        (F.always_opens ≡ true → F.File.never_fails ≡ true → ⊥) (N.never_fails ≡ true → ⊥) ending
+        (F.always_opens ≡ true → F.File.never_fails ≡ true → ⊥) (ServiceMayFail service.now.wait N.never_fails) ending
         (O.contents output.old) (O.contents output.new))) result start (E.contents errors.new))
         (E.contents errors.old) }
 {
-    let end = serve(rt, files, network, alloc, service, output);
-    let text = service_text(explain, files, network, alloc, service, &end);
+    let peers = Peers::new(alloc, explain);
+    let end = serve(rt, files, network, alloc, service, &peers, output);
+    let text = service_text(explain, files, network, alloc, service, &peers, &end);
     write_explanation(explain, &text, errors);
     report_service_end(&service.fail_on, &end, errors)
 }

@@ -7,10 +7,10 @@ ghost use Rattle.pd_cli.specs.declared.service_fault.ServiceFault.TheVariants as
 ghost use Rattle.pd_fail_on.specs.Conditions.{Condition};
 ghost use Rattle.pd_format.specs.Documents.{IsDocument};
 ghost use Rattle.pd_judgement.specs.Headline.{is_judged};
-ghost use Rattle.pd_arguments.specs.Statuses.{FilesJudgementLeaves, HoldsAsked, ServiceLeaves};
+ghost use Rattle.pd_arguments.specs.Statuses.{FilesJudgementLeaves, HoldsAsked, ServiceLeaves, ServiceMayFail};
 ghost use Rattle.pd_report.specs.Views.{report_view};
 ghost use Rattle.pd_spec.specs.Views.{IsFaultOf, document_view};
-ghost use Rattle.std.specs.Prelude.{◌≡◌, ◌⊎◌, ◌↔◌, ◌+◌, ◌<◌, ◌≤◌, ℕ, All, List, Err, IfErr, IfOk, IfSome, IsOk, IsSome, MatchResult, Ok, Some, [], false, length, map, true};
+ghost use Rattle.std.specs.Prelude.{◌≡◌, ◌⊎◌, ◌↔◌, ◌+◌, ◌<◌, ◌≤◌, ℕ, All, List, Option, Err, IfErr, IfOk, IfSome, IsOk, IsSome, MatchResult, None, Ok, Some, [], false, length, map, true};
 
 use super::file_source::FileSource;
 use super::judge_files::judge_read;
@@ -23,12 +23,14 @@ use pd_engine::{
     ByteSource, Crew, Inquiry, NoGate, Observer, Report, Spec, SpecFault, judge_inquiry_watched,
 };
 use pd_judgement::one_document;
+use pd_peers::{HeardSource, Peer, Peers};
 use pd_sessions::EngineFault;
-use std::alloc::Global;
+use std::alloc::{AllocError, Global};
 use std::io::Write;
 use std::random::RandomSource;
 use std::sync::Wait;
 use std::thread::Threads;
+use std::time::Instant;
 
 /// Binds a port.
 ///
@@ -67,31 +69,133 @@ fn bind_watchers<N: Network>(
     Ok(Some(bind(network, port)?))
 }
 
-/// Accepts this many streams on a port, and gives the port up.
+/// When the streams are waited for no longer, if there is such a moment.
 ///
 /// # Errors
-/// `Network`, if one can't be accepted, and `Memory`.
-fn accept_streams<N: Network>(
+/// `Network`, if the clock can't be read.
+fn wait_end<N: Network>(network: &N, wait: Option<u64>) -> Result<Option<Instant>, ServiceFault>
+    ensures endless { wait ≡ None → IfOk result (λ end. end ≡ None) }
+    ensures sure { N.never_fails ≡ true → IsOk result }
+    ensures err { IfErr result (λ fault. fault ≡ faults.Network) }
+{
+    let Some(seconds) = wait else {
+        return Ok(None);
+    };
+    match network.seconds_from_now(seconds) {
+        Ok(end) => Ok(Some(end)),
+        Err(_) => Err(ServiceFault::Network),
+    }
+}
+
+/// Notes the address of who made a connection; it is empty if that isn't known.
+fn note_address<N: Network>(
+    network: &N,
+    alloc: Global,
+    connection: &N::Connection,
+    peer: Option<&Peer>,
+) {
+    if let Some(peer) = peer {
+        if let Ok(address) = network.peer_address(alloc, connection) {
+            peer.note_address(address.unwrap_or(String::new(alloc)));
+        }
+    }
+}
+
+/// Accepts the next stream on a port, and notes its address for this peer.
+///
+/// # Errors
+/// `Network`, if it can't be accepted, and `Late`, if it doesn't come in time.
+fn accept_stream<'a, N: Network>(
+    network: &N,
+    alloc: Global,
+    listener: &N::Listener,
+    end: Option<Instant>,
+    peer: Option<&'a Peer>,
+) -> Result<HeardSource<'a, N::Connection>, ServiceFault>
+    ensures given { IfOk result (λ stream. (port : ℕ) → N.is_on listener.now port
+        → N.may_give network.now port (N.Connection.remaining stream.source)) }
+    ensures open { IfOk result (λ stream. N.Connection.has_ended stream.source ≡ false) }
+    ensures sure { end ≡ None → N.never_fails ≡ true → IsOk result }
+    ensures err { IfErr result (λ fault. (fault ≡ faults.Network) ⊎ (fault ≡ faults.Late)
+        ⊎ (fault ≡ faults.Engine EngineFault.Memory)) }
+{
+    match network.next_connection(listener, end) {
+        Ok(Some(connection)) => {
+            note_address(network, alloc, &connection, peer);
+            Ok(HeardSource::new(alloc, connection, peer))
+        }
+        Ok(None) => Err(ServiceFault::Late),
+        Err(_) => Err(ServiceFault::Network),
+    }
+}
+
+/// Accepts this many streams on a port, and gives the port up. Of each it is noted who sends it.
+///
+/// # Errors
+/// `Network`, if one can't be accepted, `Late`, if one doesn't come in time, and `Memory`.
+fn accept_streams<'a, N: Network>(
     network: &N,
     alloc: Global,
     listener: N::Listener,
     count: usize,
-) -> Result<Vec<N::Connection>, ServiceFault>
+    end: Option<Instant>,
+    peers: &'a Peers,
+) -> Result<Vec<HeardSource<'a, N::Connection>>, ServiceFault>
     ensures count { IfOk result (λ streams. length streams.items ≡ count) }
     ensures given { IfOk result (λ streams. (port : ℕ) → N.is_on listener port
-        → All (λ stream. N.may_give network.now port (N.Connection.remaining stream)) streams.items) }
-    ensures open { IfOk result (λ streams. All (λ stream. N.Connection.has_ended stream ≡ false) streams.items) }
-    ensures sure { N.never_fails ≡ true → IfErr result (λ fault. fault ≡ faults.Engine EngineFault.Memory) }
-    ensures err { IfErr result (λ fault. (fault ≡ faults.Network) ⊎ (fault ≡ faults.Engine EngineFault.Memory)) }
+        → All (λ stream. N.may_give network.now port (N.Connection.remaining stream.source)) streams.items) }
+    ensures open { IfOk result (λ streams.
+        All (λ stream. N.Connection.has_ended stream.source ≡ false) streams.items) }
+    ensures sure { end ≡ None → N.never_fails ≡ true
+        → IfErr result (λ fault. fault ≡ faults.Engine EngineFault.Memory) }
+    ensures err { IfErr result (λ fault. (fault ≡ faults.Network) ⊎ (fault ≡ faults.Late)
+        ⊎ (fault ≡ faults.Engine EngineFault.Memory)) }
 {
     let mut streams = Vec::new(alloc);
-    for _place in 0..count {
-        let Ok(stream) = network.next_connection(&listener) else {
-            return Err(ServiceFault::Network);
-        };
-        streams.push(stream)?;
+    for place in 0..count {
+        match accept_stream(network, alloc, &listener, end, peers.at(place)) {
+            Ok(stream) => streams.push(stream)?,
+            Err(fault) => {
+                note_starts(network, alloc, &streams, peers);
+                return Err(fault);
+            }
+        }
     }
     Ok(streams)
+}
+
+/// Notes of each of these streams how it begins, as far as it has come.
+fn note_starts<N: Network>(
+    network: &N,
+    alloc: Global,
+    streams: &[HeardSource<'_, N::Connection>],
+    peers: &Peers,
+) {
+    for (place, stream) in streams.iter().enumerate() {
+        if let Some(peer) = peers.at(place) {
+            let _ = note_start(network, alloc, &stream.source, peer);
+        }
+    }
+}
+
+/// Notes how a stream begins, as far as it has come.
+fn note_start<N: Network>(
+    network: &N,
+    alloc: Global,
+    connection: &N::Connection,
+    peer: &Peer,
+) -> Result<(), AllocError> {
+    let mut piece = [0u8; 1024];
+    let count = network.first_bytes(connection, &mut piece);
+    let mut start = Vec::new(alloc);
+    for byte in piece.iter().take(count) {
+        start.push(*byte)?;
+        if *byte == b'\n' {
+            break;
+        }
+    }
+    peer.note_start(start);
+    Ok(())
 }
 
 /// How a server ends by how its judgement ends.
@@ -150,17 +254,20 @@ fn serve_session<S: RandomSource + Threads + Wait + Sync, N: Network + Sync, O: 
     inquiry: Inquiry<'_>,
     spec: &Spec,
     service: &Service<'_>,
+    peers: &Peers,
     output: &mut O,
 ) -> Result<Report, ServiceFault>
     requires document { IsDocument inquiry.document.now (document_view spec.now) }
     requires port { service.now.port ≤ port_limit }
     ensures written { (fail_on : List Condition) → ServiceLeaves inquiry.entry.beyond_width fail_on
         (Some inquiry.entry.document.now) (N.may_give network.now service.now.port) N.Connection.never_fails ⊥
-        (N.never_fails ≡ true → ⊥) (service_ending fail_on result) (O.contents output.old) (O.contents output.new) }
-    ensures err { IfErr result (λ fault. (fault ≡ faults.Network) ⊎ (fault ≡ faults.Engine EngineFault.Memory)
-        ⊎ (fault ≡ faults.Engine EngineFault.Write)) }
+        (ServiceMayFail service.now.wait N.never_fails) (service_ending fail_on result) (O.contents output.old)
+        (O.contents output.new) }
+    ensures err { IfErr result (λ fault. (fault ≡ faults.Network) ⊎ (fault ≡ faults.Late)
+        ⊎ (fault ≡ faults.Engine EngineFault.Memory) ⊎ (fault ≡ faults.Engine EngineFault.Write)) }
 {
     one_document();
+    let end = wait_end(network, service.wait)?;
     let listener = bind(network, service.port)?;
     let watchers = Watchers {
         network,
@@ -169,7 +276,8 @@ fn serve_session<S: RandomSource + Threads + Wait + Sync, N: Network + Sync, O: 
         spec,
         alloc,
     };
-    let streams = accept_streams(network, alloc, listener, spec.names().processes())?;
+    let count = spec.names().processes();
+    let streams = accept_streams(network, alloc, listener, count, end, peers)?;
     service_end(judge_accepted(
         rt,
         alloc,
@@ -239,9 +347,11 @@ fn refuse_document<S: RandomSource + Threads + Wait + Sync, N: Network, O: Write
     output: &mut O,
 ) -> Result<Report, ServiceFault>
     requires { IsFaultOf inquiry.document.now fault.now }
-    ensures written { (port : ℕ) (fail_on : List Condition) → ServiceLeaves inquiry.entry.beyond_width fail_on
+    ensures written { (port : ℕ) (fail_on : List Condition) (wait : Option ℕ)
+        → ServiceLeaves inquiry.entry.beyond_width fail_on
         (Some inquiry.entry.document.now) (N.may_give _network.now port) N.Connection.never_fails ⊥
-        (N.never_fails ≡ true → ⊥) (service_ending fail_on result) (O.contents output.old) (O.contents output.new) }
+        (ServiceMayFail wait N.never_fails) (service_ending fail_on result) (O.contents output.old)
+        (O.contents output.new) }
     // Its refusal is the report that is written whole, or the call fails.
     ensures refused { IfOk result (λ report. is_judged (report_view report) ≡ false) }
     ensures err { IfErr result (λ fault. (fault ≡ faults.Engine EngineFault.Memory)
@@ -264,19 +374,21 @@ fn serve_document<S: RandomSource + Threads + Wait + Sync, N: Network + Sync, O:
     alloc: Global,
     document: &[u8],
     service: &Service<'_>,
+    peers: &Peers,
     output: &mut O,
 ) -> Result<Report, ServiceFault>
     requires { service.now.port ≤ port_limit }
     ensures { (fail_on : List Condition) → ServiceLeaves service.now.beyond_width fail_on (Some document.now)
-        (N.may_give network.now service.now.port) N.Connection.never_fails ⊥ (N.never_fails ≡ true → ⊥)
-        (service_ending fail_on result) (O.contents output.old) (O.contents output.new) }
+        (N.may_give network.now service.now.port) N.Connection.never_fails ⊥
+        (ServiceMayFail service.now.wait N.never_fails) (service_ending fail_on result) (O.contents output.old)
+        (O.contents output.new) }
 {
     let inquiry = Inquiry {
         document,
         beyond_width: service.beyond_width,
     };
     match Spec::read(alloc, inquiry.document) {
-        Ok(spec) => serve_session(rt, network, alloc, inquiry, &spec, service, output),
+        Ok(spec) => serve_session(rt, network, alloc, inquiry, &spec, service, peers, output),
         Err(fault) => refuse_document(rt, network, alloc, inquiry, &fault, output),
     }
 }
@@ -302,13 +414,14 @@ fn read_service<F: FileSource>(
 
 /// Opens and reads the document of a session; binds the ports, unless the document, with what is asked in place of what
 /// it says, is refused; accepts a stream for each process; judges the document and the streams, writes the report, and
-/// flushes the output. It gives the report. Meanwhile the watchers are accepted, and each is shown how far the streams
-/// are read; it returns once all of them have come, or one can't be accepted.
+/// flushes the output. It gives the report, and notes for these peers who sends each stream. Meanwhile the watchers are
+/// accepted, and each is shown how far the streams are read; it returns once all of them have come, or one can't be
+/// accepted.
 ///
 /// # Errors
 /// `Read`, if the document can't be opened or read, `Network`, if a port can't be bound or a stream not be accepted,
-/// and `Memory` leave nothing written. `Write` leaves a part of the report written, or all of it if only the flush
-/// failed.
+/// `Late`, if a stream doesn't come in time, and `Memory` leave nothing written. `Write` leaves a part of the report
+/// written, or all of it if only the flush failed.
 pub(crate) fn serve<
     S: RandomSource + Threads + Wait + Sync,
     F: FileSource,
@@ -320,6 +433,7 @@ pub(crate) fn serve<
     network: &N,
     alloc: Global,
     service: &Service<'_>,
+    peers: &Peers,
     output: &mut O,
 ) -> Result<Report, ServiceFault>
     requires { service.now.port ≤ port_limit }
@@ -327,11 +441,11 @@ pub(crate) fn serve<
     ensures { (fail_on : List Condition) → HoldsAsked (asks_view service.now.asks)
         (F.bytes_of files.now service.now.spec.now) (λ d. ServiceLeaves service.now.beyond_width fail_on (Some d)
         (N.may_give network.now service.now.port) N.Connection.never_fails
-        (F.always_opens ≡ true → F.File.never_fails ≡ true → ⊥) (N.never_fails ≡ true → ⊥)
+        (F.always_opens ≡ true → F.File.never_fails ≡ true → ⊥) (ServiceMayFail service.now.wait N.never_fails)
         (service_ending fail_on result) (O.contents output.old) (O.contents output.new)) }
 {
     match read_service(files, alloc, service) {
-        Ok(document) => serve_document(rt, network, alloc, &document, service, output),
+        Ok(document) => serve_document(rt, network, alloc, &document, service, peers, output),
         Err(fault) => Err(ServiceFault::Engine(fault)),
     }
 }

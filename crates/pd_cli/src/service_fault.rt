@@ -9,6 +9,8 @@ pub(crate) enum ServiceFault {
     Engine(EngineFault),
     /// A port could not be bound, or a stream not be accepted.
     Network,
+    /// Not all streams had connected in time.
+    Late,
 }
 
 impl From<EngineFault> for ServiceFault {

@@ -153,7 +153,8 @@ pub(crate) fn report_judgement<E: Write>(
     }
 }
 
-/// Writes the line that reports that a port can't be bound or a stream not be accepted, and gives the exit status.
+/// Writes the line that reports that a port can't be bound or a stream not be accepted, or not in time, and gives the
+/// exit status.
 fn report_network<E: Write>(errors: &mut E) -> u8
     ensures status { result ≡ status_of_failure NetworkFailure }
     ensures line { WritesUpTo (IsLineOf NetworkFailure) (E.contents errors.old) (E.contents errors.new) }
@@ -175,6 +176,6 @@ pub(crate) fn report_service_end<E: Write>(
     match end {
         Ok(report) => report_conclusion(fail_on.conclusion(report), errors),
         Err(ServiceFault::Engine(fault)) => report_fault(fault, errors),
-        Err(ServiceFault::Network) => report_network(errors),
+        Err(ServiceFault::Network | ServiceFault::Late) => report_network(errors),
     }
 }

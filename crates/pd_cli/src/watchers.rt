@@ -50,7 +50,7 @@ impl<'a, N: Network> Observer for Watchers<'a, N> {
             return;
         };
         for _place in 0..self.count {
-            let Ok(mut connection) = self.network.next_connection(listener) else {
+            let Ok(Some(mut connection)) = self.network.next_connection(listener, None) else {
                 return;
             };
             show(

@@ -3,6 +3,7 @@ use pd_cli::Network;
 use std::io;
 use std::io::{Error, ErrorKind, Read, Write};
 use std::sync::atomic::{AtomicU64, Ordering};
+use std::time::Instant;
 
 /// A peer that sends these bytes and takes none.
 #[derive(Drop)]
@@ -65,18 +66,18 @@ impl Network for Scripted {
         Ok(port)
     }
 
-    fn next_connection(&self, listener: &u16) -> io::Result<Peer> {
+    fn next_connection(&self, listener: &u16, _end: Option<Instant>) -> io::Result<Option<Peer>> {
         if *listener != 1 {
             if self.has_watchers {
-                return Ok(Peer { bytes: b"" });
+                return Ok(Some(Peer { bytes: b"" }));
             }
             return Err(Error::from(ErrorKind::ConnectionAborted));
         }
         let place = self.accepted.fetch_add(1, Ordering::SeqCst);
         match self.streams.get(place as usize) {
-            Some(stream) => Ok(Peer {
+            Some(stream) => Ok(Some(Peer {
                 bytes: stream.as_bytes(),
-            }),
+            })),
             None => Err(Error::from(ErrorKind::ConnectionAborted)),
         }
     }

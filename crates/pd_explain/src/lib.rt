@@ -11,6 +11,7 @@
 //! - `documents`, `document_details`: why a session document is refused
 //! - `predicates`, `expected_tokens`, `known_names`: why the text of a predicate is refused
 //! - `streams`, `record_details`: why a stream is refused
+//! - `peers`: who sends the streams of a server, and who is missing
 //! - `messages`: why messages, a causal cycle, or a list of streams are refused
 //! - `answers`: what an answer leaves unknown
 //! - `faults`: why there is no report
@@ -29,6 +30,7 @@ mod json_faults;
 mod known_names;
 mod lines;
 mod messages;
+mod peers;
 mod predicates;
 mod record_details;
 mod says;
@@ -46,6 +48,7 @@ pub use messages::{
     EventName, Others, advise_absent, advise_cycle, advise_messages, explain_absent, explain_cycle,
     explain_message, explain_streams, message_of, show_event, show_join, show_other, show_step,
 };
+pub use peers::{Sender, explain_sent_stream, explain_wait};
 pub use predicates::{PredicateFault, explain_predicate, explain_predicate_word};
 pub use source::Source;
 pub use streams::{

@@ -39,7 +39,7 @@ fn meaning(word: &str) -> &'static str {
 }
 
 /// What is expected in place of what has this fault.
-fn expected(word: &str) -> &'static str {
+pub(crate) fn expected(word: &str) -> &'static str {
     match word {
         "linetoolong" => "one event a line, in at most 65,536 bytes.",
         "streamtoolong" => "at most 16,777,216 bytes.",
@@ -62,7 +62,7 @@ also with \"set\"; and {\"end\":true} last."
 }
 
 /// What to do about this fault.
-fn advice(word: &str) -> &'static str {
+pub(crate) fn advice(word: &str) -> &'static str {
     match word {
         "linetoolong" => "look whether a line feed is missing between two events.",
         "streamtoolong" | "events" => {
@@ -110,7 +110,7 @@ pub fn joined_name(alloc: Global, bytes: &[u8]) -> Result<Option<String>, AllocE
 }
 
 /// Says which stream is refused, and at which line.
-fn say_head(
+pub(crate) fn say_head(
     out: &mut Vec<u8>,
     fault: StreamFault<'_>,
     file: &str,

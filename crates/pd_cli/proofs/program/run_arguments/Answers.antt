@@ -103,7 +103,8 @@ returns-in-Ok-Serve g c = record {
       output = inr (
         ServeStreams c.in-Ok-Serve.service.beyond_width (fail_on_view c.in-Ok-Serve.service.fail_on)
             (asks_view c.in-Ok-Serve.service.asks)
-            c.in-Ok-Serve.service.spec.now c.in-Ok-Serve.service.port c.in-Ok-Serve.service.watchers,
+            c.in-Ok-Serve.service.spec.now c.in-Ok-Serve.service.port c.in-Ok-Serve.service.watchers
+            c.in-Ok-Serve.service.wait,
         subst (IsAsked (map (λ argument. argument.bytes.items) c.args.arguments.now)) c.in-Ok-Serve.field-0-is
             c.in-Ok-Serve.ensures.asked,
         c.run_service.ensures.reported.output,

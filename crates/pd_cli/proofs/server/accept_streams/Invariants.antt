@@ -5,9 +5,9 @@ use Rattle.pd_cli.proofs.server.accept_streams.Given as goal
 
 abbrev pub invariant-loop-place : goal.invariant-loop-place
 invariant-loop-place g l = record {
-  count : length l.streams.items ≡ l._place;
+  count : length l.streams.items ≡ l.place;
   given : (port : ℕ) → g.N.Network.is_on l.listener port
-      → All (λ stream. g.N.Network.may_give l.network port (g.N.Connection.ByteSource.remaining stream))
+      → All (λ stream. g.N.Network.may_give l.network port (g.N.Connection.ByteSource.remaining stream.source))
       l.streams.items;
-  unended : All (λ stream. g.N.Connection.ByteSource.has_ended stream ≡ false) l.streams.items;
+  unended : All (λ stream. g.N.Connection.ByteSource.has_ended stream.source ≡ false) l.streams.items;
 }

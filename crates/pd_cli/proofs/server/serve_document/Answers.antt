@@ -6,3 +6,4 @@ returns-in-Ok g c fail_on = c.serve_session.ensures.written fail_on
 
 pub returns-in-Err : goal.returns-in-Err
 returns-in-Err g c fail_on = c.refuse_document.ensures.written c.args.service.now.port fail_on
+    c.args.service.now.wait

@@ -1,12 +1,13 @@
 -- The streams are as many as the document has processes, and each was accepted on the port.
-use Rattle.std.proofs.Common.{◌≡◌, ◌∙◌, List, ap, length, map, subst, sym, true}
+use Rattle.std.proofs.Common.{◌≡◌, ◌∙◌, ℕ, List, Option, ap, length, map, subst, sym}
 use Rattle.std.proofs.lemmas.List.{length-map}
 use Rattle.std.proofs.lemmas.List.Elements.{All-map}
 use Rattle.pd_format.specs.Names.{ProcessNames}
-use Rattle.pd_arguments.specs.Statuses.{Ending, ServiceLeaves}
+use Rattle.pd_arguments.specs.Statuses.{Ending, ServiceLeaves, ServiceMayFail}
 use Rattle.std.specs.Prelude.{Some}
 use Rattle.pd_cli.proofs.Accepted.{accepted_of_read, service_of_judgement}
 use Rattle.pd_cli.specs.Faults.{judgement_ending}
+use Rattle.pd_peers.specs.declared.heard_source.HeardSource.{HeardSource}
 use Rattle.pd_spec.specs.Views.{document_view}
 use Rattle.pd_cli.proofs.server.serve_session.Goals as goal
 
@@ -14,18 +15,19 @@ pub returns-clause-written : goal.returns-clause-written
 returns-clause-written g c fail_on =
     let port = c.args.service.now.port in
     let G = g.N.Network.may_give c.args.network.now port in
-    let remaining = g.N.Connection.ByteSource.remaining in
+    let remaining : HeardSource g.row.N-Connection.Denot → Option (List ℕ) =
+    λ stream. g.N.Connection.ByteSource.remaining stream.source in
     let streams = c.in_ok-streams.streams.items in
     let document = c.args.inquiry.document.now in
     let count : length (map remaining streams) ≡ length (document_view c.args.spec.now).names =
-    length-map streams remaining ∙ (c.in_ok-streams.ensures.count ∙ (c.processes.ensures
+    length-map streams remaining ∙ (c.in_ok-streams.ensures.count ∙ (c.processes-count.ensures
     ∙ ap (λ (names : List ProcessNames). length names) c.names.ensures)) in
     let given = All-map G remaining streams (c.in_ok-streams.ensures.given port c.in_ok-listener.ensures.on) in
     let are = accepted_of_read document G (map remaining streams) (document_view c.args.spec.now)
     c.one_document.ensures.single c.one_document.ensures.not_refused c.requires.document given count in
     subst (λ (e : Ending). ServiceLeaves c.args.inquiry.beyond_width fail_on (Some document) G
     g.N.Connection.ByteSource.never_fails
-    ⊥ (g.N.Network.never_fails ≡ true → ⊥) e (g.O.Write.contents c.args.output.now)
+    ⊥ (ServiceMayFail c.args.service.now.wait g.N.Network.never_fails) e (g.O.Write.contents c.args.output.now)
     (g.O.Write.contents c.judge_accepted.new.output)) (sym (c.service_end.ensures.ending fail_on))
     (service_of_judgement c.args.inquiry.beyond_width fail_on document G (map remaining streams)
     g.N.Connection.ByteSource.never_fails _
