@@ -249,6 +249,36 @@ test("the cut is moved by clicks and drags", needed, async () => {
   await page.close();
 });
 
+test("two fingers zoom, and one goes on along the run", needed, async () => {
+  const page = await Page.open(ring(3, 200));
+  await page.call("Emulation.setTouchEmulationEnabled", { enabled: true, maxTouchPoints: 2 });
+  await page.js("setView(40, 12)");
+  const box = await page.js("(({ left, top }) => [left, top])(canvas.getBoundingClientRect())");
+  const touch = async (type, ...xs) => {
+    const touchPoints = xs.map(([id, x]) => ({ id, x: box[0] + x, y: box[1] + 60 + 10 * id }));
+    await page.call("Input.dispatchTouchEvent", { type, touchPoints });
+    await page.settle();
+  };
+  const cut = await page.cut();
+  await touch("touchStart", [0, 300]);
+  await touch("touchStart", [0, 300], [1, 500]);
+  const held = await page.js("columnAt(state.view, 400)");
+  const near = (what, wanted) => page.until(`Math.abs(${what} - ${wanted}) < 0.5`);
+  await touch("touchMove", [0, 200], [1, 600]);
+  await near("state.view.scale", 24);
+  assert.ok(Math.abs(await page.js("columnAt(state.view, 400)") - held) < 0.1, "what lay between them stays there");
+  await touch("touchMove", [0, 350], [1, 750]);
+  await near("columnAt(state.view, 550)", held);
+  const left = await page.js("state.view.left");
+  await touch("touchEnd", [1, 750]);
+  await touch("touchMove", [0, 110]);
+  await near("state.view.left", left + 10);
+  await touch("touchEnd");
+  assert.deepEqual(await page.cut(), cut, "no finger was a click");
+  assert.equal(await page.js("state.selected"), null);
+  await page.close();
+});
+
 test("all is done by keys", needed, async () => {
   const page = await Page.open(example("failover"));
   assert.equal(await page.js("document.querySelectorAll('[role=slider][tabindex=\"0\"]').length"), 1);

@@ -81,8 +81,12 @@ function setView(left, scale) {
 }
 
 function zoom(factor, x = size.width / 2) {
-  const column = columnAt(state.view, x);
-  const { scale } = clampView(run, size.width, { left: 0, scale: state.view.scale * factor });
+  stretch(state.view.scale * factor, columnAt(state.view, x), x);
+}
+
+// Zooms to a scale, as far as that goes, with a column at x.
+function stretch(wanted, column, x) {
+  const { scale } = clampView(run, size.width, { left: 0, scale: wanted });
   setView(column - x / scale, scale);
 }
 
@@ -368,15 +372,50 @@ function pageKey(event) {
 
 // ---- the pointer ------------------------------------------------------------------------------------------------
 
+// Where each finger is, and the pinch of two: the column between them stays between them.
+const fingers = new Map();
+let pinch = null;
+
+function spread() {
+  const [one, other] = [...fingers.values()];
+  return { middle: (one.x + other.x) / 2, apart: Math.max(20, Math.hypot(one.x - other.x, one.y - other.y)) };
+}
+
+function startPinch() {
+  const { middle, apart } = spread();
+  pinch = { column: columnAt(state.view, middle), scale: state.view.scale, apart };
+}
+
+function movePinch() {
+  const { middle, apart } = spread();
+  stretch(pinch.scale * apart / pinch.apart, pinch.column, middle);
+}
+
 function watchPointer() {
   let drag = null;
   const place = (event) => {
     const box = canvas.getBoundingClientRect();
     return { x: event.clientX - box.left, y: event.clientY - box.top };
   };
+  // One finger less: what is left of a pinch goes along the run.
+  const lift = (event) => {
+    drag = null;
+    canvas.style.cursor = "";
+    if (!fingers.delete(event.pointerId) || pinch === null) return;
+    if (fingers.size >= 2) return startPinch();
+    pinch = null;
+    const [left] = fingers.values();
+    drag = { x: left.x, left: state.view.left, moved: true };
+  };
   canvas.addEventListener("pointerdown", (event) => {
     if (event.button !== 0) return;
     const { x, y } = place(event);
+    if (event.pointerType === "touch") fingers.set(event.pointerId, { x, y });
+    if (fingers.size >= 2) {
+      drag = null;
+      hideTip();
+      return startPinch();
+    }
     const grip = gripNear(run, state, size, x, y);
     hideTip();
     if (grip !== null && grip.edge) return reveal(run.columns[grip.p][state.cut[grip.p]]);
@@ -388,6 +427,8 @@ function watchPointer() {
   });
   canvas.addEventListener("pointermove", (event) => {
     const { x, y } = place(event);
+    if (fingers.has(event.pointerId)) fingers.set(event.pointerId, { x, y });
+    if (pinch !== null) return movePinch();
     if (drag === null) return hover(x, y);
     if (drag.start === undefined) {
       if (Math.abs(x - drag.x) > 4) drag.moved = true;
@@ -408,10 +449,12 @@ function watchPointer() {
   });
   canvas.addEventListener("pointerup", (event) => {
     if (drag !== null && drag.start === undefined && !drag.moved) click(event, place(event));
-    drag = null;
-    canvas.style.cursor = "";
+    lift(event);
   });
-  canvas.addEventListener("pointercancel", () => { drag = null; });
+  canvas.addEventListener("pointercancel", lift);
+  canvas.addEventListener("touchmove", (event) => {
+    if (event.touches.length > 1 && event.cancelable) event.preventDefault();   // the page isn't zoomed as well
+  }, { passive: false });
   canvas.addEventListener("pointerleave", hideTip);
   canvas.addEventListener("wheel", (event) => {
     const { x } = place(event);

@@ -1487,8 +1487,12 @@ pub(crate) const AFTER: &[u8] = b"\
     }\n\
     \n\
     function zoom(factor, x = size.width / 2) {\n\
-    \x20 const column = columnAt(state.view, x);\n\
-    \x20 const { scale } = clampView(run, size.width, { left: 0, scale: state.view.scale * factor });\n\
+    \x20 stretch(state.view.scale * factor, columnAt(state.view, x), x);\n\
+    }\n\
+    \n\
+    // Zooms to a scale, as far as that goes, with a column at x.\n\
+    function stretch(wanted, column, x) {\n\
+    \x20 const { scale } = clampView(run, size.width, { left: 0, scale: wanted });\n\
     \x20 setView(column - x / scale, scale);\n\
     }\n\
     \n\
@@ -1788,15 +1792,51 @@ pub(crate) const AFTER: &[u8] = b"\
     // ---- the pointer -----------------------------------------------------------------------------------------\
     -------\n\
     \n\
+    // Where each finger is, and the pinch of two: the column between them stays between them.\n\
+    const fingers = new Map();\n\
+    let pinch = null;\n\
+    \n\
+    function spread() {\n\
+    \x20 const [one, other] = [...fingers.values()];\n\
+    \x20 return { middle: (one.x + other.x) / 2, apart: Math.max(20, Math.hypot(one.x - other.x, one.y - other.y)\
+    ) };\n\
+    }\n\
+    \n\
+    function startPinch() {\n\
+    \x20 const { middle, apart } = spread();\n\
+    \x20 pinch = { column: columnAt(state.view, middle), scale: state.view.scale, apart };\n\
+    }\n\
+    \n\
+    function movePinch() {\n\
+    \x20 const { middle, apart } = spread();\n\
+    \x20 stretch(pinch.scale * apart / pinch.apart, pinch.column, middle);\n\
+    }\n\
+    \n\
     function watchPointer() {\n\
     \x20 let drag = null;\n\
     \x20 const place = (event) => {\n\
     \x20   const box = canvas.getBoundingClientRect();\n\
     \x20   return { x: event.clientX - box.left, y: event.clientY - box.top };\n\
     \x20 };\n\
+    \x20 // One finger less: what is left of a pinch goes along the run.\n\
+    \x20 const lift = (event) => {\n\
+    \x20   drag = null;\n\
+    \x20   canvas.style.cursor = \"\";\n\
+    \x20   if (!fingers.delete(event.pointerId) || pinch === null) return;\n\
+    \x20   if (fingers.size >= 2) return startPinch();\n\
+    \x20   pinch = null;\n\
+    \x20   const [left] = fingers.values();\n\
+    \x20   drag = { x: left.x, left: state.view.left, moved: true };\n\
+    \x20 };\n\
     \x20 canvas.addEventListener(\"pointerdown\", (event) => {\n\
     \x20   if (event.button !== 0) return;\n\
     \x20   const { x, y } = place(event);\n\
+    \x20   if (event.pointerType === \"touch\") fingers.set(event.pointerId, { x, y });\n\
+    \x20   if (fingers.size >= 2) {\n\
+    \x20     drag = null;\n\
+    \x20     hideTip();\n\
+    \x20     return startPinch();\n\
+    \x20   }\n\
     \x20   const grip = gripNear(run, state, size, x, y);\n\
     \x20   hideTip();\n\
     \x20   if (grip !== null && grip.edge) return reveal(run.columns[grip.p][state.cut[grip.p]]);\n\
@@ -1808,6 +1848,8 @@ pub(crate) const AFTER: &[u8] = b"\
     \x20 });\n\
     \x20 canvas.addEventListener(\"pointermove\", (event) => {\n\
     \x20   const { x, y } = place(event);\n\
+    \x20   if (fingers.has(event.pointerId)) fingers.set(event.pointerId, { x, y });\n\
+    \x20   if (pinch !== null) return movePinch();\n\
     \x20   if (drag === null) return hover(x, y);\n\
     \x20   if (drag.start === undefined) {\n\
     \x20     if (Math.abs(x - drag.x) > 4) drag.moved = true;\n\
@@ -1829,10 +1871,13 @@ pub(crate) const AFTER: &[u8] = b"\
     \x20 });\n\
     \x20 canvas.addEventListener(\"pointerup\", (event) => {\n\
     \x20   if (drag !== null && drag.start === undefined && !drag.moved) click(event, place(event));\n\
-    \x20   drag = null;\n\
-    \x20   canvas.style.cursor = \"\";\n\
+    \x20   lift(event);\n\
     \x20 });\n\
-    \x20 canvas.addEventListener(\"pointercancel\", () => { drag = null; });\n\
+    \x20 canvas.addEventListener(\"pointercancel\", lift);\n\
+    \x20 canvas.addEventListener(\"touchmove\", (event) => {\n\
+    \x20   if (event.touches.length > 1 && event.cancelable) event.preventDefault();   // the page isn't zoomed a\
+    s well\n\
+    \x20 }, { passive: false });\n\
     \x20 canvas.addEventListener(\"pointerleave\", hideTip);\n\
     \x20 canvas.addEventListener(\"wheel\", (event) => {\n\
     \x20   const { x } = place(event);\n\

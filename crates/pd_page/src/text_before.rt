@@ -8,7 +8,7 @@ pub(crate) const BEFORE: &[u8] = b"\
     <meta charset=\"utf-8\">\n\
     <meta http-equiv=\"Content-Security-Policy\" content=\"default-src 'none'; script-src 'sha256-kylRvuxIFp5DHCj\
     lvhVdnwGiW98ma1GjpkKHm0RcTG0=' 'sha256-eoj3ue2nsV5inWqjUYkyjbKiFrv7BjYLXV2WWgPJ3cQ=' 'sha256-lsL+A7jTWLaJY5Av\
-    tx8FV6/3XhHxmKghoRnpegJq81I=' 'sha256-d6P3VSirLHadhBno3G1bXnTEKpFTEX4fDLQcMM0Zfhc='; style-src 'sha256-pXwpQg\
+    tx8FV6/3XhHxmKghoRnpegJq81I=' 'sha256-FT+hwSAG7N+rB8hWQwtX45JyED8bZ7X1bRUpdbXBh0E='; style-src 'sha256-pXwpQg\
     sW7eW/l3epPISjbOd7/1dqPQ5EMuC1lzQEvsk='; base-uri 'none'; form-action 'none'\">\n\
     <meta name=\"viewport\" content=\"width=device-width, initial-scale=1\">\n\
     <meta name=\"referrer\" content=\"no-referrer\">\n\
@@ -396,7 +396,7 @@ pub(crate) const BEFORE: &[u8] = b"\
     d></tr>\n\
     \x20     <tr><th scope=\"row\">Pointer</th><td>click an event: the cut moves there; with <kbd>Shift</kbd> it \
     is only selected. Drag a grip of the cut. Drag the ground or turn the wheel to go along the run; with <kbd>Ct\
-    rl</kbd> the wheel zooms</td></tr>\n\
+    rl</kbd> the wheel zooms, and so do two fingers</td></tr>\n\
     \x20   </tbody>\n\
     \x20 </table>\n\
     \x20 <ul class=\"signs\">\n\
