@@ -101,6 +101,11 @@ def predicates():
     yield session("a predicate is too deep", document("(" * 65 + "a.x == 1" + ")" * 65))
 
 
+def asked():
+    yield session("a predicate that is asked for names no variable", words=("--ask", "a.x == 1", "--ask", "b.z == 1"))
+    yield session("a sign is missing in a predicate that is asked for", words=("--ask", "a.x = 1"))
+
+
 def lines():
     long = A + '{"set":{"x":1}, "send":"' + "m" * 65_536 + '"}\n' + END
     yield session("a line is too long", a=long)
@@ -177,7 +182,8 @@ MEMORY = 14 << 20
 TOO_LONG = 268_435_457
 REPORT = "session 2 processes 2 events 0 messages\nboth possibly yes 1,1\nboth definitely yes 2\n"
 KINDS = {
-    "The session document": documents, "The text of a predicate": predicates, "A line of a stream": lines,
+    "The session document": documents, "The text of a predicate": predicates,
+    "The text of a predicate that is asked for": asked, "A line of a stream": lines,
     "The list of streams": streams, "Messages": messages, "Unknown answers": lambda: [wide()],
     "Streams whose bytes are gone": connections, "A bundle, whose bytes are gone": bundles, "Faults": faults,
 }
