@@ -119,10 +119,10 @@ const EXPLORE_ABOUT: &str =
 /// What the help of `explore` ends with.
 const EXPLORE_AFTER: &str =
     "The session is judged as `judge` does, and the page is written to the standard output: one file of HTML, complete \
-in itself, with the run, the predicates and the answers. Of a session that is refused the report is written in its \
-place, as by `judge`. The status is 0 if the page is written, 1 if the session is refused, also because a stream can't \
-be read, 2 if the arguments are refused, 3 if a file can't be opened, the document can't be read or the output can't \
-be written, and 4 if memory runs out.\n\n\
+in itself, with the run, the predicates and the answers. Of a session that is refused for a causal cycle it shows the \
+cycle, and of one that is refused otherwise the report is written in its place, as by `judge`. The status is 0 if the \
+session is judged, 1 if it is refused, also because a stream can't be read, 2 if the arguments are refused, 3 if a \
+file can't be opened, the document can't be read or the output can't be written, and 4 if memory runs out.\n\n\
 The formats are described in docs/SPECIFICATION.md. An example, at the top of the repository:\n  \
 crates/monitor/out/monitor explore examples/ten-lines/session.json examples/ten-lines/left.stream \
 examples/ten-lines/right.stream > run.html";

@@ -4,10 +4,12 @@ use Rattle.std.specs.List.{AllZip}
 use Rattle.std.specs.Io.KnownBytes.{Keeps}
 use Rattle.pd_format.specs.Documents.{Inquiry, inquiry}
 use Rattle.pd_arguments.specs.Statuses.{Alarm, BundleFailure, Ending, Failed, MemoryFailure, Misuse, Negative, NetworkFailure, NoPredicate, ReadFailure, Success, WriteFailure, WritesUpTo}
-use Rattle.pd_judgement.specs.Writes.{IsRefused, Whole, Writes}
+use Rattle.pd_format.specs.Reports as reports
+use Rattle.pd_judgement.specs.Writes.{IsAnyReport, IsJudged, IsRefused, Whole, Writes}
 use Rattle.pd_judgement.proofs.Writing.{writes_weaker}
 use Rattle.pd_report.specs.declared.report.Report.{Report}
 use Rattle.pd_explore.specs.Explored.{IsOwed, IsPageOfInputs, judged_as}
+use Rattle.pd_explore.proofs.Written.{page_weaker}
 use Rattle.pd_cli.specs.Explorations.{ExploreLeaves}
 use Rattle.pd_cli.specs.Faults.{exploration_ending}
 use Rattle.pd_cli.specs.FileSources.{HasWholeFile, SameOutline, StandsFor}
@@ -20,8 +22,11 @@ use Rattle.pd_cli.proofs.WrittenSoFar.{appends_kept}
 -- a text of which it is said whether the session is judged is one of which that isn't said
 pub unsaid_of_owed : (asked : Inquiry) (inputs : List (Option (List ℕ))) (never_fails : Bool) (judged : Option Bool)
     (text : List ℕ) → IsOwed asked inputs never_fails judged text → IsOwed asked inputs never_fails None text
-unsaid_of_owed asked inputs never_fails (Some true) text owed = inl owed
-unsaid_of_owed asked inputs never_fails (Some false) text owed = inr owed
+unsaid_of_owed asked inputs never_fails (Some true) text owed =
+    inl (page_weaker asked inputs never_fails IsJudged IsAnyReport text (λ report said. tt) owed)
+unsaid_of_owed asked inputs never_fails (Some false) text (inl page) =
+    inl (page_weaker asked inputs never_fails IsRefused IsAnyReport text (λ report said. tt) page)
+unsaid_of_owed asked inputs never_fails (Some false) text (inr report) = inr report
 unsaid_of_owed asked inputs never_fails None text owed = owed
 
 pub explored_ends : (beyond : Bool) (document : List ℕ) (inputs : List (Option (List ℕ))) (never_fails : Bool)
@@ -43,10 +48,10 @@ explored_ends beyond document inputs never_fails (Some report) old middle new wr
 -- ---- files
 
 page_of_files : (beyond : Bool) (read document : List ℕ) (files lefts : List (Option (List ℕ))) (never_fails : Bool)
-    (text : List ℕ) → SameOutline read document → AllZip HasWholeFile files lefts
-    → IsPageOfInputs (inquiry beyond read) lefts never_fails text
-    → IsPageOfInputs (inquiry beyond document) files never_fails text
-page_of_files beyond read document files lefts never_fails text same are h = record {
+    (IsSaid : reports.Report → Type 0) (text : List ℕ) → SameOutline read document → AllZip HasWholeFile files lefts
+    → IsPageOfInputs (inquiry beyond read) lefts never_fails IsSaid text
+    → IsPageOfInputs (inquiry beyond document) files never_fails IsSaid text
+page_of_files beyond read document files lefts never_fails IsSaid text same are h = record {
   streams = h.streams;
   are_given = given_as_files never_fails files lefts h.streams are h.are_given;
   is_page = record {
@@ -56,9 +61,10 @@ page_of_files beyond read document files lefts never_fails text same are h = rec
     pairs = h.is_page.pairs;
     are_messages = h.is_page.are_messages;
     messages = h.is_page.messages;
-    answers = h.is_page.answers;
+    outcome = h.is_page.outcome;
     right = same_judgement beyond read document h.streams _ same h.is_page.right;
     truth = same_truth beyond read document h.streams _ same h.is_page.truth;
+    said = h.is_page.said;
     is_text = h.is_page.is_text;
   };
 }
@@ -68,11 +74,13 @@ owed_of_files : (beyond : Bool) (read document : List ℕ) (files lefts : List (
     → IsOwed (inquiry beyond read) lefts never_fails judged text
     → IsOwed (inquiry beyond document) files never_fails judged text
 owed_of_files beyond read document files lefts never_fails (Some true) text same are owed =
-    page_of_files beyond read document files lefts never_fails text same are owed
-owed_of_files beyond read document files lefts never_fails (Some false) text same are owed =
-    report_text_of_files beyond read document files lefts never_fails IsRefused text same are owed
+    page_of_files beyond read document files lefts never_fails IsJudged text same are owed
+owed_of_files beyond read document files lefts never_fails (Some false) text same are (inl page) =
+    inl (page_of_files beyond read document files lefts never_fails IsRefused text same are page)
+owed_of_files beyond read document files lefts never_fails (Some false) text same are (inr report) =
+    inr (report_text_of_files beyond read document files lefts never_fails IsRefused text same are report)
 owed_of_files beyond read document files lefts never_fails None text same are (inl page) =
-    inl (page_of_files beyond read document files lefts never_fails text same are page)
+    inl (page_of_files beyond read document files lefts never_fails IsAnyReport text same are page)
 owed_of_files beyond read document files lefts never_fails None text same are (inr report) =
     inr (report_text_of_files beyond read document files lefts never_fails IsRefused text same are report)
 

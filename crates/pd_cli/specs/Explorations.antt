@@ -9,8 +9,8 @@ use Rattle.pd_judgement.specs.Writes.{Whole, Writes}
 use Rattle.pd_explore.specs.Explored.{IsOwed}
 use Rattle.pd_arguments.specs.Arguments.{AsksToExplore}
 
--- The session is judged: its page; or it is refused: the text of its report. The output fails: that text or a prefix of
--- it. Any other end: nothing.
+-- The session is judged: its page; or it is refused: the page of a causal cycle, or the text of its report. The output
+-- fails: that text or a prefix of it. Any other end: nothing.
 abbrev pub ExploreLeaves : (beyond_width : Bool) (document : Option (List ℕ)) (streams : List (Option (List ℕ)))
     (never_fails : Bool) (MayBeUnread : Type 0) → Ending → (old new : Option (List ℕ)) → Type 0
 ExploreLeaves beyond_width document streams never_fails MayBeUnread Success old new =

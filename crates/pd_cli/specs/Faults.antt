@@ -54,7 +54,7 @@ service_ending fail_on (Err (Engine fault)) = Failed (failure_view fault)
 service_ending fail_on (Err Network) = Failed NetworkFailure
 service_ending fail_on (Err Late) = Failed NetworkFailure
 
--- how a run that explores ends: the page is written, or the report of a refusal; or the fault
+-- how a run that explores ends: the session is judged, or refused; or the fault
 abbrev pub exploration_ending : Result (Option Report) EngineFault → Ending
 exploration_ending (Ok None) = Success
 exploration_ending (Ok (Some refusal)) = Negative

@@ -7,7 +7,8 @@
 //! report's evidence: at status 0 nothing that it found is bad, and at 1 something is. `draw` with the names of files
 //! draws a report: at status 0 the picture is written, and at 1 something that a check finds stands against it. `serve`
 //! with a port judges streams that come by connections to that port. `explore` with the names of files judges as
-//! `judge` does: at status 0 the page is written on which the run is explored, and at 1 the report of a refusal.
+//! `judge` does: at status 0 the page is written on which the run is explored, and at 1 the report of a refusal, or the
+//! page of a causal cycle.
 //! Whatever fails is reported in one line on the errors, after an explanation if one is wanted. What each status says
 //! stands in `specs/Drawings.antt` for `draw`, in `specs/Explorations.antt` for `explore`, and for the others in
 //! `pd_arguments/specs/Statuses.antt`.

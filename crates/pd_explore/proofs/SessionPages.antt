@@ -1,5 +1,5 @@
 -- The page of traces, and of the streams that hold them.
-use Rattle.std.proofs.Common.{◌≡◌, ℕ, List, length, sym, ap, ◌∙◌, subst, Ok, Err}
+use Rattle.std.proofs.Common.{◌≡◌, ℕ, List, length, refl, sym, ap, ◌∙◌, subst, Ok, Err}
 use Rattle.std.specs.Prelude.{Bool, Option, Result, IfErr}
 use Rattle.std.specs.List.{AllZip}
 use Rattle.pd_model.specs.Cuts.{total}
@@ -8,11 +8,14 @@ use Rattle.pd_model.specs.Messages.{IsMessageList}
 use Rattle.pd_model.specs.Predicates.{Recorded}
 use Rattle.pd_format.specs.Documents.{Document, Inquiry, IsInquired}
 use Rattle.pd_format.specs.Readings.{Trace}
-use Rattle.pd_format.specs.Reports.{Answer, Judged, Report}
+use Rattle.pd_format.specs.Reports.{Answer, Judged, NamedPlace, Refused, Report}
+use Rattle.pd_format.specs.Reports as reports
 use Rattle.pd_format.specs.Sessions.{StreamResult, session}
 use Rattle.pd_gather.specs.Views.{traces_view}
 use Rattle.pd_judgement.specs.Judgements.{IsAnswered, IsJudgement, IsTracesReport}
+use Rattle.pd_judgement.specs.Writes.{IsJudged}
 use Rattle.pd_judgement.proofs.TrueReports.{judgement_is_true_lem}
+use Rattle.pd_page.specs.AnswerData.{Answered, Cyclic}
 use Rattle.pd_page.specs.Pages.{page_text}
 use Rattle.pd_traces.specs.Views.{computation_view}
 use Rattle.pd_traces.specs.declared.event.Trace.{Trace as Read}
@@ -29,26 +32,44 @@ pub traces_page : (document : Document) (traces : List Read) (recorded : Recorde
     (pairs : List (Place × Place)) (answers : List Answer) (text : List ℕ)
     → AreWellFormed document (traces_view traces) recorded count → IsMessageList (computation_view traces) pairs
     → AllZip (IsAnswered document recorded) document.predicates answers
-    → text ≡ page_text document (computation_view traces) pairs answers
-    → IsPageOfTraces document (traces_view traces) text
+    → text ≡ page_text document (computation_view traces) pairs (Answered answers)
+    → IsPageOfTraces document (traces_view traces) IsJudged text
 traces_page document traces recorded count pairs answers text well list answered is_text = record {
   pairs = pairs;
   are_messages = subst (λ (c : Computation). IsMessageList c pairs) (same_events traces) list;
   messages = count;
-  answers = answers;
+  outcome = Answered answers;
   right = subst (λ (r : Recorded). IsTracesReport document (traces_view traces)
       (Judged (length document.names) (total r.events) count answers)) well.same
       (answers_report document (traces_view traces) recorded count answers well answered);
-  is_text = is_text ∙ ap (λ (c : Computation). page_text document c pairs answers) (same_events traces);
+  said = refl;
+  is_text = is_text ∙ ap (λ (c : Computation). page_text document c pairs (Answered answers)) (same_events traces);
+}
+
+-- the page of traces that are refused for a causal cycle
+pub cycle_page : (document : Document) (traces : List Read) (pairs : List (Place × Place))
+    (places : List NamedPlace) (text : List ℕ) → IsMessageList (computation_view traces) pairs
+    → IsTracesReport document (traces_view traces) (Refused (reports.Cycle places))
+    → text ≡ page_text document (computation_view traces) pairs (Cyclic places)
+    → IsPageOfTraces document (traces_view traces) (λ report. report ≡ Refused (reports.Cycle places)) text
+cycle_page document traces pairs places text list right is_text = record {
+  pairs = pairs;
+  are_messages = subst (λ (c : Computation). IsMessageList c pairs) (same_events traces) list;
+  messages = 0;
+  outcome = Cyclic places;
+  right = right;
+  said = refl;
+  is_text = is_text ∙ ap (λ (c : Computation). page_text document c pairs (Cyclic places)) (same_events traces);
 }
 
 -- the same of the streams that readers gave
 pub inputs_page : (inquiry : Inquiry) (inputs : List (Option (List ℕ))) (never_fails : Bool) (document : Document)
-    (count : ℕ) (results : List StreamResult) (traces : List Trace) (text : List ℕ) → IsInquired inquiry document
-    → AreGiven document inputs never_fails count results → session document.names count results ≡ Ok traces
-    → IsPageOfTraces document traces text → IsPageOfInputs inquiry inputs never_fails text
-inputs_page inquiry inputs never_fails document count results traces text is given joined page =
-    let report : Report = report_with document traces page.messages page.answers in
+    (count : ℕ) (results : List StreamResult) (traces : List Trace) (IsSaid : Report → Type 0) (text : List ℕ)
+    → IsInquired inquiry document → AreGiven document inputs never_fails count results
+    → session document.names count results ≡ Ok traces → IsPageOfTraces document traces IsSaid text
+    → IsPageOfInputs inquiry inputs never_fails IsSaid text
+inputs_page inquiry inputs never_fails document count results traces IsSaid text is given joined page =
+    let report : Report = report_with document traces page.messages page.outcome in
     let right : IsJudgement inquiry given.0 report =
     judged_of_results inquiry given.0 document count results report is given.2
     (traces_report document count results traces report joined page.right) in
@@ -67,9 +88,10 @@ inputs_page inquiry inputs never_fails document count results traces text is giv
         pairs = page.pairs;
         are_messages = page.are_messages;
         messages = page.messages;
-        answers = page.answers;
+        outcome = page.outcome;
         right = right;
         truth = judgement_is_true_lem inquiry given.0 report right;
+        said = page.said;
         is_text = page.is_text;
       };
     }

@@ -1,35 +1,73 @@
 -- What is written of a session is what is owed.
 use Rattle.std.proofs.Common.{◌≡◌, ℕ, Bool, true, false, List, refl, sym, subst, inl, inr, Some, None, Ok, Err}
-use Rattle.std.specs.Prelude.{◌⊎◌, Option, Result, IfErr, IfOk, MatchResult}
+use Rattle.std.specs.Prelude.{◌⊎◌, Option, Result, IfErr, IfOk, MatchResult, is_some}
 use Rattle.pd_format.specs.Documents.{Inquiry}
+use Rattle.pd_format.specs.Reports as reports
 use Rattle.pd_format.specs.Reports.{Refusal, Refused}
-use Rattle.pd_judgement.specs.Writes.{IsRefused, IsReportTextOf, IsTextOfStreams, Whole, Writes}
+use Rattle.pd_judgement.specs.Writes.{IsAnyReport, IsJudged, IsRefused, IsReportTextOf, IsTextOfStreams, Whole, Writes}
 use Rattle.pd_judgement.proofs.TextsOwed.{report_text_of}
 use Rattle.pd_judgement.proofs.Writing.{writes_weaker}
+use Rattle.pd_report.specs.declared.refusal.Refusal.{Refusal as Given}
 use Rattle.pd_report.specs.declared.report.Report.{Report}
 use Rattle.pd_sessions.specs.Ends.{call_end, fault_end}
 use Rattle.pd_sessions.specs.SessionReports.{IsReportOfInputs}
 use Rattle.pd_sessions.specs.declared.fault.EngineFault.{EngineFault}
 use Rattle.pd_sessions.specs.declared.fault.EngineFault.TheVariants.{Memory, Write}
 use Rattle.pd_engine.specs.Ends.{IsTextAs}
-use Rattle.pd_explore.specs.Explored.{IsOwed, IsPageOfInputs, judged_as}
+use Rattle.pd_explore.specs.Explored.{IsOwed, IsPageOfInputs, judged_as, report_with}
+use Rattle.pd_explore.specs.Refused.{IsRefusedBy}
 
 -- ---- the page
 
+-- what is said of the report, or what follows from that
+pub page_weaker : (inquiry : Inquiry) (inputs : List (Option (List ℕ))) (never_fails : Bool)
+    (P Q : reports.Report → Type 0) (text : List ℕ) → ((report : reports.Report) → P report → Q report)
+    → IsPageOfInputs inquiry inputs never_fails P text → IsPageOfInputs inquiry inputs never_fails Q text
+page_weaker inquiry inputs never_fails P Q text go h = record {
+  streams = h.streams;
+  are_given = h.are_given;
+  is_page = record {
+    document = h.is_page.document;
+    traces = h.is_page.traces;
+    held = h.is_page.held;
+    pairs = h.is_page.pairs;
+    are_messages = h.is_page.are_messages;
+    messages = h.is_page.messages;
+    outcome = h.is_page.outcome;
+    right = h.is_page.right;
+    truth = h.is_page.truth;
+    said = go (report_with h.is_page.document h.is_page.traces h.is_page.messages h.is_page.outcome) h.is_page.said;
+    is_text = h.is_page.is_text;
+  };
+}
+
+refused_is : (refusal : Given) (report : reports.Report) → IsRefusedBy (Some refusal) report
+    → IsRefused report
+refused_is refusal report same = subst IsRefused (sym same) refl
+
 pub page_written : (inquiry : Inquiry) (inputs : List (Option (List ℕ))) (never_fails : Bool) (page : List ℕ)
-    (result : Result (Option Report) EngineFault) (old new : Option (List ℕ))
-    → IsPageOfInputs inquiry inputs never_fails page → IfOk result (λ refusal. refusal ≡ None)
+    (refusal : Option Given) (result : Result (Option Report) EngineFault) (old new : Option (List ℕ))
+    → IsPageOfInputs inquiry inputs never_fails (IsRefusedBy refusal) page
+    → IfOk result (λ report. is_some report ≡ is_some refusal)
     → Writes (λ (text : List ℕ). text ≡ page) (call_end result) old new
     → Writes (IsOwed inquiry inputs never_fails (judged_as result)) (call_end result) old new
-page_written inquiry inputs never_fails page (Ok None) old new right judged written =
+page_written inquiry inputs never_fails page None (Ok None) old new right judged written =
     writes_weaker (λ (text : List ℕ). text ≡ page) (IsOwed inquiry inputs never_fails (Some true))
     Whole old new
-    (λ text is. subst (IsPageOfInputs inquiry inputs never_fails) (sym is) right) written
-page_written inquiry inputs never_fails page (Ok (Some report)) old new right judged written = absurd (cc judged)
-page_written inquiry inputs never_fails page (Err fault) old new right judged written =
+    (λ text is. subst (IsPageOfInputs inquiry inputs never_fails IsJudged) (sym is) right) written
+page_written inquiry inputs never_fails page None (Ok (Some report)) old new right judged written = absurd (cc judged)
+page_written inquiry inputs never_fails page (Some refusal) (Ok None) old new right judged written = absurd (cc judged)
+page_written inquiry inputs never_fails page (Some refusal) (Ok (Some report)) old new right judged written =
+    writes_weaker (λ (text : List ℕ). text ≡ page) (IsOwed inquiry inputs never_fails (Some false))
+    Whole old new
+    (λ text is. inl (subst (IsPageOfInputs inquiry inputs never_fails IsRefused) (sym is)
+    (page_weaker inquiry inputs never_fails (IsRefusedBy (Some refusal)) IsRefused page (refused_is refusal) right)))
+    written
+page_written inquiry inputs never_fails page refusal (Err fault) old new right judged written =
     writes_weaker (λ (text : List ℕ). text ≡ page) (IsOwed inquiry inputs never_fails None)
     (fault_end fault) old new
-    (λ text is. inl (subst (IsPageOfInputs inquiry inputs never_fails) (sym is) right)) written
+    (λ text is. inl (subst (IsPageOfInputs inquiry inputs never_fails IsAnyReport) (sym is)
+    (page_weaker inquiry inputs never_fails (IsRefusedBy refusal) IsAnyReport page (λ report said. tt) right))) written
 
 pub write_only : (result : Result (Option Report) EngineFault) → IfErr result (λ fault. fault ≡ Write)
     → IfErr result (λ fault. (fault ≡ Memory) ⊎ (fault ≡ Write))
@@ -58,7 +96,7 @@ refusal_written inquiry inputs never_fails refusal (Ok report) result old new ri
     subst (λ (r : Result (Option Report) EngineFault). Writes (IsOwed inquiry inputs never_fails (judged_as r))
     (call_end r) old new) (sym same)
     (writes_weaker (IsTextAs (Refused refusal) (Ok report)) (IsOwed inquiry inputs never_fails (Some false)) Whole old
-    new (λ text owed. refusal_text inquiry inputs never_fails refusal (Ok report) text right owed) written)
+    new (λ text owed. inr (refusal_text inquiry inputs never_fails refusal (Ok report) text right owed)) written)
 refusal_written inquiry inputs never_fails refusal (Err fault) result old new right same written =
     subst (λ (r : Result (Option Report) EngineFault). Writes (IsOwed inquiry inputs never_fails (judged_as r))
     (call_end r) old new) (sym same)

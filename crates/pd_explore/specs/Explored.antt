@@ -6,59 +6,70 @@ use Rattle.pd_model.specs.Messages.{IsMessageList}
 use Rattle.pd_model.specs.Cuts.{total}
 use Rattle.pd_format.specs.Documents.{Document, Inquiry}
 use Rattle.pd_format.specs.Readings.{Trace}
-use Rattle.pd_format.specs.Reports.{Answer, Report, Judged}
+use Rattle.pd_format.specs.Reports.{Report, Judged, Refused}
+use Rattle.pd_format.specs.Reports as reports
 use Rattle.pd_judgement.specs.Headline.{HoldsSession, IsTrueReport}
 use Rattle.pd_judgement.specs.Judgements.{IsJudgement, IsTracesReport, RawStream, events_of_traces}
-use Rattle.pd_judgement.specs.Writes.{IsGivenAs, IsRefused, IsTextOfStreams, Writes}
+use Rattle.pd_judgement.specs.Writes.{IsAnyReport, IsGivenAs, IsJudged, IsRefused, IsTextOfStreams, Writes}
+use Rattle.pd_page.specs.AnswerData.{Answered, Cyclic, Outcome}
 use Rattle.pd_page.specs.Pages.{page_text}
 use Rattle.pd_sessions.specs.Ends.{call_end}
 use Rattle.pd_sessions.specs.declared.fault.EngineFault.{EngineFault}
 use Rattle.pd_sessions.specs.declared.fault.EngineFault.TheVariants.{Memory, Write}
 use Rattle.pd_report.specs.declared.report.Report as programs
 
--- the report of traces with these answers, for a session with this many messages
-abbrev pub report_with : Document → List Trace → (messages : ℕ) → List Answer → Report
-report_with document traces messages answers =
+-- the report of traces of which this is shown, for a session with this many messages
+abbrev pub report_with : Document → List Trace → (messages : ℕ) → Outcome → Report
+report_with document traces messages (Answered answers) =
     Judged (length document.names) (total (events_of_traces traces)) messages answers
+report_with document traces messages (Cyclic places) = Refused (reports.Cycle places)
 
 -- The page of a session's traces: of their events, of the messages, each as its send and its receipt in the order of
--- the receipts, and of the answers of their report.
-pub record IsPageOfTraces (document : Document) (traces : List Trace) (text : List ℕ) : Type 0 where
+-- the receipts, and of the answers of their report or the causal cycle that it names. Of the report this is said.
+pub record IsPageOfTraces (document : Document) (traces : List Trace) (IsSaid : Report → Type 0) (text : List ℕ) :
+    Type 0 where
   pub pairs : List (Place × Place)
   pub are_messages : IsMessageList (events_of_traces traces) pairs
   pub messages : ℕ
-  pub answers : List Answer
-  pub right : IsTracesReport document traces (report_with document traces messages answers)
-  pub is_text : text ≡ page_text document (events_of_traces traces) pairs answers
+  pub outcome : Outcome
+  pub right : IsTracesReport document traces (report_with document traces messages outcome)
+  pub said : IsSaid (report_with document traces messages outcome)
+  pub is_text : text ≡ page_text document (events_of_traces traces) pairs outcome
 
 -- The page of the session that a document's bytes, with what is asked beside them, and streams hold; and the report
--- whose answers it shows is the report of these, which is true.
-pub record IsPageOf (inquiry : Inquiry) (streams : List RawStream) (text : List ℕ) : Type 0 where
+-- of which it shows the answers or the cycle is the report of these, which is true.
+pub record IsPageOf (inquiry : Inquiry) (streams : List RawStream) (IsSaid : Report → Type 0) (text : List ℕ) :
+    Type 0 where
   pub document : Document
   pub traces : List Trace
   pub held : HoldsSession inquiry streams document traces
   pub pairs : List (Place × Place)
   pub are_messages : IsMessageList (events_of_traces traces) pairs
   pub messages : ℕ
-  pub answers : List Answer
-  pub right : IsJudgement inquiry streams (report_with document traces messages answers)
-  pub truth : IsTrueReport inquiry streams (report_with document traces messages answers)
-  pub is_text : text ≡ page_text document (events_of_traces traces) pairs answers
+  pub outcome : Outcome
+  pub right : IsJudgement inquiry streams (report_with document traces messages outcome)
+  pub truth : IsTrueReport inquiry streams (report_with document traces messages outcome)
+  pub said : IsSaid (report_with document traces messages outcome)
+  pub is_text : text ≡ page_text document (events_of_traces traces) pairs outcome
 
 -- the same of the streams that readers with this left gave, of which no read ever fails, if that is said
-pub record IsPageOfInputs (inquiry : Inquiry) (inputs : List (Option (List ℕ))) (never_fails : Bool) (text : List ℕ) :
-    Type 0 where
+pub record IsPageOfInputs (inquiry : Inquiry) (inputs : List (Option (List ℕ))) (never_fails : Bool)
+    (IsSaid : Report → Type 0) (text : List ℕ) : Type 0 where
   pub streams : List RawStream
   pub are_given : AllZip (IsGivenAs never_fails) inputs streams
-  pub is_page : IsPageOf inquiry streams text
+  pub is_page : IsPageOf inquiry streams IsSaid text
 
--- The text that is owed of a session: of one that is judged its page, of one that is refused the text of its report.
+-- The text that is owed of a session: of one that is judged its page; of one that is refused its page, if that shows
+-- its causal cycle, or the text of its report.
 abbrev pub IsOwed : (inquiry : Inquiry) (inputs : List (Option (List ℕ))) (never_fails : Bool) (judged : Option Bool)
     (text : List ℕ) → Type 0
-IsOwed inquiry inputs never_fails (Some true) text = IsPageOfInputs inquiry inputs never_fails text
-IsOwed inquiry inputs never_fails (Some false) text = IsTextOfStreams inquiry inputs never_fails IsRefused text
+IsOwed inquiry inputs never_fails (Some true) text = IsPageOfInputs inquiry inputs never_fails IsJudged text
+IsOwed inquiry inputs never_fails (Some false) text =
+    IsPageOfInputs inquiry inputs never_fails IsRefused text
+    ⊎ IsTextOfStreams inquiry inputs never_fails IsRefused text
 IsOwed inquiry inputs never_fails None text =
-    IsPageOfInputs inquiry inputs never_fails text ⊎ IsTextOfStreams inquiry inputs never_fails IsRefused text
+    IsPageOfInputs inquiry inputs never_fails IsAnyReport text
+    ⊎ IsTextOfStreams inquiry inputs never_fails IsRefused text
 
 -- whether the session is judged, and not refused with a report, if that is said
 abbrev pub judged_as : Result (Option programs.Report) EngineFault → Option Bool

@@ -7,14 +7,15 @@ ghost use Rattle.pd_sessions.specs.Ends.{call_end};
 ghost use Rattle.pd_sessions.specs.Inquiries.{inquiry_view};
 ghost use Rattle.pd_sessions.specs.SessionReports.{IsReportOfInputs};
 ghost use Rattle.pd_sessions.specs.Unanswered.{IsUnanswered};
-ghost use Rattle.std.specs.Prelude.{◌≡◌, ◌⊎◌, ◌≤◌, ℕ, All, Bool, Err, IfErr, IfOk, List, MatchResult, None, Ok, Option, Some, false, map};
+ghost use Rattle.std.specs.Prelude.{◌≡◌, ◌⊎◌, ◌≤◌, ℕ, All, Bool, Err, IfErr, IfOk, List, MatchResult, Ok, Option, Some, false, is_some, map};
 
+use super::page::Page;
 use super::pages::page_of_session;
 use pd_engine::write_report;
 use pd_expand::Crew;
 use pd_gather::ByteSource;
 use pd_level::Gate;
-use pd_report::{Report, write_all};
+use pd_report::{Refusal, Report, write_all};
 use pd_sessions::{EngineFault, Inquiry, Unanswered};
 use std::alloc::Global;
 use std::io::Write;
@@ -22,15 +23,26 @@ use std::random::RandomSource;
 use std::sync::Wait;
 use std::thread::Threads;
 
-/// Writes the page of a session that is judged: there is no report of a refusal.
-fn write_page<W: Write>(page: &[u8], writer: &mut W) -> Result<Option<Report>, EngineFault>
-    ensures written { Writes (λ text. text ≡ page.now) (call_end result) (W.contents writer.old)
+/// The report of a refusal, if there is one.
+fn refusal_report(refusal: Option<Refusal>) -> Option<Report>
+    ensures { is_some result ≡ is_some refusal }
+{
+    match refusal {
+        Some(refusal) => Some(Report::Refused(refusal)),
+        None => None,
+    }
+}
+
+/// Writes the page of a session, and gives the report of its refusal, if it is refused.
+fn write_page<W: Write>(page: Page, writer: &mut W) -> Result<Option<Report>, EngineFault>
+    ensures written { Writes (λ text. text ≡ page.text.items) (call_end result) (W.contents writer.old)
         (W.contents writer.new) }
-    ensures judged { IfOk result (λ refusal. refusal ≡ None) }
+    ensures judged { IfOk result (λ report. is_some report ≡ is_some page.refusal) }
     ensures err { IfErr result (λ fault. fault ≡ EngineFault.Write) }
 {
-    write_all(page, writer)?;
-    Ok(None)
+    let Page { text, refusal } = page;
+    write_all(&text, writer)?;
+    Ok(refusal_report(refusal))
 }
 
 /// What an exploration gives of a session that is refused, with what came of its report.
@@ -82,16 +94,16 @@ fn explore_by<
         (W.contents writer.old) (W.contents writer.new) }
 {
     match page_of_session(crew, alloc, inquiry, readers) {
-        Ok(page) => write_page(&page, writer),
+        Ok(page) => write_page(page, writer),
         Err(unanswered) => write_refusal(alloc, unanswered, writer),
     }
 }
 
 /// Explores the session of an inquiry's document and of the streams: judges it, and writes its page, with the answers
-/// of its report. Of a session that is refused it writes the report, gives it back, and writes no page. The streams
-/// are read each on its own thread; none is read if the document is refused, or if they are too many. A read that
-/// fails is a fault of its stream. The workers, from 1 to 16, and the gate change how long it takes, and nothing that
-/// is written.
+/// of its report. Of a session that is refused it gives the report back: for a causal cycle it writes a page that shows
+/// the cycle, and otherwise the report, and no page. The streams are read each on its own thread; none is read if the
+/// document is refused, or if they are too many. A read that fails is a fault of its stream. The workers, from 1 to 16,
+/// and the gate change how long it takes, and nothing that is written.
 ///
 /// # Errors
 /// `Memory` leaves nothing written. `Write` leaves a prefix of the text written, and not all of it.

@@ -1,54 +1,160 @@
 //! The page of a session.
 ghost use Rattle.pd_explore.specs.Explored.{IsPageOfInputs, IsPageOfTraces};
+ghost use Rattle.pd_explore.specs.Refused.{IsRefusedBy};
+ghost use Rattle.pd_format.specs.Reports.{Refused};
 ghost use Rattle.pd_gather.specs.Views.{traces_view};
 ghost use Rattle.pd_judgement.specs.Judgements.{IsTracesReport};
+ghost use Rattle.pd_match.specs.Views.{pairs_view};
+ghost use Rattle.pd_model.specs.Messages.{IsMessageList};
+ghost use Rattle.pd_page.specs.AnswerData.{Answered, Cyclic};
+ghost use Rattle.pd_page.specs.Pages.{page_text};
+ghost use Rattle.pd_report.specs.Views.{answer_view, named_places_view, refusal_view};
+ghost use Rattle.pd_sessions.specs.Computations.{AreWellFormed};
 ghost use Rattle.pd_sessions.specs.Inquiries.{inquiry_view};
 ghost use Rattle.pd_sessions.specs.SessionReports.{IsReportOfInputs};
 ghost use Rattle.pd_sessions.specs.Unanswered.{IsUnanswered};
 ghost use Rattle.pd_spec.specs.Views.{document_view};
 ghost use Rattle.pd_traces.specs.SessionTraces.{AreTraces};
+ghost use Rattle.pd_traces.specs.Views.{computation_view};
 ghost use Rattle.std.specs.Prelude.{◌≡◌, All, IfErr, IfOk, false, map};
 
+use super::page::Page;
+use pd_clock::Computation;
 use pd_engine::answers_of;
 use pd_expand::Crew;
 use pd_gather::{ByteSource, read_streams};
 use pd_level::Gate;
-use pd_page::{Content, text};
+use pd_match::Place;
+use pd_page::{Content, Outcome, text};
+use pd_report::{Answer, Refusal};
 use pd_sessions::{Inquiry, Unanswered, build, messages_of, read_inquiry, traces_of};
 use pd_spec::Spec;
 use pd_traces::Trace;
-use std::alloc::Global;
+use std::alloc::{AllocError, Global};
 use std::random::RandomSource;
 use std::sync::Wait;
 use std::thread::Threads;
 
-/// The page of a session's traces, or the refusal of the messages or of a causal cycle.
+/// The text of the page of a session's traces that shows these answers.
+fn answers_text(
+    alloc: Global,
+    spec: &Spec,
+    traces: &[Trace],
+    pairs: &[(Place, Place)],
+    answers: &[Answer],
+) -> Result<Vec<u8>, AllocError>
+    ensures { IfOk result (λ text. text.items ≡ page_text (document_view spec.now) (computation_view traces.now)
+        (pairs_view pairs.now) (Answered (map answer_view answers.now))) }
+{
+    let content = Content {
+        spec,
+        traces,
+        pairs,
+        outcome: Outcome::Answers(answers),
+    };
+    text(alloc, &content)
+}
+
+/// The page of a session's traces that make this computation, with these messages.
+fn judged_page<S: RandomSource + Threads + Wait + Sync, G: Gate + Sync>(
+    crew: &Crew<'_, '_, S, G>,
+    alloc: Global,
+    spec: &Spec,
+    traces: &[Trace],
+    pairs: &[(Place, Place)],
+    built: &(Computation<'_>, u64),
+) -> Result<Page, AllocError>
+    requires formed { AreWellFormed (document_view spec.now) (traces_view traces.now) built.now.0 built.now.1 }
+    requires listed { IsMessageList (computation_view traces.now) (pairs_view pairs.now) }
+    ensures { IfOk result (λ page. IsPageOfTraces (document_view spec.now) (traces_view traces.now)
+        (IsRefusedBy page.refusal) page.text.items) }
+{
+    let answers = answers_of(crew, alloc, spec, &built.0)?;
+    let text = answers_text(alloc, spec, traces, pairs, &answers)?;
+    Ok(Page {
+        text,
+        refusal: None,
+    })
+}
+
+/// The text of the page of a session's traces that shows this causal cycle.
+fn cycle_text(
+    alloc: Global,
+    spec: &Spec,
+    traces: &[Trace],
+    pairs: &[(Place, Place)],
+    places: &[(String, u64)],
+) -> Result<Vec<u8>, AllocError>
+    ensures { IfOk result (λ text. text.items ≡ page_text (document_view spec.now) (computation_view traces.now)
+        (pairs_view pairs.now) (Cyclic (named_places_view places.now))) }
+{
+    let content = Content {
+        spec,
+        traces,
+        pairs,
+        outcome: Outcome::Cycle(places),
+    };
+    text(alloc, &content)
+}
+
+/// The page of a session's traces that are refused for a causal cycle, or another refusal.
+fn refused_page(
+    alloc: Global,
+    spec: &Spec,
+    traces: &[Trace],
+    pairs: &[(Place, Place)],
+    refusal: Refusal,
+) -> Result<Page, Unanswered>
+    requires listed { IsMessageList (computation_view traces.now) (pairs_view pairs.now) }
+    requires right { IsTracesReport (document_view spec.now) (traces_view traces.now)
+        (Refused (refusal_view refusal)) }
+    ensures page { IfOk result (λ page. IsPageOfTraces (document_view spec.now) (traces_view traces.now)
+        (IsRefusedBy page.refusal) page.text.items) }
+    ensures refused { IfErr result (IsUnanswered (IsTracesReport (document_view spec.now)
+        (traces_view traces.now))) }
+{
+    match refusal {
+        Refusal::Cycle(places) => {
+            let text = cycle_text(alloc, spec, traces, pairs, &places)?;
+            Ok(Page {
+                text,
+                refusal: Some(Refusal::Cycle(places)),
+            })
+        }
+        other => Err(Unanswered::Refused(other)),
+    }
+}
+
+/// The page of a session's traces, or the refusal of the messages. The page of traces that are refused for a causal
+/// cycle shows the cycle.
 fn page_of_traces<S: RandomSource + Threads + Wait + Sync, G: Gate + Sync>(
     crew: &Crew<'_, '_, S, G>,
     alloc: Global,
     spec: &Spec,
     traces: &[Trace],
-) -> Result<Vec<u8>, Unanswered>
+) -> Result<Page, Unanswered>
     requires { AreTraces (document_view spec.now).names traces.now }
-    ensures page { IfOk result (λ page. IsPageOfTraces (document_view spec.now) (traces_view traces.now) page.items) }
+    ensures page { IfOk result (λ page. IsPageOfTraces (document_view spec.now) (traces_view traces.now)
+        (IsRefusedBy page.refusal) page.text.items) }
     ensures refused { IfErr result (IsUnanswered (IsTracesReport (document_view spec.now)
         (traces_view traces.now))) }
 {
     let matched = messages_of(crew.runtime(), alloc, spec, traces)?;
     let pairs = matched.pairs(alloc)?;
-    let (computation, _messages) = build(alloc, spec, traces, matched)?;
-    let answers = answers_of(crew, alloc, spec, &computation)?;
-    let content = Content {
-        spec,
-        traces,
-        pairs: &pairs,
-        answers: &answers,
-    };
-    Ok(text(alloc, &content)?)
+    match build(alloc, spec, traces, matched) {
+        Ok(built) => {
+            let page = judged_page(crew, alloc, spec, traces, &pairs, &built)?;
+            Ok(page)
+        }
+        Err(unanswered) => match unanswered {
+            Unanswered::Refused(refusal) => refused_page(alloc, spec, traces, &pairs, refusal),
+            Unanswered::Memory => Err(Unanswered::Memory),
+        },
+    }
 }
 
 /// The page of the session of an inquiry's document and of what the streams' readers give, or why it comes to no
-/// answers.
+/// page.
 pub(crate) fn page_of_session<
     S: RandomSource + Threads + Wait + Sync,
     R: ByteSource + Send + Drop,
@@ -58,10 +164,10 @@ pub(crate) fn page_of_session<
     alloc: Global,
     inquiry: Inquiry<'_>,
     readers: Vec<R>,
-) -> Result<Vec<u8>, Unanswered>
+) -> Result<Page, Unanswered>
     requires { All (λ r. R.has_ended r ≡ false) readers.items }
     ensures page { IfOk result (λ page. IsPageOfInputs (inquiry_view inquiry.entry) (map R.remaining readers.items)
-        R.never_fails page.items) }
+        R.never_fails (IsRefusedBy page.refusal) page.text.items) }
     ensures refused { IfErr result (IsUnanswered
         (IsReportOfInputs (inquiry_view inquiry.entry) (map R.remaining readers.items) R.never_fails)) }
 {

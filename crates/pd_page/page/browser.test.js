@@ -176,18 +176,18 @@ class Page {
 
 // ---- pages ------------------------------------------------------------------------------------------------------
 
-function pageOf(name, spec, streams) {
+function pageOf(name, spec, streams, expected = 0) {
   const { stdout, status } = spawnSync(MONITOR, ["explore", spec, ...streams], { maxBuffer: 2 ** 30 });
-  assert.equal(status, 0, stdout.toString().slice(0, 200));
+  assert.equal(status, expected, stdout.toString().slice(0, 200));
   const file = path.join(folder, name + ".html");
   fs.writeFileSync(file, stdout);
   return file;
 }
 
-function example(name) {
+function example(name, expected = 0) {
   const here = path.join(EXAMPLES, name);
   const streams = fs.readdirSync(here).filter((file) => file.endsWith(".stream")).map((file) => path.join(here, file));
-  return pageOf(name, path.join(here, "session.json"), streams);
+  return pageOf(name, path.join(here, "session.json"), streams, expected);
 }
 
 function made(name, document, streams) {
@@ -393,6 +393,26 @@ test("no other script runs", needed, async () => {
   assert.equal(await page.js("window.ran ?? 0"), 0);
   assert.ok(page.messages.every((message) => message.includes("Content Security Policy")));
   page.messages = [];
+  await page.close();
+});
+
+test("a refused cycle is marked, and has no cut", needed, async () => {
+  const page = await Page.open(example("refused-cycle", 1));
+  const words = (await page.text("cycle")).replace(/\s+/g, " ");
+  assert.match(words, /left#2 receives answer from right#2, which comes after right#1/);
+  assert.match(words, /right#1 receives question from left#3, which comes after left#2/);
+  assert.deepEqual(await page.js("[...document.querySelectorAll('.of-cuts')].filter((each) => each.offsetHeight > 0)"),
+    [], "nothing of cuts is shown");
+  await page.click(1, 2);
+  assert.equal(await page.text("event-title"), "Event right#2");
+  await page.press("m");
+  assert.equal(await page.text("event-title"), "Event left#2");
+  await page.js("lanes[0].lane.focus()");
+  await page.press("ArrowRight");
+  assert.equal(await page.text("event-title"), "Event left#3");
+  await page.press("Enter", "u", "c", "Home");
+  assert.equal(await page.text("event-title"), "Event left#1");
+  await page.until("location.hash.includes('event=left.1') && !location.hash.includes('cut=')");
   await page.close();
 });
 

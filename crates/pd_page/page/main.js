@@ -60,8 +60,8 @@ function draw() {
   context.setTransform(size.ratio, 0, 0, size.ratio, 0, 0);
   const told = drawDiagram(context, run, state, palette, size);
   byId("level").textContent = byId("level").title = (told.drawn < told.all
-    ? "1 of " + Math.round(told.all / told.drawn) + " messages drawn. " : "") +
-    "Level " + levelOf(state.cut) + ", cut " + state.cut.join(",");
+    ? "1 of " + Math.round(told.all / told.drawn) + " messages drawn. " : "") + (run.cycle !== null
+    ? "Refused: a causal cycle" : "Level " + levelOf(state.cut) + ", cut " + state.cut.join(","));
   const small = overview.getContext("2d", { alpha: false });
   small.setTransform(size.ratio, 0, 0, size.ratio, 0, 0);
   drawOverview(small, run, state, palette, strip.ground, strip.width, strip.height, size.width);
@@ -96,12 +96,14 @@ function reveal(column) {
   if (x < 30 || x > size.width - 30) setView(column - size.width / 2 / state.view.scale, state.view.scale);
 }
 
-// Moves the view so that the whole cut stands in it, or at least that of the lane, if it can't.
+// Moves the view so that the whole cut, or the causal cycle, stands in it, or at least what is on the lane of it, if it
+// can't.
 function revealCut() {
-  const columns = state.cut.map((count, p) => run.columns[p][count]);
+  const columns = run.cycle === null ? state.cut.map((count, p) => run.columns[p][count])
+    : run.cycle.flatMap(({ receipt, send }) => [receipt, send]).map(({ p, i }) => run.columns[p][i]);
   const [first, last] = [Math.min(...columns), Math.max(...columns)];
   const { scale } = state.view;
-  if ((last - first + 2) * scale > size.width) return reveal(columns[state.lane]);
+  if ((last - first + 2) * scale > size.width) return reveal(run.cycle === null ? columns[state.lane] : first);
   if (xOf(state.view, first) < 30 || xOf(state.view, last) > size.width - 60) {
     setView((first + last) / 2 - size.width / 2 / scale, scale);
   }
@@ -133,6 +135,7 @@ function move(p, count) {
 }
 
 function cutTo(p, count) {
+  if (run.cycle !== null) return;
   pause();
   move(p, count);
 }
@@ -146,7 +149,7 @@ function undo() {
 
 function select(p, i) {
   state.selected = p === null ? null : { p, i };
-  state.cone = p === null ? null : coneOf(run, p, i);
+  state.cone = p === null || run.cycle !== null ? null : coneOf(run, p, i);
   if (p !== null) {
     state.lane = p;
     list(p, i);
@@ -219,8 +222,15 @@ function makeLanes() {
 
 function updateLanes() {
   lanes.forEach(({ lane, count }, p) => {
-    const events = state.cut[p];
     lane.tabIndex = p === state.lane ? 0 : -1;
+    if (run.cycle !== null) {
+      const i = state.selected !== null && state.selected.p === p ? state.selected.i : 0;
+      lane.setAttribute("aria-valuenow", String(i));
+      lane.setAttribute("aria-valuetext", i === 0 ? "no event is selected" : eventText(run, p, i));
+      count.textContent = counted(run.counts[p], "event");
+      return;
+    }
+    const events = state.cut[p];
     lane.setAttribute("aria-valuenow", String(events));
     lane.setAttribute("aria-valuetext", events + " of " + run.counts[p] + " events in the cut" +
       (events === 0 ? "" : "; the last is " + eventText(run, p, events)));
@@ -231,7 +241,11 @@ function updateLanes() {
 function laneKey(event, p) {
   if (event.ctrlKey || event.altKey || event.metaKey || event.shiftKey) return;
   const step = { ArrowLeft: -1, ArrowRight: 1, PageUp: 10, PageDown: -10, Home: -Infinity, End: Infinity }[event.key];
-  if (step !== undefined) cutTo(p, Math.max(0, Math.min(run.counts[p], state.cut[p] + step)));
+  const within = (i) => Math.max(0, Math.min(run.counts[p], i));
+  if (step !== undefined && run.cycle !== null) {
+    const i = within((state.selected !== null && state.selected.p === p ? state.selected.i : 0) + step);
+    if (run.counts[p] > 0) select(p, Math.max(1, i));
+  } else if (step !== undefined) cutTo(p, within(state.cut[p] + step));
   else if (event.key === "ArrowUp" || event.key === "ArrowDown") {
     const q = p + (event.key === "ArrowUp" ? -1 : 1);
     if (q >= 0 && q < run.size) lanes[q].lane.focus();
@@ -539,7 +553,7 @@ function readAddress() {
   if (given.cut !== null) setCut(given.cut, { from: given.cut, text: byId("status").textContent });
   if (given.selected !== null) {
     state.selected = given.selected;
-    state.cone = coneOf(run, given.selected.p, given.selected.i);
+    state.cone = run.cycle !== null ? null : coneOf(run, given.selected.p, given.selected.i);
     state.lane = given.selected.p;
     list(given.selected.p, given.selected.i);
   }
@@ -551,7 +565,8 @@ function readAddress() {
 // ---- the start --------------------------------------------------------------------------------------------------
 
 function start() {
-  document.title = "monitor: " + run.predicates.map((each) => each.name).join(", ");
+  document.title = "monitor: " + (run.cycle !== null ? "a causal cycle"
+    : run.predicates.map((each) => each.name).join(", "));
   byId("counts").textContent = counted(run.size, "process", "processes") + ", " + counted(run.eventCount, "event") +
     ", " + counted(run.received, "message") +
     (run.inFlight > 0 ? " and " + run.inFlight.toLocaleString("en") + " in flight" : "");
@@ -560,8 +575,14 @@ function start() {
   rows = makeValues(run, actions);
   run.names.forEach((name, p) => byId("listing-process").append(element("option", { value: String(p) }, name)));
   FILM_SPEEDS.forEach((speed) => byId("film-speed").append(element("option", { value: String(speed) }, String(speed))));
-  canvas.setAttribute("aria-label", "The run: " + byId("counts").textContent + ". The cut is moved on the lanes " +
-    "beside; the events are listed as a table below.");
+  canvas.setAttribute("aria-label", "The run: " + byId("counts").textContent + ". " + (run.cycle !== null
+    ? "An event is selected" : "The cut is moved") + " on the lanes beside; the events are listed as a table below.");
+  if (run.cycle !== null) {
+    document.documentElement.classList.add("cycle");
+    byId("lanes").setAttribute("aria-label", "The processes: which event is selected");
+    byId("to-cut").textContent = "To the cycle";
+    makeCycle(run, actions);
+  }
   overview.hidden = run.lastColumn < 24;
   byId("stage").classList.toggle("last", overview.hidden);
   measure();
@@ -570,7 +591,11 @@ function start() {
   if (evident >= 0) {
     state.cut = state.before = run.predicates[evident].possibly[1].slice();
     say(run.predicates[evident].name + " is true at this cut. " + HOW_TO_MOVE);
-  } else say("The cut before all events. " + HOW_TO_MOVE);
+  } else if (run.cycle === null) say("The cut before all events. " + HOW_TO_MOVE);
+  else {
+    state.cut = state.before = run.counts.slice();
+    say("The session is refused: its events make a causal cycle, which is marked.");
+  }
   if (fitScale(run, size.width) < 14) state.view.scale = 26;
   setView(0, state.view.scale === 1 ? 0 : state.view.scale);
   state.lane = Math.max(0, state.cut.findIndex((count) => count > 0));

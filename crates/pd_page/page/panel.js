@@ -122,6 +122,22 @@ function turned(run, before, after) {
   });
 }
 
+// ---- a causal cycle ---------------------------------------------------------------------------------------------
+
+// Why the session is refused: each receipt of the cycle, and what is before it.
+function makeCycle(run, actions) {
+  const at = ({ p, i }) => element("button", { type: "button", class: "plain", click: () => actions.select(p, i) },
+    placeText(run, p, i));
+  const steps = run.cycle.map(({ message, receipt, send, next }) => element("li", {}, at(receipt), " receives ",
+    element("code", {}, run.messages.ids[message]), " from ", at(send),
+    ...(send.i === next.i ? [""] : [", which comes after ", at(next)])));
+  byId("cycle").append(element("p", {}, "The session is refused: its events make a causal cycle. Going back from each " +
+    "receipt to the send, and along that process to the receipt before it, one comes to the first receipt again:"),
+    element("ol", {}, ...steps), element("p", {}, "So each of these events would have happened before itself. No run " +
+    "is so: the recording has events in a wrong order, or gives a message a wrong id. There is no cut to move, and no " +
+    "predicate is answered."));
+}
+
 // ---- values -----------------------------------------------------------------------------------------------------
 
 function makeValues(run, actions) {
@@ -209,15 +225,15 @@ function updateEvent(run, state, actions) {
   if (state.selected === null) {
     byId("event-title").textContent = "Event";
     body.replaceChildren(element("p", { class: "hint" },
-      "Click an event, and the cut moves there. With Shift, or by the keys , and . it is only selected."));
+      run.cycle !== null ? "Click an event, or use the keys , and . to select one."
+        : "Click an event, and the cut moves there. With Shift, or by the keys , and . it is only selected."));
     return;
   }
   const { p, i } = state.selected;
-  const { before, after, beside } = state.cone;
   byId("event-title").textContent = "Event " + placeText(run, p, i);
   const list = element("dl", {});
   const add = (term, ...words) => list.append(element("dt", {}, term), element("dd", {}, ...words));
-  add("At the cut", i <= state.cut[p] ? "it has happened" : "it has not happened");
+  if (run.cycle === null) add("At the cut", i <= state.cut[p] ? "it has happened" : "it has not happened");
   const sets = setsOf(run, p, i);
   add("Sets", sets.length === 0 ? "nothing"
     : sets.map(({ name, value, before: old }) => name + " = " + value + " (was " + old + ")").join(", "));
@@ -227,12 +243,15 @@ function updateEvent(run, state, actions) {
       ...message.ends.flatMap((end) => [" ", element("button",
         { type: "button", class: "plain", click: () => actions.select(end.p, end.i) }, placeText(run, end.p, end.i))]));
   }
-  add("Around it", counted(before, "event") + " before it, " + after.toLocaleString("en") + " after it, " +
-    beside.toLocaleString("en") + " concurrent with it");
+  const buttons = [["Let go", () => actions.unselect()]];
+  if (state.cone !== null) {
+    const { before, after, beside } = state.cone;
+    add("Around it", counted(before, "event") + " before it, " + after.toLocaleString("en") + " after it, " +
+      beside.toLocaleString("en") + " concurrent with it");
+    buttons.unshift(["Cut after it", () => actions.cutTo(p, i)], ["Cut before it", () => actions.cutTo(p, i - 1)]);
+  }
   body.replaceChildren(list, element("p", { class: "actions" },
-    element("button", { type: "button", click: () => actions.cutTo(p, i) }, "Cut after it"),
-    element("button", { type: "button", click: () => actions.cutTo(p, i - 1) }, "Cut before it"),
-    element("button", { type: "button", click: () => actions.unselect() }, "Let go")));
+    ...buttons.map(([words, click]) => element("button", { type: "button", click }, words))));
   if (focused) body.querySelector("button").focus();
 }
 
@@ -256,7 +275,7 @@ function updateListing(run, state, actions) {
         click: () => actions.select(p, i), "aria-label": "select event " + placeText(run, p, i) }, "#" + i)),
       element("td", {}, setsOf(run, p, i).map(({ name, value }) => name + " = " + value).join(", ")),
       element("td", {}, message === null ? "" : message.verb + " " + message.id),
-      element("td", {}, i <= state.cut[p] ? "yes" : ""));
+      element("td", { class: "of-cuts" }, i <= state.cut[p] ? "yes" : ""));
   };
   const chosen = state.selected !== null && state.selected.p === p ? state.selected.i : 0;
   const body = byId("listing-table").tBodies[0];

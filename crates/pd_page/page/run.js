@@ -19,9 +19,11 @@ function readRun(data) {
   };
   run.eventCount = run.counts.reduce((sum, count) => sum + count, 0);
   giveMessages(run, data.messages);
+  run.cycle = data.cycle === undefined ? null : linksOf(run, data.cycle);
   giveClocks(run);
   giveSpans(run);
-  run.predicates = data.predicates.map((tree, k) => {
+  // Of a run that is refused no predicate is answered.
+  run.predicates = run.cycle !== null ? [] : data.predicates.map((tree, k) => {
     const node = readPredicate(tree, names, run.vars);
     return { ...data.answers[k], node, text: node.text, refs: refsOf(node) };
   });
@@ -83,13 +85,27 @@ function sentBy(run, p, i) {
   return found;
 }
 
+// A causal cycle goes back from each of its receipts to the send of the message, and along that process to the next
+// receipt; from the last one to the first. Of each receipt its message, the send, and the receipt before that.
+function linksOf(run, cycle) {
+  const { from, fromEvent } = run.messages;
+  return cycle.map(([p, i], k) => {
+    const message = run.messageAt[p][i];
+    const [q, j] = cycle[(k + 1) % cycle.length];
+    return { message, receipt: { p, i }, send: { p: from[message], i: fromEvent[message] }, next: { p: q, i: j } };
+  });
+}
+
 // The clock of event i of p has for each process q how many events of q happened before it, itself counted; it stands
-// at clocks[p][i * size + q]. The column is the length of the longest chain that ends in the event.
+// at clocks[p][i * size + q]. The column is the length of the longest chain that ends in the event. Where a cycle lets
+// no event be next, one is placed without the message that it receives, of those of the cycle the first: that message's
+// arrow points back. Clocks mean nothing then, and nobody asks for them.
 function giveClocks(run) {
   const { size, counts, messages, messageAt } = run;
   run.clocks = counts.map((count) => new Uint32Array((count + 1) * size));
   run.columns = counts.map((count) => new Int32Array(count + 1));
   const done = new Array(size).fill(0);
+  const loose = new Set();
   let left = run.eventCount;
   while (left > 0) {
     const before = left;
@@ -99,7 +115,7 @@ function giveClocks(run) {
       while (done[p] < counts[p]) {
         const i = done[p] + 1;
         const m = messageAt[p][i];
-        const from = m >= 0 && messages.to[m] === p && messages.toEvent[m] === i ? messages.from[m] : -1;
+        const from = m >= 0 && messages.to[m] === p && messages.toEvent[m] === i && !loose.has(m) ? messages.from[m] : -1;
         if (from >= 0 && done[from] < messages.fromEvent[m]) break;
         const base = i * size;
         clocks.copyWithin(base, base - size, base);
@@ -118,9 +134,19 @@ function giveClocks(run) {
         left--;
       }
     }
-    if (left === before) throw new Error("an event happens before itself");
+    if (left < before) continue;
+    if (run.cycle === null) throw new Error("an event happens before itself");
+    loose.add(waitingMessage(run, done));
   }
   run.lastColumn = Math.max(0, ...counts.map((count, p) => run.columns[p][count]));
+}
+
+// The message that a next event waits for, where each process waits: of those of the cycle the first, if there is one.
+function waitingMessage(run, done) {
+  const first = run.cycle.find(({ receipt: { p, i } }) => done[p] + 1 === i);
+  if (first !== undefined) return first.message;
+  const p = run.counts.findIndex((count, q) => done[q] < count);
+  return run.messageAt[p][done[p] + 1];
 }
 
 // The messages by the column of their send, in blocks that know how far right they reach.
@@ -485,7 +511,7 @@ function find(run, query) {
 
 // cut=2,0,2&view=LEFT,SCALE&event=NAME.I&film=NAME.STEP, where LEFT is a column and SCALE the pixels of one.
 function fragmentOf(run, state) {
-  const parts = ["cut=" + state.cut.join(",")];
+  const parts = run.cycle === null ? ["cut=" + state.cut.join(",")] : [];
   parts.push("view=" + Number(state.view.left.toFixed(2)) + "," + Number(state.view.scale.toPrecision(5)));
   if (state.selected !== null) parts.push("event=" + run.names[state.selected.p] + "." + state.selected.i);
   if (state.film !== null) parts.push("film=" + run.predicates[state.film.k].name + "." + state.film.step);
@@ -500,7 +526,7 @@ function readFragment(run, fragment) {
   }));
   const said = { cut: null, view: null, selected: null, film: null };
   const counts = /^\d+(,\d+)*$/.test(given.cut ?? "") ? given.cut.split(",").map(Number) : [];
-  if (isCut(run, counts) && isConsistent(run, counts)) said.cut = counts;
+  if (run.cycle === null && isCut(run, counts) && isConsistent(run, counts)) said.cut = counts;
   const [left, scale] = (given.view ?? "").split(",").map(Number);
   if (Number.isFinite(left) && scale > 0 && scale < 1e4) said.view = { left, scale };
   const [, process, number] = /^(\w+)\.(\d+)$/.exec(given.event ?? "") ?? [];

@@ -177,6 +177,7 @@ function monitor(...words) {
 // The data of the page that the program writes.
 function explored(spec, streams) {
   const page = monitor("explore", spec, ...streams);
+  if (page.startsWith("refused")) return null;
   const data = /<script type="application\/json" id="data">([\s\S]*?)<\/script>/.exec(page)[1];
   assert.doesNotMatch(data, /</);
   return JSON.parse(data);
@@ -471,4 +472,37 @@ test("finding, and the address", () => {
                      "#view=0,-1", "#%%%"]) {
     assert.deepEqual(readFragment(run, bad), { cut: null, view: null, selected: null, film: null });
   }
+});
+
+test("a refused cycle goes from each receipt to its send, and back along that process", needsProgram, () => {
+  let cycles = 0;
+  for (let seed = 1; seed <= 60; seed++) {
+    const chance = random(seed);
+    const made = session(chance, 2 + chance(3), 10 + chance(12), seed % 2 === 0);
+    for (const lines of made.streams) {
+      for (let k = lines.length - 1; k > 1; k--) {
+        const other = 1 + chance(k);
+        [lines[k], lines[other]] = [lines[other], lines[k]];
+      }
+    }
+    const { spec, streams } = write(made, [{ text: "true" }]);
+    const data = explored(spec, streams);
+    if (data?.cycle === undefined) continue;
+    cycles++;
+    const named = data.cycle.map(([p, i]) => data.processes[p].name + "#" + i);
+    assert.equal(monitor("judge", spec, ...streams), "refused cycle " + named.join(",") + "\n");
+    const { cycle, messages, columns, predicates } = readRun(data);
+    cycle.forEach(({ message, receipt, send, next }, k) => {
+      assert.deepEqual([receipt.p, receipt.i], data.cycle[k]);
+      assert.deepEqual([next.p, next.i], data.cycle[(k + 1) % cycle.length]);
+      assert.deepEqual([messages.to[message], messages.toEvent[message]], data.cycle[k]);
+      assert.deepEqual([messages.from[message], messages.fromEvent[message]], [send.p, send.i]);
+      assert.ok(send.p === next.p && send.i > next.i);
+    });
+    const back = cycle.filter(({ receipt, send }) => columns[receipt.p][receipt.i] <= columns[send.p][send.i]);
+    assert.ok(back.length >= 1);
+    for (const list of columns) list.forEach((column, i) => assert.ok(i === 0 || column > list[i - 1]));
+    assert.deepEqual(predicates, []);
+  }
+  assert.ok(cycles > 10, String(cycles));
 });

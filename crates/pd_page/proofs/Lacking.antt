@@ -9,8 +9,8 @@ use Rattle.pd_model.specs.Events.{Computation, Event, Kind, Local, Send, Receive
 use Rattle.pd_model.specs.Predicates.{Predicate, Always, Never, Compare, Not, And, Or, Comparison, Equals, Differs, IsLess, IsAtMost, IsGreater, IsAtLeast, Sign, Plus, Minus, Term, Number, Variable, Times}
 use Rattle.pd_format.specs.Documents.{Document, NamedPredicate}
 use Rattle.pd_format.specs.Names.{ProcessNames}
-use Rattle.pd_format.specs.Reports.{Answer, Possibly, Definitely}
-use Rattle.pd_page.specs.AnswerData.{answer_text, definitely_text, possibly_text, process_number, step_text, unknown_text}
+use Rattle.pd_format.specs.Reports.{Answer, Possibly, Definitely, NamedPlace}
+use Rattle.pd_page.specs.AnswerData.{Answered, Cyclic, Outcome, answer_text, definitely_text, named_place_text, outcome_text, possibly_text, process_number, step_text, unknown_text}
 use Rattle.pd_page.specs.EventData.{event_text, events_text, kind_text, message_text, place_text, process_text, setting_text, value_text, values_text}
 use Rattle.pd_page.specs.JsonTexts.{escaped_byte, hex_digit, is_escaped, lacks_less, listed, quoted}
 use Rattle.pd_page.specs.Pages.{data_text, limits_text, report_text, run_text, session_text, truth_text}
@@ -225,6 +225,20 @@ answer_lacks names answer =
       ),
     )
 
+named_place_lacks : (names : List ProcessNames) (place : NamedPlace) → Lacks (named_place_text names place)
+named_place_lacks names place =
+    chain_lacks (codes "[")
+    (decimal (process_number names place.name) ∷ codes "," ∷ decimal place.number ∷ codes "]" ∷ []) refl
+    (decimal_lacks (process_number names place.name), (refl, (decimal_lacks place.number, (refl, tt))))
+
+outcome_lacks : (names : List ProcessNames) (outcome : Outcome) → Lacks (outcome_text names outcome)
+outcome_lacks names (Answered answers) =
+    chain_lacks (codes "\"answers\":[") (listed (answer_text names) answers ∷ codes "]" ∷ []) refl
+    (listed_lacks (answer_text names) (answer_lacks names) answers, (refl, tt))
+outcome_lacks names (Cyclic places) =
+    chain_lacks (codes "\"cycle\":[") (listed (named_place_text names) places ∷ codes "]" ∷ []) refl
+    (listed_lacks (named_place_text names) (named_place_lacks names) places, (refl, tt))
+
 -- ---- the data
 
 truth_lacks : (truth : Bool) → Lacks (truth_text truth)
@@ -263,24 +277,23 @@ run_lacks events messages =
       ),
     )
 
-report_lacks : (document : Document) (answers : List Answer) → Lacks (report_text document answers)
+report_lacks : (document : Document) (outcome : Outcome) → Lacks (report_text document outcome)
 unfolding report_text
-report_lacks document answers =
+report_lacks document outcome =
     chain_lacks (codes ",\n\"predicates\":[")
-    (listed named_text document.predicates ∷ codes "],\n\"answers\":[" ∷ listed (answer_text document.names) answers
-    ∷ codes "]" ∷ []) refl (
+    (listed named_text document.predicates ∷ codes "],\n" ∷ outcome_text document.names outcome ∷ []) refl (
       listed_lacks named_text (λ named. predicate_lacks named.predicate) document.predicates,
       (
         refl,
-        (listed_lacks (answer_text document.names) (answer_lacks document.names) answers, (refl, tt)),
+        (outcome_lacks document.names outcome, tt),
       ),
     )
 
-pub data_lacks : (document : Document) (events : Computation) (messages : List (Place × Place))
-    (answers : List Answer) → Lacks (data_text document events messages answers)
+pub data_lacks : (document : Document) (events : Computation) (messages : List (Place × Place)) (outcome : Outcome)
+    → Lacks (data_text document events messages outcome)
 unfolding data_text
-data_lacks document events messages answers =
+data_lacks document events messages outcome =
     chain_lacks (limits_text document)
-    (session_text document ∷ run_text events messages ∷ report_text document answers ∷ codes "}\n" ∷ [])
+    (session_text document ∷ run_text events messages ∷ report_text document outcome ∷ codes "}\n" ∷ [])
     (limits_lack document)
-    (session_lacks document, (run_lacks events messages, (report_lacks document answers, (refl, tt))))
+    (session_lacks document, (run_lacks events messages, (report_lacks document outcome, (refl, tt))))

@@ -1,7 +1,7 @@
--- What stands in a page for the answers of a report.
+-- What stands in a page for the answers of a report, or for the causal cycle that it names.
 use Rattle.std.specs.Prelude.{ℕ, List, ◌++◌, codes, decimal, unwrap_or}
 use Rattle.pd_format.specs.Names.{ProcessNames, process_named}
-use Rattle.pd_format.specs.Reports.{Answer, Possibly, Definitely}
+use Rattle.pd_format.specs.Reports.{Answer, Possibly, Definitely, NamedPlace}
 use Rattle.pd_page.specs.JsonTexts.{listed, quoted}
 
 -- the number of the process of this name, from 0
@@ -34,3 +34,18 @@ unfoldable pub answer_text : List ProcessNames → Answer → List ℕ
 answer_text names answer =
     codes "{\"name\":" ++ quoted answer.name ++ codes ",\"possibly\":" ++ possibly_text answer.possibly
     ++ codes ",\"definitely\":" ++ definitely_text names answer.definitely ++ codes "}"
+
+-- an event of a causal cycle, by the number of its process and its own
+abbrev pub named_place_text : List ProcessNames → NamedPlace → List ℕ
+named_place_text names place =
+    codes "[" ++ decimal (process_number names place.name) ++ codes "," ++ decimal place.number ++ codes "]"
+
+-- What a page shows of a report: the answers of a session that is judged, or the causal cycle of one that is refused
+-- for it.
+pub data Outcome : Type 0 where
+  Answered : List Answer → Outcome
+  Cyclic : List NamedPlace → Outcome
+
+abbrev pub outcome_text : List ProcessNames → Outcome → List ℕ
+outcome_text names (Answered answers) = codes "\"answers\":[" ++ listed (answer_text names) answers ++ codes "]"
+outcome_text names (Cyclic places) = codes "\"cycle\":[" ++ listed (named_place_text names) places ++ codes "]"

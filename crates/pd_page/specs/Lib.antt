@@ -2,4 +2,5 @@ pub mod JsonTexts
 pub mod PredicateData
 pub mod EventData
 pub mod AnswerData
+pub mod Views
 pub mod Pages

@@ -3,11 +3,10 @@
 use Rattle.std.specs.Prelude.{ℕ, Bool, true, false, List, ◌++◌, codes, decimal}
 use Rattle.pd_model.specs.Events.{Computation, Place}
 use Rattle.pd_format.specs.Documents.{Document}
-use Rattle.pd_format.specs.Reports.{Answer}
 use Rattle.pd_page.specs.JsonTexts.{listed}
 use Rattle.pd_page.specs.PredicateData.{named_text}
 use Rattle.pd_page.specs.EventData.{process_text, values_text, events_text, message_text}
-use Rattle.pd_page.specs.AnswerData.{answer_text}
+use Rattle.pd_page.specs.AnswerData.{Outcome, outcome_text}
 use Rattle.pd_page.specs.declared.text_after.TheConstants.{AFTER}
 use Rattle.pd_page.specs.declared.text_before.TheConstants.{BEFORE}
 
@@ -33,17 +32,17 @@ run_text events messages =
     codes ",\n\"events\":[" ++ listed events_text events ++ codes "],\n\"messages\":[" ++ listed message_text messages
     ++ codes "]"
 
--- the predicates, and the answers for them, in their order
-unfoldable pub report_text : Document → List Answer → List ℕ
-report_text document answers =
-    codes ",\n\"predicates\":[" ++ listed named_text document.predicates ++ codes "],\n\"answers\":["
-    ++ listed (answer_text document.names) answers ++ codes "]"
+-- the predicates, and the answers for them, in their order; or the causal cycle
+unfoldable pub report_text : Document → Outcome → List ℕ
+report_text document outcome =
+    codes ",\n\"predicates\":[" ++ listed named_text document.predicates ++ codes "],\n"
+    ++ outcome_text document.names outcome
 
 -- What stands in the page for a document, the events of its processes, the messages, each as its send and its receipt,
--- and the answers of the report: one object of JSON.
-unfoldable pub data_text : Document → Computation → List (Place × Place) → List Answer → List ℕ
-data_text document events messages answers =
-    limits_text document ++ session_text document ++ run_text events messages ++ report_text document answers
+-- and what is shown of the report: one object of JSON.
+unfoldable pub data_text : Document → Computation → List (Place × Place) → Outcome → List ℕ
+data_text document events messages outcome =
+    limits_text document ++ session_text document ++ run_text events messages ++ report_text document outcome
     ++ codes "}\n"
 
 -- the page's text before its data
@@ -54,6 +53,6 @@ text_before = BEFORE.now
 unfoldable pub text_after : List ℕ
 text_after = AFTER.now
 
-unfoldable pub page_text : Document → Computation → List (Place × Place) → List Answer → List ℕ
-page_text document events messages answers =
-    text_before ++ data_text document events messages answers ++ text_after
+unfoldable pub page_text : Document → Computation → List (Place × Place) → Outcome → List ℕ
+page_text document events messages outcome =
+    text_before ++ data_text document events messages outcome ++ text_after

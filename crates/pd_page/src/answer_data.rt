@@ -1,10 +1,12 @@
-//! The answers of a report.
-ghost use Rattle.pd_page.specs.AnswerData.{answer_text, definitely_text, possibly_text, process_number, step_text, unknown_text};
+//! The answers of a report, or the causal cycle that it names.
+ghost use Rattle.pd_page.specs.AnswerData.{Answered, Cyclic, answer_text, definitely_text, named_place_text, outcome_text, possibly_text, process_number, step_text, unknown_text};
 ghost use Rattle.pd_page.specs.JsonTexts.{listed};
+ghost use Rattle.pd_page.specs.Views.{outcome_view};
 ghost use Rattle.pd_report.specs.Steps.{AreBelow, name_at, names_at, names_view};
-ghost use Rattle.pd_report.specs.Views.{answer_view, definitely_view, possibly_view};
+ghost use Rattle.pd_report.specs.Views.{answer_view, definitely_view, named_place_view, named_places_view, possibly_view};
 ghost use Rattle.std.specs.Prelude.{◌≡◌, ◌<◌, ◌++◌, decimal, length, map, OnOk};
 
+use super::Outcome;
 use super::json_texts::{push_index, push_quoted};
 use pd_pred::Names;
 use pd_report::{Answer, Definitely, Path, Possibly, push_bytes, push_number};
@@ -143,11 +145,7 @@ fn push_answer(out: &mut Vec<u8>, names: &Names, answer: &Answer) -> Result<(), 
 }
 
 /// Appends answers with a comma between each two.
-pub(crate) fn push_answers(
-    out: &mut Vec<u8>,
-    names: &Names,
-    answers: &[Answer],
-) -> Result<(), AllocError>
+fn push_answers(out: &mut Vec<u8>, names: &Names, answers: &[Answer]) -> Result<(), AllocError>
     ensures { OnOk result (out.new.items ≡ out.old.items
         ++ listed (answer_text names.now) (map answer_view answers.now)) }
 {
@@ -160,4 +158,84 @@ pub(crate) fn push_answers(
         push_answer(out, names, answer)?;
     }
     Ok(())
+}
+
+/// Appends the field of the answers.
+fn push_answers_field(
+    out: &mut Vec<u8>,
+    names: &Names,
+    answers: &[Answer],
+) -> Result<(), AllocError>
+    ensures { OnOk result (out.new.items ≡ out.old.items
+        ++ outcome_text names.now (Answered (map answer_view answers.now))) }
+{
+    push_bytes(out, b"\"answers\":[")?;
+    push_answers(out, names, answers)?;
+    push_bytes(out, b"]")?;
+    Ok(())
+}
+
+/// Appends an event of a causal cycle.
+fn push_named_place(
+    out: &mut Vec<u8>,
+    names: &Names,
+    place: &(String, u64),
+) -> Result<(), AllocError>
+    ensures { OnOk result (out.new.items ≡ out.old.items ++ named_place_text names.now (named_place_view place.now)) }
+{
+    push_bytes(out, b"[")?;
+    push_index(out, process_number(names, place.0.as_str()))?;
+    push_bytes(out, b",")?;
+    push_number(out, place.1)?;
+    push_bytes(out, b"]")?;
+    Ok(())
+}
+
+/// Appends the events of a causal cycle with a comma between each two.
+fn push_named_places(
+    out: &mut Vec<u8>,
+    names: &Names,
+    places: &[(String, u64)],
+) -> Result<(), AllocError>
+    ensures { OnOk result (out.new.items ≡ out.old.items
+        ++ listed (named_place_text names.now) (named_places_view places.now)) }
+{
+    let Some((first, others)) = places.split_first() else {
+        return Ok(());
+    };
+    push_named_place(out, names, first)?;
+    for place in others {
+        push_bytes(out, b",")?;
+        push_named_place(out, names, place)?;
+    }
+    Ok(())
+}
+
+/// Appends the field of the causal cycle.
+fn push_cycle_field(
+    out: &mut Vec<u8>,
+    names: &Names,
+    places: &[(String, u64)],
+) -> Result<(), AllocError>
+    ensures { OnOk result (out.new.items ≡ out.old.items
+        ++ outcome_text names.now (Cyclic (named_places_view places.now))) }
+{
+    push_bytes(out, b"\"cycle\":[")?;
+    push_named_places(out, names, places)?;
+    push_bytes(out, b"]")?;
+    Ok(())
+}
+
+/// Appends what is shown of a report.
+pub(crate) fn push_outcome(
+    out: &mut Vec<u8>,
+    names: &Names,
+    outcome: Outcome<'_>,
+) -> Result<(), AllocError>
+    ensures { OnOk result (out.new.items ≡ out.old.items ++ outcome_text names.now (outcome_view outcome.entry)) }
+{
+    match outcome {
+        Outcome::Answers(answers) => push_answers_field(out, names, answers),
+        Outcome::Cycle(places) => push_cycle_field(out, names, places),
+    }
 }

@@ -4,7 +4,16 @@ use pd_report::Answer;
 use pd_spec::Spec;
 use pd_traces::Trace;
 
-/// What a page shows: a session and the answers of its report.
+/// What a page shows of a session's report.
+#[derive(Clone, Copy)]
+pub enum Outcome<'a> {
+    /// The session is judged: the answers for its predicates, in their order.
+    Answers(&'a [Answer]),
+    /// The session is refused for a causal cycle: its events, each by the name of its process and its number.
+    Cycle(&'a [(String, u64)]),
+}
+
+/// What a page shows: a session and its report.
 #[derive(Clone, Copy)]
 pub struct Content<'a> {
     /// The session's document.
@@ -13,6 +22,6 @@ pub struct Content<'a> {
     pub traces: &'a [Trace],
     /// Its messages, each as its send and its receipt.
     pub pairs: &'a [(Place, Place)],
-    /// The answers for its predicates, in their order.
-    pub answers: &'a [Answer],
+    /// What is shown of its report.
+    pub outcome: Outcome<'a>,
 }

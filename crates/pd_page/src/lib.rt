@@ -2,14 +2,15 @@
 //!
 //! The page is the text before its data, the data, and the text after it. Both texts are the files of `page/`, put
 //! together, and the same for each session. The data is one object of JSON that holds the session's processes,
-//! variables, events and messages, its predicates and the answers of its report, as the definitions give it. No byte of
-//! it is `<`, so nothing in it can end the element that it stands in, whatever an id is.
+//! variables, events and messages, its predicates, and the answers of its report or the causal cycle that it names, as
+//! the definitions give it. No byte of it is `<`, so nothing in it can end the element that it stands in, whatever an
+//! id is.
 //!
 //! - `text_before`, `text_after`: the page's text before its data and after it
 //! - `json_texts`: texts of JSON
 //! - `predicate_data`: a predicate's tree
 //! - `event_data`: processes, variables, events and messages
-//! - `answer_data`: the answers of a report
+//! - `answer_data`: the answers of a report, or the causal cycle that it names
 //! - `content`: what a page shows
 //! - `page_data`: the data of a page
 //! - `page`: a page's text, also written
@@ -25,6 +26,6 @@ mod predicate_data;
 mod text_after;
 mod text_before;
 
-pub use content::Content;
+pub use content::{Content, Outcome};
 pub use page::{text, write};
 pub use page_data::{data, data_lacks_less};

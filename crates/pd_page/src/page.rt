@@ -1,11 +1,11 @@
 //! A page's text, also written.
 ghost use Rattle.pd_match.specs.Views.{pairs_view};
 ghost use Rattle.pd_page.specs.Pages.{page_text, text_after, text_before};
-ghost use Rattle.pd_report.specs.Views.{answer_view};
+ghost use Rattle.pd_page.specs.Views.{outcome_view};
 ghost use Rattle.pd_spec.specs.Views.{document_view};
 ghost use Rattle.pd_traces.specs.Views.{computation_view};
 ghost use Rattle.std.specs.Io.KnownBytes.{Appends, Keeps};
-ghost use Rattle.std.specs.Prelude.{◌≡◌, ◌<◌, ◌++◌, ℕ, length, map, take, Err, IfOk, OnOk};
+ghost use Rattle.std.specs.Prelude.{◌≡◌, ◌<◌, ◌++◌, ℕ, length, take, Err, IfOk, OnOk};
 
 use super::Content;
 use super::page_data::push_data;
@@ -39,7 +39,7 @@ fn text_after() -> &'static [u8]
 pub fn text(alloc: Global, content: &Content<'_>) -> Result<Vec<u8>, AllocError>
     ensures { IfOk result (λ text. text.items ≡ page_text (document_view content.now.spec.now)
         (computation_view content.now.traces.now) (pairs_view content.now.pairs.now)
-        (map answer_view content.now.answers.now)) }
+        (outcome_view content.now.outcome)) }
 {
     let mut out = Vec::new(alloc);
     push_bytes(&mut out, text_before())?;
@@ -60,13 +60,13 @@ pub fn write<W: Write>(
 ) -> Result<(), WriteFault>
     ensures written { OnOk result (Appends (W.contents writer.old) (W.contents writer.new)
         (page_text (document_view content.now.spec.now) (computation_view content.now.traces.now)
-        (pairs_view content.now.pairs.now) (map answer_view content.now.answers.now))) }
+        (pairs_view content.now.pairs.now) (outcome_view content.now.outcome))) }
     ensures part { result ≡ Err WriteFault.Write → (taken : ℕ)
         × (taken < length (page_text (document_view content.now.spec.now) (computation_view content.now.traces.now)
-        (pairs_view content.now.pairs.now) (map answer_view content.now.answers.now)))
+        (pairs_view content.now.pairs.now) (outcome_view content.now.outcome)))
         × Appends (W.contents writer.old) (W.contents writer.new)
         (take taken (page_text (document_view content.now.spec.now) (computation_view content.now.traces.now)
-        (pairs_view content.now.pairs.now) (map answer_view content.now.answers.now))) }
+        (pairs_view content.now.pairs.now) (outcome_view content.now.outcome))) }
     ensures memory { result ≡ Err WriteFault.Memory → Keeps (W.contents writer.old) (W.contents writer.new) }
 {
     let text = text(alloc, content)?;

@@ -1,23 +1,23 @@
 //! The data of a page.
 ghost use Rattle.pd_format.specs.Documents.{Document};
-ghost use Rattle.pd_format.specs.Reports.{Answer as Reported};
 ghost use Rattle.pd_match.specs.Views.{pairs_view};
 ghost use Rattle.pd_model.specs.Events.{Computation, Place as EventPlace};
+ghost use Rattle.pd_page.specs.AnswerData.{Outcome as Shown};
 ghost use Rattle.pd_page.specs.JsonTexts.{lacks_less, listed};
 ghost use Rattle.pd_page.specs.Pages.{data_text, limits_text, report_text, run_text, session_text, truth_text};
 ghost use Rattle.pd_page.specs.PredicateData.{named_text};
-ghost use Rattle.pd_report.specs.Views.{answer_view};
+ghost use Rattle.pd_page.specs.Views.{outcome_view};
 ghost use Rattle.pd_spec.specs.Named.{named_view};
 ghost use Rattle.pd_spec.specs.Views.{document_view};
 ghost use Rattle.pd_traces.specs.Views.{computation_view};
 ghost use Rattle.std.specs.Prelude.{◌≡◌, ◌++◌, List, map, IfOk, OnOk, true};
 
-use super::Content;
-use super::answer_data::push_answers;
+use super::answer_data::push_outcome;
 use super::event_data::{push_messages, push_processes, push_rows, push_traces};
 use super::predicate_data::push_predicate;
+use super::{Content, Outcome};
 use pd_match::Place;
-use pd_report::{Answer, push_bytes, push_number};
+use pd_report::{push_bytes, push_number};
 use pd_spec::{NamedPred, Spec};
 use pd_traces::Trace;
 use std::alloc::{AllocError, Global};
@@ -88,16 +88,15 @@ fn push_predicates(out: &mut Vec<u8>, predicates: &[NamedPred]) -> Result<(), Al
     Ok(())
 }
 
-/// Appends the predicates, and the answers for them.
-fn push_report(out: &mut Vec<u8>, spec: &Spec, answers: &[Answer]) -> Result<(), AllocError>
+/// Appends the predicates, and what is shown of the report.
+fn push_report(out: &mut Vec<u8>, spec: &Spec, outcome: Outcome<'_>) -> Result<(), AllocError>
     ensures { OnOk result (out.new.items ≡ out.old.items
-        ++ report_text (document_view spec.now) (map answer_view answers.now)) }
+        ++ report_text (document_view spec.now) (outcome_view outcome.entry)) }
 {
     push_bytes(out, b",\n\"predicates\":[")?;
     push_predicates(out, spec.predicates())?;
-    push_bytes(out, b"],\n\"answers\":[")?;
-    push_answers(out, spec.names(), answers)?;
-    push_bytes(out, b"]")?;
+    push_bytes(out, b"],\n")?;
+    push_outcome(out, spec.names(), outcome)?;
     Ok(())
 }
 
@@ -105,12 +104,12 @@ fn push_report(out: &mut Vec<u8>, spec: &Spec, answers: &[Answer]) -> Result<(),
 pub(crate) fn push_data(out: &mut Vec<u8>, content: &Content<'_>) -> Result<(), AllocError>
     ensures { OnOk result (out.new.items ≡ out.old.items ++ data_text (document_view content.now.spec.now)
         (computation_view content.now.traces.now) (pairs_view content.now.pairs.now)
-        (map answer_view content.now.answers.now)) }
+        (outcome_view content.now.outcome)) }
 {
     push_limits(out, content.spec)?;
     push_session(out, content.spec)?;
     push_run(out, content.traces, content.pairs)?;
-    push_report(out, content.spec, content.answers)?;
+    push_report(out, content.spec, content.outcome)?;
     push_bytes(out, b"}\n")?;
     Ok(())
 }
@@ -122,7 +121,7 @@ pub(crate) fn push_data(out: &mut Vec<u8>, content: &Content<'_>) -> Result<(), 
 pub fn data(alloc: Global, content: &Content<'_>) -> Result<Vec<u8>, AllocError>
     ensures { IfOk result (λ text. text.items ≡ data_text (document_view content.now.spec.now)
         (computation_view content.now.traces.now) (pairs_view content.now.pairs.now)
-        (map answer_view content.now.answers.now)) }
+        (outcome_view content.now.outcome)) }
 {
     let mut out = Vec::new(alloc);
     push_data(&mut out, content)?;
@@ -133,5 +132,5 @@ pub fn data(alloc: Global, content: &Content<'_>) -> Result<Vec<u8>, AllocError>
 /// nothing in it can end the element that it stands in. It has no code.
 pub fn data_lacks_less()
     ensures { (document : Document) (events : Computation) (messages : List (EventPlace × EventPlace))
-        (answers : List Reported) → lacks_less (data_text document events messages answers) ≡ true }
+        (outcome : Shown) → lacks_less (data_text document events messages outcome) ≡ true }
 {}

@@ -27,9 +27,11 @@ pub(crate) const AFTER: &[u8] = b"\
     \x20 };\n\
     \x20 run.eventCount = run.counts.reduce((sum, count) => sum + count, 0);\n\
     \x20 giveMessages(run, data.messages);\n\
+    \x20 run.cycle = data.cycle === undefined ? null : linksOf(run, data.cycle);\n\
     \x20 giveClocks(run);\n\
     \x20 giveSpans(run);\n\
-    \x20 run.predicates = data.predicates.map((tree, k) => {\n\
+    \x20 // Of a run that is refused no predicate is answered.\n\
+    \x20 run.predicates = run.cycle !== null ? [] : data.predicates.map((tree, k) => {\n\
     \x20   const node = readPredicate(tree, names, run.vars);\n\
     \x20   return { ...data.answers[k], node, text: node.text, refs: refsOf(node) };\n\
     \x20 });\n\
@@ -95,14 +97,33 @@ pub(crate) const AFTER: &[u8] = b"\
     \x20 return found;\n\
     }\n\
     \n\
+    // A causal cycle goes back from each of its receipts to the send of the message, and along that process to t\
+    he next\n\
+    // receipt; from the last one to the first. Of each receipt its message, the send, and the receipt before tha\
+    t.\n\
+    function linksOf(run, cycle) {\n\
+    \x20 const { from, fromEvent } = run.messages;\n\
+    \x20 return cycle.map(([p, i], k) => {\n\
+    \x20   const message = run.messageAt[p][i];\n\
+    \x20   const [q, j] = cycle[(k + 1) % cycle.length];\n\
+    \x20   return { message, receipt: { p, i }, send: { p: from[message], i: fromEvent[message] }, next: { p: q, \
+    i: j } };\n\
+    \x20 });\n\
+    }\n\
+    \n\
     // The clock of event i of p has for each process q how many events of q happened before it, itself counted; \
     it stands\n\
-    // at clocks[p][i * size + q]. The column is the length of the longest chain that ends in the event.\n\
+    // at clocks[p][i * size + q]. The column is the length of the longest chain that ends in the event. Where a \
+    cycle lets\n\
+    // no event be next, one is placed without the message that it receives, of those of the cycle the first: tha\
+    t message's\n\
+    // arrow points back. Clocks mean nothing then, and nobody asks for them.\n\
     function giveClocks(run) {\n\
     \x20 const { size, counts, messages, messageAt } = run;\n\
     \x20 run.clocks = counts.map((count) => new Uint32Array((count + 1) * size));\n\
     \x20 run.columns = counts.map((count) => new Int32Array(count + 1));\n\
     \x20 const done = new Array(size).fill(0);\n\
+    \x20 const loose = new Set();\n\
     \x20 let left = run.eventCount;\n\
     \x20 while (left > 0) {\n\
     \x20   const before = left;\n\
@@ -112,7 +133,8 @@ pub(crate) const AFTER: &[u8] = b"\
     \x20     while (done[p] < counts[p]) {\n\
     \x20       const i = done[p] + 1;\n\
     \x20       const m = messageAt[p][i];\n\
-    \x20       const from = m >= 0 && messages.to[m] === p && messages.toEvent[m] === i ? messages.from[m] : -1;\n\
+    \x20       const from = m >= 0 && messages.to[m] === p && messages.toEvent[m] === i && !loose.has(m) ? messag\
+    es.from[m] : -1;\n\
     \x20       if (from >= 0 && done[from] < messages.fromEvent[m]) break;\n\
     \x20       const base = i * size;\n\
     \x20       clocks.copyWithin(base, base - size, base);\n\
@@ -131,9 +153,20 @@ pub(crate) const AFTER: &[u8] = b"\
     \x20       left--;\n\
     \x20     }\n\
     \x20   }\n\
-    \x20   if (left === before) throw new Error(\"an event happens before itself\");\n\
+    \x20   if (left < before) continue;\n\
+    \x20   if (run.cycle === null) throw new Error(\"an event happens before itself\");\n\
+    \x20   loose.add(waitingMessage(run, done));\n\
     \x20 }\n\
     \x20 run.lastColumn = Math.max(0, ...counts.map((count, p) => run.columns[p][count]));\n\
+    }\n\
+    \n\
+    // The message that a next event waits for, where each process waits: of those of the cycle the first, if the\
+    re is one.\n\
+    function waitingMessage(run, done) {\n\
+    \x20 const first = run.cycle.find(({ receipt: { p, i } }) => done[p] + 1 === i);\n\
+    \x20 if (first !== undefined) return first.message;\n\
+    \x20 const p = run.counts.findIndex((count, q) => done[q] < count);\n\
+    \x20 return run.messageAt[p][done[p] + 1];\n\
     }\n\
     \n\
     // The messages by the column of their send, in blocks that know how far right they reach.\n\
@@ -522,7 +555,7 @@ pub(crate) const AFTER: &[u8] = b"\
     // cut=2,0,2&view=LEFT,SCALE&event=NAME.I&film=NAME.STEP, where LEFT is a column and SCALE the pixels of one.\
     \n\
     function fragmentOf(run, state) {\n\
-    \x20 const parts = [\"cut=\" + state.cut.join(\",\")];\n\
+    \x20 const parts = run.cycle === null ? [\"cut=\" + state.cut.join(\",\")] : [];\n\
     \x20 parts.push(\"view=\" + Number(state.view.left.toFixed(2)) + \",\" + Number(state.view.scale.toPrecision(\
     5)));\n\
     \x20 if (state.selected !== null) parts.push(\"event=\" + run.names[state.selected.p] + \".\" + state.selecte\
@@ -540,7 +573,7 @@ pub(crate) const AFTER: &[u8] = b"\
     \x20 }));\n\
     \x20 const said = { cut: null, view: null, selected: null, film: null };\n\
     \x20 const counts = /^\\d+(,\\d+)*$/.test(given.cut ?? \"\") ? given.cut.split(\",\").map(Number) : [];\n\
-    \x20 if (isCut(run, counts) && isConsistent(run, counts)) said.cut = counts;\n\
+    \x20 if (run.cycle === null && isCut(run, counts) && isConsistent(run, counts)) said.cut = counts;\n\
     \x20 const [left, scale] = (given.view ?? \"\").split(\",\").map(Number);\n\
     \x20 if (Number.isFinite(left) && scale > 0 && scale < 1e4) said.view = { left, scale };\n\
     \x20 const [, process, number] = /^(\\w+)\\.(\\d+)$/.exec(given.event ?? \"\") ?? [];\n\
@@ -655,6 +688,7 @@ pub(crate) const AFTER: &[u8] = b"\
     \n\
     // The grip of the cut at x and y, or the mark at the edge that stands for one out of view.\n\
     function gripNear(run, state, size, x, y) {\n\
+    \x20 if (run.cycle !== null) return null;\n\
     \x20 const p = Math.floor((y - size.top) / size.lane);\n\
     \x20 if (p < 0 || p >= run.size) return null;\n\
     \x20 const at = cutX(run, state, p);\n\
@@ -700,13 +734,15 @@ pub(crate) const AFTER: &[u8] = b"\
     \x20 context.fillStyle = palette.surface;\n\
     \x20 context.fillRect(0, 0, width, height);\n\
     \x20 context.lineCap = \"butt\";\n\
-    \x20 const line = cutLine(scene);\n\
-    \x20 context.fillStyle = palette[\"cut-tint\"];\n\
-    \x20 context.beginPath();\n\
-    \x20 context.moveTo(-5, 0);\n\
-    \x20 for (const [x, y] of line) context.lineTo(x, y);\n\
-    \x20 context.lineTo(-5, height);\n\
-    \x20 context.fill();\n\
+    \x20 const line = run.cycle === null ? cutLine(scene) : null;\n\
+    \x20 if (line !== null) {\n\
+    \x20   context.fillStyle = palette[\"cut-tint\"];\n\
+    \x20   context.beginPath();\n\
+    \x20   context.moveTo(-5, 0);\n\
+    \x20   for (const [x, y] of line) context.lineTo(x, y);\n\
+    \x20   context.lineTo(-5, height);\n\
+    \x20   context.fill();\n\
+    \x20 }\n\
     \x20 if (state.focused) {\n\
     \x20   context.fillStyle = palette.band;\n\
     \x20   context.fillRect(0, laneY(size, state.lane) - size.lane / 2, width, size.lane);\n\
@@ -720,11 +756,13 @@ pub(crate) const AFTER: &[u8] = b"\
     \x20   context.lineTo(Math.min(width, xOf(view, run.lastColumn + 0.6)), Math.round(laneY(size, p)) + 0.5);\n\
     \x20 }\n\
     \x20 context.stroke();\n\
+    \x20 if (run.cycle !== null) drawSteps(scene);\n\
     \x20 const told = drawMessages(scene);\n\
     \x20 if (view.scale < DOT_SCALE) drawBars(scene);\n\
     \x20 else drawDots(scene);\n\
     \x20 drawFound(scene);\n\
     \x20 drawRings(scene);\n\
+    \x20 if (line === null) return told;\n\
     \x20 drawCut(scene, line);\n\
     \x20 if (size.lane >= (state.film === null ? 44 : 80)) drawValues(scene);\n\
     \x20 return told;\n\
@@ -739,6 +777,18 @@ pub(crate) const AFTER: &[u8] = b"\
     \x20   line.push([x, p === run.size - 1 ? size.height : y + LANE_SHARE * size.lane]);\n\
     \x20 }\n\
     \x20 return line;\n\
+    }\n\
+    \n\
+    // What a causal cycle takes of the lanes: from each receipt to the send after it.\n\
+    function drawSteps({ context, run, palette, size, view }) {\n\
+    \x20 context.strokeStyle = palette.cut;\n\
+    \x20 context.lineWidth = 5;\n\
+    \x20 context.beginPath();\n\
+    \x20 for (const { send, next } of run.cycle) {\n\
+    \x20   context.moveTo(xOf(view, run.columns[next.p][next.i]), laneY(size, next.p));\n\
+    \x20   context.lineTo(xOf(view, run.columns[send.p][send.i]), laneY(size, send.p));\n\
+    \x20 }\n\
+    \x20 context.stroke();\n\
     }\n\
     \n\
     function drawCone({ context, run, state, palette, size, view }) {\n\
@@ -769,8 +819,9 @@ pub(crate) const AFTER: &[u8] = b"\
     \x20 const { from, fromEvent, to, toEvent } = run.messages;\n\
     \x20 const all = messagesBetween(run, scene.left, scene.right);\n\
     \x20 const every = Math.ceil(all.length / MESSAGE_LIMIT) || 1;\n\
-    \x20 const lines = { plain: [], crossing: [], dim: [], flight: [], forced: state.forced.slice() };\n\
-    \x20 const forced = new Set(state.forced);\n\
+    \x20 const marked = run.cycle === null ? state.forced : run.cycle.map(({ message }) => message);\n\
+    \x20 const lines = { plain: [], crossing: [], dim: [], flight: [], forced: marked };\n\
+    \x20 const forced = new Set(marked);\n\
     \x20 const heads = view.scale >= 7;\n\
     \x20 for (let k = 0; k < all.length; k += every) {\n\
     \x20   const m = all[k];\n\
@@ -822,7 +873,7 @@ pub(crate) const AFTER: &[u8] = b"\
     \x20 stroke(lines.plain, palette.message, Math.max(0.16, 0.62 * crowd), thin, []);\n\
     \x20 stroke(lines.flight, palette.message, 0.8, 1.5, [5, 4]);\n\
     \x20 stroke(lines.crossing, palette.message, Math.max(0.5, crowd), 2, []);\n\
-    \x20 stroke(lines.forced, palette.forced, 1, 3.5, []);\n\
+    \x20 stroke(lines.forced, run.cycle === null ? palette.forced : palette.cut, 1, 3.5, []);\n\
     \x20 return { all: all.length, drawn: Math.ceil(all.length / every) };\n\
     }\n\
     \n\
@@ -973,6 +1024,10 @@ pub(crate) const AFTER: &[u8] = b"\
     \x20   context.arc(xOf(view, run.columns[p][i]), laneY(size, p), radius + 4.5, 0, 2 * Math.PI);\n\
     \x20   context.stroke();\n\
     \x20 };\n\
+    \x20 for (const { receipt, send } of run.cycle ?? []) {\n\
+    \x20   ring(receipt, palette.cut);\n\
+    \x20   ring(send, palette.cut);\n\
+    \x20 }\n\
     \x20 if (state.selected !== null) ring(state.selected, palette.select);\n\
     \x20 if (state.film !== null && state.film.step > 0) {\n\
     \x20   const p = state.film.path[state.film.step - 1];\n\
@@ -1066,10 +1121,14 @@ pub(crate) const AFTER: &[u8] = b"\
     \x20 context.strokeStyle = palette.cut;\n\
     \x20 context.lineWidth = 2;\n\
     \x20 context.beginPath();\n\
-    \x20 for (let p = 0; p < run.size; p++) {\n\
+    \x20 for (let p = 0; run.cycle === null && p < run.size; p++) {\n\
     \x20   const x = xOf(view, run.columns[p][state.cut[p]] + 0.5);\n\
     \x20   context.lineTo(x, 4 + lane * p);\n\
     \x20   context.lineTo(x, 4 + lane * (p + 1));\n\
+    \x20 }\n\
+    \x20 for (const { receipt, send } of run.cycle ?? []) {\n\
+    \x20   context.moveTo(xOf(view, run.columns[send.p][send.i]), 4 + lane * (send.p + 0.5));\n\
+    \x20   context.lineTo(xOf(view, run.columns[receipt.p][receipt.i]), 4 + lane * (receipt.p + 0.5));\n\
     \x20 }\n\
     \x20 context.stroke();\n\
     \x20 const left = xOf(view, state.view.left);\n\
@@ -1219,6 +1278,29 @@ pub(crate) const AFTER: &[u8] = b"\
     \x20 });\n\
     }\n\
     \n\
+    // ---- a causal cycle --------------------------------------------------------------------------------------\
+    -------\n\
+    \n\
+    // Why the session is refused: each receipt of the cycle, and what is before it.\n\
+    function makeCycle(run, actions) {\n\
+    \x20 const at = ({ p, i }) => element(\"button\", { type: \"button\", class: \"plain\", click: () => actions.\
+    select(p, i) },\n\
+    \x20   placeText(run, p, i));\n\
+    \x20 const steps = run.cycle.map(({ message, receipt, send, next }) => element(\"li\", {}, at(receipt), \" re\
+    ceives \",\n\
+    \x20   element(\"code\", {}, run.messages.ids[message]), \" from \", at(send),\n\
+    \x20   ...(send.i === next.i ? [\"\"] : [\", which comes after \", at(next)])));\n\
+    \x20 byId(\"cycle\").append(element(\"p\", {}, \"The session is refused: its events make a causal cycle. Goin\
+    g back from each \" +\n\
+    \x20   \"receipt to the send, and along that process to the receipt before it, one comes to the first receipt\
+    \x20again:\"),\n\
+    \x20   element(\"ol\", {}, ...steps), element(\"p\", {}, \"So each of these events would have happened before\
+    \x20itself. No run \" +\n\
+    \x20   \"is so: the recording has events in a wrong order, or gives a message a wrong id. There is no cut to \
+    move, and no \" +\n\
+    \x20   \"predicate is answered.\"));\n\
+    }\n\
+    \n\
     // ---- values ----------------------------------------------------------------------------------------------\
     -------\n\
     \n\
@@ -1316,16 +1398,17 @@ pub(crate) const AFTER: &[u8] = b"\
     \x20 if (state.selected === null) {\n\
     \x20   byId(\"event-title\").textContent = \"Event\";\n\
     \x20   body.replaceChildren(element(\"p\", { class: \"hint\" },\n\
-    \x20     \"Click an event, and the cut moves there. With Shift, or by the keys , and . it is only selected.\"\
-    ));\n\
+    \x20     run.cycle !== null ? \"Click an event, or use the keys , and . to select one.\"\n\
+    \x20       : \"Click an event, and the cut moves there. With Shift, or by the keys , and . it is only selecte\
+    d.\"));\n\
     \x20   return;\n\
     \x20 }\n\
     \x20 const { p, i } = state.selected;\n\
-    \x20 const { before, after, beside } = state.cone;\n\
     \x20 byId(\"event-title\").textContent = \"Event \" + placeText(run, p, i);\n\
     \x20 const list = element(\"dl\", {});\n\
     \x20 const add = (term, ...words) => list.append(element(\"dt\", {}, term), element(\"dd\", {}, ...words));\n\
-    \x20 add(\"At the cut\", i <= state.cut[p] ? \"it has happened\" : \"it has not happened\");\n\
+    \x20 if (run.cycle === null) add(\"At the cut\", i <= state.cut[p] ? \"it has happened\" : \"it has not happe\
+    ned\");\n\
     \x20 const sets = setsOf(run, p, i);\n\
     \x20 add(\"Sets\", sets.length === 0 ? \"nothing\"\n\
     \x20   : sets.map(({ name, value, before: old }) => name + \" = \" + value + \" (was \" + old + \")\").join(\"\
@@ -1338,13 +1421,17 @@ pub(crate) const AFTER: &[u8] = b"\
     \x20       { type: \"button\", class: \"plain\", click: () => actions.select(end.p, end.i) }, placeText(run, \
     end.p, end.i))]));\n\
     \x20 }\n\
-    \x20 add(\"Around it\", counted(before, \"event\") + \" before it, \" + after.toLocaleString(\"en\") + \" aft\
-    er it, \" +\n\
-    \x20   beside.toLocaleString(\"en\") + \" concurrent with it\");\n\
+    \x20 const buttons = [[\"Let go\", () => actions.unselect()]];\n\
+    \x20 if (state.cone !== null) {\n\
+    \x20   const { before, after, beside } = state.cone;\n\
+    \x20   add(\"Around it\", counted(before, \"event\") + \" before it, \" + after.toLocaleString(\"en\") + \" a\
+    fter it, \" +\n\
+    \x20     beside.toLocaleString(\"en\") + \" concurrent with it\");\n\
+    \x20   buttons.unshift([\"Cut after it\", () => actions.cutTo(p, i)], [\"Cut before it\", () => actions.cutTo\
+    (p, i - 1)]);\n\
+    \x20 }\n\
     \x20 body.replaceChildren(list, element(\"p\", { class: \"actions\" },\n\
-    \x20   element(\"button\", { type: \"button\", click: () => actions.cutTo(p, i) }, \"Cut after it\"),\n\
-    \x20   element(\"button\", { type: \"button\", click: () => actions.cutTo(p, i - 1) }, \"Cut before it\"),\n\
-    \x20   element(\"button\", { type: \"button\", click: () => actions.unselect() }, \"Let go\")));\n\
+    \x20   ...buttons.map(([words, click]) => element(\"button\", { type: \"button\", click }, words))));\n\
     \x20 if (focused) body.querySelector(\"button\").focus();\n\
     }\n\
     \n\
@@ -1372,7 +1459,7 @@ pub(crate) const AFTER: &[u8] = b"\
     \x20     element(\"td\", {}, setsOf(run, p, i).map(({ name, value }) => name + \" = \" + value).join(\", \"))\
     ,\n\
     \x20     element(\"td\", {}, message === null ? \"\" : message.verb + \" \" + message.id),\n\
-    \x20     element(\"td\", {}, i <= state.cut[p] ? \"yes\" : \"\"));\n\
+    \x20     element(\"td\", { class: \"of-cuts\" }, i <= state.cut[p] ? \"yes\" : \"\"));\n\
     \x20 };\n\
     \x20 const chosen = state.selected !== null && state.selected.p === p ? state.selected.i : 0;\n\
     \x20 const body = byId(\"listing-table\").tBodies[0];\n\
@@ -1466,8 +1553,9 @@ pub(crate) const AFTER: &[u8] = b"\
     \x20 context.setTransform(size.ratio, 0, 0, size.ratio, 0, 0);\n\
     \x20 const told = drawDiagram(context, run, state, palette, size);\n\
     \x20 byId(\"level\").textContent = byId(\"level\").title = (told.drawn < told.all\n\
-    \x20   ? \"1 of \" + Math.round(told.all / told.drawn) + \" messages drawn. \" : \"\") +\n\
-    \x20   \"Level \" + levelOf(state.cut) + \", cut \" + state.cut.join(\",\");\n\
+    \x20   ? \"1 of \" + Math.round(told.all / told.drawn) + \" messages drawn. \" : \"\") + (run.cycle !== null\n\
+    \x20   ? \"Refused: a causal cycle\" : \"Level \" + levelOf(state.cut) + \", cut \" + state.cut.join(\",\"));\
+    \n\
     \x20 const small = overview.getContext(\"2d\", { alpha: false });\n\
     \x20 small.setTransform(size.ratio, 0, 0, size.ratio, 0, 0);\n\
     \x20 drawOverview(small, run, state, palette, strip.ground, strip.width, strip.height, size.width);\n\
@@ -1503,12 +1591,16 @@ pub(crate) const AFTER: &[u8] = b"\
     ;\n\
     }\n\
     \n\
-    // Moves the view so that the whole cut stands in it, or at least that of the lane, if it can't.\n\
+    // Moves the view so that the whole cut, or the causal cycle, stands in it, or at least what is on the lane o\
+    f it, if it\n\
+    // can't.\n\
     function revealCut() {\n\
-    \x20 const columns = state.cut.map((count, p) => run.columns[p][count]);\n\
+    \x20 const columns = run.cycle === null ? state.cut.map((count, p) => run.columns[p][count])\n\
+    \x20   : run.cycle.flatMap(({ receipt, send }) => [receipt, send]).map(({ p, i }) => run.columns[p][i]);\n\
     \x20 const [first, last] = [Math.min(...columns), Math.max(...columns)];\n\
     \x20 const { scale } = state.view;\n\
-    \x20 if ((last - first + 2) * scale > size.width) return reveal(columns[state.lane]);\n\
+    \x20 if ((last - first + 2) * scale > size.width) return reveal(run.cycle === null ? columns[state.lane] : fi\
+    rst);\n\
     \x20 if (xOf(state.view, first) < 30 || xOf(state.view, last) > size.width - 60) {\n\
     \x20   setView((first + last) / 2 - size.width / 2 / scale, scale);\n\
     \x20 }\n\
@@ -1541,6 +1633,7 @@ pub(crate) const AFTER: &[u8] = b"\
     }\n\
     \n\
     function cutTo(p, count) {\n\
+    \x20 if (run.cycle !== null) return;\n\
     \x20 pause();\n\
     \x20 move(p, count);\n\
     }\n\
@@ -1554,7 +1647,7 @@ pub(crate) const AFTER: &[u8] = b"\
     \n\
     function select(p, i) {\n\
     \x20 state.selected = p === null ? null : { p, i };\n\
-    \x20 state.cone = p === null ? null : coneOf(run, p, i);\n\
+    \x20 state.cone = p === null || run.cycle !== null ? null : coneOf(run, p, i);\n\
     \x20 if (p !== null) {\n\
     \x20   state.lane = p;\n\
     \x20   list(p, i);\n\
@@ -1629,8 +1722,15 @@ pub(crate) const AFTER: &[u8] = b"\
     \n\
     function updateLanes() {\n\
     \x20 lanes.forEach(({ lane, count }, p) => {\n\
-    \x20   const events = state.cut[p];\n\
     \x20   lane.tabIndex = p === state.lane ? 0 : -1;\n\
+    \x20   if (run.cycle !== null) {\n\
+    \x20     const i = state.selected !== null && state.selected.p === p ? state.selected.i : 0;\n\
+    \x20     lane.setAttribute(\"aria-valuenow\", String(i));\n\
+    \x20     lane.setAttribute(\"aria-valuetext\", i === 0 ? \"no event is selected\" : eventText(run, p, i));\n\
+    \x20     count.textContent = counted(run.counts[p], \"event\");\n\
+    \x20     return;\n\
+    \x20   }\n\
+    \x20   const events = state.cut[p];\n\
     \x20   lane.setAttribute(\"aria-valuenow\", String(events));\n\
     \x20   lane.setAttribute(\"aria-valuetext\", events + \" of \" + run.counts[p] + \" events in the cut\" +\n\
     \x20     (events === 0 ? \"\" : \"; the last is \" + eventText(run, p, events)));\n\
@@ -1642,7 +1742,11 @@ pub(crate) const AFTER: &[u8] = b"\
     \x20 if (event.ctrlKey || event.altKey || event.metaKey || event.shiftKey) return;\n\
     \x20 const step = { ArrowLeft: -1, ArrowRight: 1, PageUp: 10, PageDown: -10, Home: -Infinity, End: Infinity }\
     [event.key];\n\
-    \x20 if (step !== undefined) cutTo(p, Math.max(0, Math.min(run.counts[p], state.cut[p] + step)));\n\
+    \x20 const within = (i) => Math.max(0, Math.min(run.counts[p], i));\n\
+    \x20 if (step !== undefined && run.cycle !== null) {\n\
+    \x20   const i = within((state.selected !== null && state.selected.p === p ? state.selected.i : 0) + step);\n\
+    \x20   if (run.counts[p] > 0) select(p, Math.max(1, i));\n\
+    \x20 } else if (step !== undefined) cutTo(p, within(state.cut[p] + step));\n\
     \x20 else if (event.key === \"ArrowUp\" || event.key === \"ArrowDown\") {\n\
     \x20   const q = p + (event.key === \"ArrowUp\" ? -1 : 1);\n\
     \x20   if (q >= 0 && q < run.size) lanes[q].lane.focus();\n\
@@ -1964,7 +2068,7 @@ pub(crate) const AFTER: &[u8] = b"\
     \x20 if (given.cut !== null) setCut(given.cut, { from: given.cut, text: byId(\"status\").textContent });\n\
     \x20 if (given.selected !== null) {\n\
     \x20   state.selected = given.selected;\n\
-    \x20   state.cone = coneOf(run, given.selected.p, given.selected.i);\n\
+    \x20   state.cone = run.cycle !== null ? null : coneOf(run, given.selected.p, given.selected.i);\n\
     \x20   state.lane = given.selected.p;\n\
     \x20   list(given.selected.p, given.selected.i);\n\
     \x20 }\n\
@@ -1977,7 +2081,8 @@ pub(crate) const AFTER: &[u8] = b"\
     -------\n\
     \n\
     function start() {\n\
-    \x20 document.title = \"monitor: \" + run.predicates.map((each) => each.name).join(\", \");\n\
+    \x20 document.title = \"monitor: \" + (run.cycle !== null ? \"a causal cycle\"\n\
+    \x20   : run.predicates.map((each) => each.name).join(\", \"));\n\
     \x20 byId(\"counts\").textContent = counted(run.size, \"process\", \"processes\") + \", \" + counted(run.even\
     tCount, \"event\") +\n\
     \x20   \", \" + counted(run.received, \"message\") +\n\
@@ -1989,9 +2094,16 @@ pub(crate) const AFTER: &[u8] = b"\
     , name)));\n\
     \x20 FILM_SPEEDS.forEach((speed) => byId(\"film-speed\").append(element(\"option\", { value: String(speed) },\
     \x20String(speed))));\n\
-    \x20 canvas.setAttribute(\"aria-label\", \"The run: \" + byId(\"counts\").textContent + \". The cut is moved \
-    on the lanes \" +\n\
-    \x20   \"beside; the events are listed as a table below.\");\n\
+    \x20 canvas.setAttribute(\"aria-label\", \"The run: \" + byId(\"counts\").textContent + \". \" + (run.cycle !\
+    == null\n\
+    \x20   ? \"An event is selected\" : \"The cut is moved\") + \" on the lanes beside; the events are listed as \
+    a table below.\");\n\
+    \x20 if (run.cycle !== null) {\n\
+    \x20   document.documentElement.classList.add(\"cycle\");\n\
+    \x20   byId(\"lanes\").setAttribute(\"aria-label\", \"The processes: which event is selected\");\n\
+    \x20   byId(\"to-cut\").textContent = \"To the cycle\";\n\
+    \x20   makeCycle(run, actions);\n\
+    \x20 }\n\
     \x20 overview.hidden = run.lastColumn < 24;\n\
     \x20 byId(\"stage\").classList.toggle(\"last\", overview.hidden);\n\
     \x20 measure();\n\
@@ -2000,7 +2112,11 @@ pub(crate) const AFTER: &[u8] = b"\
     \x20 if (evident >= 0) {\n\
     \x20   state.cut = state.before = run.predicates[evident].possibly[1].slice();\n\
     \x20   say(run.predicates[evident].name + \" is true at this cut. \" + HOW_TO_MOVE);\n\
-    \x20 } else say(\"The cut before all events. \" + HOW_TO_MOVE);\n\
+    \x20 } else if (run.cycle === null) say(\"The cut before all events. \" + HOW_TO_MOVE);\n\
+    \x20 else {\n\
+    \x20   state.cut = state.before = run.counts.slice();\n\
+    \x20   say(\"The session is refused: its events make a causal cycle, which is marked.\");\n\
+    \x20 }\n\
     \x20 if (fitScale(run, size.width) < 14) state.view.scale = 26;\n\
     \x20 setView(0, state.view.scale === 1 ? 0 : state.view.scale);\n\
     \x20 state.lane = Math.max(0, state.cut.findIndex((count) => count > 0));\n\

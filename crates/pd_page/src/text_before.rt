@@ -6,10 +6,10 @@ pub(crate) const BEFORE: &[u8] = b"\
     <html lang=\"en\">\n\
     <head>\n\
     <meta charset=\"utf-8\">\n\
-    <meta http-equiv=\"Content-Security-Policy\" content=\"default-src 'none'; script-src 'sha256-kylRvuxIFp5DHCj\
-    lvhVdnwGiW98ma1GjpkKHm0RcTG0=' 'sha256-eoj3ue2nsV5inWqjUYkyjbKiFrv7BjYLXV2WWgPJ3cQ=' 'sha256-lsL+A7jTWLaJY5Av\
-    tx8FV6/3XhHxmKghoRnpegJq81I=' 'sha256-FT+hwSAG7N+rB8hWQwtX45JyED8bZ7X1bRUpdbXBh0E='; style-src 'sha256-pXwpQg\
-    sW7eW/l3epPISjbOd7/1dqPQ5EMuC1lzQEvsk='; base-uri 'none'; form-action 'none'\">\n\
+    <meta http-equiv=\"Content-Security-Policy\" content=\"default-src 'none'; script-src 'sha256-Z/gRrDZ6B2pxhm+\
+    ha7H+kj488d2BA4BFXGps9x0Rp/o=' 'sha256-lCf/O7uShxMCsyWw+AlaHu5AJVshmNsyNpBipo8b4+Q=' 'sha256-eAbgwq7D6X0V3tEV\
+    vFlV+PUGZDrg8ERwH8aM5xHMWjk=' 'sha256-2PAemgMLeg9qK/FHNH/e27b5KYMbXZS7xnSA1ZiZweI='; style-src 'sha256-RsWtZh\
+    +BxYqWCWfOSV3GUR44bpLcFqTBWRf6DkyCFSk='; base-uri 'none'; form-action 'none'\">\n\
     <meta name=\"viewport\" content=\"width=device-width, initial-scale=1\">\n\
     <meta name=\"referrer\" content=\"no-referrer\">\n\
     <meta name=\"color-scheme\" content=\"light dark\">\n\
@@ -89,7 +89,8 @@ pub(crate) const BEFORE: &[u8] = b"\
     h3 { font-size: 14px; font-weight: 600; display: flex; align-items: center; justify-content: space-between; g\
     ap: 8px; }\n\
     code { font: 0.9em/1.5 var(--mono); overflow-wrap: anywhere; }\n\
-    [hidden] { display: none !important; }\n\
+    [hidden], .of-cycle, .cycle .of-cuts { display: none !important; }\n\
+    .cycle .of-cycle { display: block !important; }\n\
     .unseen { position: absolute; width: 1px; height: 1px; overflow: hidden; clip-path: inset(50%); white-space: \
     nowrap; }\n\
     \n\
@@ -195,6 +196,7 @@ pub(crate) const BEFORE: &[u8] = b"\
     .why li::before { position: absolute; left: 2px; color: var(--muted); }\n\
     .why .holds::before { content: \"\xe2\x9c\x93\"; color: var(--true); }\n\
     .why .fails::before { content: \"\xe2\x9c\x97\"; color: var(--false); }\n\
+    #cycle ol { margin: 8px 0; padding-left: 22px; }\n\
     .answers { align-items: start; }\n\
     .answers .given { display: flex; gap: 8px; justify-content: space-between; align-items: start; }\n\
     .answers button { min-height: 22px; padding: 0 9px; font-size: 0.93em; flex: none; }\n\
@@ -292,7 +294,7 @@ pub(crate) const BEFORE: &[u8] = b"\
     <main>\n\
     \x20 <section id=\"run\" aria-label=\"The run\">\n\
     \x20   <div class=\"bar\" id=\"tools\">\n\
-    \x20     <div class=\"group\">\n\
+    \x20     <div class=\"group of-cuts\">\n\
     \x20       <button type=\"button\" id=\"to-empty\" title=\"the cut before all events\">Nothing yet</button>\n\
     \x20       <button type=\"button\" id=\"to-full\" title=\"the cut after all events\">All</button>\n\
     \x20       <button type=\"button\" id=\"undo\" title=\"the cut before this one (u)\">Undo</button>\n\
@@ -303,7 +305,8 @@ pub(crate) const BEFORE: &[u8] = b"\
     </button>\n\
     \x20       <button type=\"button\" id=\"zoom-in\" aria-label=\"Zoom in\" title=\"zoom in (+)\">+</button>\n\
     \x20       <button type=\"button\" id=\"fit\" title=\"the whole run (0)\">Fit</button>\n\
-    \x20       <button type=\"button\" id=\"to-cut\" title=\"bring the cut into view (c)\">To the cut</button>\n\
+    \x20       <button type=\"button\" id=\"to-cut\" title=\"bring the cut, or the cycle, into view (c)\">To the \
+    cut</button>\n\
     \x20     </div>\n\
     \x20   </div>\n\
     \x20   <div id=\"stage\">\n\
@@ -345,18 +348,22 @@ pub(crate) const BEFORE: &[u8] = b"\
     \x20       </div>\n\
     \x20       <table id=\"listing-table\">\n\
     \x20         <thead><tr><th scope=\"col\">Event</th><th scope=\"col\">Sets</th><th scope=\"col\">Message</th>\
-    <th scope=\"col\">In the cut</th></tr></thead>\n\
+    <th scope=\"col\" class=\"of-cuts\">In the cut</th></tr></thead>\n\
     \x20         <tbody></tbody>\n\
     \x20       </table>\n\
     \x20     </section>\n\
     \x20   </div>\n\
     \x20 </section>\n\
     \x20 <aside id=\"panel\" aria-label=\"The cut\">\n\
-    \x20   <section aria-labelledby=\"predicates-title\">\n\
+    \x20   <section aria-labelledby=\"cycle-title\" class=\"of-cycle\">\n\
+    \x20     <h2 id=\"cycle-title\">A causal cycle</h2>\n\
+    \x20     <div id=\"cycle\"></div>\n\
+    \x20   </section>\n\
+    \x20   <section aria-labelledby=\"predicates-title\" class=\"of-cuts\">\n\
     \x20     <h2 id=\"predicates-title\">Predicates at the cut</h2>\n\
     \x20     <div id=\"predicates\"></div>\n\
     \x20   </section>\n\
-    \x20   <section aria-labelledby=\"values-title\">\n\
+    \x20   <section aria-labelledby=\"values-title\" class=\"of-cuts\">\n\
     \x20     <h2 id=\"values-title\">Values at the cut</h2>\n\
     \x20     <table id=\"values\">\n\
     \x20       <thead><tr><th scope=\"col\">Variable</th><th scope=\"col\">Value</th><th scope=\"col\">Set by</th\
@@ -367,8 +374,8 @@ pub(crate) const BEFORE: &[u8] = b"\
     </main>\n\
     <footer>\n\
     \x20 <p><strong>Proved</strong> of the program that wrote this page: that it holds the session's events, mess\
-    ages, values and predicates, and the answers of its report, as they are; that the answers are right; and that\
-    \x20nothing of what it holds is read as mark-up.\n\
+    ages, values and predicates, and the answers of its report or the cycle for which it is refused, as they are;\
+    \x20that this report is right; and that nothing of what it holds is read as mark-up.\n\
     \x20 <strong>Not proved, only tested:</strong> the script of this page, which draws, moves the cut, reads val\
     ues and decides predicates at it.</p>\n\
     \x20 <p>The page asks nothing of any network.</p>\n\
@@ -406,6 +413,7 @@ pub(crate) const BEFORE: &[u8] = b"\
     \x20   <li><span class=\"sign past\"></span> before the selected event</li>\n\
     \x20   <li><span class=\"sign future\"></span> after it; what is left bright is concurrent</li>\n\
     \x20   <li><span class=\"sign forced\"></span> a message that moved the cut of another process</li>\n\
+    \x20   <li><span class=\"sign cut\"></span> of a refused session: the causal cycle</li>\n\
     \x20   <li><span class=\"sign flight\"></span> a message in flight: no one received it</li>\n\
     \x20 </ul>\n\
     \x20 <form method=\"dialog\"><button>Close</button></form>\n\

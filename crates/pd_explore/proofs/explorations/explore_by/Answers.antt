@@ -1,7 +1,5 @@
 -- What is owed of the session is written.
-use Rattle.std.proofs.Common.{◌≡◌, ℕ, List, map, subst}
-use Rattle.pd_judgement.specs.Writes.{Writes}
-use Rattle.pd_sessions.specs.Ends.{call_end}
+use Rattle.std.proofs.Common.{map}
 use Rattle.pd_sessions.specs.Inquiries.{inquiry_view}
 use Rattle.pd_explore.proofs.Written.{page_written, write_only}
 use Rattle.pd_explore.proofs.explorations.explore_by.Goals as goal
@@ -10,13 +8,10 @@ pub returns-in-Ok : goal.returns-in-Ok
 returns-in-Ok g c =
     let asked = inquiry_view c.args.inquiry in
     let inputs = map g.R.ByteSource.remaining c.args.readers.items in
-    let old = g.W.Write.contents c.args.writer.now in
-    let new = g.W.Write.contents c.write_page.new.writer in
     record {
-      written = page_written asked inputs g.R.ByteSource.never_fails c.in-Ok.page.items c.write_page.result old new
-          c.in-Ok.ensures.page c.write_page.ensures.judged
-          (subst (λ (page : List ℕ). Writes (λ (text : List ℕ). text ≡ page) (call_end c.write_page.result) old new)
-          c.deref.ensures.value c.write_page.ensures.written);
+      written = page_written asked inputs g.R.ByteSource.never_fails c.in-Ok.page.text.items c.in-Ok.page.refusal
+          c.write_page.result (g.W.Write.contents c.args.writer.now) (g.W.Write.contents c.write_page.new.writer)
+          c.in-Ok.ensures.page c.write_page.ensures.judged c.write_page.ensures.written;
       err = write_only c.write_page.result c.write_page.ensures.err;
     }
 

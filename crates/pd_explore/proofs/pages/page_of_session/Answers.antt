@@ -12,6 +12,7 @@ use Rattle.pd_sessions.specs.Unanswered.{IsUnanswered}
 use Rattle.pd_sessions.proofs.SessionReports.{inputs_report, refusal_given, refused_inputs_report, traces_report}
 use Rattle.pd_traces.specs.declared.event.Trace.{Trace}
 use Rattle.pd_explore.specs.Explored.{IsPageOfInputs, IsPageOfTraces}
+use Rattle.pd_explore.specs.Refused.{IsRefusedBy}
 use Rattle.pd_explore.proofs.SessionPages.{inputs_page, refused_weaker}
 use Rattle.pd_explore.proofs.pages.page_of_session.Goals as goal
 
@@ -46,13 +47,15 @@ returns-clause-page g c =
     let count = c.in_ok-gathered.gathered.streams in
     let results = results_view c.in_ok-gathered.gathered.readings.items in
     let traces = traces_view c.in_ok-traces.traces.items in
-    IfOk-weaker c.page_of_traces.result (λ page. IsPageOfTraces document traces page.items)
-    (λ page. IsPageOfInputs asked inputs g.R.ByteSource.never_fails page.items)
-    (λ page is. inputs_page asked inputs g.R.ByteSource.never_fails document count results traces page.items
+    IfOk-weaker c.page_of_traces.result
+    (λ page. IsPageOfTraces document traces (IsRefusedBy page.refusal) page.text.items)
+    (λ page. IsPageOfInputs asked inputs g.R.ByteSource.never_fails (IsRefusedBy page.refusal) page.text.items)
+    (λ page is. inputs_page asked inputs g.R.ByteSource.never_fails document count results traces
+    (IsRefusedBy page.refusal) page.text.items
     c.in_ok-spec.ensures.read c.in_ok-gathered.ensures.given c.in_ok-traces.ensures.joined is)
     (subst (λ (all : List Trace). IfOk c.page_of_traces.result
-    (λ page. IsPageOfTraces document (traces_view all) page.items)) c.deref.ensures.value
-    c.page_of_traces.ensures.page)
+    (λ page. IsPageOfTraces document (traces_view all) (IsRefusedBy page.refusal) page.text.items))
+    c.deref.ensures.value c.page_of_traces.ensures.page)
 
 pub returns-clause-refused : goal.returns-clause-refused
 returns-clause-refused g c =

@@ -1,10 +1,9 @@
 -- The data, part by part.
-use Rattle.std.proofs.Common.{map}
 use Rattle.std.specs.Prelude.{codes}
 use Rattle.pd_match.specs.Views.{pairs_view}
 use Rattle.pd_page.specs.Pages.{data_text, limits_text, report_text, run_text, session_text}
 use Rattle.pd_page.proofs.Parts.{five_parts}
-use Rattle.pd_report.specs.Views.{answer_view}
+use Rattle.pd_page.specs.Views.{outcome_view}
 use Rattle.pd_spec.specs.Views.{document_view}
 use Rattle.pd_traces.specs.Views.{computation_view}
 use Rattle.pd_page.proofs.page_data.push_data.Goals as goal
@@ -17,6 +16,6 @@ returns c =
     five_parts c.args.out.now.items c.push_limits.new.out.items c.push_session.new.out.items
     c.push_run.new.out.items c.push_report.new.out.items c.push_bytes.new.out.items (limits_text document)
     (session_text document) (run_text (computation_view content.traces.now) (pairs_view content.pairs.now))
-    (report_text document (map answer_view content.answers.now)) (codes "}\n") c.in_ok-push_limits.ensures
+    (report_text document (outcome_view content.outcome)) (codes "}\n") c.in_ok-push_limits.ensures
     c.in_ok-push_session.ensures c.in_ok-push_run.ensures c.in_ok-push_report.ensures
     c.in_ok-push_bytes.ensures.ok

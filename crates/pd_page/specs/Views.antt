@@ -1,0 +1,10 @@
+-- What a page's parts stand for.
+use Rattle.std.specs.Prelude.{map}
+use Rattle.pd_page.specs.AnswerData as shown
+use Rattle.pd_page.specs.declared.content.Outcome.{Outcome}
+use Rattle.pd_page.specs.declared.content.Outcome.TheVariants.{Answers, Cycle}
+use Rattle.pd_report.specs.Views.{answer_view, named_places_view}
+
+abbrev pub outcome_view : Outcome → shown.Outcome
+outcome_view (Answers answers) = shown.Answered (map answer_view answers.now)
+outcome_view (Cycle places) = shown.Cyclic (named_places_view places.now)
