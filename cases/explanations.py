@@ -29,6 +29,8 @@ SPECS = os.path.join(HERE, "..", "crates", "pd_format", "specs", "RefusalWords.a
 SECONDS = 60
 FIXED = ("read", "write", "memory", "network", "bundle too long")
 COLUMNS = 116
+# The columns of a line of an explanation, but for those that show a part of a file.
+ROW = 100
 
 Case = collections.namedtuple("Case", "name files words input output memory peers",
                               defaults=({}, (), b"", None, None, ()))
@@ -104,6 +106,19 @@ def predicates():
 def asked():
     yield session("a predicate that is asked for names no variable", words=("--ask", "a.x == 1", "--ask", "b.z == 1"))
     yield session("a sign is missing in a predicate that is asked for", words=("--ask", "a.x = 1"))
+
+
+def checks():
+    """Reports of which something is bad."""
+    report = "session 2 processes 2 events 0 messages\nboth possibly yes 1,1\nboth definitely no a,b\n"
+    bad = {"a cut is bad, and a path": report.replace("1,1", "1,0"),
+           "the numbers are bad": report.replace("2 events", "3 events"),
+           "the names are bad": report.replace("both", "all"), "the report is no report": "both possibly yes 1,1\n",
+           "the report refuses a session that isn't refused": "refused cycle a#1,b#1\n"}
+    for name, text in bad.items():
+        whole = session(name)
+        yield whole._replace(files={**whole.files, "report": text},
+                             words=("check", "session.json", "report", "a.stream", "b.stream"))
 
 
 def lines():
@@ -185,6 +200,7 @@ KINDS = {
     "The session document": documents, "The text of a predicate": predicates,
     "The text of a predicate that is asked for": asked, "A line of a stream": lines,
     "The list of streams": streams, "Messages": messages, "Unknown answers": lambda: [wide()],
+    "Reports that a check finds bad": checks,
     "Streams whose bytes are gone": connections, "A bundle, whose bytes are gone": bundles, "Faults": faults,
 }
 
@@ -257,8 +273,25 @@ def explained(program, case):
         explanation = errors.removesuffix(plain[2]) if plain[2] else errors
         if not explanation:
             wrong.append("nothing is explained")
+        if any(len(line) > ROW and not line.startswith("    ") for line in explanation.splitlines()):
+            wrong.append(f"a line has more than {ROW} columns: {explanation!r}")
         explanation = re.sub(rf"\b([Pp]ort) (?:{port}|{ports['FREE'] or port})\b", r"\1 7411", explanation)
         return plain[2] or plain[1], explanation, wrong
+
+
+def closed_pipe(program):
+    """What is wrong of a run whose output is a pipe that nobody reads any more."""
+    with tempfile.TemporaryDirectory() as folder:
+        case = session("a closed pipe")
+        write(folder, case.files)
+        read_end, write_end = os.pipe()
+        os.close(read_end)
+        with os.fdopen(write_end, "wb") as out:
+            found = subprocess.run([program, *case.words, "--explain"], stdout=out, stderr=subprocess.PIPE, cwd=folder,
+                                   timeout=SECONDS)
+    if (found.returncode, found.stderr) != (3, b"monitor: write\n"):
+        return [f"a closed pipe: {found.returncode} {found.stderr!r}"]
+    return []
 
 
 def wanted():
@@ -315,6 +348,9 @@ def main():
         for why in wrong:
             differing += 1
             print(f"explanations: {case.name}: {why}")
+    for why in closed_pipe(program):
+        differing += 1
+        print(f"explanations: {why}")
     said = " ".join(result[0] for result in results)
     for word in sorted(wanted()):
         if not re.search(rf"\b{word}\b", said):

@@ -1,16 +1,21 @@
 //! Explains how a run ended, by a second look at what it was asked for.
+use super::check_files::check_files;
 use super::explained_refusals::put_refusal;
 use super::file_source::FileSource;
-use super::second_look::{Seen, spec_again};
+use super::second_look::{Seen, can_be_checked_again, report_again, spec_again};
 use pd_arguments::{Exploration, Judgement, SessionNames};
 use pd_claims::DrawOutcome;
 use pd_explain::{
-    Judged, explain_answers, explain_bundle_fault, explain_file, explain_long_report,
-    explain_memory, explain_no_file, explain_no_predicate, explain_output,
+    Judged, Source, explain_answers, explain_bundle_fault, explain_file, explain_finding,
+    explain_long_report, explain_memory, explain_no_file, explain_no_predicate, explain_output,
+    in_rows,
 };
 use pd_report::Report;
 use pd_sessions::EngineFault;
 use std::alloc::{AllocError, Global};
+use std::random::RandomSource;
+use std::sync::Wait;
+use std::thread::Threads;
 
 /// Explains what a report leaves unknown, or why it is a refusal.
 pub(crate) fn put_report<F: FileSource>(
@@ -53,6 +58,22 @@ fn put_unread<F: FileSource>(
     Ok(is_found)
 }
 
+/// Explains that the output couldn't be written, unless whoever reads it has ended, who wants no more.
+fn put_output<F: FileSource>(out: &mut Vec<u8>, files: &F) -> Result<(), AllocError> {
+    if files.output_is_read() {
+        return Ok(());
+    }
+    explain_output(out)
+}
+
+/// The lines of an explanation in rows, or as they are if memory is refused.
+pub(crate) fn rows_of(alloc: Global, text: Vec<u8>) -> Vec<u8> {
+    match in_rows(alloc, &text) {
+        Ok(rows) => rows,
+        Err(_) => text,
+    }
+}
+
 /// Explains a fault of a run that reads a document, a report, if there is one, and streams.
 pub(crate) fn put_fault<F: FileSource>(
     out: &mut Vec<u8>,
@@ -65,7 +86,7 @@ pub(crate) fn put_fault<F: FileSource>(
 ) -> Result<(), AllocError> {
     match fault {
         EngineFault::Memory => explain_memory(out),
-        EngineFault::Write => explain_output(out),
+        EngineFault::Write => put_output(out, files),
         EngineFault::BundleLong => explain_bundle_fault(out, true),
         EngineFault::Read => {
             let of_document = put_unread(out, files, alloc, &[spec])?;
@@ -117,7 +138,7 @@ pub(crate) fn judgement_text<F: FileSource>(
     if is_wanted {
         let _ = put_judgement(&mut out, files, alloc, judgement, end);
     }
-    out
+    rows_of(alloc, out)
 }
 
 /// Explains how an exploration ended.
@@ -155,7 +176,7 @@ pub(crate) fn exploration_text<F: FileSource>(
     if is_wanted {
         let _ = put_exploration(&mut out, files, alloc, exploration, end);
     }
-    out
+    rows_of(alloc, out)
 }
 
 /// Explains how a judgement of a bundle ended.
@@ -174,7 +195,7 @@ fn put_bundle<F: FileSource>(
     match end {
         Ok(report) => put_report(out, files, alloc, seen, report),
         Err(EngineFault::Memory) => explain_memory(out),
-        Err(EngineFault::Write) => explain_output(out),
+        Err(EngineFault::Write) => put_output(out, files),
         Err(EngineFault::Read) => explain_bundle_fault(out, false),
         Err(EngineFault::BundleLong) => explain_bundle_fault(out, true),
     }
@@ -191,13 +212,63 @@ pub(crate) fn bundle_text<F: FileSource>(
     if is_wanted {
         let _ = put_bundle(&mut out, files, alloc, end);
     }
-    out
+    rows_of(alloc, out)
+}
+
+/// Explains what is bad in a report, by a second check of the same files.
+fn put_finding<S: RandomSource + Threads + Wait + Sync, F: FileSource>(
+    out: &mut Vec<u8>,
+    rt: &S,
+    files: &F,
+    alloc: Global,
+    report: &str,
+    names: &SessionNames<'_>,
+) -> Result<(), AllocError> {
+    if !can_be_checked_again(files, report, names) {
+        return Ok(());
+    }
+    let Some(bytes) = report_again(files, alloc, report) else {
+        return Ok(());
+    };
+    let mut found = Vec::new(alloc);
+    let _ = check_files(rt, files, alloc, report, names, &mut found);
+    let source = Source {
+        name: report,
+        bytes: &bytes,
+    };
+    explain_finding(out, &source, &found)
+}
+
+/// Explains how a check ended.
+fn put_check<S: RandomSource + Threads + Wait + Sync, F: FileSource>(
+    out: &mut Vec<u8>,
+    rt: &S,
+    files: &F,
+    alloc: Global,
+    report: &str,
+    names: &SessionNames<'_>,
+    end: &Result<bool, EngineFault>,
+) -> Result<(), AllocError> {
+    match end {
+        Ok(true) => Ok(()),
+        Ok(false) => put_finding(out, rt, files, alloc, report, names),
+        Err(fault) => put_fault(
+            out,
+            files,
+            alloc,
+            Some(report),
+            names.spec,
+            &names.streams,
+            fault,
+        ),
+    }
 }
 
 /// The explanation of how a check ended, as far as it could be made; empty if none is wanted. What a check finds stands
 /// on the output.
-pub(crate) fn check_text<F: FileSource>(
+pub(crate) fn check_text<S: RandomSource + Threads + Wait + Sync, F: FileSource>(
     is_wanted: bool,
+    rt: &S,
     files: &F,
     alloc: Global,
     report: &str,
@@ -205,21 +276,10 @@ pub(crate) fn check_text<F: FileSource>(
     end: &Result<bool, EngineFault>,
 ) -> Vec<u8> {
     let mut out = Vec::new(alloc);
-    if let Err(fault) = end {
-        if is_wanted {
-            let spec = names.spec;
-            let _ = put_fault(
-                &mut out,
-                files,
-                alloc,
-                Some(report),
-                spec,
-                &names.streams,
-                fault,
-            );
-        }
+    if is_wanted {
+        let _ = put_check(&mut out, rt, files, alloc, report, names, end);
     }
-    out
+    rows_of(alloc, out)
 }
 
 /// Explains how a run that draws ended.
@@ -268,5 +328,5 @@ pub(crate) fn drawing_text<F: FileSource>(
     if is_wanted {
         let _ = put_drawing(&mut out, files, alloc, report, names, end);
     }
-    out
+    rows_of(alloc, out)
 }

@@ -1,5 +1,5 @@
 //! Explains how a server's run ended.
-use super::explained_ends::{put_fault, put_report};
+use super::explained_ends::{put_fault, put_report, rows_of};
 use super::file_source::FileSource;
 use super::network::Network;
 use super::second_look::{Seen, spec_again};
@@ -126,5 +126,5 @@ pub(crate) fn service_text<F: FileSource, N: Network>(
     if is_wanted {
         let _ = put_service(&mut out, files, network, alloc, service, peers, end);
     }
-    out
+    rows_of(alloc, out)
 }

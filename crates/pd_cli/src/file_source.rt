@@ -3,8 +3,12 @@ use pd_engine::ByteSource;
 use pd_sessions::EngineFault;
 use std::alloc::{AllocError, Global};
 use std::io::{ErrorKind, Read};
+use std::os::unix::fs::FileTypeExt;
 use std::rt::Files;
 use std::{fs, io};
+
+/// The name by which the system knows the output.
+const OUTPUT: &str = "/dev/stdout";
 
 /// Opens files by their names. What each holds may be known, as it is in proofs over files that are made up; of the
 /// system's files nothing is known.
@@ -35,6 +39,11 @@ pub trait FileSource {
     /// waited for.
     fn can_be_reread(&self, _name: &str) -> bool {
         true
+    }
+
+    /// Whether the output is a pipe or a connection: a write to it fails only once whoever reads it has ended.
+    fn output_is_read(&self) -> bool {
+        false
     }
 
     /// Why the file of this name can't be opened, or not be read to its end, in the words of the system, if that is so
@@ -91,6 +100,13 @@ where
     fn can_be_reread(&self, name: &str) -> bool {
         match fs::metadata(self, name) {
             Ok(found) => found.is_file(),
+            Err(_) => false,
+        }
+    }
+
+    fn output_is_read(&self) -> bool {
+        match fs::metadata(self, OUTPUT) {
+            Ok(found) => found.file_type().is_fifo() || found.file_type().is_socket(),
             Err(_) => false,
         }
     }

@@ -55,7 +55,7 @@ fn run_check<S: RandomSource + Threads + Wait + Sync, F: FileSource, O: Write, E
         (E.contents errors.old) }
 {
     let end = check_files(rt, files, alloc, report, names, output);
-    let text = check_text(explain, files, alloc, report, names, &end);
+    let text = check_text(explain, rt, files, alloc, report, names, &end);
     write_explanation(explain, &text, errors);
     report_end(&end, errors)
 }

@@ -1,10 +1,11 @@
 //! Reads the files of a session again, for an explanation.
 use super::file_source::FileSource;
 use super::session_files::{read_asked, read_document};
+use pd_arguments::SessionNames;
 use pd_asked::Asks;
 use pd_engine::Spec;
 use pd_explain::joined_name;
-use pd_format::STREAM_BYTE_LIMIT;
+use pd_format::{REPORT_BYTE_LIMIT, STREAM_BYTE_LIMIT};
 use pd_sessions::read_upto;
 use std::alloc::{AllocError, Global};
 
@@ -65,6 +66,28 @@ pub(crate) fn stream_again<F: FileSource>(files: &F, alloc: Global, name: &str) 
         Ok(file) => read_upto(alloc, file, STREAM_BYTE_LIMIT as usize).ok(),
         Err(_) => None,
     }
+}
+
+/// The bytes of the report in the file of this name, if they can be read again, as many as a report may have at most.
+pub(crate) fn report_again<F: FileSource>(files: &F, alloc: Global, name: &str) -> Option<Vec<u8>> {
+    match files.open(name) {
+        Ok(file) => read_upto(alloc, file, REPORT_BYTE_LIMIT).ok(),
+        Err(_) => None,
+    }
+}
+
+/// Whether all files of a check can be read a second time.
+pub(crate) fn can_be_checked_again<F: FileSource>(
+    files: &F,
+    report: &str,
+    names: &SessionNames<'_>,
+) -> bool {
+    for name in &names.streams {
+        if !files.can_be_reread(name) {
+            return false;
+        }
+    }
+    files.can_be_reread(report) && files.can_be_reread(names.spec)
 }
 
 /// Whose stream the file of this name holds, if that can be read again and says so.

@@ -27,12 +27,14 @@ fn say_unknown(
     say(out, ", of the states after ")?;
     say_number(out, level)?;
     say(out, if level == 1 { " event" } else { " events" })?;
-    say(out, " in all, has more states than the width allows")?;
-    if let Some(width) = width {
-        say(out, ", which is ")?;
-        say_number(out, width)?;
+    match width {
+        Some(width) => {
+            say(out, " in all, has more than ")?;
+            say_number(out, width)?;
+            say(out, ", the width.\n")
+        }
+        None => say(out, " in all, has more of them than the width allows.\n"),
     }
-    say(out, ".\n")
 }
 
 /// Says what is unknown of one predicate, and whether something is.
@@ -58,11 +60,13 @@ fn say_answer(out: &mut Vec<u8>, answer: &Answer, width: Option<u64>) -> Result<
 /// Says what would decide answers that are unknown.
 fn say_ways(out: &mut Vec<u8>, judged: Judged) -> Result<(), AllocError> {
     say(out, "What to do: ")?;
-    if judged.width != Some(pd_format::WIDTH_LIMIT) {
-        say(
+    match judged.width {
+        Some(pd_format::WIDTH_LIMIT) => {}
+        Some(_) => say(out, "ask for a greater width, up to --width 65536; or ")?,
+        None => say(
             out,
             "give the document a greater width, up to \"width\":65536; or ",
-        )?;
+        )?,
     }
     if !judged.beyond_width {
         say(

@@ -86,8 +86,7 @@ width.\n",
 pub fn explain_output(out: &mut Vec<u8>) -> Result<(), AllocError> {
     say(
         out,
-        "Standard output took a part of what is written at most: its disk is full, or the program that reads it has \
-ended.\n",
+        "Standard output took a part of what is written at most: look whether its disk is full.\n",
     )
 }
 

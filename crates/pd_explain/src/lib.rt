@@ -14,11 +14,13 @@
 //! - `peers`: who sends the streams of a server, and who is missing
 //! - `messages`: why messages, a causal cycle, or a list of streams are refused
 //! - `answers`: what an answer leaves unknown
+//! - `findings`: what is bad in what a check finds
 //! - `faults`: why there is no report
 //! - `lines`: the lines of bytes, and places in them
 //! - `json_faults`: where bytes stop being a JSON text
 //! - `window`: a line with a caret below a place of it
 //! - `says`: words, numbers and shown bytes
+//! - `rows`: the lines of an explanation, no wider than 100 columns
 #![tactic(auto)]
 
 mod answers;
@@ -26,6 +28,7 @@ mod document_details;
 mod documents;
 mod expected_tokens;
 mod faults;
+mod findings;
 mod json_faults;
 mod known_names;
 mod lines;
@@ -33,6 +36,7 @@ mod messages;
 mod peers;
 mod predicates;
 mod record_details;
+mod rows;
 mod says;
 mod source;
 mod streams;
@@ -44,12 +48,14 @@ pub use faults::{
     explain_bundle_fault, explain_connection, explain_file, explain_long_report, explain_memory,
     explain_no_file, explain_no_predicate, explain_output, explain_port,
 };
+pub use findings::explain_finding;
 pub use messages::{
     EventName, Others, advise_absent, advise_cycle, advise_messages, explain_absent, explain_cycle,
     explain_message, explain_streams, message_of, show_event, show_join, show_other, show_step,
 };
 pub use peers::{Sender, explain_sent_stream, explain_wait};
 pub use predicates::{PredicateFault, explain_predicate, explain_predicate_word};
+pub use rows::in_rows;
 pub use source::Source;
 pub use streams::{
     StreamFault, explain_stream, explain_stream_with, explain_stream_word, joined_name,

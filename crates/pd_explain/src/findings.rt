@@ -1,0 +1,141 @@
+//! Explains what is bad in what a check finds.
+use super::lines::{cut_line, line_at};
+use super::says::{say, say_shown};
+use super::source::{Source, show_numbered};
+use std::alloc::AllocError;
+
+/// In which ways the evidence of a report may be bad: the cut for a *possibly yes*, or the path for a *definitely no*.
+fn reason(is_cut: bool) -> &'static str {
+    if is_cut {
+        return ": either the cut has a receipt without its send, or more events than there are, or the predicate is \
+false after these events.\n";
+    }
+    ": either the path takes an event that can't come yet or doesn't take all, or the predicate holds somewhere on \
+it.\n"
+}
+
+/// The number of the first line that begins with these two texts, counted from 1.
+fn line_with(bytes: &[u8], first: &[u8], second: &[u8]) -> Option<u64> {
+    let mut rest = bytes;
+    let mut number = 1u64;
+    for _line in 0..bytes.len() {
+        let (line, after) = cut_line(rest);
+        if line.starts_with(first) {
+            if let Some(end) = line.get(first.len()..) {
+                if end.starts_with(second) {
+                    return Some(number);
+                }
+            }
+        }
+        rest = after?;
+        number = number.saturating_add(1);
+    }
+    None
+}
+
+/// The bytes before this end, if they have it.
+fn without_end<'a>(line: &'a [u8], end: &[u8]) -> Option<&'a [u8]> {
+    if line.ends_with(end) {
+        return line.get(..line.len().saturating_sub(end.len()));
+    }
+    None
+}
+
+/// Explains that the evidence for an answer about a predicate is bad, and shows it.
+fn say_evidence(
+    out: &mut Vec<u8>,
+    report: &Source<'_>,
+    name: &[u8],
+    is_cut: bool,
+) -> Result<(), AllocError> {
+    let question: &[u8] = if is_cut {
+        b" possibly "
+    } else {
+        b" definitely "
+    };
+    say(out, "What the report gives as evidence of `")?;
+    say_shown(out, name)?;
+    say(out, "` is none")?;
+    say(out, reason(is_cut))?;
+    match line_with(report.bytes, name, question) {
+        Some(number) => {
+            let line = line_at(report.bytes, number);
+            show_numbered(out, report.name, number, line, None)
+        }
+        None => Ok(()),
+    }
+}
+
+/// The number after these bytes, if the line begins with them.
+fn number_after(line: &[u8], before: &[u8]) -> Option<u64> {
+    if !line.starts_with(before) {
+        return None;
+    }
+    let mut number = 0u64;
+    for byte in line.get(before.len()..)?.iter() {
+        if !byte.is_ascii_digit() {
+            return None;
+        }
+        number = number
+            .saturating_mul(10)
+            .saturating_add(u64::from(byte.saturating_sub(b'0')));
+    }
+    Some(number)
+}
+
+/// Explains one line of what a check finds.
+fn say_line(out: &mut Vec<u8>, report: &Source<'_>, line: &[u8]) -> Result<(), AllocError> {
+    if let Some(number) = number_after(line, b"report line ") {
+        say(out, "From this line on the file isn't a report.\n")?;
+        let shown = line_at(report.bytes, number);
+        return show_numbered(out, report.name, number, shown, None);
+    }
+    if line == b"refused bad".as_slice() {
+        return say(
+            out,
+            "The session isn't refused as the report says, or it is refused and the report says otherwise: judge it to \
+see what it comes to.\n",
+        );
+    }
+    if line == b"session bad".as_slice() {
+        say(
+            out,
+            "The session has other numbers of processes, events or messages than the report says.\n",
+        )?;
+        return show_numbered(out, report.name, 1, line_at(report.bytes, 1), None);
+    }
+    if line == b"names bad".as_slice() {
+        return say(
+            out,
+            "The report doesn't answer for the predicates of the document, each once and in their order.\n",
+        );
+    }
+    if let Some(name) = without_end(line, b" possibly bad") {
+        return say_evidence(out, report, name, true);
+    }
+    match without_end(line, b" definitely bad") {
+        Some(name) => say_evidence(out, report, name, false),
+        None => Ok(()),
+    }
+}
+
+/// Explains each line of what a check finds of this report that says that something is bad.
+///
+/// # Errors
+/// Out of memory; what was put until then stays.
+pub fn explain_finding(
+    out: &mut Vec<u8>,
+    report: &Source<'_>,
+    found: &[u8],
+) -> Result<(), AllocError> {
+    let mut rest = found;
+    for _line in 0..found.len() {
+        let (line, after) = cut_line(rest);
+        say_line(out, report, line)?;
+        let Some(after) = after else {
+            return Ok(());
+        };
+        rest = after;
+    }
+    Ok(())
+}
