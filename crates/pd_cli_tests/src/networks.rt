@@ -81,4 +81,8 @@ impl Network for Scripted {
             None => Err(Error::from(ErrorKind::ConnectionAborted)),
         }
     }
+
+    fn seconds_from_now(&self, _seconds: u64) -> io::Result<Instant> {
+        Err(Error::from(ErrorKind::Unsupported))
+    }
 }
