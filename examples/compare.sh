@@ -1,8 +1,9 @@
 #!/usr/bin/env bash
 # compare.sh [PROGRAM]: runs the program on each example, and compares what it writes and its status with what is
 # stored. Each example is judged from its files, and again as a bundle, and drawn; one with a report-beyond-width is
-# judged with --beyond-width too, and drawn by that report. Each finding is what a check writes, and of a refused
-# session or a bad report nothing is drawn. The last line says how many were compared; the status is 1 if any differs.
+# judged with --beyond-width too, and drawn by that report. Each finding is what a check writes, and nothing is drawn of
+# a bad report or of a session that is refused, but for a causal cycle. The last line says how many were compared; the
+# status is 1 if any differs.
 # PROGRAM is crates/monitor/out/monitor if it isn't given.
 set -u
 here=$(realpath "$(dirname "$0")")
@@ -69,7 +70,7 @@ for session in */session.json; do
   [ -e "$report-beyond-width" ] && report+=-beyond-width
   picture=$folder/picture.svg
   wanted=0
-  if grep -q '^refused ' "$report"; then
+  if grep '^refused ' "$report" | grep -qv '^refused cycle '; then
     picture=/dev/null
     wanted=1
   fi

@@ -1,7 +1,7 @@
 #!/usr/bin/env bash
-# draw.sh [PROGRAM]: draws each example whose session isn't refused again, as picture.svg in its folder, by its
-# report-beyond-width if it has one. PROGRAM is crates/monitor/out/monitor if it isn't given. The status is 1 if one
-# isn't drawn.
+# draw.sh [PROGRAM]: draws each example again whose session isn't refused, or is for a causal cycle, as picture.svg in
+# its folder, by its report-beyond-width if it has one. PROGRAM is crates/monitor/out/monitor if it isn't given. The
+# status is 1 if one isn't drawn.
 set -u
 here=$(realpath "$(dirname "$0")")
 program=$(realpath -m "${1:-$here/../crates/monitor/out/monitor}")
@@ -13,7 +13,7 @@ for session in */session.json; do
   folder=${session%/session.json}
   report=$folder/report
   [ -e "$report-beyond-width" ] && report+=-beyond-width
-  grep -q '^refused ' "$report" && continue
+  grep '^refused ' "$report" | grep -qv '^refused cycle ' && continue
   if "$program" draw "$session" "$report" "$folder"/*.stream > "$drawn"; then
     cat "$drawn" > "$folder/picture.svg"
   else

@@ -1,3 +1,4 @@
 -- The modules of lemmas of this crate.
 pub mod SessionFindings
 pub mod SessionDrawings
+pub mod WrittenPictures

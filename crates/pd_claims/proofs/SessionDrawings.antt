@@ -12,16 +12,19 @@ use Rattle.pd_format.specs.OtherTexts.{Finding, NotRead}
 use Rattle.pd_format.specs.Readings.{Trace}
 use Rattle.pd_format.specs.Reports.{IsNoReport, IsReport, Refusal, Refused, Report}
 use Rattle.pd_judgement.specs.Findings.{IsSessionOf}
+use Rattle.pd_judgement.specs.Judgements.{IsTracesReport}
+use Rattle.pd_svg.specs.declared.drawing.Drawing.{Drawing as Picture}
 use Rattle.pd_check.specs.Found.{IsFoundOfRefused, of_refused_session}
 use Rattle.pd_check.specs.Views.{finding_view}
 use Rattle.pd_check.proofs.SessionFindings.{finding_of_session}
 use Rattle.pd_draw.specs.Choices.{stands_against}
+use Rattle.pd_draw.specs.Cycles.{IsRefusalDrawn}
 use Rattle.pd_draw.specs.Drawn.{Comes}
 use Rattle.pd_draw.specs.declared.drawn.Drawn.{Drawn}
 use Rattle.pd_draw.specs.declared.drawn.Drawn.TheVariants as drawn
 use Rattle.pd_sessions.specs.Computations.{AreWellFormed}
 use Rattle.pd_claims.specs.Sessions.{IsRead}
-use Rattle.pd_claims.specs.Drawings.{DrawsOf, DrawsTraces, IsAgainst}
+use Rattle.pd_claims.specs.Drawings.{DrawsCycle, DrawsFormed, DrawsOf, DrawsTraces, IsAgainst}
 use Rattle.pd_sessions.specs.SessionReports.{IsReportOfInputs}
 use Rattle.pd_sessions.proofs.FitTraces.{same_events}
 use Rattle.pd_claims.proofs.SessionFindings.{refusal_found, unread_found}
@@ -40,13 +43,13 @@ pairs_recorded document traces recorded count pairs well list =
     subst (λ (c : Computation). IsMessageList c pairs) (events_recorded document traces recorded count well) list
 
 -- what comes of a session's traces
-pub traces_drawn : (document : Document) (traces : List Read) (recorded : Recorded) (messages : ℕ)
+pub formed_drawn : (document : Document) (traces : List Read) (recorded : Recorded) (messages : ℕ)
     (pairs : List (Place × Place)) (claimed : Report) (name : Option (List ℕ)) (given : Drawn)
     → AreWellFormed document (traces_view traces) recorded messages
     → IsMessageList (computation_view traces) pairs
     → Comes document (traces_view traces) pairs messages claimed name given
-    → DrawsTraces document (traces_view traces) claimed name given
-traces_drawn document traces recorded messages pairs claimed name given well list comes = record {
+    → DrawsFormed document (traces_view traces) claimed name given
+formed_drawn document traces recorded messages pairs claimed name given well list comes = record {
   messages = messages;
   formed = well.formed;
   counted = well.counted;
@@ -55,11 +58,41 @@ traces_drawn document traces recorded messages pairs claimed name given well lis
   comes = comes;
 }
 
--- a well-formed session
+-- the same, whatever comes
+pub traces_drawn : (document : Document) (traces : List Read) (recorded : Recorded) (messages : ℕ)
+    (pairs : List (Place × Place)) (claimed : Report) (name : Option (List ℕ)) (given : Drawn)
+    → AreWellFormed document (traces_view traces) recorded messages
+    → IsMessageList (computation_view traces) pairs
+    → Comes document (traces_view traces) pairs messages claimed name given
+    → DrawsTraces document (traces_view traces) claimed name given
+traces_drawn document traces recorded messages pairs claimed name (drawn.Picture picture) well list comes =
+    formed_drawn document traces recorded messages pairs claimed name (drawn.Picture picture) well list comes
+traces_drawn document traces recorded messages pairs claimed name (drawn.Bad finding) well list comes =
+    formed_drawn document traces recorded messages pairs claimed name (drawn.Bad finding) well list comes
+traces_drawn document traces recorded messages pairs claimed name drawn.NoPredicate well list comes =
+    formed_drawn document traces recorded messages pairs claimed name drawn.NoPredicate well list comes
+traces_drawn document traces recorded messages pairs claimed name (drawn.Cycle picture) well list comes = absurd comes
+
+-- the picture of a refused cycle
+pub cycle_drawn : (document : Document) (traces : List Read) (pairs : List (Place × Place)) (claimed : Report)
+    (refusal : Refusal) (picture : Picture) → IsMessageList (computation_view traces) pairs
+    → IsTracesReport document (traces_view traces) (Refused refusal) → claimed ≡ Refused refusal
+    → IsRefusalDrawn document (computation_view traces) pairs refusal picture
+    → DrawsCycle document (traces_view traces) claimed picture
+cycle_drawn document traces pairs claimed refusal picture list refused same is = record {
+  refusal = refusal;
+  is_claimed = same;
+  refused = refused;
+  pairs = pairs;
+  are_pairs = subst (λ (c : Computation). IsMessageList c pairs) (same_events traces) list;
+  drawn = subst (λ (c : Computation). IsRefusalDrawn document c pairs refusal picture) (same_events traces) is;
+}
+
+-- a session that was read
 module _ (bytes : List ℕ) (inputs : List (Option (List ℕ))) (never_fails : Bool) (document : Document)
     (traces : List Trace) (claimed : Report) (name : Option (List ℕ))
     (read : IsRead bytes inputs never_fails document traces) where
-  held : (given : Drawn) → (draws : DrawsTraces document traces claimed name given)
+  held : (given : Drawn) → (draws : DrawsFormed document traces claimed name given)
       → IsSessionOf bytes read.streams document traces draws.messages
   held given draws = record {
     read = read.is_document;
@@ -99,6 +132,19 @@ module _ (bytes : List ℕ) (inputs : List (Option (List ℕ))) (never_fails : B
     right = finding_of_session bytes report read.streams document traces draws.messages claimed _
         is_report (held drawn.NoPredicate draws) draws.comes.found;
     is_unknown = draws.comes.is_unknown;
+  }
+  session_drawn (drawn.Cycle picture) draws report is_report = record {
+    streams = read.streams;
+    are_given = read.are_given;
+    document = document;
+    is_document = read.is_document;
+    results = read.comes.given_results;
+    are_results = read.comes.are_results;
+    traces = traces;
+    joined = sym read.comes.same_session ∙ read.joined;
+    claimed = claimed;
+    read = is_report;
+    draws = draws;
   }
 
 -- a refused session

@@ -1,9 +1,14 @@
 //! Draws a report's evidence.
 ghost use Rattle.pd_draw.specs.Choices.{name_view};
-ghost use Rattle.pd_claims.specs.Drawings.{Draws, DrawsOf, DrawsTraces, IsDrawingTextOf, ShowsEnd, drawing_end};
+ghost use Rattle.pd_claims.specs.Drawings.{Draws, DrawsOf, DrawsTraces, ShowsEnd, WritesPicture};
+ghost use Rattle.pd_match.specs.Views.{pairs_view};
+ghost use Rattle.pd_model.specs.Messages.{IsMessageList};
+ghost use Rattle.pd_sessions.specs.Computations.{AreWellFormed};
+ghost use Rattle.pd_sessions.specs.Ends.{call_end};
 ghost use Rattle.pd_sessions.specs.SessionReports.{IsReportOfInputs};
 ghost use Rattle.pd_sessions.specs.Unanswered.{IsUnanswered};
 ghost use Rattle.pd_traces.specs.SessionTraces.{AreTraces};
+ghost use Rattle.pd_traces.specs.Views.{computation_view};
 ghost use Rattle.pd_format.specs.Documents.{plain};
 ghost use Rattle.pd_gather.specs.Views.{traces_view};
 ghost use Rattle.pd_judgement.specs.Judgements.{IsTracesReport};
@@ -11,17 +16,18 @@ ghost use Rattle.pd_judgement.specs.Writes.{Writes};
 ghost use Rattle.pd_report.specs.Views.{report_view};
 ghost use Rattle.pd_spec.specs.Views.{document_view};
 ghost use Rattle.pd_svg.specs.Svg.{drawing_text};
-ghost use Rattle.std.specs.Prelude.{◌≡◌, ◌⊎◌, All, IfErr, IfOk, IsOkUnless, false, map};
+ghost use Rattle.std.specs.Prelude.{◌≡◌, ◌⊎◌, ℕ, All, IfErr, IfOk, IsOkUnless, List, Option, false, map};
 
 use super::session::read_session;
 use pd_check::{Finding, find_refused, text};
-use pd_draw::{Drawn, Run};
+use pd_draw::{Drawn, Run, draw_cycle};
 use pd_gather::ByteSource;
+use pd_match::Place;
 use pd_report::{Report, ReportFault, WriteFault};
 use pd_sessions::{EngineFault, Unanswered, build, messages_of};
 use pd_spec::Spec;
 use pd_traces::Trace;
-use std::alloc::Global;
+use std::alloc::{AllocError, Global};
 use std::io::Write;
 use std::random::RandomSource;
 use std::sync::Wait;
@@ -32,10 +38,59 @@ use std::thread::Threads;
 pub enum DrawOutcome {
     /// The picture is written.
     Written,
+    /// The picture is written of a session that is refused for a causal cycle, as the report says: the cycle is marked.
+    CycleWritten,
     /// No picture is written: something in what a check finds, of which this is the text, stands against it.
     Refused(Vec<u8>),
     /// No picture is written: there is no predicate of the name that was asked for.
     NoPredicate,
+}
+
+/// What is drawn of a well-formed session and a report on it.
+fn draw_formed(
+    alloc: Global,
+    run: &Run<'_, '_>,
+    claimed: &Report,
+    messages: u64,
+    name: Option<&str>,
+) -> Result<Drawn, AllocError>
+    requires formed { AreWellFormed (document_view run.now.spec.now) (traces_view run.now.traces.now)
+        run.now.computation.now messages }
+    requires pairs { IsMessageList (computation_view run.now.traces.now) (pairs_view run.now.pairs.now) }
+    ensures { IfOk result (DrawsTraces (document_view run.now.spec.now) (traces_view run.now.traces.now)
+        (report_view claimed.now) (name_view name.entry)) }
+{
+    let drawn = pd_draw::draw(alloc, run, claimed, messages, name)?;
+    Ok(drawn)
+}
+
+/// The picture of a session that is refused for a causal cycle, if the report says so, and else why it comes to no
+/// answers.
+fn draw_unanswered(
+    alloc: Global,
+    spec: &Spec,
+    claimed: &Report,
+    traces: &[Trace],
+    pairs: &[(Place, Place)],
+    unanswered: Unanswered,
+) -> Result<Drawn, Unanswered>
+    requires messages { IsMessageList (computation_view traces.now) (pairs_view pairs.now) }
+    requires refused { IsUnanswered (IsTracesReport (document_view spec.now) (traces_view traces.now)) unanswered }
+    ensures drawn { IfOk result (λ drawn. (name : Option (List ℕ))
+        → DrawsTraces (document_view spec.now) (traces_view traces.now) (report_view claimed.now) name drawn) }
+    ensures refused { IfErr result (IsUnanswered (IsTracesReport (document_view spec.now)
+        (traces_view traces.now))) }
+{
+    match unanswered {
+        Unanswered::Refused(refusal) => {
+            let drawn = draw_cycle(alloc, spec, claimed, traces, pairs, &refusal)?;
+            match drawn {
+                Some(picture) => Ok(Drawn::Cycle(picture)),
+                None => Err(Unanswered::Refused(refusal)),
+            }
+        }
+        Unanswered::Memory => Err(Unanswered::Memory),
+    }
 }
 
 /// What is drawn of a session's traces and a report on it, or the refusal of the messages or of a causal cycle.
@@ -55,15 +110,19 @@ fn draw_traces<S: RandomSource>(
 {
     let matched = messages_of(rt, alloc, spec, traces)?;
     let pairs = matched.pairs(alloc)?;
-    let (computation, messages) = build(alloc, spec, traces, matched)?;
-    let run = Run {
-        spec,
-        computation: &computation,
-        traces,
-        pairs: &pairs,
-    };
-    let drawn = pd_draw::draw(alloc, &run, claimed, messages, name)?;
-    Ok(drawn)
+    match build(alloc, spec, traces, matched) {
+        Ok((computation, messages)) => {
+            let run = Run {
+                spec,
+                computation: &computation,
+                traces,
+                pairs: &pairs,
+            };
+            let drawn = draw_formed(alloc, &run, claimed, messages, name)?;
+            Ok(drawn)
+        }
+        Err(unanswered) => draw_unanswered(alloc, spec, claimed, traces, &pairs, unanswered),
+    }
 }
 
 /// What is drawn, if the session is well formed, or why it comes to no answers.
@@ -130,7 +189,7 @@ fn draw_read<S: RandomSource + Threads + Wait + Sync, R: ByteSource + Send + Dro
     }
 }
 
-/// Writes a picture's text.
+/// Writes a picture's text; this is the outcome if all of it is written.
 ///
 /// # Errors
 /// `Memory` leaves nothing written. `Write` leaves a prefix of the text written, and not all of it.
@@ -138,14 +197,15 @@ fn write_picture<W: Write>(
     alloc: Global,
     picture: &pd_svg::Drawing,
     writer: &mut W,
+    outcome: DrawOutcome,
 ) -> Result<DrawOutcome, EngineFault>
-    ensures written { Writes (λ text. text ≡ drawing_text picture.now) (drawing_end result)
+    ensures written { Writes (λ text. text ≡ drawing_text picture.now) (call_end result)
         (W.contents writer.old) (W.contents writer.new) }
-    ensures whole { IfOk result (λ drawing. drawing ≡ DrawOutcome.Written) }
+    ensures whole { IfOk result (λ drawing. drawing ≡ outcome) }
     ensures err { IfErr result (λ fault. (fault ≡ EngineFault.Memory) ⊎ (fault ≡ EngineFault.Write)) }
 {
     match pd_svg::write(alloc, picture, writer) {
-        Ok(()) => Ok(DrawOutcome::Written),
+        Ok(()) => Ok(outcome),
         Err(fault) => match fault {
             WriteFault::Memory => Err(EngineFault::Memory),
             WriteFault::Write => Err(EngineFault::Write),
@@ -173,15 +233,17 @@ pub fn draw<S: RandomSource + Threads + Wait + Sync, R: ByteSource + Send + Drop
 ) -> Result<DrawOutcome, EngineFault>
     requires open { All (λ r. R.has_ended r ≡ false) streams.items }
     // The picture's text is written whole, or a write fails and a prefix of it is; else nothing is.
-    ensures written { Writes (IsDrawingTextOf spec.now report.now (map R.remaining streams.items)
-        R.never_fails (name_view name.entry)) (drawing_end result) (W.contents writer.old) (W.contents writer.new) }
+    ensures written { WritesPicture spec.now report.now (map R.remaining streams.items) R.never_fails
+        (name_view name.entry) result (W.contents writer.old) (W.contents writer.new) }
     // What stands against a picture is what a check finds, or that there is no predicate of this name.
     ensures shown { IfOk result (ShowsEnd spec.now report.now (map R.remaining streams.items)
         R.never_fails (name_view name.entry)) }
     ensures err { IfErr result (λ fault. (fault ≡ EngineFault.Memory) ⊎ (fault ≡ EngineFault.Write)) }
 {
-    match draw_read(rt, alloc, spec, report, streams, name)? {
-        Drawn::Picture(picture) => write_picture(alloc, &picture, writer),
+    let drawn = draw_read(rt, alloc, spec, report, streams, name)?;
+    match drawn {
+        Drawn::Picture(picture) => write_picture(alloc, &picture, writer, DrawOutcome::Written),
+        Drawn::Cycle(picture) => write_picture(alloc, &picture, writer, DrawOutcome::CycleWritten),
         Drawn::Bad(finding) => Ok(DrawOutcome::Refused(text(alloc, &finding)?)),
         Drawn::NoPredicate => Ok(DrawOutcome::NoPredicate),
     }

@@ -4,10 +4,9 @@ use Rattle.std.specs.Prelude.{Bool, Result}
 use Rattle.std.specs.Io.KnownBytes.{Keeps}
 use Rattle.pd_format.specs.Limits.{report_byte_limit}
 use Rattle.pd_arguments.specs.Statuses.{OfFiles}
-use Rattle.pd_judgement.specs.Writes.{Writes}
-use Rattle.pd_claims.specs.Drawings.{IsDrawingTextOf, ShowsEnd, drawing_end}
+use Rattle.pd_claims.specs.Drawings.{ShowsEnd, WritesPicture}
 use Rattle.pd_claims.specs.declared.drawings.DrawOutcome.{DrawOutcome}
-use Rattle.pd_claims.specs.declared.drawings.DrawOutcome.TheVariants.{Written, Refused, NoPredicate}
+use Rattle.pd_claims.specs.declared.drawings.DrawOutcome.TheVariants.{Written, CycleWritten, Refused, NoPredicate}
 use Rattle.pd_sessions.specs.declared.fault.EngineFault.{EngineFault}
 use Rattle.pd_sessions.specs.declared.fault.EngineFault.TheVariants.{Memory, Write, Read, BundleLong}
 use Rattle.pd_cli.specs.Drawings.{DrawLeaves, Finishes, IsNoticeOf}
@@ -35,7 +34,7 @@ module _ (document report : List ℕ) (inputs : List (Option (List ℕ))) (never
 
   -- the call failed
   pub drawing_failed : (fault : EngineFault) (old new : Option (List ℕ)) → (fault ≡ Memory) ⊎ (fault ≡ Write)
-      → Writes (IsDrawingTextOf document report inputs never_fails name) (drawing_end (Err fault)) old new
+      → WritesPicture document report inputs never_fails name (Err fault) old new
       → DrawLeaves (Some document) (Some report) inputs never_fails ⊥ name (Err fault) old new
   drawing_failed Memory old new is written = written
   drawing_failed Write old new is written = of_read _ (inr written)
@@ -47,7 +46,7 @@ module _ (document report : List ℕ) (inputs : List (Option (List ℕ))) (never
   -- the call came to an end, and then the output was flushed
   pub drawing_finished : (drawing : DrawOutcome) (result : Result DrawOutcome EngineFault)
       (old middle new : Option (List ℕ))
-      → Writes (IsDrawingTextOf document report inputs never_fails name) (drawing_end (Ok drawing)) old middle
+      → WritesPicture document report inputs never_fails name (Ok drawing) old middle
       → ShowsEnd document report inputs never_fails name drawing → Finishes drawing result middle new
       → DrawLeaves (Some document) (Some report) inputs never_fails ⊥ name result old new
   drawing_finished Written result old middle new written shows (inl is, keeps) =
@@ -59,12 +58,23 @@ module _ (document report : List ℕ) (inputs : List (Option (List ℕ))) (never
       subst (λ (r : Result DrawOutcome EngineFault). DrawLeaves (Some document)
       (Some report) inputs never_fails ⊥ name r old new)
       (sym is)
-      (of_read _ (inl (written.0, written.1, appends_kept old middle new written.0 written.2 keeps)))
+      (of_read _ (inl (written.0, inl written.1, appends_kept old middle new written.0 written.2 keeps)))
+  drawing_finished CycleWritten result old middle new written shows (inl is, keeps) =
+      subst (λ (r : Result DrawOutcome EngineFault). DrawLeaves (Some document)
+      (Some report) inputs never_fails ⊥ name r old new)
+      (sym is)
+      (of_read _ (written.0, written.1, appends_kept old middle new written.0 written.2 keeps))
+  drawing_finished CycleWritten result old middle new written shows (inr is, keeps) =
+      subst (λ (r : Result DrawOutcome EngineFault). DrawLeaves (Some document)
+      (Some report) inputs never_fails ⊥ name r old new)
+      (sym is)
+      (of_read _ (inl (written.0, inr written.1, appends_kept old middle new written.0 written.2 keeps)))
   drawing_finished (Refused found) result old middle new written shows (inl is, keeps) =
       subst (λ (r : Result DrawOutcome EngineFault). DrawLeaves (Some document)
       (Some report) inputs never_fails ⊥ name r old new)
       (sym is) (kept_on old middle new written keeps)
   drawing_finished (Refused found) (Ok Written) old middle new written shows (inr is, keeps) = absurd is
+  drawing_finished (Refused found) (Ok CycleWritten) old middle new written shows (inr is, keeps) = absurd is
   drawing_finished (Refused found) (Ok NoPredicate) old middle new written shows (inr is, keeps) = absurd is
   drawing_finished (Refused found) (Ok (Refused notice)) old middle new written shows (inr is, keeps) = (
     of_read (λ d r. IsNoticeOf d r inputs never_fails name notice.items)

@@ -1,17 +1,17 @@
 -- What a run that draws leaves by the bytes that were read is what it leaves by all that the files hold.
-use Rattle.std.proofs.Common.{ℕ, List, Some, Option, Ok, Err}
+use Rattle.std.proofs.Common.{ℕ, List, Some, Option, Ok, Err, inl, inr}
 use Rattle.std.specs.Prelude.{Bool, Result}
 use Rattle.std.specs.List.{AllZip}
 use Rattle.pd_judgement.specs.Writes.{IsWholeInput, Whole}
 use Rattle.pd_judgement.proofs.Writing.{writes_weaker}
-use Rattle.pd_claims.specs.Drawings.{IsDrawingTextOf, LacksPredicate}
+use Rattle.pd_claims.specs.Drawings.{IsAnyTextOf, IsCycleTextOf, IsDrawingTextOf, LacksPredicate}
 use Rattle.pd_claims.specs.declared.drawings.DrawOutcome.{DrawOutcome}
-use Rattle.pd_claims.specs.declared.drawings.DrawOutcome.TheVariants.{Written, Refused, NoPredicate}
+use Rattle.pd_claims.specs.declared.drawings.DrawOutcome.TheVariants.{Written, CycleWritten, Refused, NoPredicate}
 use Rattle.pd_sessions.specs.declared.fault.EngineFault.{EngineFault}
 use Rattle.pd_sessions.specs.declared.fault.EngineFault.TheVariants.{Memory, Write, Read, BundleLong}
 use Rattle.pd_cli.specs.Drawings.{DrawLeaves, IsNoticeOf}
 use Rattle.pd_cli.specs.FileSources.{HasWholeFile, SameOutline, StandsFor}
-use Rattle.pd_cli.proofs.DocumentPrefixes.{same_finding, same_session}
+use Rattle.pd_cli.proofs.DocumentPrefixes.{same_document, same_finding, same_session}
 use Rattle.pd_cli.proofs.FilesRead.{given_as_files, of_files, up_to_weaker}
 
 module _ (read document report : List ℕ) (files lefts : List (Option (List ℕ))) (never_fails : Bool)
@@ -36,6 +36,32 @@ module _ (read document report : List ℕ) (files lefts : List (Option (List ℕ
         };
         is_text = h.is_text;
       }
+
+  cycle_of_files : (text : List ℕ) → IsCycleTextOf read report lefts never_fails text
+      → IsCycleTextOf document report files never_fails text
+  cycle_of_files text h =
+      let is = h.is_picture in record {
+        picture = h.picture;
+        is_picture = record {
+          streams = is.streams;
+          are_given = given_as_files never_fails files lefts is.streams are is.are_given;
+          document = is.document;
+          is_document = same_document read document is.document same is.is_document;
+          results = is.results;
+          are_results = is.are_results;
+          traces = is.traces;
+          joined = is.joined;
+          claimed = is.claimed;
+          read = is.read;
+          draws = is.draws;
+        };
+        is_text = h.is_text;
+      }
+
+  any_of_files : (text : List ℕ) → IsAnyTextOf read report lefts never_fails name text
+      → IsAnyTextOf document report files never_fails name text
+  any_of_files text (inl h) = inl (drawing_of_files text h)
+  any_of_files text (inr h) = inr (cycle_of_files text h)
 
   notice_of_files : (notice : List ℕ) → IsNoticeOf read report lefts never_fails name notice
       → IsNoticeOf document report files never_fails name notice
@@ -76,6 +102,10 @@ module _ (file report_file : Option (List ℕ)) (read claimed : List ℕ) (files
       of_files file report_file read claimed _ _ stands whole (λ document report same.
       writes_weaker _ _ Whole old new
       (drawing_of_files read document report files lefts never_fails name same are)) left
+  drawn_of_files (Ok CycleWritten) left =
+      of_files file report_file read claimed _ _ stands whole (λ document report same.
+      writes_weaker _ _ Whole old new
+      (cycle_of_files read document report files lefts never_fails name same are)) left
   drawn_of_files (Ok (Refused notice)) left = (
     of_files file report_file read claimed _ _ stands whole (λ document report same.
         notice_of_files read document report files lefts never_fails name same are notice.items) left.0,
@@ -90,5 +120,5 @@ module _ (file report_file : Option (List ℕ)) (read claimed : List ℕ) (files
   drawn_of_files (Err Read) left = absurd left.0
   drawn_of_files (Err Write) left =
       of_files file report_file read claimed _ _ stands whole (λ document report same.
-      up_to_weaker _ _ old new (drawing_of_files read document report files lefts never_fails name same are)) left
+      up_to_weaker _ _ old new (any_of_files read document report files lefts never_fails name same are)) left
   drawn_of_files (Err BundleLong) left = left

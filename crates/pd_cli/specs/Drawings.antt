@@ -5,9 +5,9 @@ use Rattle.clap.specs.Words.{Text}
 use Rattle.pd_asked.specs.Asked.{Asks}
 use Rattle.pd_arguments.specs.Statuses.{EndsAsAsked, FilesMayFail, HoldsAsked, IsLongReport, OfFiles, Reliance, WritesUpTo, line_of_failure, status_of_failure}
 use Rattle.pd_judgement.specs.Writes.{Whole, Writes}
-use Rattle.pd_claims.specs.Drawings.{IsDrawingTextOf, IsRefusalTextOf, LacksPredicate}
+use Rattle.pd_claims.specs.Drawings.{IsAnyTextOf, IsCycleTextOf, IsDrawingTextOf, IsRefusalTextOf, LacksPredicate}
 use Rattle.pd_claims.specs.declared.drawings.DrawOutcome.{DrawOutcome}
-use Rattle.pd_claims.specs.declared.drawings.DrawOutcome.TheVariants.{Written, Refused, NoPredicate}
+use Rattle.pd_claims.specs.declared.drawings.DrawOutcome.TheVariants.{Written, CycleWritten, Refused, NoPredicate}
 use Rattle.pd_sessions.specs.declared.fault.EngineFault.{EngineFault}
 use Rattle.pd_sessions.specs.declared.fault.EngineFault.TheVariants.{Memory, Write, Read, BundleLong}
 use Rattle.pd_arguments.specs.Arguments.{AsksFor, AsksToDraw}
@@ -28,16 +28,19 @@ pub record IsNoticeOf (document report : List ℕ) (streams : List (Option (List
 -- the notice of this finding
 abbrev pub IsNoticed : (found : List ℕ) → DrawOutcome → Type 0
 IsNoticed found Written = ⊥
+IsNoticed found CycleWritten = ⊥
 IsNoticed found (Refused notice) = notice.items ≡ refusal_heading ++ found
 IsNoticed found NoPredicate = ⊥
 
--- The picture is written: its whole text. The output fails: that text or a prefix of it. Something stands against the
--- picture, or another failure: nothing.
+-- The picture is written, that of a cycle too: its whole text. The output fails: that text or a prefix of it. Something
+-- stands against the picture, or another failure: nothing.
 abbrev pub DrawLeaves : (document report : Option (List ℕ)) (streams : List (Option (List ℕ))) (never_fails : Bool)
     (MayBeUnread : Type 0) (name : Option (List ℕ)) → Result DrawOutcome EngineFault → (old new : Option (List ℕ))
     → Type 0
 DrawLeaves document report streams never_fails MayBeUnread name (Ok Written) old new =
     OfFiles document report (λ d r. Writes (IsDrawingTextOf d r streams never_fails name) Whole old new)
+DrawLeaves document report streams never_fails MayBeUnread name (Ok CycleWritten) old new =
+    OfFiles document report (λ d r. Writes (IsCycleTextOf d r streams never_fails) Whole old new)
 DrawLeaves document report streams never_fails MayBeUnread name (Ok (Refused notice)) old new =
     OfFiles document report (λ d r. IsNoticeOf d r streams never_fails name notice.items) × Keeps old new
 DrawLeaves document report streams never_fails MayBeUnread name (Ok NoPredicate) old new =
@@ -45,12 +48,14 @@ DrawLeaves document report streams never_fails MayBeUnread name (Ok NoPredicate)
 DrawLeaves document report streams never_fails MayBeUnread name (Err Memory) old new = Keeps old new
 DrawLeaves document report streams never_fails MayBeUnread name (Err Read) old new = MayBeUnread × Keeps old new
 DrawLeaves document report streams never_fails MayBeUnread name (Err Write) old new =
-    OfFiles document report (λ d r. WritesUpTo (IsDrawingTextOf d r streams never_fails name) old new)
+    OfFiles document report (λ d r. WritesUpTo (IsAnyTextOf d r streams never_fails name) old new)
 DrawLeaves document report streams never_fails MayBeUnread name (Err BundleLong) old new = ⊥
 
 -- how a drawing ends after the flush: a picture stays written, and of a finding its notice is made
 abbrev pub Finishes : DrawOutcome → Result DrawOutcome EngineFault → (middle new : Option (List ℕ)) → Type 0
 Finishes Written result middle new = ((result ≡ Ok Written) ⊎ (result ≡ Err Write)) × Keeps middle new
+Finishes CycleWritten result middle new =
+    ((result ≡ Ok CycleWritten) ⊎ (result ≡ Err Write)) × Keeps middle new
 Finishes (Refused found) result middle new =
     ((result ≡ Err Memory) ⊎ IsOkAnd result (λ drawing. IsNoticed found.items drawing)) × Keeps middle new
 Finishes NoPredicate result middle new = (result ≡ Ok NoPredicate) × Keeps middle new
@@ -58,6 +63,7 @@ Finishes NoPredicate result middle new = (result ≡ Ok NoPredicate) × Keeps mi
 -- the exit status
 abbrev pub draw_status : Result DrawOutcome EngineFault → ℕ
 draw_status (Ok Written) = 0
+draw_status (Ok CycleWritten) = 0
 draw_status (Ok (Refused notice)) = 1
 draw_status (Ok NoPredicate) = 2
 draw_status (Err fault) = status_of_failure (failure_view fault)
@@ -65,6 +71,7 @@ draw_status (Err fault) = status_of_failure (failure_view fault)
 -- what is reported
 abbrev pub draw_notice : Result DrawOutcome EngineFault → List ℕ
 draw_notice (Ok Written) = []
+draw_notice (Ok CycleWritten) = []
 draw_notice (Ok (Refused notice)) = notice.items
 draw_notice (Ok NoPredicate) = codes "monitor: no predicate of this name\n"
 draw_notice (Err fault) = line_of_failure (failure_view fault)

@@ -44,6 +44,12 @@ fn finish<O: Write>(
             }
             Ok(DrawOutcome::Written)
         }
+        DrawOutcome::CycleWritten => {
+            if output.flush().is_err() {
+                return Err(EngineFault::Write);
+            }
+            Ok(DrawOutcome::CycleWritten)
+        }
         DrawOutcome::Refused(found) => Ok(DrawOutcome::Refused(notice(alloc, &found)?)),
         DrawOutcome::NoPredicate => Ok(DrawOutcome::NoPredicate),
     }
@@ -119,7 +125,7 @@ pub(crate) fn report_drawing<E: Write>(end: &Result<DrawOutcome, EngineFault>, e
 {
     match end {
         Ok(drawing) => match drawing {
-            DrawOutcome::Written => {
+            DrawOutcome::Written | DrawOutcome::CycleWritten => {
                 write_line(b"", errors);
                 SUCCESS
             }

@@ -301,7 +301,7 @@ fn put_drawing<F: FileSource>(
             Some(spec) => explain_no_predicate(out, spec.predicates()),
             None => Ok(()),
         },
-        Ok(DrawOutcome::Written | DrawOutcome::Refused(_)) => Ok(()),
+        Ok(DrawOutcome::Written | DrawOutcome::CycleWritten | DrawOutcome::Refused(_)) => Ok(()),
         Err(fault) => put_fault(
             out,
             files,

@@ -2,3 +2,4 @@
 pub mod LaneNames
 pub mod GoodEvidence
 pub mod Pictured
+pub mod CycleNames

@@ -15,7 +15,7 @@ use Rattle.pd_draw.specs.Choices.{LacksName, choice, stands_against}
 use Rattle.pd_draw.specs.Exhibits.{HasGoodEvidence, Shows, ShowsNothing, run_title, title_text}
 use Rattle.pd_draw.specs.declared.choice.Choice.{Choice}
 use Rattle.pd_draw.specs.declared.drawn.Drawn.{Drawn}
-use Rattle.pd_draw.specs.declared.drawn.Drawn.TheVariants.{Picture, Bad, NoPredicate}
+use Rattle.pd_draw.specs.declared.drawn.Drawn.TheVariants.{Picture, Bad, NoPredicate, Cycle}
 use Rattle.pd_check.specs.Views.{finding_view}
 use Rattle.pd_model.specs.Predicates.{Recorded}
 use Rattle.pd_draw.specs.declared.choice.Choice.TheVariants.{Alone, Of, Unknown}
@@ -82,6 +82,7 @@ Comes document traces pairs messages claimed name (Picture drawing) =
 Comes document traces pairs messages claimed name (Bad finding) =
     IsUndrawn document traces messages claimed name (finding_view finding)
 Comes document traces pairs messages claimed name NoPredicate = IsUnknown document traces messages claimed name
+Comes document traces pairs messages claimed name (Cycle drawing) = ⊥
 
 -- ---- on the way
 

@@ -4,3 +4,4 @@ pub mod Values
 pub mod Exhibits
 pub mod Runs
 pub mod Drawn
+pub mod Cycles

@@ -33,6 +33,8 @@ pub enum Drawn {
     Bad(Finding),
     /// There is no predicate of the name that was asked for.
     NoPredicate,
+    /// The picture of a session that is refused for a causal cycle.
+    Cycle(Drawing),
 }
 
 /// Which predicate is drawn, unless what is found stands against the picture.
@@ -61,7 +63,7 @@ fn let_by(finding: &Finding, name: Option<&str>) -> Option<Choice>
 }
 
 /// The names of the processes.
-fn lane_names(alloc: Global, names: &Names) -> Result<Vec<String>, AllocError>
+pub(crate) fn lane_names(alloc: Global, names: &Names) -> Result<Vec<String>, AllocError>
     ensures { IfOk result (λ lanes. texts_view lanes.items ≡ map (λ process. process.name) names.now) }
 {
     let mut lanes = Vec::with_capacity(alloc, names.processes())?;

@@ -11,13 +11,16 @@
 //! - `exhibit`: the evidence that is drawn, and what the picture is called
 //! - `run`: the session that is drawn, as it has been read
 //! - `drawn`: the picture, or what stands against it
+//! - `refused`: the picture of a session that is refused for a causal cycle
 #![tactic(auto)]
 
 mod choice;
 mod drawn;
 mod exhibit;
+mod refused;
 mod run;
 mod values;
 
 pub use drawn::{Drawn, draw};
+pub use refused::draw_cycle;
 pub use run::Run;

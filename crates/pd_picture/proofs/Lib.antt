@@ -6,3 +6,4 @@ pub mod Cuts
 pub mod StepFacts
 pub mod FlightFacts
 pub mod PictureFacts
+pub mod CycleFacts

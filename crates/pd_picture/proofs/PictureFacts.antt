@@ -9,7 +9,7 @@ use Rattle.pd_svg.specs.declared.drawing.Drawing.{Drawing}
 use Rattle.pd_picture.specs.Columns.{AreColumns}
 use Rattle.pd_picture.specs.Flights.{is_flight}
 use Rattle.pd_picture.specs.Layout.{lane_y, window_around}
-use Rattle.pd_picture.specs.Pictures.{IsPicture, description, evidence_shapes, focus, heading_shapes, page_width, run_shapes, widest, window}
+use Rattle.pd_picture.specs.Pictures.{IsPicture, description, evidence_shapes, focus, heading_shapes, legend, page_width, run_shapes, widest, window}
 use Rattle.pd_picture.specs.Rooms.{names_room}
 use Rattle.pd_picture.specs.Shapes.{all_seen}
 use Rattle.pd_picture.specs.declared.evidence.Evidence.{Evidence}
@@ -27,7 +27,7 @@ module _ (c recorded : Computation) (columns : Place → ℕ) (messages : List (
       ∙ ap (λ (n : ℕ). window_around (widest columns c) (focus columns c evidence) n) room_is))
 
   pub is_picture : IsMessageList c (pairs_view messages) → AreColumns c columns → (drawing : Drawing)
-      → all_seen drawing.shapes.items ≡ heading_shapes shown most title evidence
+      → all_seen drawing.shapes.items ≡ heading_shapes shown most title (legend evidence)
       ++ run_shapes shown columns (is_flight recorded messages) c (pairs_view messages) names evidence
       ++ evidence_shapes shown columns c evidence
       → drawing.width ≡ page_width shown title evidence → drawing.height ≡ lane_y (length c) - 30
@@ -40,13 +40,13 @@ module _ (c recorded : Computation) (columns : Place → ℕ) (messages : List (
     flights = is_flight c messages;
     are_flights = λ e is. flights_are c messages lawful e;
     shapes =
-        shapes ∙ (ap (λ (n : ℕ). heading_shapes shown n title evidence
+        shapes ∙ (ap (λ (n : ℕ). heading_shapes shown n title (legend evidence)
         ++ run_shapes shown columns (is_flight recorded messages) c (pairs_view messages) names evidence
         ++ evidence_shapes shown columns c evidence) most_is
-        ∙ (ap (λ (r : Computation). heading_shapes shown (widest columns c) title evidence
+        ∙ (ap (λ (r : Computation). heading_shapes shown (widest columns c) title (legend evidence)
         ++ run_shapes shown columns (is_flight r messages) c (pairs_view messages) names evidence
         ++ evidence_shapes shown columns c evidence) same
-        ∙ ap (λ (w : Window). heading_shapes w (widest columns c) title evidence
+        ∙ ap (λ (w : Window). heading_shapes w (widest columns c) title (legend evidence)
         ++ run_shapes w columns (is_flight c messages) c (pairs_view messages) names evidence
         ++ evidence_shapes w columns c evidence) window_is));
     width = wide ∙ ap (λ (w : Window). page_width w title evidence) window_is;

@@ -5,3 +5,5 @@ pub mod Rooms
 pub mod Shapes
 pub mod Tables
 pub mod Pictures
+pub mod Cycles
+pub mod CycleTables

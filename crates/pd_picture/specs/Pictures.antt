@@ -48,16 +48,20 @@ lane_shapes window names p =
 abbrev pub lanes_shapes : Window → List (List ℕ) → List Seen
 lanes_shapes window names = upto (lane_shapes window names) (length names)
 
--- where the head of an arrow stands that comes to this point from above or from below
-abbrev pub head_point : (from_above : Bool) → Point → Point
-head_point from_above at = point (at.x - 5) (if from_above then at.y - 8 else at.y + 8)
+-- where the head of an arrow stands that comes to this point from above or from below, from its left or, if it goes
+-- back, from its right
+abbrev pub head_point : (from_above from_right : Bool) → Point → Point
+head_point from_above from_right at =
+    point (if from_right then at.x + 5 else at.x - 5) (if from_above then at.y - 8 else at.y + 8)
 
 -- the arrow of a message, if its receipt is shown; a line without a head, if its send alone is
 abbrev pub message_shapes : Window → (Place → ℕ) → Place × Place → List Seen
 message_shapes window columns (send, receipt) =
     if is_shown window (columns receipt) then (
     SeenArrow class.Message (event_point window columns send)
-    (head_point (nat_lt send.process receipt.process) (event_point window columns receipt)) ∷ []
+    (head_point (nat_lt send.process receipt.process)
+    (nat_lt (event_point window columns receipt).x (event_point window columns send).x)
+    (event_point window columns receipt)) ∷ []
     ) else (
     if is_shown window (columns send) then (
     SeenLine class.Message (event_point window columns send) (event_point window columns receipt) ∷ []
@@ -207,10 +211,10 @@ window_note window widest =
     ) else codes "All events are shown."
 
 -- the title, what the shapes mean, and which columns are shown
-abbrev pub heading_shapes : Window → (widest : ℕ) → (title : List ℕ) → Evidence → List Seen
-heading_shapes window widest title evidence =
+abbrev pub heading_shapes : Window → (widest : ℕ) → (title legend : List ℕ) → List Seen
+heading_shapes window widest title legend =
     SeenText class.Name (point 24 38) anchor.Start 18 (shortened 112 title)
-    ∷ SeenText class.Note (point 24 64) anchor.Start 13 (legend evidence)
+    ∷ SeenText class.Note (point 24 64) anchor.Start 13 legend
     ∷ SeenText class.Note (point 24 84) anchor.Start 13 (window_note window widest) ∷ []
 
 -- how many processes and events there are
@@ -290,7 +294,7 @@ run_shapes shown columns flights c messages names evidence =
 abbrev pub picture_shapes : (Place → ℕ) → (Place → Bool) → Computation → List (Place × Place) → (names : List (List ℕ))
     → (title : List ℕ) → Evidence → Window → List Seen
 picture_shapes columns flights c messages names title evidence shown =
-    heading_shapes shown (widest columns c) title evidence
+    heading_shapes shown (widest columns c) title (legend evidence)
     ++ run_shapes shown columns flights c messages names evidence ++ evidence_shapes shown columns c evidence
 
 -- The picture of a run with these messages. Its columns are the lengths of longest chains, and its broken arrows are

@@ -3,13 +3,16 @@ ghost use Rattle.pd_match.specs.Views.{place_view};
 ghost use Rattle.pd_picture.specs.Pictures.{event_shapes, is_past, shown_at, shown_events, shown_of};
 ghost use Rattle.pd_picture.specs.Shapes.{all_seen};
 ghost use Rattle.pd_picture.specs.Tables.{column_at, places_view};
+ghost use Rattle.pd_traces.specs.Views.{computation_view};
 ghost use Rattle.std.specs.Prelude.{◌≡◌, ◌+◌, ◌<◌, ◌++◌, IfOk, OnOk, flat_map};
 
 use super::Evidence;
+use super::cycle_columns::count_of;
 use super::shapes::{push_circle, push_number};
 use super::window::{Window, column_at, count_at};
 use pd_clock::{Computation, Place};
 use pd_svg::{Class, Point, Shape};
+use pd_traces::Trace;
 use std::alloc::{AllocError, Global};
 
 /// Adds an event, if it is shown.
@@ -62,6 +65,23 @@ pub(crate) fn shown_events(
     let mut places = Vec::new(alloc);
     for p in 0..computation.processes() {
         push_shown_of(&mut places, window, rows, p, computation.events(p))?;
+    }
+    Ok(places)
+}
+
+/// The events of traces that are shown, in the order of their places.
+pub(crate) fn shown_events_of(
+    alloc: Global,
+    traces: &[Trace],
+    window: Window,
+    rows: &[Vec<u32>],
+) -> Result<Vec<Place>, AllocError>
+    ensures { IfOk result (λ places. places_view places.items
+        ≡ shown_events window (column_at rows.now) (computation_view traces.now)) }
+{
+    let mut places = Vec::new(alloc);
+    for p in 0..traces.len() {
+        push_shown_of(&mut places, window, rows, p, count_of(traces, p))?;
     }
     Ok(places)
 }

@@ -1,4 +1,5 @@
 //! What a picture says in words.
+ghost use Rattle.pd_picture.specs.Cycles.{cycle_description, cycle_legend};
 ghost use Rattle.pd_picture.specs.Layout.{upto};
 ghost use Rattle.pd_picture.specs.Pictures.{count_words, counts_text, crossing_words, cut_words, description, heading_shapes, legend, point, process_words, texts_view, where_worth, window_note};
 ghost use Rattle.pd_picture.specs.Shapes.{SeenText, all_seen};
@@ -13,7 +14,7 @@ use pd_svg::{Anchor, Class, Point, Shape};
 use std::alloc::{AllocError, Global};
 
 /// What the shapes mean.
-fn legend(evidence: &Evidence) -> &'static str
+pub(crate) fn legend(evidence: &Evidence) -> &'static str
     ensures { result.now ≡ legend evidence.now }
 {
     match evidence {
@@ -73,10 +74,10 @@ pub(crate) fn push_headings(
     window: Window,
     widest: u32,
     title: &str,
-    evidence: &Evidence,
+    legend: &str,
 ) -> Result<(), AllocError>
     ensures { OnOk result (all_seen shapes.new.items ≡ all_seen shapes.old.items
-        ++ heading_shapes window widest title.now evidence.now) }
+        ++ heading_shapes window widest title.now legend.now) }
 {
     let heading = shortened(alloc, title, 112)?;
     push_text(
@@ -87,7 +88,7 @@ pub(crate) fn push_headings(
         18,
         heading,
     )?;
-    push_note(shapes, 64, String::from_str(alloc, legend(evidence))?)?;
+    push_note(shapes, 64, String::from_str(alloc, legend)?)?;
     push_note(shapes, 84, window_note(alloc, window, widest)?)
 }
 
@@ -226,5 +227,27 @@ pub(crate) fn description(
     push_words(&mut text, " ")?;
     push_words(&mut text, &note)?;
     push_cut_words(alloc, &mut text, names, computation.processes(), evidence)?;
+    Ok(text)
+}
+
+/// What the shapes mean in the picture of a cycle.
+pub(crate) fn cycle_legend() -> &'static str
+    ensures { result.now ≡ cycle_legend }
+{
+    "Thick: a causal cycle. Each ringed event receives what was sent after the next ringed event, and so around."
+}
+
+/// What stands in the picture of a cycle, for those who don't see it.
+pub(crate) fn cycle_description(
+    alloc: Global,
+    window: Window,
+    widest: u32,
+) -> Result<String, AllocError>
+    ensures { IfOk result (λ text. string_bytes text ≡ cycle_description window widest) }
+{
+    let note = window_note(alloc, window, widest)?;
+    let mut text = String::from_str(alloc, cycle_legend())?;
+    push_words(&mut text, " ")?;
+    push_words(&mut text, &note)?;
     Ok(text)
 }

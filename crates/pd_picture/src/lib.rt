@@ -24,10 +24,16 @@
 //! - `cut`: a cut across the processes
 //! - `steps`: the numbers of the steps of an observation
 //! - `pictures`: the picture of a run
+//! - `cycle_columns`: the columns of a run in which there is a causal cycle
+//! - `cycle_marks`: the marks of a causal cycle
+//! - `cycle_pictures`: the picture of a run in which there is a causal cycle
 #![tactic(auto)]
 
 mod columns;
 mod cut;
+mod cycle_columns;
+mod cycle_marks;
+mod cycle_pictures;
 mod dots;
 mod ends;
 mod evidence;
@@ -44,5 +50,6 @@ mod window;
 
 pub use columns::columns_stand_right;
 pub use cut::values_stand_clear;
+pub use cycle_pictures::cycle_picture;
 pub use evidence::Evidence;
 pub use pictures::picture;

@@ -11,14 +11,20 @@ use pd_clock::Place;
 use pd_svg::{Class, Point, Shape};
 use std::alloc::AllocError;
 
-/// Where the head of an arrow stands that comes to this point from above or from below.
-fn head_point(from_above: bool, at: Point) -> Point
+/// Where the head of an arrow stands that comes to this point from above or from below, from its left or, if it goes
+/// back, from its right.
+fn head_point(from_above: bool, from_right: bool, at: Point) -> Point
     requires below { 8 ≤ at.y }
     requires within { at.y ≤ 4294967000 }
-    ensures { result ≡ head_point from_above at }
+    requires left { at.x ≤ 4294967000 }
+    ensures { result ≡ head_point from_above from_right at }
 {
     Point {
-        x: at.x.saturating_sub(5),
+        x: if from_right {
+            at.x + 5
+        } else {
+            at.x.saturating_sub(5)
+        },
         y: if from_above { at.y - 8 } else { at.y + 8 },
     }
 }
@@ -37,7 +43,7 @@ fn push_message(
     let from = window.event_point(rows, send);
     let to = window.event_point(rows, receipt);
     if window.shows(column_at(rows, receipt)) {
-        let head = head_point(send.process < receipt.process, to);
+        let head = head_point(send.process < receipt.process, to.x < from.x, to);
         return push_arrow(shapes, Class::Message, from, head);
     }
     if window.shows(column_at(rows, send)) {

@@ -4,7 +4,7 @@ ghost use Rattle.pd_match.specs.Views.{pairs_view};
 ghost use Rattle.pd_model.specs.Messages.{IsMessageList};
 ghost use Rattle.pd_picture.specs.Columns.{AreColumns};
 ghost use Rattle.pd_picture.specs.Flights.{is_flight};
-ghost use Rattle.pd_picture.specs.Pictures.{IsPicture, evidence_shapes, focus, heading_shapes, page_width, room_right, run_shapes, texts_view, widest};
+ghost use Rattle.pd_picture.specs.Pictures.{IsPicture, evidence_shapes, focus, heading_shapes, legend, page_width, room_right, run_shapes, texts_view, widest};
 ghost use Rattle.pd_picture.specs.Shapes.{all_seen};
 ghost use Rattle.pd_picture.specs.Tables.{IsTable, column_at};
 ghost use Rattle.std.specs.Prelude.{◌≡◌, ◌≤◌, ◌++◌, IfOk, OnOk};
@@ -15,7 +15,7 @@ use super::cut::{push_cut, values_x};
 use super::dots::{push_dots, shown_events};
 use super::ends::push_ends;
 use super::flights::push_flights;
-use super::headings::{description, push_headings};
+use super::headings::{description, legend, push_headings};
 use super::lanes::push_lanes;
 use super::messages::push_messages;
 use super::rooms::{names_room, title_room, values_room};
@@ -84,7 +84,7 @@ fn room_right(alloc: Global, evidence: &Evidence) -> Result<u32, AllocError>
 }
 
 /// The width of the page: there is room for the headings, the lanes and the values at a cut.
-fn page_width(
+pub(crate) fn page_width(
     alloc: Global,
     window: Window,
     title: &str,
@@ -140,7 +140,7 @@ fn all_shapes(
     subject: &Subject<'_, '_>,
 ) -> Result<Vec<Shape>, AllocError>
     ensures { IfOk result (λ shapes. all_seen shapes.items
-        ≡ heading_shapes window widest subject.now.title.now subject.now.evidence.now
+        ≡ heading_shapes window widest subject.now.title.now (legend subject.now.evidence.now)
         ++ run_shapes window (column_at rows.now)
         (is_flight (computation_view subject.now.traces.now) subject.now.messages.now)
         subject.now.computation.now.events (pairs_view subject.now.messages.now) (texts_view subject.now.names.now)
@@ -150,7 +150,14 @@ fn all_shapes(
 {
     let evidence = subject.evidence;
     let mut shapes = Vec::new(alloc);
-    push_headings(alloc, &mut shapes, window, widest, subject.title, evidence)?;
+    push_headings(
+        alloc,
+        &mut shapes,
+        window,
+        widest,
+        subject.title,
+        legend(evidence),
+    )?;
     push_run(alloc, &mut shapes, window, rows, subject)?;
     push_evidence(
         alloc,
