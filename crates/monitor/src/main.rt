@@ -2,6 +2,7 @@
 //! which runs it.
 #![tactic(auto)]
 
+use pd_progress::{Cleared, Screen, ShownFile, ShownFiles};
 use std::io::{IsTerminal, Write};
 use std::process::ExitCode;
 use std::{env, io};
@@ -26,16 +27,17 @@ fn main(rt: HostRuntime) -> ExitCode {
             if explain && arguments.len() <= 1 && rt.stdin().is_terminal() {
                 let _ = errors.write_all(BUNDLE_READ);
             }
+            let screen = Screen::new(&rt, errors.is_terminal());
             pd_cli::run(
                 &rt,
-                &rt,
+                &ShownFiles::new(&rt, &screen),
                 &rt,
                 rt.alloc(),
                 arguments,
-                rt.stdin(),
+                ShownFile::new(rt.stdin(), 0, &screen),
                 explain,
-                &mut rt.stdout(),
-                &mut errors,
+                &mut Cleared::new(rt.stdout(), &screen),
+                &mut Cleared::new(errors, &screen),
             )
         }
         Err(error) => pd_cli::report_unread_arguments(&error, &mut errors),

@@ -4,7 +4,7 @@ ghost use Rattle.pd_arguments.specs.Statuses.{JudgementLeaves};
 ghost use Rattle.std.specs.Prelude.{◌≡◌, false};
 
 use pd_arguments::Workers;
-use pd_engine::{ByteSource, NoGate, Report, write_bundle_report};
+use pd_engine::{ByteSource, Gate, Report, write_bundle_report};
 use pd_sessions::EngineFault;
 use std::alloc::Global;
 use std::io::Write;
@@ -16,17 +16,17 @@ use std::thread::Threads;
 ///
 /// # Errors
 /// As `write_bundle_report`, and `Write` too if the output can't be flushed.
-pub(crate) fn judge_input<S: RandomSource + Threads + Wait + Sync, I: ByteSource + Drop, O: Write>(
-    rt: &S,
-    alloc: Global,
-    input: I,
-    output: &mut O,
-) -> Result<Report, EngineFault>
+pub(crate) fn judge_input<
+    S: RandomSource + Threads + Wait + Sync,
+    I: ByteSource + Drop,
+    G: Gate + Sync,
+    O: Write,
+>(rt: &S, alloc: Global, input: I, gate: &G, output: &mut O) -> Result<Report, EngineFault>
     requires { I.has_ended input ≡ false }
     ensures { JudgementLeaves (I.remaining input) I.never_fails (report_ending result) (O.contents output.old)
         (O.contents output.new) }
 {
-    let report = write_bundle_report(rt, alloc, input, Workers::one().count(), &NoGate, output)?;
+    let report = write_bundle_report(rt, alloc, input, Workers::one().count(), gate, output)?;
     if output.flush().is_err() {
         return Err(EngineFault::Write);
     }

@@ -6,7 +6,7 @@ use super::second_look::{Seen, can_be_checked_again, report_again, spec_again};
 use pd_arguments::{Exploration, Judgement, SessionNames};
 use pd_claims::DrawOutcome;
 use pd_explain::{
-    Judged, Source, explain_answers, explain_bundle_fault, explain_file, explain_finding,
+    Judged, Source, Widest, explain_answers, explain_bundle_fault, explain_file, explain_finding,
     explain_long_report, explain_memory, explain_no_file, explain_no_predicate, explain_output,
     in_rows,
 };
@@ -34,6 +34,7 @@ pub(crate) fn put_report<F: FileSource>(
             let judged = Judged {
                 width: spec.map(|spec| spec.width()),
                 beyond_width: seen.beyond_width,
+                widest: seen.widest,
             };
             explain_answers(out, answers, judged)
         }
@@ -111,6 +112,7 @@ fn put_judgement<F: FileSource>(
     files: &F,
     alloc: Global,
     judgement: &Judgement<'_>,
+    widest: Widest,
     end: &Result<Report, EngineFault>,
 ) -> Result<(), AllocError> {
     let names = &judgement.names;
@@ -119,6 +121,7 @@ fn put_judgement<F: FileSource>(
         asks: Some(&names.asks),
         streams: &names.streams,
         beyond_width: judgement.beyond_width,
+        widest,
     };
     match end {
         Ok(report) => put_report(out, files, alloc, seen, report),
@@ -132,11 +135,12 @@ pub(crate) fn judgement_text<F: FileSource>(
     files: &F,
     alloc: Global,
     judgement: &Judgement<'_>,
+    widest: Widest,
     end: &Result<Report, EngineFault>,
 ) -> Vec<u8> {
     let mut out = Vec::new(alloc);
     if is_wanted {
-        let _ = put_judgement(&mut out, files, alloc, judgement, end);
+        let _ = put_judgement(&mut out, files, alloc, judgement, widest, end);
     }
     rows_of(alloc, out)
 }
@@ -155,6 +159,7 @@ fn put_exploration<F: FileSource>(
         asks: Some(&names.asks),
         streams: &names.streams,
         beyond_width: exploration.beyond_width,
+        widest: Widest::unknown(),
     };
     match end {
         Ok(None) => Ok(()),
@@ -184,6 +189,7 @@ fn put_bundle<F: FileSource>(
     out: &mut Vec<u8>,
     files: &F,
     alloc: Global,
+    widest: Widest,
     end: &Result<Report, EngineFault>,
 ) -> Result<(), AllocError> {
     let seen = Seen {
@@ -191,6 +197,7 @@ fn put_bundle<F: FileSource>(
         asks: None,
         streams: &[],
         beyond_width: false,
+        widest,
     };
     match end {
         Ok(report) => put_report(out, files, alloc, seen, report),
@@ -206,11 +213,12 @@ pub(crate) fn bundle_text<F: FileSource>(
     is_wanted: bool,
     files: &F,
     alloc: Global,
+    widest: Widest,
     end: &Result<Report, EngineFault>,
 ) -> Vec<u8> {
     let mut out = Vec::new(alloc);
     if is_wanted {
-        let _ = put_bundle(&mut out, files, alloc, end);
+        let _ = put_bundle(&mut out, files, alloc, widest, end);
     }
     rows_of(alloc, out)
 }

@@ -7,7 +7,7 @@ use super::senders::{known_senders, senders};
 use super::service_fault::ServiceFault;
 use pd_arguments::Service;
 use pd_explain::{
-    StreamFault, explain_connection, explain_port, explain_sent_stream, explain_wait,
+    StreamFault, Widest, explain_connection, explain_port, explain_sent_stream, explain_wait,
 };
 use pd_peers::Peers;
 use pd_report::{Refusal, Report};
@@ -86,6 +86,7 @@ fn put_service_report<F: FileSource>(
                 asks: Some(&service.asks),
                 streams: &[],
                 beyond_width: service.beyond_width,
+                widest: Widest::unknown(),
             };
             put_report(out, files, alloc, seen, report)
         }

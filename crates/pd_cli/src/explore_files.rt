@@ -6,9 +6,10 @@ ghost use Rattle.pd_cli.specs.Faults.{exploration_ending};
 ghost use Rattle.std.specs.Prelude.{◌≡◌, All, Some, false, map, true};
 
 use super::file_source::FileSource;
+use super::level_gate::LevelGate;
 use super::session_files::read_session;
 use pd_arguments::{Exploration, Workers};
-use pd_engine::{ByteSource, Inquiry, NoGate, Report};
+use pd_engine::{ByteSource, Gate, Inquiry, Report};
 use pd_explore::explore;
 use pd_sessions::EngineFault;
 use std::alloc::Global;
@@ -22,12 +23,18 @@ use std::thread::Threads;
 ///
 /// # Errors
 /// `Memory` leaves nothing written. `Write` leaves a part of the text written, or all of it if only the flush failed.
-fn explore_read<S: RandomSource + Threads + Wait + Sync, R: ByteSource + Send + Drop, O: Write>(
+fn explore_read<
+    S: RandomSource + Threads + Wait + Sync,
+    R: ByteSource + Send + Drop,
+    G: Gate + Sync,
+    O: Write,
+>(
     rt: &S,
     alloc: Global,
     inquiry: Inquiry<'_>,
     streams: Vec<R>,
     workers: &Workers,
+    gate: &G,
     output: &mut O,
 ) -> Result<Option<Report>, EngineFault>
     requires { All (λ stream. R.has_ended stream ≡ false) streams.items }
@@ -35,15 +42,7 @@ fn explore_read<S: RandomSource + Threads + Wait + Sync, R: ByteSource + Send + 
         (map R.remaining streams.items) R.never_fails ⊥ (exploration_ending result) (O.contents output.old)
         (O.contents output.new) }
 {
-    let refusal = explore(
-        rt,
-        alloc,
-        inquiry,
-        streams,
-        workers.count(),
-        &NoGate,
-        output,
-    )?;
+    let refusal = explore(rt, alloc, inquiry, streams, workers.count(), gate, output)?;
     if output.flush().is_err() {
         return Err(EngineFault::Write);
     }
@@ -77,7 +76,16 @@ pub(crate) fn explore_files<S: RandomSource + Threads + Wait + Sync, F: FileSour
                 document: &read.document,
                 beyond_width: exploration.beyond_width,
             };
-            explore_read(rt, alloc, inquiry, streams, &exploration.workers, output)
+            let gate = LevelGate::new(files);
+            explore_read(
+                rt,
+                alloc,
+                inquiry,
+                streams,
+                &exploration.workers,
+                &gate,
+                output,
+            )
         }
         Err(fault) => Err(fault),
     }

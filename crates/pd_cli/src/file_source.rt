@@ -1,5 +1,5 @@
-//! Where files are read.
-use pd_engine::ByteSource;
+//! Where files are read, and who hears how far their judging has come.
+use pd_engine::{ByteSource, Reached};
 use pd_sessions::EngineFault;
 use std::alloc::{AllocError, Global};
 use std::io::{ErrorKind, Read};
@@ -12,7 +12,7 @@ const OUTPUT: &str = "/dev/stdout";
 
 /// Opens files by their names. What each holds may be known, as it is in proofs over files that are made up; of the
 /// system's files nothing is known.
-pub trait FileSource {
+pub trait FileSource: Sync {
     ghost use Rattle.pd_cli.specs.FileSources.{HasWholeFile};
     ghost use Rattle.pd_sessions.specs.declared.fault.EngineFault.TheVariants as faults;
     ghost use Rattle.std.specs.Prelude.{◌≡◌, Bool, IfOk, IsOk, IsOkUnless, ℕ, List, Option, false, true};
@@ -35,11 +35,19 @@ pub trait FileSource {
         ensures sure { always_opens ≡ true → IsOk result }
         ensures err { IsOkUnless result faults.Read };
 
+    /// How many bytes the file of this name has, if it can be read a second time and that is known, and else 0.
+    fn size(&self, _name: &str) -> u64 {
+        0
+    }
+
     /// Whether the file of this name can be read a second time: a pipe or a terminal has nothing to give then, and is
     /// waited for.
     fn can_be_reread(&self, _name: &str) -> bool {
         true
     }
+
+    /// Hears that a walk over a session in these files has come to this level.
+    fn hear_level(&self, _level: Reached) {}
 
     /// Whether the output is a pipe or a connection: a write to it fails only once whoever reads it has ended.
     fn output_is_read(&self) -> bool {
@@ -81,7 +89,7 @@ fn open_failure<R: Files>(files: &R, name: &str) -> Option<io::Error> {
     }
 }
 
-impl<R: Files> FileSource for R
+impl<R: Files + Sync> FileSource for R
 where
     R::File: Send,
 {
@@ -95,6 +103,13 @@ where
 
     fn open(&self, name: &str) -> Result<R::File, EngineFault> {
         fs::open(self, name).map_err(|_| EngineFault::Read)
+    }
+
+    fn size(&self, name: &str) -> u64 {
+        match fs::metadata(self, name) {
+            Ok(found) if found.is_file() => found.len(),
+            _ => 0,
+        }
     }
 
     fn can_be_reread(&self, name: &str) -> bool {

@@ -15,7 +15,7 @@ ghost use Rattle.std.specs.Prelude.{◌≡◌, ◌⊎◌, ℕ, List, All, IfErr,
 use super::file_source::FileSource;
 use super::session_files::read_session;
 use pd_arguments::{Judgement, Workers};
-use pd_engine::{ByteSource, Inquiry, NoGate, Report, judge_inquiry};
+use pd_engine::{ByteSource, Gate, Inquiry, Report, judge_inquiry};
 use pd_sessions::EngineFault;
 use std::alloc::Global;
 use std::io::Write;
@@ -31,6 +31,7 @@ use std::thread::Threads;
 pub(crate) fn judge_read<
     S: RandomSource + Threads + Wait + Sync,
     R: ByteSource + Send + Drop,
+    G: Gate + Sync,
     O: Write,
 >(
     rt: &S,
@@ -38,6 +39,7 @@ pub(crate) fn judge_read<
     inquiry: Inquiry<'_>,
     streams: Vec<R>,
     workers: &Workers,
+    gate: &G,
     output: &mut O,
 ) -> Result<Report, EngineFault>
     requires { All (λ stream. R.has_ended stream ≡ false) streams.items }
@@ -52,15 +54,7 @@ pub(crate) fn judge_read<
         (O.contents output.new)) }
     ensures err { IfErr result (λ fault. (fault ≡ EngineFault.Memory) ⊎ (fault ≡ EngineFault.Write)) }
 {
-    let report = judge_inquiry(
-        rt,
-        alloc,
-        inquiry,
-        streams,
-        workers.count(),
-        &NoGate,
-        output,
-    )?;
+    let report = judge_inquiry(rt, alloc, inquiry, streams, workers.count(), gate, output)?;
     if output.flush().is_err() {
         return Err(EngineFault::Write);
     }
@@ -75,11 +69,17 @@ pub(crate) fn judge_read<
 /// # Errors
 /// `Read`, if a file can't be opened or the document can't be read, and `Memory` leave nothing written. `Write` leaves
 /// a part of the report written, or all of it if only the flush failed.
-pub(crate) fn judge_files<S: RandomSource + Threads + Wait + Sync, F: FileSource, O: Write>(
+pub(crate) fn judge_files<
+    S: RandomSource + Threads + Wait + Sync,
+    F: FileSource,
+    G: Gate + Sync,
+    O: Write,
+>(
     rt: &S,
     files: &F,
     alloc: Global,
     judgement: &Judgement<'_>,
+    gate: &G,
     output: &mut O,
 ) -> Result<Report, EngineFault>
     ensures written { (fail_on : List Condition) → HoldsAsked (asks_view judgement.now.names.asks)
@@ -105,7 +105,15 @@ pub(crate) fn judge_files<S: RandomSource + Threads + Wait + Sync, F: FileSource
                 document: &read.document,
                 beyond_width: judgement.beyond_width,
             };
-            judge_read(rt, alloc, inquiry, streams, &judgement.workers, output)
+            judge_read(
+                rt,
+                alloc,
+                inquiry,
+                streams,
+                &judgement.workers,
+                gate,
+                output,
+            )
         }
         Err(fault) => Err(fault),
     }

@@ -25,6 +25,7 @@
 //! - `watchers`: shows watchers how far the streams are read
 //! - `network`: where connections come from
 //! - `service_fault`: why a server gives no report
+//! - `level_gate`: the gate of a walk over a session in files
 //! - `session_files`: opens and reads the files of a session
 //! - `file_source`: where files are read
 //! - `status`: exit statuses, and the lines that report faults
@@ -49,6 +50,7 @@ mod explanation;
 mod explore_files;
 mod file_source;
 mod judge_files;
+mod level_gate;
 mod line;
 mod network;
 mod parser_error;

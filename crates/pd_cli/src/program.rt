@@ -21,6 +21,7 @@ use super::explanation::write_explanation;
 use super::explore_files::explore_files;
 use super::file_source::FileSource;
 use super::judge_files::judge_files;
+use super::level_gate::LevelGate;
 use super::network::Network;
 use super::parser_error::report_parser_error;
 use super::server::serve;
@@ -136,8 +137,9 @@ fn run_files<S: RandomSource + Threads + Wait + Sync, F: FileSource, O: Write, E
         (F.always_opens ≡ true → F.File.never_fails ≡ true → ⊥) ending (O.contents output.old)
         (O.contents output.new))) result start (E.contents errors.new)) (E.contents errors.old) }
 {
-    let end = judge_files(rt, files, alloc, judgement, output);
-    let text = judgement_text(explain, files, alloc, judgement, &end);
+    let gate = LevelGate::new(files);
+    let end = judge_files(rt, files, alloc, judgement, &gate, output);
+    let text = judgement_text(explain, files, alloc, judgement, gate.widest(), &end);
     write_explanation(explain, &text, errors);
     report_judgement(&judgement.fail_on, &end, errors)
 }
@@ -176,8 +178,9 @@ fn run_bundle<
     ensures { Explained explain (λ start. Ends (λ ending. JudgementLeaves (I.remaining input) I.never_fails ending
         (O.contents output.old) (O.contents output.new)) result start (E.contents errors.new)) (E.contents errors.old) }
 {
-    let end = judge_input(rt, alloc, input, output);
-    let text = bundle_text(explain, files, alloc, &end);
+    let gate = LevelGate::new(files);
+    let end = judge_input(rt, alloc, input, &gate, output);
+    let text = bundle_text(explain, files, alloc, gate.widest(), &end);
     write_explanation(explain, &text, errors);
     report_bundle(&end, errors)
 }

@@ -4,7 +4,7 @@ use super::session_files::{read_asked, read_document};
 use pd_arguments::SessionNames;
 use pd_asked::Asks;
 use pd_engine::Spec;
-use pd_explain::joined_name;
+use pd_explain::{Widest, joined_name};
 use pd_format::{REPORT_BYTE_LIMIT, STREAM_BYTE_LIMIT};
 use pd_sessions::read_upto;
 use std::alloc::{AllocError, Global};
@@ -24,6 +24,8 @@ pub(crate) struct Seen<'a> {
     pub(crate) streams: &'a [&'a str],
     /// Whether predicates were to be answered beyond the width.
     pub(crate) beyond_width: bool,
+    /// The level with the most cuts to which the walk has come.
+    pub(crate) widest: Widest,
 }
 
 /// The bytes of the document in the file of this name, with what is asked, if they can be read again.

@@ -310,6 +310,7 @@ fn judge_no_streams<S: RandomSource + Threads + Wait + Sync, N: Network, O: Writ
         inquiry,
         Vec::<N::Connection>::new(alloc),
         &Workers::one(),
+        &NoGate,
         output,
     )
 }

@@ -30,7 +30,7 @@ pub use judges::{judge, judge_inquiry, judge_inquiry_watched, judge_watched, wri
 pub use outcome::{Outcome, report_outcome};
 pub use pd_expand::Crew;
 pub use pd_gather::{ByteSource, NoObserver, Observer, within_limit};
-pub use pd_level::{Gate, NoGate};
+pub use pd_level::{Gate, NoGate, Reached};
 pub use pd_register::{Register, Row, RowState, Snapshot, Watcher};
 pub use pd_report::{Answer, Definitely, Possibly, Refusal, Report, text};
 pub use pd_sessions::{EngineFault, Inquiry, read_upto, write_snapshot};

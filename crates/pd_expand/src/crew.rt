@@ -9,7 +9,7 @@ ghost use Rattle.std.specs.Prelude.{◌≡◌, ◌+◌, ◌≤◌, All, Err, IfO
 use crate::expanding::next_level;
 use crate::marking;
 use pd_clock::Computation;
-use pd_level::{Gate, Level, LevelFault};
+use pd_level::{Gate, Level, LevelFault, Reached};
 use pd_pred::Pred;
 use std::alloc::{AllocError, Global};
 use std::sync::Wait;
@@ -76,6 +76,31 @@ impl<'a, 'b, T: Threads + Wait + Sync, G: Gate + Sync> Crew<'a, 'b, T, G> {
         ensures number { IfOk result (λ next. next.number ≡ min (level.now.number + 1) 18446744073709551615) }
         ensures wide { result ≡ Err LevelFault.Wide → MoreThan width (IsNextOf computation.now.events level.now.cuts) }
     {
+        let next = self.next_of(alloc, computation, level, width)?;
+        self.reach(Reached {
+            number: next.number(),
+            last: computation.total(),
+            cuts: next.len() as u64,
+            is_whole: false,
+        });
+        Ok(next)
+    }
+
+    /// The same, of which no gate hears.
+    fn next_of(
+        &self,
+        alloc: Global,
+        computation: &Computation<'_>,
+        level: &Level,
+        width: u64,
+    ) -> Result<Level, LevelFault>
+        requires cuts { All (IsConsistent computation.now.events) level.now.cuts }
+        requires wide { 1 ≤ width }
+        ensures list { IfOk result (λ next. IsListOf (IsNextOf computation.now.events level.now.cuts) next.cuts) }
+        ensures narrow { IfOk result (λ next. length next.cuts ≤ width) }
+        ensures number { IfOk result (λ next. next.number ≡ min (level.now.number + 1) 18446744073709551615) }
+        ensures wide { result ≡ Err LevelFault.Wide → MoreThan width (IsNextOf computation.now.events level.now.cuts) }
+    {
         if self.shares(level.len()) {
             return next_level(
                 self.rt,
@@ -88,6 +113,11 @@ impl<'a, 'b, T: Threads + Wait + Sync, G: Gate + Sync> Crew<'a, 'b, T, G> {
             );
         }
         Level::next(alloc, computation, level, width)
+    }
+
+    /// Says at the gate that a walk has come to this level.
+    pub fn reach(&self, level: Reached) {
+        self.gate.reach(level);
     }
 
     /// Of each cut of the level whether the predicate is true at its state, in the order of the cuts.

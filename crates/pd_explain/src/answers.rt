@@ -3,6 +3,22 @@ use super::says::{say, say_name, say_number};
 use pd_report::{Answer, Definitely, Possibly};
 use std::alloc::AllocError;
 
+/// A whole level, and how many cuts it has.
+#[derive(Clone, Copy)]
+pub struct Widest {
+    /// Its number.
+    pub number: u64,
+    /// How many cuts it has; 0 if that isn't known.
+    pub cuts: u64,
+}
+
+impl Widest {
+    /// Of which nothing is known.
+    pub fn unknown() -> Widest {
+        Widest { number: 0, cuts: 0 }
+    }
+}
+
 /// With what a session was judged.
 #[derive(Clone, Copy)]
 pub struct Judged {
@@ -10,6 +26,43 @@ pub struct Judged {
     pub width: Option<u64>,
     /// Whether predicates were to be answered beyond the width, where they are decided without levels.
     pub beyond_width: bool,
+    /// The level with the most cuts to which the walk has come.
+    pub widest: Widest,
+}
+
+impl Judged {
+    /// How many cuts this level has, if that is known and they are more than the width.
+    fn cuts_of(&self, level: u64) -> Option<u64> {
+        let Widest { number, cuts } = self.widest;
+        if number == level && cuts > self.width.unwrap_or(0) && cuts < u64::MAX {
+            return Some(cuts);
+        }
+        None
+    }
+}
+
+/// Says how many states the level has on which an answer stays unknown.
+fn say_cuts(out: &mut Vec<u8>, level: u64, judged: Judged) -> Result<(), AllocError> {
+    match (judged.cuts_of(level), judged.width) {
+        (Some(cuts), Some(width)) => {
+            say(out, " in all, has ")?;
+            say_number(out, cuts)?;
+            say(out, ", and the width is ")?;
+            say_number(out, width)?;
+            say(out, ".\n")
+        }
+        (Some(cuts), None) => {
+            say(out, " in all, has ")?;
+            say_number(out, cuts)?;
+            say(out, ", more than the width allows.\n")
+        }
+        (None, Some(width)) => {
+            say(out, " in all, has more than ")?;
+            say_number(out, width)?;
+            say(out, ", the width.\n")
+        }
+        (None, None) => say(out, " in all, has more of them than the width allows.\n"),
+    }
 }
 
 /// Says of a question about a predicate at which level it stays unknown.
@@ -18,7 +71,7 @@ fn say_unknown(
     name: &str,
     question: &str,
     level: u64,
-    width: Option<u64>,
+    judged: Judged,
 ) -> Result<(), AllocError> {
     say(out, "It is unknown whether ")?;
     say_name(out, name)?;
@@ -27,21 +80,14 @@ fn say_unknown(
     say(out, ", of the states after ")?;
     say_number(out, level)?;
     say(out, if level == 1 { " event" } else { " events" })?;
-    match width {
-        Some(width) => {
-            say(out, " in all, has more than ")?;
-            say_number(out, width)?;
-            say(out, ", the width.\n")
-        }
-        None => say(out, " in all, has more of them than the width allows.\n"),
-    }
+    say_cuts(out, level, judged)
 }
 
 /// Says what is unknown of one predicate, and whether something is.
-fn say_answer(out: &mut Vec<u8>, answer: &Answer, width: Option<u64>) -> Result<bool, AllocError> {
+fn say_answer(out: &mut Vec<u8>, answer: &Answer, judged: Judged) -> Result<bool, AllocError> {
     let mut is_unknown = false;
     if let Possibly::Unknown(level) = &answer.possibly {
-        say_unknown(out, &answer.name, " possibly holds: level ", *level, width)?;
+        say_unknown(out, &answer.name, " possibly holds: level ", *level, judged)?;
         is_unknown = true;
     }
     if let Definitely::Unknown(level) = &answer.definitely {
@@ -50,24 +96,33 @@ fn say_answer(out: &mut Vec<u8>, answer: &Answer, width: Option<u64>) -> Result<
             &answer.name,
             " definitely holds: level ",
             *level,
-            width,
+            judged,
         )?;
         is_unknown = true;
     }
     Ok(is_unknown)
 }
 
-/// Says what would decide answers that are unknown.
-fn say_ways(out: &mut Vec<u8>, judged: Judged) -> Result<(), AllocError> {
-    say(out, "What to do: ")?;
+/// Says that a greater width might decide answers that are unknown, unless none could.
+fn say_width(out: &mut Vec<u8>, judged: Judged) -> Result<(), AllocError> {
+    let needed = judged.cuts_of(judged.widest.number).unwrap_or(0);
+    if needed > pd_format::WIDTH_LIMIT {
+        return Ok(());
+    }
     match judged.width {
-        Some(pd_format::WIDTH_LIMIT) => {}
-        Some(_) => say(out, "ask for a greater width, up to --width 65536; or ")?,
+        Some(pd_format::WIDTH_LIMIT) => Ok(()),
+        Some(_) => say(out, "ask for a greater width, up to --width 65536; or "),
         None => say(
             out,
             "give the document a greater width, up to \"width\":65536; or ",
-        )?,
+        ),
     }
+}
+
+/// Says what would decide answers that are unknown.
+fn say_ways(out: &mut Vec<u8>, judged: Judged) -> Result<(), AllocError> {
+    say(out, "What to do: ")?;
+    say_width(out, judged)?;
     if !judged.beyond_width {
         say(
             out,
@@ -92,7 +147,7 @@ pub fn explain_answers(
 ) -> Result<(), AllocError> {
     let mut is_unknown = false;
     for answer in answers {
-        if say_answer(out, answer, judged.width)? {
+        if say_answer(out, answer, judged)? {
             is_unknown = true;
         }
     }

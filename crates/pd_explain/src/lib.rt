@@ -42,7 +42,7 @@ mod source;
 mod streams;
 mod window;
 
-pub use answers::{Judged, explain_answers};
+pub use answers::{Judged, Widest, explain_answers};
 pub use documents::{explain_document, explain_document_word};
 pub use faults::{
     explain_bundle_fault, explain_connection, explain_file, explain_long_report, explain_memory,

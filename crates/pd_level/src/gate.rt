@@ -1,9 +1,25 @@
-//! What a worker passes before it expands a block of cuts.
+//! What a worker passes before it expands a block of cuts, and what hears how far a walk has come.
 
-/// A gate that a worker calls before it expands a block of cuts.
+/// A level that a walk has come to.
+#[derive(Clone, Copy)]
+pub struct Reached {
+    /// The level's number, from 0.
+    pub number: u64,
+    /// The number of the last level.
+    pub last: u64,
+    /// How many cuts were found there.
+    pub cuts: u64,
+    /// Whether these are surely all of its consistent cuts.
+    pub is_whole: bool,
+}
+
+/// A gate that a worker calls before it expands a block of cuts, and a walk at each level that it comes to.
 pub trait Gate {
     /// Called before the block with this number, from 0, is expanded.
     fn pass(&self, block: u64);
+
+    /// Called once a walk has come to a level.
+    fn reach(&self, _level: Reached) {}
 }
 
 /// A gate that lets every block pass at once.

@@ -9,7 +9,7 @@
 //!
 //! - `level`: a level, the next one, and its cuts
 //! - `fault`: why there is no next level
-//! - `gate`: what a worker passes before it expands a block of cuts
+//! - `gate`: what a worker passes before it expands a block of cuts, and what hears how far a walk has come
 //! - `can`: whether one more event leaves a cut
 //! - `step`: the cuts that have one event more
 //! - `level_key`: the keys of which levels are made
@@ -37,6 +37,6 @@ mod state;
 mod step;
 
 pub use fault::LevelFault;
-pub use gate::{Gate, NoGate};
+pub use gate::{Gate, NoGate, Reached};
 pub use level::Level;
 pub use level_key::LevelKey;

@@ -15,7 +15,7 @@ use super::turns::look_drawn;
 use super::worth::{is_much, most_drawn, unanswered, weight};
 use pd_back::Held;
 use pd_clock::Computation;
-use pd_level::{Gate, LevelKey};
+use pd_level::{Gate, LevelKey, Reached};
 use pd_pred::Pred;
 use pd_runs::{Steps, Whole};
 use pd_skips::SkippedRuns;
@@ -168,8 +168,15 @@ fn step_up<T: Threads + Wait + Sync, G: Gate + Sync, K: LevelKey + Send + Sync>(
     let held: &Held<Whole<K>> = wholes;
     let before = held.last_but_one();
     let level = held.last();
-    let threads = setting.crew.count() as usize;
-    let rt = setting.crew.runtime();
+    let crew = setting.crew;
+    crew.reach(Reached {
+        number: level.number(),
+        last: setting.computation.total(),
+        cuts: level.cuts(),
+        is_whole: true,
+    });
+    let threads = crew.count() as usize;
+    let rt = crew.runtime();
     let after = SkippedRuns::next(rt, threads, alloc, tests, before, skipped, level)?;
     let round = Round {
         computation: setting.computation,

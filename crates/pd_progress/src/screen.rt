@@ -1,0 +1,134 @@
+//! The line of a terminal that is written over.
+use pd_engine::Reached;
+use std::io::Eprint;
+use std::sync::atomic::{AtomicBool, AtomicU64, Ordering};
+use std::time::Clock;
+
+/// How many milliseconds of work pass before anything is shown.
+const PATIENCE: u64 = 1000;
+
+/// How many milliseconds at least pass from one line to the next.
+const PAUSE: u64 = 100;
+
+/// How many bytes are a tenth of the unit in which bytes are shown.
+const TENTH: u64 = 100_000;
+
+/// The line of a terminal that is written over, and what it says; or none, which says nothing and asks no clock.
+#[derive(Drop)]
+pub struct Screen<'a, R> {
+    rt: &'a R,
+    /// Whether there is a terminal.
+    is_there: bool,
+    /// When it began, in milliseconds of the clock.
+    start: u64,
+    /// When the line was last written.
+    last: AtomicU64,
+    /// Whether there is a line.
+    has_line: AtomicBool,
+    /// How many bytes were read of all files that began to be read.
+    read: AtomicU64,
+    /// How many bytes these files have, as far as that is known.
+    whole: AtomicU64,
+    /// How many files are being read.
+    open: AtomicU64,
+}
+
+/// The time of the clock in milliseconds; 0 if it can't be read.
+fn millis<R: Clock>(rt: &R) -> u64 {
+    match rt.monotonic() {
+        Ok(time) => time
+            .as_secs()
+            .saturating_mul(1000)
+            .saturating_add(time.subsec_millis() as u64),
+        Err(_) => 0,
+    }
+}
+
+impl<'a, R: Clock + Eprint> Screen<'a, R> {
+    /// A terminal on which nothing is shown yet, if there is one.
+    pub fn new(rt: &'a R, is_there: bool) -> Screen<'a, R> {
+        Screen {
+            rt,
+            is_there,
+            start: if is_there { millis(rt) } else { 0 },
+            last: AtomicU64::new(0),
+            has_line: AtomicBool::new(false),
+            read: AtomicU64::new(0),
+            whole: AtomicU64::new(0),
+            open: AtomicU64::new(0),
+        }
+    }
+
+    /// Whether it is time to show what has come; if so, the next time is later.
+    fn is_due(&self) -> bool {
+        let now = millis(self.rt);
+        let last = self.last.load(Ordering::SeqCst);
+        if now < self.start.saturating_add(PATIENCE) || now < last.saturating_add(PAUSE) {
+            return false;
+        }
+        self.last.store(now, Ordering::SeqCst);
+        self.has_line.store(true, Ordering::SeqCst);
+        true
+    }
+
+    /// A file of this many bytes, or 0 if that isn't known, begins to be read.
+    pub(crate) fn begin(&self, size: u64) {
+        if self.is_there {
+            self.whole.fetch_add(size, Ordering::SeqCst);
+            self.open.fetch_add(1, Ordering::SeqCst);
+        }
+    }
+
+    /// This many more bytes are read.
+    pub(crate) fn advance(&self, count: u64) {
+        if !self.is_there {
+            return;
+        }
+        self.read.fetch_add(count, Ordering::SeqCst);
+        if self.is_due() {
+            self.show_bytes();
+        }
+    }
+
+    /// Shows how many bytes are read.
+    fn show_bytes(&self) {
+        let read = self.read.load(Ordering::SeqCst);
+        let whole = self.whole.load(Ordering::SeqCst);
+        let (units, tenths) = (read / TENTH / 10, read / TENTH % 10);
+        if whole < read {
+            let _ = eprint!(self.rt; "\r\u{1b}[Kreading: {units}.{tenths} MB");
+        } else {
+            let (of_units, of_tenths) = (whole / TENTH / 10, whole / TENTH % 10);
+            let _ = eprint!(self.rt;
+                "\r\u{1b}[Kreading: {units}.{tenths} of {of_units}.{of_tenths} MB"
+            );
+        }
+    }
+
+    /// A file is read as far as it will be. After the last one nothing is left of the line.
+    pub(crate) fn end(&self) {
+        if self.is_there && self.open.fetch_sub(1, Ordering::SeqCst) == 1 {
+            self.clear();
+        }
+    }
+
+    /// A walk has come to this level.
+    pub(crate) fn reach(&self, level: Reached) {
+        if self.is_there && self.is_due() {
+            let Reached {
+                number,
+                last,
+                cuts,
+                is_whole: _,
+            } = level;
+            let _ = eprint!(self.rt; "\r\u{1b}[Klevel {number} of {last}: {cuts} cuts");
+        }
+    }
+
+    /// Leaves nothing of the line, if there is one.
+    pub(crate) fn clear(&self) {
+        if self.is_there && self.has_line.swap(false, Ordering::SeqCst) {
+            let _ = eprint!(self.rt; "\r\u{1b}[K");
+        }
+    }
+}

@@ -1,0 +1,60 @@
+//! Files that are shown while they are read.
+use super::screen::Screen;
+use super::shown_file::ShownFile;
+use pd_cli::FileSource;
+use pd_engine::Reached;
+use pd_sessions::EngineFault;
+use std::alloc::{AllocError, Global};
+use std::io::Eprint;
+use std::time::Clock;
+
+/// Opens files, whose reading is shown on a terminal.
+#[derive(Drop)]
+pub struct ShownFiles<'a, F, R> {
+    /// Where the files are.
+    pub files: &'a F,
+    screen: &'a Screen<'a, R>,
+}
+
+impl<'a, F, R> ShownFiles<'a, F, R> {
+    /// These files, on this terminal.
+    pub fn new(files: &'a F, screen: &'a Screen<'a, R>) -> ShownFiles<'a, F, R> {
+        ShownFiles { files, screen }
+    }
+}
+
+impl<'a, F: FileSource, R: Clock + Eprint + Sync> FileSource for ShownFiles<'a, F, R> {
+    type File = ShownFile<'a, F::File, R>;
+
+    ghost bytes_of = { λ shown. F.bytes_of shown.files.now };
+
+    ghost always_opens = { F.always_opens };
+
+    fn open(&self, name: &str) -> Result<ShownFile<'a, F::File, R>, EngineFault> {
+        let size = self.files.size(name);
+        match self.files.open(name) {
+            Ok(file) => Ok(ShownFile::new(file, size, self.screen)),
+            Err(fault) => Err(fault),
+        }
+    }
+
+    fn size(&self, name: &str) -> u64 {
+        self.files.size(name)
+    }
+
+    fn hear_level(&self, level: Reached) {
+        self.screen.reach(level);
+    }
+
+    fn output_is_read(&self) -> bool {
+        self.files.output_is_read()
+    }
+
+    fn can_be_reread(&self, name: &str) -> bool {
+        self.files.can_be_reread(name)
+    }
+
+    fn failure(&self, alloc: Global, name: &str) -> Result<Option<String>, AllocError> {
+        self.files.failure(alloc, name)
+    }
+}
