@@ -87,7 +87,7 @@ holds_asked asks file asked P are holds = of_asked are.document asked are.whole 
 
 -- ---- files, of whose bytes readers have all left
 
-zip_on : {A B : Type 0} (R : A → B → Type 0) (xs : List A) (ys : List B) (x : A) (y : B) → AllZip R xs ys → R x y
+pub zip_on : {A B : Type 0} (R : A → B → Type 0) (xs : List A) (ys : List B) (x : A) (y : B) → AllZip R xs ys → R x y
     → AllZip R (xs ++ x ∷ []) (ys ++ y ∷ [])
 zip_on R [] [] x y all one = (one, tt)
 zip_on R [] (b ∷ ys) x y all one = absurd all

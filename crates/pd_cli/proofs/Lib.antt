@@ -3,6 +3,7 @@ mod Accepted
 mod BundleEnds
 mod DocumentPrefixes
 mod Explanations
+mod FilesAgain
 mod FilesRead
 mod FlushedTexts
 mod WrittenSoFar

@@ -9,6 +9,7 @@ use Rattle.pd_sessions.specs.declared.fault.EngineFault.TheVariants.{BundleLong,
 use Rattle.pd_cli.specs.declared.service_fault.ServiceFault.TheVariants.{Engine}
 use Rattle.pd_cli.specs.Drawings.{DrawLeaves}
 use Rattle.pd_cli.specs.Explorations.{ExploreLeaves}
+use Rattle.pd_explore.specs.Sources.{StreamFile}
 use Rattle.pd_cli.specs.Faults.{ending_view, exploration_ending, judgement_ending, service_ending}
 
 keeps_same : (bytes : Option (List ℕ)) → Keeps bytes bytes
@@ -31,16 +32,16 @@ module _ (streams : List (Option (List ℕ))) (never_fails : Bool) (MayBeUnread 
   unread_judgement beyond_width fail_on BundleLong (inl is) unread document = absurd (cc)
   unread_judgement beyond_width fail_on BundleLong (inr is) unread document = absurd (cc)
 
-  pub unread_exploration : (beyond_width : Bool) (fault : EngineFault) → IsReadFault fault
-      → (fault ≡ Read → MayBeUnread) → (document : List ℕ)
-      → ExploreLeaves beyond_width (Some document) streams never_fails MayBeUnread (exploration_ending (Err fault)) old
-      old
-  unread_exploration beyond_width Memory is unread document = keeps_same old
-  unread_exploration beyond_width Read is unread document = (unread refl, keeps_same old)
-  unread_exploration beyond_width Write (inl is) unread document = absurd (cc)
-  unread_exploration beyond_width Write (inr is) unread document = absurd (cc)
-  unread_exploration beyond_width BundleLong (inl is) unread document = absurd (cc)
-  unread_exploration beyond_width BundleLong (inr is) unread document = absurd (cc)
+  pub unread_exploration : (beyond_width : Bool) (AreFiles : List StreamFile → Type 0) (fault : EngineFault)
+      → IsReadFault fault → (fault ≡ Read → MayBeUnread) → (document : List ℕ)
+      → ExploreLeaves beyond_width (Some document) AreFiles streams never_fails MayBeUnread
+      (exploration_ending (Err fault)) old old
+  unread_exploration beyond_width AreFiles Memory is unread document = keeps_same old
+  unread_exploration beyond_width AreFiles Read is unread document = (unread refl, keeps_same old)
+  unread_exploration beyond_width AreFiles Write (inl is) unread document = absurd (cc)
+  unread_exploration beyond_width AreFiles Write (inr is) unread document = absurd (cc)
+  unread_exploration beyond_width AreFiles BundleLong (inl is) unread document = absurd (cc)
+  unread_exploration beyond_width AreFiles BundleLong (inr is) unread document = absurd (cc)
 
   pub unread_check : (report : Option (List ℕ)) (fault : EngineFault) → IsReadFault fault
       → (fault ≡ Read → MayBeUnread) → (document : List ℕ)

@@ -3,16 +3,19 @@ ghost use Rattle.pd_arguments.specs.Statuses.{HoldsAsked};
 ghost use Rattle.pd_asked.specs.Views.{asks_view};
 ghost use Rattle.pd_cli.specs.Explorations.{ExploreLeaves};
 ghost use Rattle.pd_cli.specs.Faults.{exploration_ending};
-ghost use Rattle.std.specs.Prelude.{◌≡◌, All, Some, false, map, true};
+ghost use Rattle.pd_explore.specs.FileViews.{file_view, files_view};
+ghost use Rattle.pd_explore.specs.Sources.{AreFilesOf, IsFileOf};
+ghost use Rattle.std.specs.Prelude.{◌≡◌, All, IfOk, Some, false, map, true};
 
 use super::file_source::FileSource;
 use super::level_gate::LevelGate;
+use super::second_look::stream_again;
 use super::session_files::read_session;
 use pd_arguments::{Exploration, Workers};
 use pd_engine::{ByteSource, Gate, Inquiry, Report};
-use pd_explore::explore;
+use pd_explore::{StreamFile, explore};
 use pd_sessions::EngineFault;
-use std::alloc::Global;
+use std::alloc::{AllocError, Global};
 use std::io::Write;
 use std::random::RandomSource;
 use std::sync::Wait;
@@ -32,6 +35,7 @@ fn explore_read<
     rt: &S,
     alloc: Global,
     inquiry: Inquiry<'_>,
+    sources: &[StreamFile<'_>],
     streams: Vec<R>,
     workers: &Workers,
     gate: &G,
@@ -39,19 +43,65 @@ fn explore_read<
 ) -> Result<Option<Report>, EngineFault>
     requires { All (λ stream. R.has_ended stream ≡ false) streams.items }
     ensures { ExploreLeaves inquiry.entry.beyond_width (Some inquiry.entry.document.now)
-        (map R.remaining streams.items) R.never_fails ⊥ (exploration_ending result) (O.contents output.old)
-        (O.contents output.new) }
+        (λ used. used ≡ files_view sources.now) (map R.remaining streams.items) R.never_fails ⊥
+        (exploration_ending result) (O.contents output.old) (O.contents output.new) }
 {
-    let refusal = explore(rt, alloc, inquiry, streams, workers.count(), gate, output)?;
+    let refusal = explore(
+        rt,
+        alloc,
+        inquiry,
+        sources,
+        streams,
+        workers.count(),
+        gate,
+        output,
+    )?;
     if output.flush().is_err() {
         return Err(EngineFault::Write);
     }
     Ok(refusal)
 }
 
+/// The file of a stream, with its lines, if it can be read a second time.
+///
+/// # Errors
+/// Out of memory.
+fn stream_file<'a, F: FileSource>(
+    files: &F,
+    alloc: Global,
+    name: &'a str,
+) -> Result<StreamFile<'a>, AllocError>
+    ensures { IfOk result (λ file. IsFileOf (F.bytes_of files.now) name.now (file_view file)) }
+{
+    match stream_again(files, alloc, name) {
+        Some(bytes) => StreamFile::read(alloc, name, &bytes),
+        None => Ok(StreamFile::unread(alloc, name)),
+    }
+}
+
+/// The files of streams.
+///
+/// # Errors
+/// Out of memory.
+fn stream_files<'a, F: FileSource>(
+    files: &F,
+    alloc: Global,
+    names: &[&'a str],
+) -> Result<Vec<StreamFile<'a>>, AllocError>
+    ensures { IfOk result (λ found. AreFilesOf (F.bytes_of files.now) (map (λ name. name.now) names.now)
+        (files_view found.items)) }
+{
+    let mut found = Vec::new(alloc);
+    for name in names {
+        found.push(stream_file(files, alloc, name)?)?;
+    }
+    Ok(found)
+}
+
 /// Opens the files of a session, the document and then the streams, reads the document, explores it and the streams,
 /// writes the page or the report of a refusal, and flushes the output. It gives the report, if the session is refused.
-/// All files are opened before one is read. A stream whose read fails later is a fault of that stream.
+/// All files are opened before one is read. The streams' files are read once more, for the numbers of their lines. A
+/// stream whose read fails later is a fault of that stream.
 ///
 /// # Errors
 /// `Read`, if a file can't be opened or the document can't be read, and `Memory` leave nothing written. `Write` leaves
@@ -65,12 +115,14 @@ pub(crate) fn explore_files<S: RandomSource + Threads + Wait + Sync, F: FileSour
 ) -> Result<Option<Report>, EngineFault>
     ensures { HoldsAsked (asks_view exploration.now.names.asks)
         (F.bytes_of files.now exploration.now.names.spec.now) (λ d. ExploreLeaves exploration.now.beyond_width (Some d)
+        (AreFilesOf (F.bytes_of files.now) (map (λ name. name.now) exploration.now.names.streams.items))
         (map (λ name. F.bytes_of files.now name.now) exploration.now.names.streams.items) F.File.never_fails
         (F.always_opens ≡ true → F.File.never_fails ≡ true → ⊥) (exploration_ending result) (O.contents output.old)
         (O.contents output.new)) }
 {
     match read_session(files, alloc, &exploration.names) {
         Ok(read) => {
+            let sources = stream_files(files, alloc, &exploration.names.streams)?;
             let streams = read.streams;
             let inquiry = Inquiry {
                 document: &read.document,
@@ -81,6 +133,7 @@ pub(crate) fn explore_files<S: RandomSource + Threads + Wait + Sync, F: FileSour
                 rt,
                 alloc,
                 inquiry,
+                &sources,
                 streams,
                 &exploration.workers,
                 &gate,

@@ -4,6 +4,7 @@ ghost use Rattle.pd_asked.specs.Views.{asks_view};
 ghost use Rattle.pd_cli.specs.Drawings.{EndsDrawn, RunsAsAsked};
 ghost use Rattle.pd_cli.specs.Explained.{Explained};
 ghost use Rattle.pd_cli.specs.Explorations.{ExploreLeaves};
+ghost use Rattle.pd_explore.specs.Sources.{AreFilesOf};
 ghost use Rattle.pd_draw.specs.Choices.{name_view};
 ghost use Rattle.pd_fail_on.specs.Views.{fail_on_view};
 ghost use Rattle.pd_arguments.specs.Statuses.{CheckLeaves, Ends, FilesJudgementLeaves, HoldsAsked, IsLongReport, JudgementLeaves, ServiceLeaves, ServiceMayFail, reliance};
@@ -156,6 +157,7 @@ fn run_explore<S: RandomSource + Threads + Wait + Sync, F: FileSource, O: Write,
 ) -> u8
     ensures { Explained explain (λ start. Ends (λ ending. HoldsAsked (asks_view exploration.now.names.asks)
         (F.bytes_of files.now exploration.now.names.spec.now) (λ d. ExploreLeaves exploration.now.beyond_width (Some d)
+        (AreFilesOf (F.bytes_of files.now) (map (λ name. name.now) exploration.now.names.streams.items))
         (map (λ name. F.bytes_of files.now name.now) exploration.now.names.streams.items) F.File.never_fails
         (F.always_opens ≡ true → F.File.never_fails ≡ true → ⊥) ending (O.contents output.old)
         (O.contents output.new))) result start (E.contents errors.new)) (E.contents errors.old) }

@@ -12,11 +12,12 @@ use Rattle.pd_format.specs.Reports.{Answer, Judged, NamedPlace, Refused, Report}
 use Rattle.pd_format.specs.Reports as reports
 use Rattle.pd_format.specs.Sessions.{StreamResult, session}
 use Rattle.pd_gather.specs.Views.{traces_view}
-use Rattle.pd_judgement.specs.Judgements.{IsAnswered, IsJudgement, IsTracesReport}
+use Rattle.pd_judgement.specs.Judgements.{IsAnswered, IsJudgement, IsTracesReport, events_of_traces}
 use Rattle.pd_judgement.specs.Writes.{IsJudged}
 use Rattle.pd_judgement.proofs.TrueReports.{judgement_is_true_lem}
 use Rattle.pd_page.specs.AnswerData.{Answered, Cyclic}
 use Rattle.pd_page.specs.Pages.{page_text}
+use Rattle.pd_page.specs.SourceData.{Source}
 use Rattle.pd_traces.specs.Views.{computation_view}
 use Rattle.pd_traces.specs.declared.event.Trace.{Trace as Read}
 use Rattle.pd_sessions.specs.Computations.{AreWellFormed}
@@ -26,15 +27,16 @@ use Rattle.pd_sessions.proofs.FitTraces.{same_events}
 use Rattle.pd_sessions.proofs.SessionReports.{AreGiven, judged_of_results, of_given, traces_report}
 use Rattle.pd_engine.proofs.AnsweredTraces.{answers_report}
 use Rattle.pd_explore.specs.Explored.{IsPageOfInputs, IsPageOfTraces, report_with}
+use Rattle.pd_explore.specs.Sources.{StreamFile, sources_of}
 
 -- the page of traces that make a well-formed computation
-pub traces_page : (document : Document) (traces : List Read) (recorded : Recorded) (count : ℕ)
-    (pairs : List (Place × Place)) (answers : List Answer) (text : List ℕ)
+pub traces_page : (document : Document) (sources : List Source) (traces : List Read) (recorded : Recorded)
+    (count : ℕ) (pairs : List (Place × Place)) (answers : List Answer) (text : List ℕ)
     → AreWellFormed document (traces_view traces) recorded count → IsMessageList (computation_view traces) pairs
     → AllZip (IsAnswered document recorded) document.predicates answers
-    → text ≡ page_text document (computation_view traces) pairs (Answered answers)
-    → IsPageOfTraces document (traces_view traces) IsJudged text
-traces_page document traces recorded count pairs answers text well list answered is_text = record {
+    → text ≡ page_text document sources (computation_view traces) pairs (Answered answers)
+    → IsPageOfTraces document sources (traces_view traces) IsJudged text
+traces_page document sources traces recorded count pairs answers text well list answered is_text = record {
   pairs = pairs;
   are_messages = subst (λ (c : Computation). IsMessageList c pairs) (same_events traces) list;
   messages = count;
@@ -43,32 +45,37 @@ traces_page document traces recorded count pairs answers text well list answered
       (Judged (length document.names) (total r.events) count answers)) well.same
       (answers_report document (traces_view traces) recorded count answers well answered);
   said = refl;
-  is_text = is_text ∙ ap (λ (c : Computation). page_text document c pairs (Answered answers)) (same_events traces);
+  is_text = is_text
+      ∙ ap (λ (c : Computation). page_text document sources c pairs (Answered answers)) (same_events traces);
 }
 
 -- the page of traces that are refused for a causal cycle
-pub cycle_page : (document : Document) (traces : List Read) (pairs : List (Place × Place))
+pub cycle_page : (document : Document) (sources : List Source) (traces : List Read) (pairs : List (Place × Place))
     (places : List NamedPlace) (text : List ℕ) → IsMessageList (computation_view traces) pairs
     → IsTracesReport document (traces_view traces) (Refused (reports.Cycle places))
-    → text ≡ page_text document (computation_view traces) pairs (Cyclic places)
-    → IsPageOfTraces document (traces_view traces) (λ report. report ≡ Refused (reports.Cycle places)) text
-cycle_page document traces pairs places text list right is_text = record {
+    → text ≡ page_text document sources (computation_view traces) pairs (Cyclic places)
+    → IsPageOfTraces document sources (traces_view traces) (λ report. report ≡ Refused (reports.Cycle places)) text
+cycle_page document sources traces pairs places text list right is_text = record {
   pairs = pairs;
   are_messages = subst (λ (c : Computation). IsMessageList c pairs) (same_events traces) list;
   messages = 0;
   outcome = Cyclic places;
   right = right;
   said = refl;
-  is_text = is_text ∙ ap (λ (c : Computation). page_text document c pairs (Cyclic places)) (same_events traces);
+  is_text = is_text ∙ ap (λ (c : Computation). page_text document sources c pairs (Cyclic places)) (same_events traces);
 }
 
 -- the same of the streams that readers gave
-pub inputs_page : (inquiry : Inquiry) (inputs : List (Option (List ℕ))) (never_fails : Bool) (document : Document)
-    (count : ℕ) (results : List StreamResult) (traces : List Trace) (IsSaid : Report → Type 0) (text : List ℕ)
+pub inputs_page : (inquiry : Inquiry) (files : List StreamFile) (inputs : List (Option (List ℕ)))
+    (never_fails : Bool) (document : Document) (count : ℕ) (results : List StreamResult) (sources : List Source)
+    (traces : List Trace) (IsSaid : Report → Type 0) (text : List ℕ)
     → IsInquired inquiry document → AreGiven document inputs never_fails count results
-    → session document.names count results ≡ Ok traces → IsPageOfTraces document traces IsSaid text
-    → IsPageOfInputs inquiry inputs never_fails IsSaid text
-inputs_page inquiry inputs never_fails document count results traces IsSaid text is given joined page =
+    → session document.names count results ≡ Ok traces
+    → sources ≡ sources_of document.names files (events_of_traces traces)
+    → IsPageOfTraces document sources traces IsSaid text
+    → IsPageOfInputs inquiry files inputs never_fails IsSaid text
+inputs_page inquiry files inputs never_fails document count results sources traces IsSaid text is given joined
+    recorded page =
     let report : Report = report_with document traces page.messages page.outcome in
     let right : IsJudgement inquiry given.0 report =
     judged_of_results inquiry given.0 document count results report is given.2
@@ -92,7 +99,9 @@ inputs_page inquiry inputs never_fails document count results traces IsSaid text
         right = right;
         truth = judgement_is_true_lem inquiry given.0 report right;
         said = page.said;
-        is_text = page.is_text;
+        is_text = page.is_text
+            ∙ ap (λ (all : List Source). page_text document all (events_of_traces traces) page.pairs page.outcome)
+            recorded;
       };
     }
 

@@ -8,11 +8,13 @@ use Rattle.pd_format.specs.Documents.{Document, Inquiry}
 use Rattle.pd_format.specs.Readings.{Trace}
 use Rattle.pd_format.specs.Reports.{Report, Judged, Refused}
 use Rattle.pd_format.specs.Reports as reports
-use Rattle.pd_judgement.specs.Headline.{HoldsSession, IsTrueReport}
+use Rattle.pd_judgement.specs.Headline.{HoldsSession, IsTrueReport, is_judged}
 use Rattle.pd_judgement.specs.Judgements.{IsJudgement, IsTracesReport, RawStream, events_of_traces}
-use Rattle.pd_judgement.specs.Writes.{IsAnyReport, IsGivenAs, IsJudged, IsRefused, IsTextOfStreams, Writes}
+use Rattle.pd_judgement.specs.Writes.{IsAnyReport, IsGivenAs, IsJudged, IsTextOfStreams, Writes}
 use Rattle.pd_page.specs.AnswerData.{Answered, Cyclic, Outcome}
 use Rattle.pd_page.specs.Pages.{page_text}
+use Rattle.pd_page.specs.SourceData.{Source}
+use Rattle.pd_explore.specs.Sources.{StreamFile, sources_of}
 use Rattle.pd_sessions.specs.Ends.{call_end}
 use Rattle.pd_sessions.specs.declared.fault.EngineFault.{EngineFault}
 use Rattle.pd_sessions.specs.declared.fault.EngineFault.TheVariants.{Memory, Write}
@@ -24,22 +26,24 @@ report_with document traces messages (Answered answers) =
     Judged (length document.names) (total (events_of_traces traces)) messages answers
 report_with document traces messages (Cyclic places) = Refused (reports.Cycle places)
 
--- The page of a session's traces: of their events, of the messages, each as its send and its receipt in the order of
--- the receipts, and of the answers of their report or the causal cycle that it names. Of the report this is said.
-pub record IsPageOfTraces (document : Document) (traces : List Trace) (IsSaid : Report → Type 0) (text : List ℕ) :
-    Type 0 where
+-- The page of a session's traces: of where their events were recorded, of these, of the messages, each as its send and
+-- its receipt in the order of the receipts, and of the answers of their report or the causal cycle that it names. Of
+-- the report this is said.
+pub record IsPageOfTraces (document : Document) (sources : List Source) (traces : List Trace)
+    (IsSaid : Report → Type 0) (text : List ℕ) : Type 0 where
   pub pairs : List (Place × Place)
   pub are_messages : IsMessageList (events_of_traces traces) pairs
   pub messages : ℕ
   pub outcome : Outcome
   pub right : IsTracesReport document traces (report_with document traces messages outcome)
   pub said : IsSaid (report_with document traces messages outcome)
-  pub is_text : text ≡ page_text document (events_of_traces traces) pairs outcome
+  pub is_text : text ≡ page_text document sources (events_of_traces traces) pairs outcome
 
--- The page of the session that a document's bytes, with what is asked beside them, and streams hold; and the report
--- of which it shows the answers or the cycle is the report of these, which is true.
-pub record IsPageOf (inquiry : Inquiry) (streams : List RawStream) (IsSaid : Report → Type 0) (text : List ℕ) :
-    Type 0 where
+-- The page of the session that a document's bytes, with what is asked beside them, and streams hold, with where their
+-- events were recorded by these files; and the report of which it shows the answers or the cycle is the report of the
+-- document and the streams, which is true.
+pub record IsPageOf (inquiry : Inquiry) (files : List StreamFile) (streams : List RawStream)
+    (IsSaid : Report → Type 0) (text : List ℕ) : Type 0 where
   pub document : Document
   pub traces : List Trace
   pub held : HoldsSession inquiry streams document traces
@@ -50,26 +54,40 @@ pub record IsPageOf (inquiry : Inquiry) (streams : List RawStream) (IsSaid : Rep
   pub right : IsJudgement inquiry streams (report_with document traces messages outcome)
   pub truth : IsTrueReport inquiry streams (report_with document traces messages outcome)
   pub said : IsSaid (report_with document traces messages outcome)
-  pub is_text : text ≡ page_text document (events_of_traces traces) pairs outcome
+  pub is_text : text ≡ page_text document (sources_of document.names files (events_of_traces traces))
+      (events_of_traces traces) pairs outcome
 
 -- the same of the streams that readers with this left gave, of which no read ever fails, if that is said
-pub record IsPageOfInputs (inquiry : Inquiry) (inputs : List (Option (List ℕ))) (never_fails : Bool)
-    (IsSaid : Report → Type 0) (text : List ℕ) : Type 0 where
+pub record IsPageOfInputs (inquiry : Inquiry) (files : List StreamFile) (inputs : List (Option (List ℕ)))
+    (never_fails : Bool) (IsSaid : Report → Type 0) (text : List ℕ) : Type 0 where
   pub streams : List RawStream
   pub are_given : AllZip (IsGivenAs never_fails) inputs streams
-  pub is_page : IsPageOf inquiry streams IsSaid text
+  pub is_page : IsPageOf inquiry files streams IsSaid text
 
--- The text that is owed of a session: of one that is judged its page; of one that is refused its page, if that shows
--- its causal cycle, or the text of its report.
-abbrev pub IsOwed : (inquiry : Inquiry) (inputs : List (Option (List ℕ))) (never_fails : Bool) (judged : Option Bool)
-    (text : List ℕ) → Type 0
-IsOwed inquiry inputs never_fails (Some true) text = IsPageOfInputs inquiry inputs never_fails IsJudged text
-IsOwed inquiry inputs never_fails (Some false) text =
-    IsPageOfInputs inquiry inputs never_fails IsRefused text
-    ⊎ IsTextOfStreams inquiry inputs never_fails IsRefused text
-IsOwed inquiry inputs never_fails None text =
-    IsPageOfInputs inquiry inputs never_fails IsAnyReport text
-    ⊎ IsTextOfStreams inquiry inputs never_fails IsRefused text
+-- whether it is a refusal for a causal cycle
+abbrev pub is_cycle : Report → Bool
+is_cycle (Refused (reports.Cycle places)) = true
+is_cycle _ = false
+
+abbrev pub IsCycle : Report → Type 0
+IsCycle report = is_cycle report ≡ true
+
+-- it is a refusal, and not for a causal cycle
+abbrev pub IsOtherRefusal : Report → Type 0
+IsOtherRefusal report = (is_judged report ≡ false) × (is_cycle report ≡ false)
+
+-- The text that is owed of a session, with these files: of one that is judged its page; of one that is refused for a
+-- causal cycle its page, which shows that; and of one that is refused otherwise the text of its report.
+abbrev pub IsOwed : (inquiry : Inquiry) (files : List StreamFile) (inputs : List (Option (List ℕ)))
+    (never_fails : Bool) (judged : Option Bool) (text : List ℕ) → Type 0
+IsOwed inquiry files inputs never_fails (Some true) text =
+    IsPageOfInputs inquiry files inputs never_fails IsJudged text
+IsOwed inquiry files inputs never_fails (Some false) text =
+    IsPageOfInputs inquiry files inputs never_fails IsCycle text
+    ⊎ IsTextOfStreams inquiry inputs never_fails IsOtherRefusal text
+IsOwed inquiry files inputs never_fails None text =
+    IsPageOfInputs inquiry files inputs never_fails IsAnyReport text
+    ⊎ IsTextOfStreams inquiry inputs never_fails IsOtherRefusal text
 
 -- whether the session is judged, and not refused with a report, if that is said
 abbrev pub judged_as : Result (Option programs.Report) EngineFault → Option Bool
@@ -78,10 +96,11 @@ judged_as (Ok (Some refusal)) = Some false
 judged_as (Err fault) = None
 
 -- What a call leaves on its output, and its result, if it explores the session of a document's bytes, with what is
--- asked beside them, and of readers with this left, of which no read ever fails, if that is said. What is owed is
--- written whole, judged or refused as is reported; a write that fails leaves a prefix of it, out of memory nothing, and
--- no other fault comes.
-pub record Explores (inquiry : Inquiry) (inputs : List (Option (List ℕ))) (never_fails : Bool)
-    (result : Result (Option programs.Report) EngineFault) (old new : Option (List ℕ)) : Type 0 where
-  pub written : Writes (IsOwed inquiry inputs never_fails (judged_as result)) (call_end result) old new
+-- asked beside them, and of readers with this left, of which no read ever fails, if that is said, with these files.
+-- What is owed is written whole, judged or refused as is reported; a write that fails leaves a prefix of it, out of
+-- memory nothing, and no other fault comes.
+pub record Explores (inquiry : Inquiry) (files : List StreamFile) (inputs : List (Option (List ℕ)))
+    (never_fails : Bool) (result : Result (Option programs.Report) EngineFault) (old new : Option (List ℕ)) :
+    Type 0 where
+  pub written : Writes (IsOwed inquiry files inputs never_fails (judged_as result)) (call_end result) old new
   pub err : IfErr result (λ fault. (fault ≡ Memory) ⊎ (fault ≡ Write))

@@ -1,2 +1,5 @@
+pub mod Sources
+pub mod EventLines
 pub mod Explored
+pub mod FileViews
 pub mod Refused

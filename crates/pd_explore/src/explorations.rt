@@ -1,8 +1,12 @@
 //! Explores a session, and writes what comes of it.
-ghost use Rattle.pd_explore.specs.Explored.{Explores, IsOwed, judged_as};
+ghost use Rattle.pd_explore.specs.Explored.{Explores, IsOwed, is_cycle, judged_as};
+ghost use Rattle.pd_explore.specs.FileViews.{files_view};
+ghost use Rattle.pd_explore.specs.Sources.{StreamFile as SourceFile};
 ghost use Rattle.pd_format.specs.Documents as documents;
 ghost use Rattle.pd_format.specs.Limits.{worker_limit};
+ghost use Rattle.pd_format.specs.Reports.{Refused};
 ghost use Rattle.pd_judgement.specs.Writes.{Writes};
+ghost use Rattle.pd_report.specs.Views.{refusal_view};
 ghost use Rattle.pd_sessions.specs.Ends.{call_end};
 ghost use Rattle.pd_sessions.specs.Inquiries.{inquiry_view};
 ghost use Rattle.pd_sessions.specs.SessionReports.{IsReportOfInputs};
@@ -11,6 +15,7 @@ ghost use Rattle.std.specs.Prelude.{◌≡◌, ◌⊎◌, ◌≤◌, ℕ, All, B
 
 use super::page::Page;
 use super::pages::page_of_session;
+use super::stream_file::StreamFile;
 use pd_engine::write_report;
 use pd_expand::Crew;
 use pd_gather::ByteSource;
@@ -55,21 +60,35 @@ fn refused(written: Result<Report, EngineFault>) -> Result<Option<Report>, Engin
     }
 }
 
-/// Writes the report of a session that is refused, and gives it back.
+/// Whether a refusal is for a causal cycle.
+fn is_cycle(refusal: &Refusal) -> bool
+    ensures { result ≡ is_cycle (Refused (refusal_view refusal.now)) }
+{
+    match refusal {
+        Refusal::Cycle(_) => true,
+        _ => false,
+    }
+}
+
+/// Writes the report of a session that is refused, and gives it back. No refusal that comes here is for a causal cycle,
+/// of which there is a page; of one that is nothing would be written.
 fn write_refusal<W: Write>(
     alloc: Global,
     unanswered: Unanswered,
     writer: &mut W,
 ) -> Result<Option<Report>, EngineFault>
-    // It is owed of each inquiry and of readers of which it is the report.
-    ensures written { (inquiry : documents.Inquiry) (inputs : List (Option (List ℕ))) (never_fails : Bool)
-        → IsUnanswered (IsReportOfInputs inquiry inputs never_fails) unanswered
-        → Writes (IsOwed inquiry inputs never_fails (judged_as result)) (call_end result) (W.contents writer.old)
-        (W.contents writer.new) }
+    // It is owed of each inquiry and of readers of which it is the report, whatever the files.
+    ensures written { (inquiry : documents.Inquiry) (files : List SourceFile) (inputs : List (Option (List ℕ)))
+        (never_fails : Bool) → IsUnanswered (IsReportOfInputs inquiry inputs never_fails) unanswered
+        → Writes (IsOwed inquiry files inputs never_fails (judged_as result)) (call_end result)
+        (W.contents writer.old) (W.contents writer.new) }
     ensures err { IfErr result (λ fault. (fault ≡ EngineFault.Memory) ⊎ (fault ≡ EngineFault.Write)) }
 {
     match unanswered {
         Unanswered::Refused(refusal) => {
+            if is_cycle(&refusal) {
+                return Err(EngineFault::Memory);
+            }
             refused(write_report(alloc, Report::Refused(refusal), writer))
         }
         Unanswered::Memory => Err(EngineFault::Memory),
@@ -86,14 +105,15 @@ fn explore_by<
     crew: &Crew<'_, '_, S, G>,
     alloc: Global,
     inquiry: Inquiry<'_>,
+    files: &[StreamFile<'_>],
     readers: Vec<R>,
     writer: &mut W,
 ) -> Result<Option<Report>, EngineFault>
     requires { All (λ r. R.has_ended r ≡ false) readers.items }
-    ensures { Explores (inquiry_view inquiry.entry) (map R.remaining readers.items) R.never_fails result
-        (W.contents writer.old) (W.contents writer.new) }
+    ensures { Explores (inquiry_view inquiry.entry) (files_view files.now) (map R.remaining readers.items)
+        R.never_fails result (W.contents writer.old) (W.contents writer.new) }
 {
-    match page_of_session(crew, alloc, inquiry, readers) {
+    match page_of_session(crew, alloc, inquiry, files, readers) {
         Ok(page) => write_page(page, writer),
         Err(unanswered) => write_refusal(alloc, unanswered, writer),
     }
@@ -101,9 +121,10 @@ fn explore_by<
 
 /// Explores the session of an inquiry's document and of the streams: judges it, and writes its page, with the answers
 /// of its report. Of a session that is refused it gives the report back: for a causal cycle it writes a page that shows
-/// the cycle, and otherwise the report, and no page. The streams are read each on its own thread; none is read if the
-/// document is refused, or if they are too many. A read that fails is a fault of its stream. The workers, from 1 to 16,
-/// and the gate change how long it takes, and nothing that is written.
+/// the cycle, and otherwise the report, and no page. The page says where each event was recorded, by these files. The
+/// streams are read each on its own thread; none is read if the document is refused, or if they are too many. A read
+/// that fails is a fault of its stream. The workers, from 1 to 16, and the gate change how long it takes, and nothing
+/// that is written.
 ///
 /// # Errors
 /// `Memory` leaves nothing written. `Write` leaves a prefix of the text written, and not all of it.
@@ -116,6 +137,7 @@ pub fn explore<
     rt: &S,
     alloc: Global,
     inquiry: Inquiry<'_>,
+    files: &[StreamFile<'_>],
     readers: Vec<R>,
     workers: u64,
     gate: &G,
@@ -124,13 +146,14 @@ pub fn explore<
     requires open { All (λ r. R.has_ended r ≡ false) readers.items }
     requires some_workers { 1 ≤ workers }
     requires few_workers { workers ≤ worker_limit }
-    ensures { Explores (inquiry_view inquiry.entry) (map R.remaining readers.items) R.never_fails result
-        (W.contents writer.old) (W.contents writer.new) }
+    ensures { Explores (inquiry_view inquiry.entry) (files_view files.now) (map R.remaining readers.items)
+        R.never_fails result (W.contents writer.old) (W.contents writer.new) }
 {
     explore_by(
         &Crew::new(rt, workers, gate),
         alloc,
         inquiry,
+        files,
         readers,
         writer,
     )

@@ -5,6 +5,8 @@
 //! refused otherwise the report, and no page.
 //!
 //! - `page`: the page of a session, with its refusal
+//! - `stream_file`: the files of a session's streams
+//! - `sources`: where the events of a session were recorded
 //! - `pages`: makes the page of a session
 //! - `explorations`: explores a session, and writes what comes of it
 #![tactic(auto)]
@@ -12,5 +14,9 @@
 mod explorations;
 mod page;
 mod pages;
+mod sources;
+mod stream_file;
 
 pub use explorations::explore;
+pub use sources::events_are_recorded;
+pub use stream_file::StreamFile;

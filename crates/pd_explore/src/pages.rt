@@ -1,5 +1,6 @@
 //! The page of a session.
 ghost use Rattle.pd_explore.specs.Explored.{IsPageOfInputs, IsPageOfTraces};
+ghost use Rattle.pd_explore.specs.FileViews.{files_view};
 ghost use Rattle.pd_explore.specs.Refused.{IsRefusedBy};
 ghost use Rattle.pd_format.specs.Reports.{Refused};
 ghost use Rattle.pd_gather.specs.Views.{traces_view};
@@ -8,6 +9,7 @@ ghost use Rattle.pd_match.specs.Views.{pairs_view};
 ghost use Rattle.pd_model.specs.Messages.{IsMessageList};
 ghost use Rattle.pd_page.specs.AnswerData.{Answered, Cyclic};
 ghost use Rattle.pd_page.specs.Pages.{page_text};
+ghost use Rattle.pd_page.specs.Views.{sources_view};
 ghost use Rattle.pd_report.specs.Views.{answer_view, named_places_view, refusal_view};
 ghost use Rattle.pd_sessions.specs.Computations.{AreWellFormed};
 ghost use Rattle.pd_sessions.specs.Inquiries.{inquiry_view};
@@ -19,13 +21,15 @@ ghost use Rattle.pd_traces.specs.Views.{computation_view};
 ghost use Rattle.std.specs.Prelude.{◌≡◌, All, IfErr, IfOk, false, map};
 
 use super::page::Page;
+use super::sources::sources_of;
+use super::stream_file::StreamFile;
 use pd_clock::Computation;
 use pd_engine::answers_of;
 use pd_expand::Crew;
 use pd_gather::{ByteSource, read_streams};
 use pd_level::Gate;
 use pd_match::Place;
-use pd_page::{Content, Outcome, text};
+use pd_page::{Content, Outcome, Source, text};
 use pd_report::{Answer, Refusal};
 use pd_sessions::{Inquiry, Unanswered, build, messages_of, read_inquiry, traces_of};
 use pd_spec::Spec;
@@ -39,15 +43,17 @@ use std::thread::Threads;
 fn answers_text(
     alloc: Global,
     spec: &Spec,
+    sources: &[Source<'_>],
     traces: &[Trace],
     pairs: &[(Place, Place)],
     answers: &[Answer],
 ) -> Result<Vec<u8>, AllocError>
-    ensures { IfOk result (λ text. text.items ≡ page_text (document_view spec.now) (computation_view traces.now)
-        (pairs_view pairs.now) (Answered (map answer_view answers.now))) }
+    ensures { IfOk result (λ text. text.items ≡ page_text (document_view spec.now) (sources_view sources.now)
+        (computation_view traces.now) (pairs_view pairs.now) (Answered (map answer_view answers.now))) }
 {
     let content = Content {
         spec,
+        sources,
         traces,
         pairs,
         outcome: Outcome::Answers(answers),
@@ -60,17 +66,18 @@ fn judged_page<S: RandomSource + Threads + Wait + Sync, G: Gate + Sync>(
     crew: &Crew<'_, '_, S, G>,
     alloc: Global,
     spec: &Spec,
+    sources: &[Source<'_>],
     traces: &[Trace],
     pairs: &[(Place, Place)],
     built: &(Computation<'_>, u64),
 ) -> Result<Page, AllocError>
     requires formed { AreWellFormed (document_view spec.now) (traces_view traces.now) built.now.0 built.now.1 }
     requires listed { IsMessageList (computation_view traces.now) (pairs_view pairs.now) }
-    ensures { IfOk result (λ page. IsPageOfTraces (document_view spec.now) (traces_view traces.now)
-        (IsRefusedBy page.refusal) page.text.items) }
+    ensures { IfOk result (λ page. IsPageOfTraces (document_view spec.now) (sources_view sources.now)
+        (traces_view traces.now) (IsRefusedBy page.refusal) page.text.items) }
 {
     let answers = answers_of(crew, alloc, spec, &built.0)?;
-    let text = answers_text(alloc, spec, traces, pairs, &answers)?;
+    let text = answers_text(alloc, spec, sources, traces, pairs, &answers)?;
     Ok(Page {
         text,
         refusal: None,
@@ -81,15 +88,17 @@ fn judged_page<S: RandomSource + Threads + Wait + Sync, G: Gate + Sync>(
 fn cycle_text(
     alloc: Global,
     spec: &Spec,
+    sources: &[Source<'_>],
     traces: &[Trace],
     pairs: &[(Place, Place)],
     places: &[(String, u64)],
 ) -> Result<Vec<u8>, AllocError>
-    ensures { IfOk result (λ text. text.items ≡ page_text (document_view spec.now) (computation_view traces.now)
-        (pairs_view pairs.now) (Cyclic (named_places_view places.now))) }
+    ensures { IfOk result (λ text. text.items ≡ page_text (document_view spec.now) (sources_view sources.now)
+        (computation_view traces.now) (pairs_view pairs.now) (Cyclic (named_places_view places.now))) }
 {
     let content = Content {
         spec,
+        sources,
         traces,
         pairs,
         outcome: Outcome::Cycle(places),
@@ -101,6 +110,7 @@ fn cycle_text(
 fn refused_page(
     alloc: Global,
     spec: &Spec,
+    sources: &[Source<'_>],
     traces: &[Trace],
     pairs: &[(Place, Place)],
     refusal: Refusal,
@@ -108,14 +118,14 @@ fn refused_page(
     requires listed { IsMessageList (computation_view traces.now) (pairs_view pairs.now) }
     requires right { IsTracesReport (document_view spec.now) (traces_view traces.now)
         (Refused (refusal_view refusal)) }
-    ensures page { IfOk result (λ page. IsPageOfTraces (document_view spec.now) (traces_view traces.now)
-        (IsRefusedBy page.refusal) page.text.items) }
+    ensures page { IfOk result (λ page. IsPageOfTraces (document_view spec.now) (sources_view sources.now)
+        (traces_view traces.now) (IsRefusedBy page.refusal) page.text.items) }
     ensures refused { IfErr result (IsUnanswered (IsTracesReport (document_view spec.now)
         (traces_view traces.now))) }
 {
     match refusal {
         Refusal::Cycle(places) => {
-            let text = cycle_text(alloc, spec, traces, pairs, &places)?;
+            let text = cycle_text(alloc, spec, sources, traces, pairs, &places)?;
             Ok(Page {
                 text,
                 refusal: Some(Refusal::Cycle(places)),
@@ -131,11 +141,12 @@ fn page_of_traces<S: RandomSource + Threads + Wait + Sync, G: Gate + Sync>(
     crew: &Crew<'_, '_, S, G>,
     alloc: Global,
     spec: &Spec,
+    sources: &[Source<'_>],
     traces: &[Trace],
 ) -> Result<Page, Unanswered>
     requires { AreTraces (document_view spec.now).names traces.now }
-    ensures page { IfOk result (λ page. IsPageOfTraces (document_view spec.now) (traces_view traces.now)
-        (IsRefusedBy page.refusal) page.text.items) }
+    ensures page { IfOk result (λ page. IsPageOfTraces (document_view spec.now) (sources_view sources.now)
+        (traces_view traces.now) (IsRefusedBy page.refusal) page.text.items) }
     ensures refused { IfErr result (IsUnanswered (IsTracesReport (document_view spec.now)
         (traces_view traces.now))) }
 {
@@ -143,18 +154,20 @@ fn page_of_traces<S: RandomSource + Threads + Wait + Sync, G: Gate + Sync>(
     let pairs = matched.pairs(alloc)?;
     match build(alloc, spec, traces, matched) {
         Ok(built) => {
-            let page = judged_page(crew, alloc, spec, traces, &pairs, &built)?;
+            let page = judged_page(crew, alloc, spec, sources, traces, &pairs, &built)?;
             Ok(page)
         }
         Err(unanswered) => match unanswered {
-            Unanswered::Refused(refusal) => refused_page(alloc, spec, traces, &pairs, refusal),
+            Unanswered::Refused(refusal) => refused_page(
+                alloc, spec, sources, traces, &pairs, refusal,
+            ),
             Unanswered::Memory => Err(Unanswered::Memory),
         },
     }
 }
 
-/// The page of the session of an inquiry's document and of what the streams' readers give, or why it comes to no
-/// page.
+/// The page of the session of an inquiry's document and of what the streams' readers give, with where their events were
+/// recorded by these files, or why it comes to no page.
 pub(crate) fn page_of_session<
     S: RandomSource + Threads + Wait + Sync,
     R: ByteSource + Send + Drop,
@@ -163,16 +176,18 @@ pub(crate) fn page_of_session<
     crew: &Crew<'_, '_, S, G>,
     alloc: Global,
     inquiry: Inquiry<'_>,
+    files: &[StreamFile<'_>],
     readers: Vec<R>,
 ) -> Result<Page, Unanswered>
     requires { All (λ r. R.has_ended r ≡ false) readers.items }
-    ensures page { IfOk result (λ page. IsPageOfInputs (inquiry_view inquiry.entry) (map R.remaining readers.items)
-        R.never_fails (IsRefusedBy page.refusal) page.text.items) }
+    ensures page { IfOk result (λ page. IsPageOfInputs (inquiry_view inquiry.entry) (files_view files.now)
+        (map R.remaining readers.items) R.never_fails (IsRefusedBy page.refusal) page.text.items) }
     ensures refused { IfErr result (IsUnanswered
         (IsReportOfInputs (inquiry_view inquiry.entry) (map R.remaining readers.items) R.never_fails)) }
 {
     let spec = read_inquiry(alloc, inquiry)?;
     let gathered = read_streams(crew.runtime(), alloc, &spec, readers)?;
     let traces = traces_of(alloc, &spec, gathered)?;
-    page_of_traces(crew, alloc, &spec, &traces)
+    let sources = sources_of(alloc, &spec, files, &traces)?;
+    page_of_traces(crew, alloc, &spec, &sources, &traces)
 }

@@ -231,6 +231,7 @@ test("the cut is moved by clicks and drags", needed, async () => {
   assert.match(await page.text("status"), /east#5 came with it, for it sends east-1 to manager#3/);
   await page.click(1, 1, { modifiers: 8 });
   assert.deepEqual(await page.cut(), [4, 5, 4], "with Shift it is only selected");
+  assert.match(await page.text("event-body"), /Recorded in.*examples\/failover\/east\.stream, line 2/);
   assert.equal(await page.text("event-title"), "Event east#1");
   await page.press("u");
   assert.deepEqual(await page.cut(), [1, 3, 0], "undone");
@@ -366,6 +367,12 @@ test("the address has the cut, the view, the event and the film", needed, async 
   await again.js("location.hash = '#cut=1,0,0'");
   await again.until("String(state.cut) === '1,0,0'");
   await again.close();
+  const other = await Page.open(file, "#cut=2,2,0");
+  assert.match(await other.text("status"), /^No predicate is true at this cut\./);
+  await other.js("location.hash = '#cut=2,0,2'");
+  await other.until("String(state.cut) === '2,0,2'");
+  assert.match(await other.text("status"), /^two_leaders is true at this cut\./);
+  await other.close();
 });
 
 test("a message with several receipts has all of them, and ids are never mark-up", needed, async () => {

@@ -550,7 +550,10 @@ function readAddress() {
   const given = readFragment(run, location.hash);
   if (given.view !== null) state.view = given.view;
   if (given.film !== null) openFilm(given.film.k, given.film.step);
-  if (given.cut !== null) setCut(given.cut, { from: given.cut, text: byId("status").textContent });
+  if (given.cut !== null) {
+    setCut(given.cut, { from: given.cut, text: given.film !== null ? byId("status").textContent
+      : truthText(run, given.cut) + " " + HOW_TO_MOVE });
+  }
   if (given.selected !== null) {
     state.selected = given.selected;
     state.cone = run.cycle !== null ? null : coneOf(run, given.selected.p, given.selected.i);
@@ -601,7 +604,8 @@ function start() {
   state.lane = Math.max(0, state.cut.findIndex((count) => count > 0));
   list(state.lane, state.cut[state.lane]);
   const given = readAddress();
-  if (given.view === null) revealCut();
+  if (given.view === null && given.selected !== null) reveal(run.columns[given.selected.p][given.selected.i]);
+  else if (given.view === null) revealCut();
   watchPointer();
   const onClick = (id, act) => byId(id).addEventListener("click", act);
   const cutAt = (cut, text) => { pause(); setCut(cut, { text }); revealCut(); };

@@ -54,7 +54,7 @@ function makePredicates(run, actions) {
     const open = predicate.possibly[0] === "unknown" || predicate.definitely[0] === "unknown";
     const card = element("article", { class: "predicate" }, element("h3", {}, name, badge),
       element("code", {}, predicate.text), why, answers,
-      open ? element("p", { class: "hint" }, whatToDo(run)) : null);
+      open ? element("p", { class: "hint" }, whatToDo(run, predicate.node)) : null);
     byId("predicates").append(card);
     return { card, badge, why, name };
   });
@@ -86,10 +86,10 @@ function definitelyOf(run, { definitely: [word, evidence] }, k, actions) {
   return given(word, ": level " + evidence + " has more cuts that avoid it than the width, " + run.width);
 }
 
-function whatToDo(run) {
-  return "Unknown isn't no. To decide it: " + (run.beyondWidth ? ""
-    : "the option --beyond-width, if it names two processes at most or each comparison names one; ") +
-    (run.width < 65536 ? "a greater width in the session document, up to 65536; " : "") +
+function whatToDo(run, node) {
+  return "Unknown isn't no. To decide it: " + (run.beyondWidth || !isForAnyWidth(node) ? ""
+    : "the option --beyond-width, which can answer such a predicate whatever the width; ") +
+    (run.width < 65536 ? "the option --width with a greater width, up to 65536; " : "") +
     "a recording with fewer events between the messages.";
 }
 
@@ -120,6 +120,13 @@ function turned(run, before, after) {
     const truth = isTrue(node, reader(run, after));
     return truth === isTrue(node, reader(run, before)) ? [] : [name + " is " + truth + " now."];
   });
+}
+
+// Which predicates are true at a cut, in words.
+function truthText(run, cut) {
+  const names = run.predicates.filter(({ node }) => isTrue(node, reader(run, cut))).map(({ name }) => name);
+  return names.length === 0 ? "No predicate is true at this cut."
+    : names.join(", ") + (names.length === 1 ? " is" : " are") + " true at this cut.";
 }
 
 // ---- a causal cycle ---------------------------------------------------------------------------------------------
@@ -234,6 +241,7 @@ function updateEvent(run, state, actions) {
   const list = element("dl", {});
   const add = (term, ...words) => list.append(element("dt", {}, term), element("dd", {}, ...words));
   if (run.cycle === null) add("At the cut", i <= state.cut[p] ? "it has happened" : "it has not happened");
+  add("Recorded in", sourceOf(run, p, i));
   const sets = setsOf(run, p, i);
   add("Sets", sets.length === 0 ? "nothing"
     : sets.map(({ name, value, before: old }) => name + " = " + value + " (was " + old + ")").join(", "));
@@ -273,6 +281,7 @@ function updateListing(run, state, actions) {
     return element("tr", { class: (i <= state.cut[p] ? "in" : "out") + (i === chosen ? " chosen" : "") },
       element("th", { scope: "row" }, element("button", { type: "button", class: "plain",
         click: () => actions.select(p, i), "aria-label": "select event " + placeText(run, p, i) }, "#" + i)),
+      element("td", {}, lineOf(run, p, i)),
       element("td", {}, setsOf(run, p, i).map(({ name, value }) => name + " = " + value).join(", ")),
       element("td", {}, message === null ? "" : message.verb + " " + message.id),
       element("td", { class: "of-cuts" }, i <= state.cut[p] ? "yes" : ""));

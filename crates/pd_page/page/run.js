@@ -13,6 +13,7 @@ function readRun(data) {
     beyondWidth: data.beyond_width,
     size: names.length,
     names,
+    sources: data.sources,
     counts: events.map((list) => list.length - 1),
     events,
     vars: data.processes.map((process, p) => readVars(process.vars, data.initial[p], events[p])),
@@ -28,6 +29,18 @@ function readRun(data) {
     return { ...data.answers[k], node, text: node.text, refs: refsOf(node) };
   });
   return run;
+}
+
+// The line of event i of p in its process's file, and nothing if that isn't known.
+function lineOf(run, p, i) {
+  return String(run.sources[p][1][i - 1] ?? "");
+}
+
+// Where event i of p was recorded, in words.
+function sourceOf(run, p, i) {
+  const [file] = run.sources[p];
+  const line = lineOf(run, p, i);
+  return file === "" ? "not known: its stream can't be read again" : file + (line === "" ? "" : ", line " + line);
 }
 
 // Of each variable the events that set it, and what each gave it.
@@ -378,6 +391,14 @@ function refsOf(node) {
   return [...refs.values()];
 }
 
+// Can a predicate be answered whatever the width? It names no more than two processes, or one in each comparison.
+function isForAnyWidth(node) {
+  const processes = (each) => new Set(refsOf(each).map(([p]) => p)).size;
+  const areAlone = (each) => (each.kind === "compare" ? processes(each) <= 1
+    : (each.parts ?? (each.part === undefined ? [] : [each.part])).every(areAlone));
+  return processes(node) <= 2 || areAlone(node);
+}
+
 function sumOf(terms, read) {
   let sum = 0n;
   for (const { sign, factor, ref } of terms) {
@@ -541,5 +562,6 @@ function readFragment(run, fragment) {
 if (typeof module === "object") {
   module.exports = { readRun, messagesBetween, countUpTo, clockAt, levelOf, isCut, isConsistent, including, excluding,
                      firstFrom, moveTo, forcing, isUpTo, coneOf, settingEvent, valueAt, reader, readPredicate, isTrue,
-                     deciding, stepsOf, cutAtStep, find, fragmentOf, readFragment, sentBy };
+                     deciding, stepsOf, cutAtStep, find, fragmentOf, readFragment, sentBy, lineOf, sourceOf,
+                     isForAnyWidth };
 }

@@ -9,7 +9,8 @@ const os = require("node:os");
 const path = require("node:path");
 const script = require("./run.js");
 const { readRun, isConsistent, moveTo, valueAt, reader, readPredicate, isTrue, deciding, stepsOf, cutAtStep, find,
-        fragmentOf, readFragment, coneOf, messagesBetween, sentBy, levelOf } = script;
+        fragmentOf, readFragment, coneOf, messagesBetween, sentBy, levelOf, lineOf, sourceOf,
+        isForAnyWidth } = script;
 
 const MONITOR = process.env.MONITOR;
 const EXAMPLES = process.env.EXAMPLES;
@@ -70,15 +71,17 @@ function documentOf({ processes, version }, predicates) {
 
 // The data of a page, but for its answers, made in a way that shares nothing with the program.
 function dataOf({ processes, streams }, predicates) {
-  const data = { format: 1, width: 65536, beyond_width: false, processes: [], initial: [], events: [], messages: [],
-                 predicates: predicates.map(({ tree }) => tree), answers: [] };
+  const data = { format: 1, width: 65536, beyond_width: false, processes: [], initial: [], sources: [], events: [],
+                 messages: [], predicates: predicates.map(({ tree }) => tree), answers: [] };
   const sends = new Map();
   const receipts = [];
   processes.forEach(({ name, vars }, p) => {
     const names = Object.keys(vars).sort();
     const events = [0];
+    const lines = [];
     streams[p].forEach((line, at) => {
       if (at === 0 || line.trim() === "") return;
+      lines.push(at + 1);
       const { send, recv } = JSON.parse(line);
       const row = [send ?? (recv === undefined ? 0 : 1)];
       const set = /"set":\{(.*?)\}/.exec(line)?.[1] ?? "";
@@ -91,6 +94,7 @@ function dataOf({ processes, streams }, predicates) {
     data.processes.push({ name, vars: names });
     data.initial.push(names.map((v) => vars[v]));
     data.events.push(events);
+    data.sources.push([path.join(folder, "s" + p), lines]);
   });
   data.messages = receipts.map(([id, ...place]) => [...sends.get(id), ...place]);
   data.answers = predicates.map((_, k) => ({ name: "q" + k, possibly: ["no"], definitely: ["yes", 0] }));
@@ -292,6 +296,12 @@ test("sums are those of whole numbers, however large, and texts have the parenth
     "a.x + 2 * a.y < -1 and true and (true and false)");
   assert.equal(read(["not", ["not", ["and", less, less]]]).text,
     "not not (a.x + 2 * a.y < -1 and a.x + 2 * a.y < -1)");
+  const others = [["a", "b", "c"], ["a", "b", "c"].map(() => vars[0])];
+  const of = (p) => ["equals", [["+", p, 0]], [["+", "1"]]];
+  const both = (p, q) => ["less", [["+", p, 0]], [["+", q, 1]]];
+  const all = (...trees) => trees.reduce((left, right) => ["and", left, right]);
+  assert.deepEqual([both(0, 1), all(of(0), ["not", of(1)], of(2)), all(both(0, 1), of(2)), all(both(0, 1), of(1)),
+    ["true"]].map((tree) => isForAnyWidth(readPredicate(tree, ...others))), [true, true, false, true, true]);
   assert.deepEqual(deciding(read(["and", ["less", [x, y], [["+", "1"]]], ["less", [x], [["+", "0"]]]]),
     (p, v) => values[v]),
     [{ text: "a.x < 0", holds: false, negated: false, why: "9223372036854775807 isn't below 0" }]);
@@ -315,6 +325,19 @@ test("the data is that of the session, each event, message and value of it", nee
     events += readRun({ ...data, answers }).eventCount;
   }
   console.log(`  ${events} events`);
+});
+
+test("where an event was recorded is said as far as it is known", () => {
+  const data = dataOf(session(random(7), 3, 30), []);
+  const [[file, lines]] = data.sources;
+  assert.equal(sourceOf(readRun(data), 0, 2), file + ", line " + lines[1]);
+  data.sources[0] = [file, lines.slice(0, 1)];
+  data.sources[1] = ["", []];
+  const run = readRun(data);
+  assert.equal(lineOf(run, 0, 1), String(lines[0]));
+  assert.equal(lineOf(run, 0, 2), "");
+  assert.equal(sourceOf(run, 0, 2), file);
+  assert.equal(sourceOf(run, 1, 1), "not known: its stream can't be read again");
 });
 
 test("a send's messages are those that have it", () => {

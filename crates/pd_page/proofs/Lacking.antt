@@ -13,7 +13,8 @@ use Rattle.pd_format.specs.Reports.{Answer, Possibly, Definitely, NamedPlace}
 use Rattle.pd_page.specs.AnswerData.{Answered, Cyclic, Outcome, answer_text, definitely_text, named_place_text, outcome_text, possibly_text, process_number, step_text, unknown_text}
 use Rattle.pd_page.specs.EventData.{event_text, events_text, kind_text, message_text, place_text, process_text, setting_text, value_text, values_text}
 use Rattle.pd_page.specs.JsonTexts.{escaped_byte, hex_digit, is_escaped, lacks_less, listed, quoted}
-use Rattle.pd_page.specs.Pages.{data_text, limits_text, report_text, run_text, session_text, truth_text}
+use Rattle.pd_page.specs.Pages.{data_text, limits_text, report_text, run_text, session_text, sources_text, truth_text}
+use Rattle.pd_page.specs.SourceData.{Source, source_text}
 use Rattle.pd_page.specs.PredicateData.{comparison_text, comparison_word, named_text, predicate_text, sign_text, sum_text, term_fields, term_text}
 use Rattle.pd_page.proofs.Numerals.{decimal_lacks, signed_lacks}
 
@@ -265,6 +266,18 @@ session_lacks document =
       ),
     )
 
+source_lacks : (source : Source) → Lacks (source_text source)
+unfolding source_text
+source_lacks source =
+    chain_lacks (codes "[") (quoted source.name ∷ codes ",[" ∷ listed decimal source.lines ∷ codes "]]" ∷ []) refl
+    (quoted_lacks source.name, (refl, (listed_lacks decimal decimal_lacks source.lines, (refl, tt))))
+
+sources_lack : (sources : List Source) → Lacks (sources_text sources)
+unfolding sources_text
+sources_lack sources =
+    chain_lacks (codes ",\n\"sources\":[") (listed source_text sources ∷ codes "]" ∷ []) refl
+    (listed_lacks source_text source_lacks sources, (refl, tt))
+
 run_lacks : (events : Computation) (messages : List (Place × Place)) → Lacks (run_text events messages)
 unfolding run_text
 run_lacks events messages =
@@ -289,11 +302,17 @@ report_lacks document outcome =
       ),
     )
 
-pub data_lacks : (document : Document) (events : Computation) (messages : List (Place × Place)) (outcome : Outcome)
-    → Lacks (data_text document events messages outcome)
+pub data_lacks : (document : Document) (sources : List Source) (events : Computation)
+    (messages : List (Place × Place)) (outcome : Outcome)
+    → Lacks (data_text document sources events messages outcome)
 unfolding data_text
-data_lacks document events messages outcome =
+data_lacks document sources events messages outcome =
     chain_lacks (limits_text document)
-    (session_text document ∷ run_text events messages ∷ report_text document outcome ∷ codes "}\n" ∷ [])
-    (limits_lack document)
-    (session_lacks document, (run_lacks events messages, (report_lacks document outcome, (refl, tt))))
+    (session_text document ∷ sources_text sources ∷ run_text events messages ∷ report_text document outcome
+    ∷ codes "}\n" ∷ []) (limits_lack document) (
+      session_lacks document,
+      (
+        sources_lack sources,
+        (run_lacks events messages, (report_lacks document outcome, (refl, tt))),
+      ),
+    )

@@ -20,6 +20,13 @@ five_parts o p q r s t a b c d e first second third fourth fifth =
     ∙ ap (λ out. out ++ e) (four_parts o p q r s a b c d first second third fourth)
     ∙ append_assoc o (a ++ b ++ c ++ d) e
 
+pub six_parts : (o p q r s t u a b c d e f : List ℕ) → p ≡ o ++ a → q ≡ p ++ b → r ≡ q ++ c → s ≡ r ++ d → t ≡ s ++ e
+    → u ≡ t ++ f → u ≡ o ++ (a ++ b ++ c ++ d ++ e ++ f)
+six_parts o p q r s t u a b c d e f first second third fourth fifth sixth =
+    sixth
+    ∙ ap (λ out. out ++ f) (five_parts o p q r s t a b c d e first second third fourth fifth)
+    ∙ append_assoc o (a ++ b ++ c ++ d ++ e) f
+
 pub seven_parts : (o p q r s t u v a b c d e f g : List ℕ) → p ≡ o ++ a → q ≡ p ++ b → r ≡ q ++ c → s ≡ r ++ d
     → t ≡ s ++ e → u ≡ t ++ f → v ≡ u ++ g → v ≡ o ++ (a ++ b ++ c ++ d ++ e ++ f ++ g)
 seven_parts o p q r s t u v a b c d e f g first second third fourth fifth sixth seventh =

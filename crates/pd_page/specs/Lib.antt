@@ -2,5 +2,6 @@ pub mod JsonTexts
 pub mod PredicateData
 pub mod EventData
 pub mod AnswerData
+pub mod SourceData
 pub mod Views
 pub mod Pages

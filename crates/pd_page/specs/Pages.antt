@@ -7,6 +7,7 @@ use Rattle.pd_page.specs.JsonTexts.{listed}
 use Rattle.pd_page.specs.PredicateData.{named_text}
 use Rattle.pd_page.specs.EventData.{process_text, values_text, events_text, message_text}
 use Rattle.pd_page.specs.AnswerData.{Outcome, outcome_text}
+use Rattle.pd_page.specs.SourceData.{Source, source_text}
 use Rattle.pd_page.specs.declared.text_after.TheConstants.{AFTER}
 use Rattle.pd_page.specs.declared.text_before.TheConstants.{BEFORE}
 
@@ -26,6 +27,10 @@ session_text document =
     codes ",\n\"processes\":[" ++ listed process_text document.names ++ codes "],\n\"initial\":["
     ++ listed values_text document.initial ++ codes "]"
 
+-- where the events of each process were recorded
+unfoldable pub sources_text : List Source → List ℕ
+sources_text sources = codes ",\n\"sources\":[" ++ listed source_text sources ++ codes "]"
+
 -- the events of each process, and the messages
 unfoldable pub run_text : Computation → List (Place × Place) → List ℕ
 run_text events messages =
@@ -38,11 +43,12 @@ report_text document outcome =
     codes ",\n\"predicates\":[" ++ listed named_text document.predicates ++ codes "],\n"
     ++ outcome_text document.names outcome
 
--- What stands in the page for a document, the events of its processes, the messages, each as its send and its receipt,
--- and what is shown of the report: one object of JSON.
-unfoldable pub data_text : Document → Computation → List (Place × Place) → Outcome → List ℕ
-data_text document events messages outcome =
-    limits_text document ++ session_text document ++ run_text events messages ++ report_text document outcome
+-- What stands in the page for a document, the files of its processes, their events, the messages, each as its send and
+-- its receipt, and what is shown of the report: one object of JSON.
+unfoldable pub data_text : Document → List Source → Computation → List (Place × Place) → Outcome → List ℕ
+data_text document sources events messages outcome =
+    limits_text document ++ session_text document ++ sources_text sources ++ run_text events messages
+    ++ report_text document outcome
     ++ codes "}\n"
 
 -- the page's text before its data
@@ -53,6 +59,6 @@ text_before = BEFORE.now
 unfoldable pub text_after : List ℕ
 text_after = AFTER.now
 
-unfoldable pub page_text : Document → Computation → List (Place × Place) → Outcome → List ℕ
-page_text document events messages outcome =
-    text_before ++ data_text document events messages outcome ++ text_after
+unfoldable pub page_text : Document → List Source → Computation → List (Place × Place) → Outcome → List ℕ
+page_text document sources events messages outcome =
+    text_before ++ data_text document sources events messages outcome ++ text_after

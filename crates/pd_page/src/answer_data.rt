@@ -13,7 +13,7 @@ use pd_report::{Answer, Definitely, Path, Possibly, push_bytes, push_number};
 use std::alloc::AllocError;
 
 /// Appends numbers with a comma between each two.
-fn push_counts(out: &mut Vec<u8>, counts: &[u64]) -> Result<(), AllocError>
+pub(crate) fn push_counts(out: &mut Vec<u8>, counts: &[u64]) -> Result<(), AllocError>
     ensures { OnOk result (out.new.items ≡ out.old.items ++ listed decimal counts.now) }
 {
     let Some((first, others)) = counts.split_first() else {

@@ -1,4 +1,5 @@
 //! What a page shows.
+use super::Source;
 use pd_match::Place;
 use pd_report::Answer;
 use pd_spec::Spec;
@@ -15,9 +16,11 @@ pub enum Outcome<'a> {
 
 /// What a page shows: a session and its report.
 #[derive(Clone, Copy)]
-pub struct Content<'a> {
+pub struct Content<'a, 'b> {
     /// The session's document.
     pub spec: &'a Spec,
+    /// Where the events of its processes were recorded, in their order.
+    pub sources: &'a [Source<'b>],
     /// The traces of its processes, in their order.
     pub traces: &'a [Trace],
     /// Its messages, each as its send and its receipt.

@@ -11,6 +11,8 @@
 //! - `predicate_data`: a predicate's tree
 //! - `event_data`: processes, variables, events and messages
 //! - `answer_data`: the answers of a report, or the causal cycle that it names
+//! - `source`: where events were recorded
+//! - `source_data`: the files in which they were
 //! - `content`: what a page shows
 //! - `page_data`: the data of a page
 //! - `page`: a page's text, also written
@@ -23,9 +25,12 @@ mod json_texts;
 mod page;
 mod page_data;
 mod predicate_data;
+mod source;
+mod source_data;
 mod text_after;
 mod text_before;
 
 pub use content::{Content, Outcome};
 pub use page::{text, write};
 pub use page_data::{data, data_lacks_less};
+pub use source::Source;

@@ -1,7 +1,7 @@
 //! A page's text, also written.
 ghost use Rattle.pd_match.specs.Views.{pairs_view};
 ghost use Rattle.pd_page.specs.Pages.{page_text, text_after, text_before};
-ghost use Rattle.pd_page.specs.Views.{outcome_view};
+ghost use Rattle.pd_page.specs.Views.{outcome_view, sources_view};
 ghost use Rattle.pd_spec.specs.Views.{document_view};
 ghost use Rattle.pd_traces.specs.Views.{computation_view};
 ghost use Rattle.std.specs.Io.KnownBytes.{Appends, Keeps};
@@ -36,10 +36,10 @@ fn text_after() -> &'static [u8]
 /// # Errors
 /// Out of memory.
 #[tactic(auto, unfolding(crate::specs::Pages::page_text))]
-pub fn text(alloc: Global, content: &Content<'_>) -> Result<Vec<u8>, AllocError>
+pub fn text(alloc: Global, content: &Content<'_, '_>) -> Result<Vec<u8>, AllocError>
     ensures { IfOk result (λ text. text.items ≡ page_text (document_view content.now.spec.now)
-        (computation_view content.now.traces.now) (pairs_view content.now.pairs.now)
-        (outcome_view content.now.outcome)) }
+        (sources_view content.now.sources.now) (computation_view content.now.traces.now)
+        (pairs_view content.now.pairs.now) (outcome_view content.now.outcome)) }
 {
     let mut out = Vec::new(alloc);
     push_bytes(&mut out, text_before())?;
@@ -55,17 +55,20 @@ pub fn text(alloc: Global, content: &Content<'_>) -> Result<Vec<u8>, AllocError>
 /// of the text written, and not all of it.
 pub fn write<W: Write>(
     alloc: Global,
-    content: &Content<'_>,
+    content: &Content<'_, '_>,
     writer: &mut W,
 ) -> Result<(), WriteFault>
     ensures written { OnOk result (Appends (W.contents writer.old) (W.contents writer.new)
-        (page_text (document_view content.now.spec.now) (computation_view content.now.traces.now)
+        (page_text (document_view content.now.spec.now) (sources_view content.now.sources.now)
+        (computation_view content.now.traces.now)
         (pairs_view content.now.pairs.now) (outcome_view content.now.outcome))) }
     ensures part { result ≡ Err WriteFault.Write → (taken : ℕ)
-        × (taken < length (page_text (document_view content.now.spec.now) (computation_view content.now.traces.now)
+        × (taken < length (page_text (document_view content.now.spec.now) (sources_view content.now.sources.now)
+        (computation_view content.now.traces.now)
         (pairs_view content.now.pairs.now) (outcome_view content.now.outcome)))
         × Appends (W.contents writer.old) (W.contents writer.new)
-        (take taken (page_text (document_view content.now.spec.now) (computation_view content.now.traces.now)
+        (take taken (page_text (document_view content.now.spec.now) (sources_view content.now.sources.now)
+        (computation_view content.now.traces.now)
         (pairs_view content.now.pairs.now) (outcome_view content.now.outcome))) }
     ensures memory { result ≡ Err WriteFault.Memory → Keeps (W.contents writer.old) (W.contents writer.new) }
 {

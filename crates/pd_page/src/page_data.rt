@@ -4,9 +4,10 @@ ghost use Rattle.pd_match.specs.Views.{pairs_view};
 ghost use Rattle.pd_model.specs.Events.{Computation, Place as EventPlace};
 ghost use Rattle.pd_page.specs.AnswerData.{Outcome as Shown};
 ghost use Rattle.pd_page.specs.JsonTexts.{lacks_less, listed};
-ghost use Rattle.pd_page.specs.Pages.{data_text, limits_text, report_text, run_text, session_text, truth_text};
+ghost use Rattle.pd_page.specs.Pages.{data_text, limits_text, report_text, run_text, session_text, sources_text, truth_text};
 ghost use Rattle.pd_page.specs.PredicateData.{named_text};
-ghost use Rattle.pd_page.specs.Views.{outcome_view};
+ghost use Rattle.pd_page.specs.SourceData.{Source as Recorded};
+ghost use Rattle.pd_page.specs.Views.{outcome_view, sources_view};
 ghost use Rattle.pd_spec.specs.Named.{named_view};
 ghost use Rattle.pd_spec.specs.Views.{document_view};
 ghost use Rattle.pd_traces.specs.Views.{computation_view};
@@ -15,7 +16,8 @@ ghost use Rattle.std.specs.Prelude.{◌≡◌, ◌++◌, List, map, IfOk, OnOk, 
 use super::answer_data::push_outcome;
 use super::event_data::{push_messages, push_processes, push_rows, push_traces};
 use super::predicate_data::push_predicate;
-use super::{Content, Outcome};
+use super::source_data::push_sources;
+use super::{Content, Outcome, Source};
 use pd_match::Place;
 use pd_report::{push_bytes, push_number};
 use pd_spec::{NamedPred, Spec};
@@ -48,6 +50,16 @@ fn push_session(out: &mut Vec<u8>, spec: &Spec) -> Result<(), AllocError>
     push_processes(out, spec.names())?;
     push_bytes(out, b"],\n\"initial\":[")?;
     push_rows(out, spec.initial_rows())?;
+    push_bytes(out, b"]")?;
+    Ok(())
+}
+
+/// Appends where the events of each process were recorded.
+fn push_recorded(out: &mut Vec<u8>, sources: &[Source<'_>]) -> Result<(), AllocError>
+    ensures { OnOk result (out.new.items ≡ out.old.items ++ sources_text (sources_view sources.now)) }
+{
+    push_bytes(out, b",\n\"sources\":[")?;
+    push_sources(out, sources)?;
     push_bytes(out, b"]")?;
     Ok(())
 }
@@ -101,13 +113,14 @@ fn push_report(out: &mut Vec<u8>, spec: &Spec, outcome: Outcome<'_>) -> Result<(
 }
 
 /// Appends the data of a page.
-pub(crate) fn push_data(out: &mut Vec<u8>, content: &Content<'_>) -> Result<(), AllocError>
+pub(crate) fn push_data(out: &mut Vec<u8>, content: &Content<'_, '_>) -> Result<(), AllocError>
     ensures { OnOk result (out.new.items ≡ out.old.items ++ data_text (document_view content.now.spec.now)
-        (computation_view content.now.traces.now) (pairs_view content.now.pairs.now)
-        (outcome_view content.now.outcome)) }
+        (sources_view content.now.sources.now) (computation_view content.now.traces.now)
+        (pairs_view content.now.pairs.now) (outcome_view content.now.outcome)) }
 {
     push_limits(out, content.spec)?;
     push_session(out, content.spec)?;
+    push_recorded(out, content.sources)?;
     push_run(out, content.traces, content.pairs)?;
     push_report(out, content.spec, content.outcome)?;
     push_bytes(out, b"}\n")?;
@@ -118,10 +131,10 @@ pub(crate) fn push_data(out: &mut Vec<u8>, content: &Content<'_>) -> Result<(), 
 ///
 /// # Errors
 /// Out of memory.
-pub fn data(alloc: Global, content: &Content<'_>) -> Result<Vec<u8>, AllocError>
+pub fn data(alloc: Global, content: &Content<'_, '_>) -> Result<Vec<u8>, AllocError>
     ensures { IfOk result (λ text. text.items ≡ data_text (document_view content.now.spec.now)
-        (computation_view content.now.traces.now) (pairs_view content.now.pairs.now)
-        (outcome_view content.now.outcome)) }
+        (sources_view content.now.sources.now) (computation_view content.now.traces.now)
+        (pairs_view content.now.pairs.now) (outcome_view content.now.outcome)) }
 {
     let mut out = Vec::new(alloc);
     push_data(&mut out, content)?;
@@ -131,6 +144,7 @@ pub fn data(alloc: Global, content: &Content<'_>) -> Result<Vec<u8>, AllocError>
 /// The law of the data: whatever the session, the ids of its messages and its report are, no byte of it is `<`. So
 /// nothing in it can end the element that it stands in. It has no code.
 pub fn data_lacks_less()
-    ensures { (document : Document) (events : Computation) (messages : List (EventPlace × EventPlace))
-        (outcome : Shown) → lacks_less (data_text document events messages outcome) ≡ true }
+    ensures { (document : Document) (sources : List Recorded) (events : Computation)
+        (messages : List (EventPlace × EventPlace)) (outcome : Shown)
+        → lacks_less (data_text document sources events messages outcome) ≡ true }
 {}

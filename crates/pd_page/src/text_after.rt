@@ -21,6 +21,7 @@ pub(crate) const AFTER: &[u8] = b"\
     \x20   beyondWidth: data.beyond_width,\n\
     \x20   size: names.length,\n\
     \x20   names,\n\
+    \x20   sources: data.sources,\n\
     \x20   counts: events.map((list) => list.length - 1),\n\
     \x20   events,\n\
     \x20   vars: data.processes.map((process, p) => readVars(process.vars, data.initial[p], events[p])),\n\
@@ -36,6 +37,19 @@ pub(crate) const AFTER: &[u8] = b"\
     \x20   return { ...data.answers[k], node, text: node.text, refs: refsOf(node) };\n\
     \x20 });\n\
     \x20 return run;\n\
+    }\n\
+    \n\
+    // The line of event i of p in its process's file, and nothing if that isn't known.\n\
+    function lineOf(run, p, i) {\n\
+    \x20 return String(run.sources[p][1][i - 1] ?? \"\");\n\
+    }\n\
+    \n\
+    // Where event i of p was recorded, in words.\n\
+    function sourceOf(run, p, i) {\n\
+    \x20 const [file] = run.sources[p];\n\
+    \x20 const line = lineOf(run, p, i);\n\
+    \x20 return file === \"\" ? \"not known: its stream can't be read again\" : file + (line === \"\" ? \"\" : \"\
+    , line \" + line);\n\
     }\n\
     \n\
     // Of each variable the events that set it, and what each gave it.\n\
@@ -409,6 +423,15 @@ pub(crate) const AFTER: &[u8] = b"\
     \x20 return [...refs.values()];\n\
     }\n\
     \n\
+    // Can a predicate be answered whatever the width? It names no more than two processes, or one in each compar\
+    ison.\n\
+    function isForAnyWidth(node) {\n\
+    \x20 const processes = (each) => new Set(refsOf(each).map(([p]) => p)).size;\n\
+    \x20 const areAlone = (each) => (each.kind === \"compare\" ? processes(each) <= 1\n\
+    \x20   : (each.parts ?? (each.part === undefined ? [] : [each.part])).every(areAlone));\n\
+    \x20 return processes(node) <= 2 || areAlone(node);\n\
+    }\n\
+    \n\
     function sumOf(terms, read) {\n\
     \x20 let sum = 0n;\n\
     \x20 for (const { sign, factor, ref } of terms) {\n\
@@ -591,7 +614,9 @@ pub(crate) const AFTER: &[u8] = b"\
     , excluding,\n\
     \x20                    firstFrom, moveTo, forcing, isUpTo, coneOf, settingEvent, valueAt, reader, readPredic\
     ate, isTrue,\n\
-    \x20                    deciding, stepsOf, cutAtStep, find, fragmentOf, readFragment, sentBy };\n\
+    \x20                    deciding, stepsOf, cutAtStep, find, fragmentOf, readFragment, sentBy, lineOf, sourceO\
+    f,\n\
+    \x20                    isForAnyWidth };\n\
     }\n\
     </script>\n\
     <script>\n\
@@ -1204,7 +1229,7 @@ pub(crate) const AFTER: &[u8] = b"\
     \x20   const open = predicate.possibly[0] === \"unknown\" || predicate.definitely[0] === \"unknown\";\n\
     \x20   const card = element(\"article\", { class: \"predicate\" }, element(\"h3\", {}, name, badge),\n\
     \x20     element(\"code\", {}, predicate.text), why, answers,\n\
-    \x20     open ? element(\"p\", { class: \"hint\" }, whatToDo(run)) : null);\n\
+    \x20     open ? element(\"p\", { class: \"hint\" }, whatToDo(run, predicate.node)) : null);\n\
     \x20   byId(\"predicates\").append(card);\n\
     \x20   return { card, badge, why, name };\n\
     \x20 });\n\
@@ -1240,10 +1265,10 @@ pub(crate) const AFTER: &[u8] = b"\
     th);\n\
     }\n\
     \n\
-    function whatToDo(run) {\n\
-    \x20 return \"Unknown isn't no. To decide it: \" + (run.beyondWidth ? \"\"\n\
-    \x20   : \"the option --beyond-width, if it names two processes at most or each comparison names one; \") +\n\
-    \x20   (run.width < 65536 ? \"a greater width in the session document, up to 65536; \" : \"\") +\n\
+    function whatToDo(run, node) {\n\
+    \x20 return \"Unknown isn't no. To decide it: \" + (run.beyondWidth || !isForAnyWidth(node) ? \"\"\n\
+    \x20   : \"the option --beyond-width, which can answer such a predicate whatever the width; \") +\n\
+    \x20   (run.width < 65536 ? \"the option --width with a greater width, up to 65536; \" : \"\") +\n\
     \x20   \"a recording with fewer events between the messages.\";\n\
     }\n\
     \n\
@@ -1276,6 +1301,14 @@ pub(crate) const AFTER: &[u8] = b"\
     \x20   const truth = isTrue(node, reader(run, after));\n\
     \x20   return truth === isTrue(node, reader(run, before)) ? [] : [name + \" is \" + truth + \" now.\"];\n\
     \x20 });\n\
+    }\n\
+    \n\
+    // Which predicates are true at a cut, in words.\n\
+    function truthText(run, cut) {\n\
+    \x20 const names = run.predicates.filter(({ node }) => isTrue(node, reader(run, cut))).map(({ name }) => name\
+    );\n\
+    \x20 return names.length === 0 ? \"No predicate is true at this cut.\"\n\
+    \x20   : names.join(\", \") + (names.length === 1 ? \" is\" : \" are\") + \" true at this cut.\";\n\
     }\n\
     \n\
     // ---- a causal cycle --------------------------------------------------------------------------------------\
@@ -1409,6 +1442,7 @@ pub(crate) const AFTER: &[u8] = b"\
     \x20 const add = (term, ...words) => list.append(element(\"dt\", {}, term), element(\"dd\", {}, ...words));\n\
     \x20 if (run.cycle === null) add(\"At the cut\", i <= state.cut[p] ? \"it has happened\" : \"it has not happe\
     ned\");\n\
+    \x20 add(\"Recorded in\", sourceOf(run, p, i));\n\
     \x20 const sets = setsOf(run, p, i);\n\
     \x20 add(\"Sets\", sets.length === 0 ? \"nothing\"\n\
     \x20   : sets.map(({ name, value, before: old }) => name + \" = \" + value + \" (was \" + old + \")\").join(\"\
@@ -1456,6 +1490,7 @@ pub(crate) const AFTER: &[u8] = b"\
     \x20     element(\"th\", { scope: \"row\" }, element(\"button\", { type: \"button\", class: \"plain\",\n\
     \x20       click: () => actions.select(p, i), \"aria-label\": \"select event \" + placeText(run, p, i) }, \"#\
     \" + i)),\n\
+    \x20     element(\"td\", {}, lineOf(run, p, i)),\n\
     \x20     element(\"td\", {}, setsOf(run, p, i).map(({ name, value }) => name + \" = \" + value).join(\", \"))\
     ,\n\
     \x20     element(\"td\", {}, message === null ? \"\" : message.verb + \" \" + message.id),\n\
@@ -2065,7 +2100,10 @@ pub(crate) const AFTER: &[u8] = b"\
     \x20 const given = readFragment(run, location.hash);\n\
     \x20 if (given.view !== null) state.view = given.view;\n\
     \x20 if (given.film !== null) openFilm(given.film.k, given.film.step);\n\
-    \x20 if (given.cut !== null) setCut(given.cut, { from: given.cut, text: byId(\"status\").textContent });\n\
+    \x20 if (given.cut !== null) {\n\
+    \x20   setCut(given.cut, { from: given.cut, text: given.film !== null ? byId(\"status\").textContent\n\
+    \x20     : truthText(run, given.cut) + \" \" + HOW_TO_MOVE });\n\
+    \x20 }\n\
     \x20 if (given.selected !== null) {\n\
     \x20   state.selected = given.selected;\n\
     \x20   state.cone = run.cycle !== null ? null : coneOf(run, given.selected.p, given.selected.i);\n\
@@ -2122,7 +2160,9 @@ pub(crate) const AFTER: &[u8] = b"\
     \x20 state.lane = Math.max(0, state.cut.findIndex((count) => count > 0));\n\
     \x20 list(state.lane, state.cut[state.lane]);\n\
     \x20 const given = readAddress();\n\
-    \x20 if (given.view === null) revealCut();\n\
+    \x20 if (given.view === null && given.selected !== null) reveal(run.columns[given.selected.p][given.selected.\
+    i]);\n\
+    \x20 else if (given.view === null) revealCut();\n\
     \x20 watchPointer();\n\
     \x20 const onClick = (id, act) => byId(id).addEventListener(\"click\", act);\n\
     \x20 const cutAt = (cut, text) => { pause(); setCut(cut, { text }); revealCut(); };\n\

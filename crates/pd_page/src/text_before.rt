@@ -6,9 +6,9 @@ pub(crate) const BEFORE: &[u8] = b"\
     <html lang=\"en\">\n\
     <head>\n\
     <meta charset=\"utf-8\">\n\
-    <meta http-equiv=\"Content-Security-Policy\" content=\"default-src 'none'; script-src 'sha256-Z/gRrDZ6B2pxhm+\
-    ha7H+kj488d2BA4BFXGps9x0Rp/o=' 'sha256-lCf/O7uShxMCsyWw+AlaHu5AJVshmNsyNpBipo8b4+Q=' 'sha256-eAbgwq7D6X0V3tEV\
-    vFlV+PUGZDrg8ERwH8aM5xHMWjk=' 'sha256-2PAemgMLeg9qK/FHNH/e27b5KYMbXZS7xnSA1ZiZweI='; style-src 'sha256-RsWtZh\
+    <meta http-equiv=\"Content-Security-Policy\" content=\"default-src 'none'; script-src 'sha256-SLEwAG8q1PoPmSI\
+    S75hFrd9XmKQx5DiJehIG37VLFrY=' 'sha256-lCf/O7uShxMCsyWw+AlaHu5AJVshmNsyNpBipo8b4+Q=' 'sha256-2U2p/h+DhpVEEBp2\
+    kJP9bAHQfI7SN2gComkH+pOzXb0=' 'sha256-sno2OVboBAXrCd9QizE/Uz6bfEULA3rU8uCqTQHdzEs='; style-src 'sha256-RsWtZh\
     +BxYqWCWfOSV3GUR44bpLcFqTBWRf6DkyCFSk='; base-uri 'none'; form-action 'none'\">\n\
     <meta name=\"viewport\" content=\"width=device-width, initial-scale=1\">\n\
     <meta name=\"referrer\" content=\"no-referrer\">\n\
@@ -347,8 +347,8 @@ pub(crate) const BEFORE: &[u8] = b"\
     \x20         <span id=\"listing-range\"></span>\n\
     \x20       </div>\n\
     \x20       <table id=\"listing-table\">\n\
-    \x20         <thead><tr><th scope=\"col\">Event</th><th scope=\"col\">Sets</th><th scope=\"col\">Message</th>\
-    <th scope=\"col\" class=\"of-cuts\">In the cut</th></tr></thead>\n\
+    \x20         <thead><tr><th scope=\"col\">Event</th><th scope=\"col\">Line</th><th scope=\"col\">Sets</th><th\
+    \x20scope=\"col\">Message</th><th scope=\"col\" class=\"of-cuts\">In the cut</th></tr></thead>\n\
     \x20         <tbody></tbody>\n\
     \x20       </table>\n\
     \x20     </section>\n\
@@ -373,9 +373,9 @@ pub(crate) const BEFORE: &[u8] = b"\
     \x20 </aside>\n\
     </main>\n\
     <footer>\n\
-    \x20 <p><strong>Proved</strong> of the program that wrote this page: that it holds the session's events, mess\
-    ages, values and predicates, and the answers of its report or the cycle for which it is refused, as they are;\
-    \x20that this report is right; and that nothing of what it holds is read as mark-up.\n\
+    \x20 <p><strong>Proved</strong> of the program that wrote this page: that it holds the session's events with \
+    their lines, messages, values and predicates, and the answers of its report or the cycle for which it is refu\
+    sed, as they are; that this report is right; and that nothing of what it holds is read as mark-up.\n\
     \x20 <strong>Not proved, only tested:</strong> the script of this page, which draws, moves the cut, reads val\
     ues and decides predicates at it.</p>\n\
     \x20 <p>The page asks nothing of any network.</p>\n\

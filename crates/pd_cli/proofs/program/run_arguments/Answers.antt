@@ -9,6 +9,7 @@ use Rattle.pd_asked.specs.Views.{asks_view}
 use Rattle.pd_fail_on.specs.Views.{fail_on_view}
 use Rattle.pd_cli.specs.Drawings.{EndsDrawn}
 use Rattle.pd_cli.specs.Explorations.{ExploreLeaves}
+use Rattle.pd_explore.specs.Sources.{AreFilesOf}
 use Rattle.pd_arguments.specs.Arguments.{AsksToDraw}
 use Rattle.pd_arguments.specs.Views.{IsAsked, session_view}
 use Rattle.pd_arguments.proofs.ParserEnds.{error_as_asked}
@@ -161,8 +162,9 @@ returns-in-Ok-Explore g c = record {
       ends = subst (λ (streams : List (Option (List ℕ))). Ends (λ ending. HoldsAsked
           (asks_view c.in-Ok-Explore.exploration.names.asks)
           (g.F.FileSource.bytes_of c.args.files.now c.in-Ok-Explore.exploration.names.spec.now)
-          (λ d. ExploreLeaves c.in-Ok-Explore.exploration.beyond_width (Some d) streams
-          g.F.File.ByteSource.never_fails
+          (λ d. ExploreLeaves c.in-Ok-Explore.exploration.beyond_width (Some d)
+          (AreFilesOf (g.F.FileSource.bytes_of c.args.files.now)
+          (session_view c.in-Ok-Explore.exploration.names).1) streams g.F.File.ByteSource.never_fails
           (g.F.FileSource.always_opens ≡ true → g.F.File.ByteSource.never_fails ≡ true → ⊥) ending
           (g.O.Write.contents c.args.output.now) (g.O.Write.contents c.run_explore.new.output))) c.run_explore.result
           c.run_explore.ensures.start (g.E.Write.contents c.run_explore.new.errors))

@@ -1,16 +1,23 @@
 -- The page of the session, or why it comes to no answers.
-use Rattle.std.proofs.Common.{List, map, subst}
+use Rattle.std.proofs.Common.{◌≡◌, ◌∙◌, List, ap, map, subst}
 use Rattle.std.specs.Prelude.{IfErr, IfOk}
 use Rattle.std.proofs.lemmas.Result.{IfOk-weaker}
 use Rattle.pd_format.specs.Reports.{Report}
 use Rattle.pd_gather.specs.Views.{results_view, traces_view}
-use Rattle.pd_judgement.specs.Judgements.{IsJudgement, IsReportOfResults, IsTracesReport, RawStream}
+use Rattle.pd_judgement.specs.Judgements.{IsJudgement, IsReportOfResults, IsTracesReport, RawStream, events_of_traces}
+use Rattle.pd_model.specs.Events.{Computation}
+use Rattle.pd_page.specs.Views.{sources_view}
+use Rattle.pd_page.specs.declared.source.Source.{Source}
 use Rattle.pd_spec.specs.Views.{document_view}
 use Rattle.pd_sessions.specs.Inquiries.{inquiry_view}
 use Rattle.pd_sessions.specs.SessionReports.{IsReportOfInputs}
 use Rattle.pd_sessions.specs.Unanswered.{IsUnanswered}
 use Rattle.pd_sessions.proofs.SessionReports.{inputs_report, refusal_given, refused_inputs_report, traces_report}
+use Rattle.pd_sessions.proofs.FitTraces.{same_events}
+use Rattle.pd_traces.specs.Views.{computation_view}
 use Rattle.pd_traces.specs.declared.event.Trace.{Trace}
+use Rattle.pd_explore.specs.FileViews.{files_view}
+use Rattle.pd_explore.specs.Sources.{sources_of}
 use Rattle.pd_explore.specs.Explored.{IsPageOfInputs, IsPageOfTraces}
 use Rattle.pd_explore.specs.Refused.{IsRefusedBy}
 use Rattle.pd_explore.proofs.SessionPages.{inputs_page, refused_weaker}
@@ -42,20 +49,30 @@ returns-in_err-traces-clause-refused g c =
 pub returns-clause-page : goal.returns-clause-page
 returns-clause-page g c =
     let asked = inquiry_view c.args.inquiry in
+    let files = files_view c.args.files.now in
     let inputs = map g.R.ByteSource.remaining c.args.readers.items in
     let document = document_view c.in_ok-spec.spec in
     let count = c.in_ok-gathered.gathered.streams in
     let results = results_view c.in_ok-gathered.gathered.readings.items in
     let traces = traces_view c.in_ok-traces.traces.items in
+    let sources = sources_view c.in_ok-sources.sources.items in
+    let recorded : sources ≡ sources_of document.names files (events_of_traces traces) =
+    c.in_ok-sources.ensures
+    ∙ ap (λ (all : List Trace). sources_of document.names files (computation_view all)) c.deref.ensures.value
+    ∙ ap (λ (events : Computation). sources_of document.names files events)
+    (same_events c.in_ok-traces.traces.items) in
     IfOk-weaker c.page_of_traces.result
-    (λ page. IsPageOfTraces document traces (IsRefusedBy page.refusal) page.text.items)
-    (λ page. IsPageOfInputs asked inputs g.R.ByteSource.never_fails (IsRefusedBy page.refusal) page.text.items)
-    (λ page is. inputs_page asked inputs g.R.ByteSource.never_fails document count results traces
+    (λ page. IsPageOfTraces document sources traces (IsRefusedBy page.refusal) page.text.items)
+    (λ page. IsPageOfInputs asked files inputs g.R.ByteSource.never_fails (IsRefusedBy page.refusal) page.text.items)
+    (λ page is. inputs_page asked files inputs g.R.ByteSource.never_fails document count results sources traces
     (IsRefusedBy page.refusal) page.text.items
-    c.in_ok-spec.ensures.read c.in_ok-gathered.ensures.given c.in_ok-traces.ensures.joined is)
+    c.in_ok-spec.ensures.read c.in_ok-gathered.ensures.given c.in_ok-traces.ensures.joined recorded is)
     (subst (λ (all : List Trace). IfOk c.page_of_traces.result
-    (λ page. IsPageOfTraces document (traces_view all) (IsRefusedBy page.refusal) page.text.items))
-    c.deref.ensures.value c.page_of_traces.ensures.page)
+    (λ page. IsPageOfTraces document sources (traces_view all) (IsRefusedBy page.refusal) page.text.items))
+    c.deref-3.ensures.value
+    (subst (λ (found : List Source). IfOk c.page_of_traces.result
+    (λ page. IsPageOfTraces document (sources_view found) (traces_view c.deref-3.result.now)
+    (IsRefusedBy page.refusal) page.text.items)) c.deref-2.ensures.value c.page_of_traces.ensures.page))
 
 pub returns-clause-refused : goal.returns-clause-refused
 returns-clause-refused g c =
@@ -71,5 +88,5 @@ returns-clause-refused g c =
     c.in_ok-spec.ensures.read c.in_ok-gathered.ensures.given
     (traces_report document count results traces report c.in_ok-traces.ensures.joined right))
     (subst (λ (all : List Trace). IfErr c.page_of_traces.result
-    (IsUnanswered (IsTracesReport document (traces_view all)))) c.deref.ensures.value
+    (IsUnanswered (IsTracesReport document (traces_view all)))) c.deref-3.ensures.value
     c.page_of_traces.ensures.refused)

@@ -1,0 +1,20 @@
+-- What a file has left once it is open is all that it holds.
+use Rattle.std.proofs.Common.{◌≡◌, List, ℕ, None, Some, Option}
+use Rattle.std.specs.Global.{Global}
+use Rattle.std.specs.Prelude.{IfSome, Vec}
+use Rattle.pd_explore.specs.Sources.{stream_bytes}
+use Rattle.pd_cli.specs.FileSources.{HasWholeFile}
+use Rattle.pd_cli.proofs.FilesAgain.{of_file}
+use Rattle.pd_cli.proofs.second_look.stream_again.Goals as goal
+
+found_again : (found : Option (Vec ℕ Global)) (file left : Option (List ℕ)) → HasWholeFile file left
+    → IfSome found (λ bytes. IfSome left (λ all. bytes.items ≡ stream_bytes all))
+    → IfSome found (λ bytes. IfSome file (λ all. bytes.items ≡ stream_bytes all))
+found_again None file left has all = tt
+found_again (Some bytes) file left has all =
+    of_file file left (λ (held : List ℕ). bytes.items ≡ stream_bytes held) has all
+
+pub returns-in-Ok : goal.returns-in-Ok
+returns-in-Ok g c =
+    found_again c.stream_left.result (g.F.FileSource.bytes_of c.args.files.now c.args.name.now)
+    (g.F.File.ByteSource.remaining c.in-Ok.file) c.in-Ok.ensures.file c.stream_left.ensures
