@@ -172,6 +172,8 @@ def faults():
     yield session("the output is full")._replace(output="/dev/full")
     yield good._replace(name="there is no predicate of that name", files={**good.files, "report": REPORT},
                         words=("draw", "session.json", "report", "a.stream", "b.stream", "--predicate", "bot"))
+    yield good._replace(name="there is no evidence of that kind", files={**good.files, "report": REPORT},
+                        words=("draw", "session.json", "report", "a.stream", "b.stream", "--evidence", "definitely"))
     yield good._replace(name="the report is too long", files={**good.files, "report": TOO_LONG},
                         words=("check", "session.json", "report", "a.stream", "b.stream"))
     yield good._replace(name="a port is taken", words=("serve", "session.json", "--port", "TAKEN"))

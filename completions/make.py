@@ -19,6 +19,8 @@ ROOT = os.path.dirname(HERE)
 CONDITIONS = ["possibly", "possibly-no", "definitely", "definitely-no", "unknown"]
 # What each value of an option may be: words; or None, if any text is.
 VALUES = {
+    "COLUMN": None,
+    "KIND": ["possibly", "definitely"],
     "LIST": CONDITIONS,
     "PORT": None,
     "PREDICATE": None,
@@ -309,7 +311,9 @@ def wrong_completions(files):
         "monitor judge --workers 1": ["1", "10", "11", "12", "13", "14", "15", "16"],
         "monitor serve session --p": ["--port"],
         "monitor serve session --port ": [],
-        "monitor draw --": ["--width", "--ask", "--predicate", "--help", "--explain"],
+        "monitor draw --": [
+            "--width", "--ask", "--predicate", "--evidence", "--from", "--all", "--help", "--explain"],
+        "monitor draw session report a --evidence ": ["possibly", "definitely"],
         "monitor help s": ["serve"],
         "monitor check ": [],
     }

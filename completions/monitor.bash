@@ -37,6 +37,11 @@ _monitor() {
       return ;;
     --predicate)
       return ;;
+    --evidence)
+      COMPREPLY=($(compgen -W 'possibly definitely' -- "$current"))
+      return ;;
+    --from)
+      return ;;
     --port)
       return ;;
     --watchers)
@@ -47,7 +52,7 @@ _monitor() {
   case "$command" in
     judge) options='--width --ask --workers --beyond-width --fail-on -h --help --explain' ;;
     check) options='--width --ask -h --help --explain' ;;
-    draw) options='--width --ask --predicate -h --help --explain' ;;
+    draw) options='--width --ask --predicate --evidence --from --all -h --help --explain' ;;
     serve) options='--width --ask --port --watchers --wait --workers --beyond-width --fail-on -h --help --explain' ;;
     explore) options='--width --ask --workers --beyond-width -h --help --explain' ;;
     help)

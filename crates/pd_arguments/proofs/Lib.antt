@@ -6,3 +6,4 @@ pub mod Numbers
 pub mod Parsed
 pub mod ParserEnds
 pub mod ServicePorts
+pub mod Wishes

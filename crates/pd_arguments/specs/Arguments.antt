@@ -1,5 +1,5 @@
 -- What the arguments after the program's name ask for, as the command line's parser takes them.
-use Rattle.std.specs.Prelude.{◌≡◌, ◌≢◌, ◌⊎◌, ◌↔◌, ◌<◌, ◌≤◌, ◌^◌, ℕ, Bool, true, IsTrue, List, [], ◌∷◌, codes, Option, Some, None, Result, IsOkAnd}
+use Rattle.std.specs.Prelude.{◌≡◌, ◌≢◌, ◌⊎◌, ◌↔◌, ◌<◌, ◌≤◌, ◌^◌, ℕ, Bool, true, false, IsTrue, List, [], ◌∷◌, codes, Option, Some, None, Result, IsOkAnd}
 use Rattle.std.specs.Str.Parse.{IsNumeral, digits_value, without_leading_plus}
 use Rattle.clap.specs.Lexer.{usize_max}
 use Rattle.clap.specs.Words.{App, Row, Rule, Shape, Text, IsAmong, all_of, app_of, fault_of, first_of, new_app, new_rule, one_of, subcommand_of, with_rule, with_subcommand}
@@ -11,6 +11,11 @@ use Rattle.clap.specs.declared.error.kind.ErrorKind.TheVariants.{DisplayHelp, Di
 use Rattle.pd_asked.specs.Asked.{Asks}
 use Rattle.pd_format.specs.Limits.{width_limit, worker_limit}
 use Rattle.pd_fail_on.specs.Conditions.{AreLawful, Condition, list_text}
+use Rattle.pd_wish.specs.Wishes.{Wished}
+use Rattle.pd_wish.specs.declared.extent.Extent.{Extent}
+use Rattle.pd_wish.specs.declared.extent.Extent.TheVariants.{Around, From, All}
+use Rattle.pd_wish.specs.declared.kind.Kind.{Kind}
+use Rattle.pd_wish.specs.declared.kind.Kind.TheVariants.{Possibly, Definitely}
 use Rattle.pd_arguments.specs.Statuses.{Request, JudgeInput, JudgeFiles, CheckFiles, ServeStreams, ShowHelp, Unclear}
 
 -- ---- limits
@@ -26,6 +31,10 @@ watcher_limit = 64
 -- how many seconds are waited for streams at most: a day
 abbrev pub wait_limit : ℕ
 wait_limit = 86400
+
+-- the greatest number of a column that can be asked for
+abbrev pub column_number_limit : ℕ
+column_number_limit = 4294967295
 
 -- ---- the command line
 
@@ -80,6 +89,18 @@ ask_rule = record (new_rule (codes "TEXT")) { long = Some (codes "ask"); action 
 abbrev pub predicate_rule : Rule
 predicate_rule = record (new_rule (codes "PREDICATE")) { long = Some (codes "predicate") }
 
+-- which evidence of it
+abbrev pub kind_rule : Rule
+kind_rule = record (new_rule (codes "KIND")) { long = Some (codes "evidence") }
+
+-- the first column
+abbrev pub from_rule : Rule
+from_rule = number_rule (codes "COLUMN") (codes "from") 1 column_number_limit
+
+-- the flag that asks for all columns
+abbrev pub all_rule : Rule
+all_rule = record (new_rule (codes "ALL")) { long = Some (codes "all"); action = Some SetTrue }
+
 -- `NAME SPEC [--width WIDTH] [--ask TEXT]...`: all that follow have these two options
 abbrev pub document_app : (name : Text) → App
 document_app name = with_rule (with_rule (with_rule (new_app name) (required_rule (codes "SPEC"))) width_rule) ask_rule
@@ -100,9 +121,10 @@ judge_app = judging_app (with_rule (document_app (codes "judge")) stream_rule)
 abbrev pub check_app : App
 check_app = report_app (codes "check")
 
--- `draw SPEC REPORT STREAM... [--predicate PREDICATE]`
+-- `draw SPEC REPORT STREAM... [--predicate PREDICATE] [--evidence KIND] [--from COLUMN] [--all]`
 abbrev pub draw_app : App
-draw_app = with_rule (report_app (codes "draw")) predicate_rule
+draw_app = with_rule (with_rule (with_rule (with_rule (report_app (codes "draw")) predicate_rule) kind_rule) from_rule)
+    all_rule
 
 -- `serve SPEC --port PORT [--watchers WATCHERS] [--wait SECONDS] [--workers WORKERS] [--beyond-width]
 -- [--fail-on LIST]`
@@ -245,6 +267,45 @@ abbrev pub LacksService : List Row → Type 0
 LacksService rows =
     ¬ ((document : Text) × (port : ℕ) × (watchers : ℕ) × NamesService rows document port watchers)
 
+-- the word for a kind of evidence
+abbrev pub kind_text : Kind → Text
+kind_text Possibly = codes "possibly"
+kind_text Definitely = codes "definitely"
+
+-- the kind of evidence of this word, or none if there is no word
+abbrev pub NamesKind : Option Text → Option Kind → Type 0
+NamesKind None None = Unit {0}
+NamesKind None (Some kind) = ⊥
+NamesKind (Some text) None = ⊥
+NamesKind (Some text) (Some kind) = text ≡ kind_text kind
+
+-- the first column, if its option has a number
+abbrev pub first_column : Extent → Option ℕ
+first_column Around = None
+first_column (From column) = Some column
+first_column All = None
+
+-- all columns are asked for
+abbrev pub is_all : Extent → Bool
+is_all Around = false
+is_all (From column) = false
+is_all All = true
+
+-- how much of the run is asked for: all columns, or those from one on, and not both
+abbrev pub NamesExtent : List Row → Extent → Type 0
+NamesExtent rows extent =
+    MayNameNumber rows (codes "COLUMN") (first_column extent) × SaysFlag rows (codes "ALL") (is_all extent)
+
+-- what is asked of a picture
+pub record NamesWish (rows : List Row) (wish : Wished) : Type 0 where
+  pub names_predicate : first_of (codes "PREDICATE") rows ≡ wish.name
+  pub names_kind : NamesKind (first_of (codes "KIND") rows) wish.kind
+  pub names_extent : NamesExtent rows wish.extent
+
+-- the word is that of no kind, or all columns are asked for and those from one on
+abbrev pub LacksWish : List Row → Type 0
+LacksWish rows = (wish : Wished) → ¬ NamesWish rows wish
+
 -- ---- what is asked for
 
 -- the commands that take the names of streams' files
@@ -266,8 +327,8 @@ TakesWorkers command = (command ≡ codes "judge") ⊎ (command ≡ codes "serve
 
 -- What the arguments ask for. If they are taken, it is what their command is for, and with no command the bundle on the
 -- input is judged. Arguments that are not taken ask for a text that is shown, or have some other fault; and so have
--- those of a command that lacks a name or a number, or has a list that is none of conditions. How many workers there
--- are changes nothing of what is asked for.
+-- those of a command that lacks a name or a number, or has a list that is none of conditions, or asks for no picture
+-- that there could be. How many workers there are changes nothing of what is asked for.
 pub data AsksFor (arguments : List Text) : Request → Type 0 where
   of_input : AreTaken arguments → ¬ ((rows : List Row) × AreOf (codes "judge") arguments rows)
       → ¬ ((rows : List Row) × AreOf (codes "check") arguments rows)
@@ -299,18 +360,18 @@ pub data AsksFor (arguments : List Text) : Request → Type 0 where
       → LacksWorkers rows → AsksFor arguments Unclear
   of_no_conditions : (command : Text) (rows : List Row) → IsJudging command → AreOf command arguments rows
       → LacksConditions rows → AsksFor arguments Unclear
+  of_no_wish : (rows : List Row) → AreOf (codes "draw") arguments rows → LacksWish rows → AsksFor arguments Unclear
 
--- The arguments ask for a picture of a session in files of these names, and of the evidence of the predicate of this
--- name, or without a name of the first that has evidence.
+-- The arguments ask for this picture of a session in files of these names.
 pub record AsksToDraw (arguments : List Text) (asks : Asks) (document report : Text) (streams : List Text)
-    (name : Option Text) : Type 0 where
+    (wish : Wished) : Type 0 where
   pub rows : List Row
   pub are_taken : AreTaken arguments
   pub are_of : AreOf (codes "draw") arguments rows
   pub names_session : NamesSession rows document streams
   pub names_asks : NamesAsks rows asks
   pub names_report : NamesReport rows report
-  pub names_predicate : first_of (codes "PREDICATE") rows ≡ name
+  pub names_wish : NamesWish rows wish
 
 -- The arguments ask for the page of a session in files of these names, and of what is decided whatever the width, if
 -- that is asked for. How many workers there are changes nothing of it.
@@ -340,3 +401,20 @@ FindsSession rows (Some names) = NamesSession rows names.0 names.1
 abbrev pub FindsConditions : List Row → Option (List Condition) → Type 0
 FindsConditions rows None = LacksConditions rows
 FindsConditions rows (Some conditions) = NamesConditions rows conditions
+
+-- how much of the run is asked for by the number of a column, if there is one, and by the flag
+abbrev pub extent_by : Option ℕ → (all : Bool) → Option Extent
+extent_by None false = Some Around
+extent_by None true = Some All
+extent_by (Some column) false = Some (From column)
+extent_by (Some column) true = None
+
+-- how much of the run is asked for, or that nothing could be
+abbrev pub FindsExtent : List Row → Option Extent → Type 0
+FindsExtent rows None = (extent : Extent) → ¬ NamesExtent rows extent
+FindsExtent rows (Some extent) = NamesExtent rows extent
+
+-- what is asked of a picture, or that nothing could be
+abbrev pub FindsWish : List Row → Option Wished → Type 0
+FindsWish rows None = LacksWish rows
+FindsWish rows (Some wish) = NamesWish rows wish

@@ -1,10 +1,10 @@
 -- What the program is asked for, as the definitions name it.
-use Rattle.std.specs.Prelude.{List, ℕ, map, option_map, Option, Some, None}
-use Rattle.std.specs.Borrow.{Bor}
+use Rattle.std.specs.Prelude.{List, ℕ, map, Option, Some, None}
 use Rattle.pd_arguments.specs.Statuses as asked
 use Rattle.clap.specs.Words.{Text}
 use Rattle.pd_asked.specs.Views.{asks_view}
 use Rattle.pd_fail_on.specs.Views.{fail_on_view}
+use Rattle.pd_wish.specs.Wishes.{wish_view}
 use Rattle.pd_arguments.specs.Arguments.{AsksFor, AsksToDraw, AsksToExplore}
 use Rattle.pd_arguments.specs.declared.request.Request.{Request}
 use Rattle.pd_arguments.specs.declared.request.Request.TheVariants.{Bundle, Judge, Check, Draw, Serve, Explore}
@@ -22,9 +22,9 @@ IsAsked arguments (Judge judgement) =
     (asks_view judgement.names.asks) (session_view judgement.names).0 (session_view judgement.names).1)
 IsAsked arguments (Check report names) =
     AsksFor arguments (asked.CheckFiles (asks_view names.asks) (session_view names).0 report.now (session_view names).1)
-IsAsked arguments (Draw report predicate names) =
+IsAsked arguments (Draw report wish names) =
     AsksToDraw arguments (asks_view names.asks) (session_view names).0 report.now (session_view names).1
-    (option_map (λ (name : Bor (List ℕ)). name.now) predicate)
+    (wish_view wish)
 IsAsked arguments (Serve service) =
     AsksFor arguments (asked.ServeStreams service.beyond_width (fail_on_view service.fail_on) (asks_view service.asks)
     service.spec.now service.port service.watchers service.wait)

@@ -3,19 +3,24 @@ ghost use Rattle.clap.specs.Matches.{found_of};
 ghost use Rattle.clap.specs.Simple.{app_of, subcommand_of, subcommand_rows_of};
 ghost use Rattle.clap.specs.Values.{kind_of};
 ghost use Rattle.clap.specs.Walk.{Text, all_of, rows_of};
-ghost use Rattle.pd_arguments.specs.Arguments.{AreOf, AreTaken, FindsConditions, FindsSession, IsErrorOf, IsNumberText, IsPort, IsShownKind, NamesAsks, NamesConditions, NamesNumber, NamesPredicates, NamesWait, NamesWidth, NamesWorkers, SaysFlag, monitor_app};
+ghost use Rattle.pd_arguments.specs.Arguments.{AreOf, AreTaken, FindsConditions, FindsExtent, FindsSession, FindsWish, IsErrorOf, IsNumberText, IsPort, IsShownKind, NamesAsks, NamesConditions, NamesNumber, NamesPredicates, NamesWait, NamesWidth, NamesWorkers, SaysFlag, extent_by, kind_text, monitor_app};
 ghost use Rattle.pd_asked.specs.Views.{asks_view};
 ghost use Rattle.pd_fail_on.specs.Views.{fail_on_view};
 ghost use Rattle.pd_arguments.specs.Views.{IsAsked, IsAskedIf, session_view};
-ghost use Rattle.std.specs.Prelude.{◌≡◌, ◌≢◌, ℕ, IfErr, IfOk, IfSome, List, None, codes, map, option_map};
+ghost use Rattle.pd_wish.specs.Wishes.{wish_view};
+ghost use Rattle.pd_wish.specs.declared.kind.Kind as kinds;
+ghost use Rattle.std.specs.Prelude.{◌≡◌, ◌≢◌, ℕ, IfErr, IfOk, IfSome, List, MatchOption, None, codes, false, map, option_map, true};
 
-use super::commands::{LIST_WANTED, PORT_LIMIT, WATCHER_LIMIT, program_command};
+use super::commands::{
+    EXTENT_WANTED, KIND_WANTED, LIST_WANTED, PORT_LIMIT, WATCHER_LIMIT, program_command,
+};
 use super::request::{Exploration, Judgement, Request, Service, SessionNames};
 use super::workers::Workers;
 use clap::error::ErrorKind;
 use clap::{ArgMatches, Command, Error};
 use pd_asked::Asks;
 use pd_fail_on::FailOn;
+use pd_wish::{Extent, Kind, Wish};
 use std::alloc::{AllocError, Global};
 
 /// The texts of the predicates that are asked for.
@@ -120,7 +125,83 @@ fn check_request<'a>(
     Ok(Some(Request::Check(report, names)))
 }
 
-/// What the arguments of `draw` ask for, if all names of files are there.
+/// Whether the bytes are this text.
+fn is(word: &[u8], text: &str) -> bool
+    ensures yes { result ≡ true → word.now ≡ text.now }
+    ensures no { result ≡ false → ¬ (word.now ≡ text.now) }
+{
+    word == text.as_bytes()
+}
+
+/// The kind of evidence of this word, if it is one's.
+fn kind_of(word: &[u8]) -> Option<Kind>
+    ensures { MatchOption result ((kind : kinds.Kind) → ¬ (word.now ≡ kind_text kind))
+        (λ kind. word.now ≡ kind_text kind) }
+{
+    if is(word, "possibly") {
+        return Some(Kind::Possibly);
+    }
+    if is(word, "definitely") {
+        return Some(Kind::Definitely);
+    }
+    None
+}
+
+/// How much of a run is asked for by the number of a column, if there is one, and by the flag, unless both are given.
+fn extent_by(column: Option<u64>, all: bool) -> Option<Extent>
+    ensures { result ≡ extent_by column all }
+{
+    match column {
+        None => {
+            if all {
+                Some(Extent::All)
+            } else {
+                Some(Extent::Around)
+            }
+        }
+        Some(column) => {
+            if all {
+                None
+            } else {
+                Some(Extent::From(column))
+            }
+        }
+    }
+}
+
+/// How much of a run is asked for, unless it is all columns and those from one on.
+fn extent_of(matches: &ArgMatches<'_>) -> Option<Extent>
+    ensures { FindsExtent (rows_of (found_of matches.now)) result }
+{
+    extent_by(number_of(matches, "COLUMN"), flag_of(matches, "ALL"))
+}
+
+/// What is asked of a picture, if it is something that could be.
+fn wish_of<'a>(matches: &ArgMatches<'a>) -> Option<Wish<'a>>
+    ensures { FindsWish (rows_of (found_of matches.now)) (option_map wish_view result) }
+{
+    let predicate = matches.get_str("PREDICATE");
+    let Some(extent) = extent_of(matches) else {
+        return None;
+    };
+    let Some(word) = matches.get_str("KIND") else {
+        return Some(Wish {
+            predicate,
+            kind: None,
+            extent,
+        });
+    };
+    let Some(kind) = kind_of(word.as_bytes()) else {
+        return None;
+    };
+    Some(Wish {
+        predicate,
+        kind: Some(kind),
+        extent,
+    })
+}
+
+/// What the arguments of `draw` ask for, if all names of files are there, and the picture is one that could be.
 fn draw_request<'a>(
     alloc: Global,
     matches: &ArgMatches<'a>,
@@ -129,14 +210,16 @@ fn draw_request<'a>(
         → AreOf (codes "draw") arguments (rows_of (found_of matches.now))
         → IsAskedIf arguments request) }
 {
-    let predicate = matches.get_str("PREDICATE");
+    let Some(wish) = wish_of(matches) else {
+        return Ok(None);
+    };
     let Some(report) = matches.get_str("REPORT") else {
         return Ok(None);
     };
     let Some(names) = session_names(alloc, matches)? else {
         return Ok(None);
     };
-    Ok(Some(Request::Draw(report, predicate, names)))
+    Ok(Some(Request::Draw(report, wish, names)))
 }
 
 /// The number that this text is, if it is one of 64 bits.
@@ -312,11 +395,22 @@ fn request_of<'a>(
     Ok(Some(Request::Bundle))
 }
 
-/// Whether there is a list of conditions.
-fn has_list(matches: &ArgMatches<'_>) -> bool {
+/// What is wanted in place of what is given, if these arguments lack nothing but ask for nothing that could be.
+fn wanted(matches: &ArgMatches<'_>) -> Option<&'static str> {
     match matches.subcommand() {
-        Some((_, found)) => found.contains_id("LIST"),
-        None => false,
+        Some((_, found)) => {
+            if found.contains_id("LIST") {
+                return Some(LIST_WANTED);
+            }
+            if found.contains_id("COLUMN") && flag_of(found, "ALL") {
+                return Some(EXTENT_WANTED);
+            }
+            if found.contains_id("KIND") {
+                return Some(KIND_WANTED);
+            }
+            None
+        }
+        None => None,
     }
 }
 
@@ -330,19 +424,19 @@ fn error_of(command: &mut Command<'_>, kind: ErrorKind, text: &str) -> Error
     }
 }
 
-/// The error of a command whose list is none of conditions, or that lacks a name of a file or a number. The parser
-/// finds the latter itself, so if there is a list, the error is of the list.
-fn unclear_arguments(command: &mut Command<'_>, has_list: bool) -> Error
+/// The error of a command of which this is wanted in place of what is given, or that lacks a name of a file or a
+/// number. The parser finds the latter itself, so if something is wanted, the error says that.
+fn unclear_arguments(command: &mut Command<'_>, wanted: Option<&str>) -> Error
     ensures { kind_of result ≢ ErrorKind.OutOfMemory → ¬ IsShownKind (kind_of result) }
 {
-    if has_list {
-        return error_of(command, ErrorKind::ValueValidation, LIST_WANTED);
+    match wanted {
+        Some(text) => error_of(command, ErrorKind::ValueValidation, text),
+        None => error_of(
+            command,
+            ErrorKind::MissingRequiredArgument,
+            "a name of a file or a number is missing",
+        ),
     }
-    error_of(
-        command,
-        ErrorKind::MissingRequiredArgument,
-        "a name of a file or a number is missing",
-    )
 }
 
 /// What the arguments ask for, as the program's command line takes them, or what its parser has to say.
@@ -362,7 +456,7 @@ fn request_by<'a>(
         Err(error) => return Err(error),
     };
     let Some(request) = request_of(alloc, &matches)? else {
-        return Err(unclear_arguments(command, has_list(&matches)));
+        return Err(unclear_arguments(command, wanted(&matches)));
     };
     Ok(request)
 }

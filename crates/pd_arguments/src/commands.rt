@@ -2,7 +2,7 @@
 ghost use Rattle.clap.specs.Simple.{app_of};
 ghost use Rattle.clap.specs.Walk.{rule_of};
 ghost use Rattle.clap.specs.declared.builder.command.Command.TheViews.{out-Command};
-ghost use Rattle.pd_arguments.specs.Arguments.{AddsCommand, ask_rule, beyond_width_rule, check_app, document_app, draw_app, explore_app, fail_on_rule, judge_app, judging_app, monitor_app, number_rule, plain_app, port_rule, predicate_rule, report_app, required_rule, serve_app, stream_rule, wait_rule, watchers_rule, width_rule, workers_rule};
+ghost use Rattle.pd_arguments.specs.Arguments.{AddsCommand, all_rule, ask_rule, beyond_width_rule, check_app, document_app, draw_app, explore_app, fail_on_rule, from_rule, judge_app, judging_app, kind_rule, monitor_app, number_rule, plain_app, port_rule, predicate_rule, report_app, required_rule, serve_app, stream_rule, wait_rule, watchers_rule, width_rule, workers_rule};
 ghost use Rattle.std.specs.Prelude.{◌≡◌, IfOk, false};
 
 use clap::builder::ValueParser;
@@ -31,7 +31,7 @@ Status:
   0  The session is judged, and no condition of --fail-on is met; a check finds nothing bad; the picture, the page or \
 the help is written
   1  The session is refused; a check finds something bad, or what stands against the picture
-  2  The arguments are refused, or name a predicate that isn't there
+  2  The arguments are refused, or name a predicate or evidence that isn't there
   3  A file can't be opened or read, a port can't be bound, a stream can't be accepted or doesn't come in time, or the \
 output can't be written
   4  Memory runs out
@@ -41,6 +41,12 @@ output can't be written
 pub(crate) const LIST_WANTED: &str =
     "the list after --fail-on has to be one or more of possibly, possibly-no, definitely, definitely-no and unknown, \
 each alone or as NAME:possibly of the predicate NAME, with a comma between each two";
+
+/// What is wanted of the word for a kind of evidence.
+pub(crate) const KIND_WANTED: &str = "the word after --evidence has to be possibly or definitely";
+
+/// What is wanted of the columns.
+pub(crate) const EXTENT_WANTED: &str = "--from and --all can't be given together";
 
 /// What the help says of `judge`.
 const JUDGE_ABOUT: &str = "Judges predicates on a computation that is recorded in files";
@@ -85,10 +91,12 @@ const DRAW_ABOUT: &str =
 /// What the help of `draw` ends with.
 const DRAW_AFTER: &str =
     "A picture is written to the standard output, as SVG. With a cut the events are numbered in the order of an \
-observation through it. The report is read and held against the document and the \
-streams as `check` does. The status is 0 if the picture is written, 1 if something that a check finds stands against \
-it, which is then written to the standard error, 2 if the arguments are refused or there is no predicate of the name \
-that is asked for, 3 if a file can't be opened or read or the output can't be written, and 4 if memory runs out.\n\n\
+observation through it. At most 24 columns are drawn, around the evidence, if nothing else is asked for. Of a session \
+that is refused for a causal cycle, as the report says, the run is drawn with its cycle marked. The report is read and \
+held against the document and the streams as `check` does. The status is 0 if the picture is written, 1 if something \
+that a check finds stands against it, which is then written to the standard error, 2 if the arguments are refused or \
+there is no predicate of the name, or no evidence of the kind, that is asked for, 3 if a file can't be opened or read \
+or the output can't be written, and 4 if memory runs out.\n\n\
 The formats are described in docs/SPECIFICATION.md. An example, at the top of the repository:\n  \
 crates/monitor/out/monitor draw examples/ten-lines/session.json examples/ten-lines/report \
 examples/ten-lines/left.stream examples/ten-lines/right.stream > picture.svg";
@@ -135,6 +143,9 @@ pub(crate) const WATCHER_LIMIT: u64 = 64;
 
 /// The greatest number of seconds for which streams are waited: a day.
 pub(crate) const WAIT_LIMIT: u64 = 86_400;
+
+/// The greatest number of a column that can be asked for.
+pub(crate) const COLUMN_NUMBER_LIMIT: u64 = 4_294_967_295;
 
 /// An argument that must be given, the name of one file.
 fn file_argument<'a>(alloc: Global, id: &'a str, help: &'a str) -> Arg<'a>
@@ -202,6 +213,37 @@ fn wait_option<'a>(alloc: Global) -> Arg<'a>
     number_option(alloc, "SECONDS", "wait", 1, WAIT_LIMIT).help(
         "How many seconds, at most 86400, the streams are waited for; without it they are waited for forever",
     )
+}
+
+/// The option that says which evidence is drawn.
+fn kind_option<'a>(alloc: Global) -> Arg<'a>
+    ensures rule { rule_of result ≡ kind_rule }
+    ensures local { result.global ≡ false }
+{
+    Arg::new(alloc, "KIND").long("evidence").help(
+        "The evidence that is drawn: possibly, a cut, or definitely, a path; without it the cut, or else the path",
+    )
+}
+
+/// The option that says which column is the first one.
+fn from_option<'a>(alloc: Global) -> Arg<'a>
+    ensures rule { rule_of result ≡ from_rule }
+    ensures local { result.global ≡ false }
+{
+    number_option(alloc, "COLUMN", "from", 1, COLUMN_NUMBER_LIMIT).help(
+        "The first column that is drawn, of at most 24; without it those around the evidence are",
+    )
+}
+
+/// The option that asks for all columns.
+fn all_option<'a>(alloc: Global) -> Arg<'a>
+    ensures rule { rule_of result ≡ all_rule }
+    ensures local { result.global ≡ false }
+{
+    Arg::new(alloc, "ALL")
+        .long("all")
+        .action(ArgAction::SetTrue)
+        .help("Draw all columns")
 }
 
 /// The option that says how many workers there are.
@@ -331,7 +373,11 @@ fn draw_command<'a>(alloc: Global) -> Result<Command<'a>, AllocError>
     ensures app { IfOk result (λ command. app_of command ≡ draw_app) }
     ensures local { IfOk result (λ command. (out-Command command).has_globals ≡ false) }
 {
-    report_command(alloc, "draw", DRAW_ABOUT, DRAW_AFTER)?.arg(predicate_option(alloc))
+    report_command(alloc, "draw", DRAW_ABOUT, DRAW_AFTER)?
+        .arg(predicate_option(alloc))?
+        .arg(kind_option(alloc))?
+        .arg(from_option(alloc))?
+        .arg(all_option(alloc))
 }
 
 /// The command line of a server.

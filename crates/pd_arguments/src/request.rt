@@ -3,6 +3,7 @@
 use super::workers::Workers;
 use pd_asked::Asks;
 use pd_fail_on::FailOn;
+use pd_wish::Wish;
 
 /// The names of the files of a session, and what is asked of it.
 #[derive(Drop)]
@@ -69,9 +70,8 @@ pub enum Request<'a> {
     Judge(Judgement<'a>),
     /// To check the report in the file of this name against a session document and streams.
     Check(&'a str, SessionNames<'a>),
-    /// To draw the report in the file of this name with a session document and streams: the evidence of the predicate
-    /// of this name, if there is one, or else of the first predicate that has evidence.
-    Draw(&'a str, Option<&'a str>, SessionNames<'a>),
+    /// To draw the report in the file of this name with a session document and streams, as it is asked for.
+    Draw(&'a str, Wish<'a>, SessionNames<'a>),
     /// To judge a session document and streams that come by connections.
     Serve(Service<'a>),
     /// To write the page on which the run of a session document and streams is explored.

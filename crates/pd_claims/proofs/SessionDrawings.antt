@@ -17,6 +17,8 @@ use Rattle.pd_svg.specs.declared.drawing.Drawing.{Drawing as Picture}
 use Rattle.pd_check.specs.Found.{IsFoundOfRefused, of_refused_session}
 use Rattle.pd_check.specs.Views.{finding_view}
 use Rattle.pd_check.proofs.SessionFindings.{finding_of_session}
+use Rattle.pd_wish.specs.Wishes.{Wished}
+use Rattle.pd_wish.specs.declared.extent.Extent.{Extent}
 use Rattle.pd_draw.specs.Choices.{stands_against}
 use Rattle.pd_draw.specs.Cycles.{IsRefusalDrawn}
 use Rattle.pd_draw.specs.Drawn.{Comes}
@@ -44,12 +46,12 @@ pairs_recorded document traces recorded count pairs well list =
 
 -- what comes of a session's traces
 pub formed_drawn : (document : Document) (traces : List Read) (recorded : Recorded) (messages : ℕ)
-    (pairs : List (Place × Place)) (claimed : Report) (name : Option (List ℕ)) (given : Drawn)
+    (pairs : List (Place × Place)) (claimed : Report) (wish : Wished) (given : Drawn)
     → AreWellFormed document (traces_view traces) recorded messages
     → IsMessageList (computation_view traces) pairs
-    → Comes document (traces_view traces) pairs messages claimed name given
-    → DrawsFormed document (traces_view traces) claimed name given
-formed_drawn document traces recorded messages pairs claimed name given well list comes = record {
+    → Comes document (traces_view traces) pairs messages claimed wish given
+    → DrawsFormed document (traces_view traces) claimed wish given
+formed_drawn document traces recorded messages pairs claimed wish given well list comes = record {
   messages = messages;
   formed = well.formed;
   counted = well.counted;
@@ -60,39 +62,41 @@ formed_drawn document traces recorded messages pairs claimed name given well lis
 
 -- the same, whatever comes
 pub traces_drawn : (document : Document) (traces : List Read) (recorded : Recorded) (messages : ℕ)
-    (pairs : List (Place × Place)) (claimed : Report) (name : Option (List ℕ)) (given : Drawn)
+    (pairs : List (Place × Place)) (claimed : Report) (wish : Wished) (given : Drawn)
     → AreWellFormed document (traces_view traces) recorded messages
     → IsMessageList (computation_view traces) pairs
-    → Comes document (traces_view traces) pairs messages claimed name given
-    → DrawsTraces document (traces_view traces) claimed name given
-traces_drawn document traces recorded messages pairs claimed name (drawn.Picture picture) well list comes =
-    formed_drawn document traces recorded messages pairs claimed name (drawn.Picture picture) well list comes
-traces_drawn document traces recorded messages pairs claimed name (drawn.Bad finding) well list comes =
-    formed_drawn document traces recorded messages pairs claimed name (drawn.Bad finding) well list comes
-traces_drawn document traces recorded messages pairs claimed name drawn.NoPredicate well list comes =
-    formed_drawn document traces recorded messages pairs claimed name drawn.NoPredicate well list comes
-traces_drawn document traces recorded messages pairs claimed name (drawn.Cycle picture) well list comes = absurd comes
+    → Comes document (traces_view traces) pairs messages claimed wish given
+    → DrawsTraces document (traces_view traces) claimed wish given
+traces_drawn document traces recorded messages pairs claimed wish (drawn.Picture picture) well list comes =
+    formed_drawn document traces recorded messages pairs claimed wish (drawn.Picture picture) well list comes
+traces_drawn document traces recorded messages pairs claimed wish (drawn.Bad finding) well list comes =
+    formed_drawn document traces recorded messages pairs claimed wish (drawn.Bad finding) well list comes
+traces_drawn document traces recorded messages pairs claimed wish drawn.NoPredicate well list comes =
+    formed_drawn document traces recorded messages pairs claimed wish drawn.NoPredicate well list comes
+traces_drawn document traces recorded messages pairs claimed wish drawn.NoEvidence well list comes =
+    formed_drawn document traces recorded messages pairs claimed wish drawn.NoEvidence well list comes
+traces_drawn document traces recorded messages pairs claimed wish (drawn.Cycle picture) well list comes = absurd comes
 
 -- the picture of a refused cycle
 pub cycle_drawn : (document : Document) (traces : List Read) (pairs : List (Place × Place)) (claimed : Report)
-    (refusal : Refusal) (picture : Picture) → IsMessageList (computation_view traces) pairs
+    (refusal : Refusal) (extent : Extent) (picture : Picture) → IsMessageList (computation_view traces) pairs
     → IsTracesReport document (traces_view traces) (Refused refusal) → claimed ≡ Refused refusal
-    → IsRefusalDrawn document (computation_view traces) pairs refusal picture
-    → DrawsCycle document (traces_view traces) claimed picture
-cycle_drawn document traces pairs claimed refusal picture list refused same is = record {
+    → IsRefusalDrawn document (computation_view traces) pairs refusal extent picture
+    → DrawsCycle document (traces_view traces) claimed extent picture
+cycle_drawn document traces pairs claimed refusal extent picture list refused same is = record {
   refusal = refusal;
   is_claimed = same;
   refused = refused;
   pairs = pairs;
   are_pairs = subst (λ (c : Computation). IsMessageList c pairs) (same_events traces) list;
-  drawn = subst (λ (c : Computation). IsRefusalDrawn document c pairs refusal picture) (same_events traces) is;
+  drawn = subst (λ (c : Computation). IsRefusalDrawn document c pairs refusal extent picture) (same_events traces) is;
 }
 
 -- a session that was read
 module _ (bytes : List ℕ) (inputs : List (Option (List ℕ))) (never_fails : Bool) (document : Document)
-    (traces : List Trace) (claimed : Report) (name : Option (List ℕ))
+    (traces : List Trace) (claimed : Report) (wish : Wished)
     (read : IsRead bytes inputs never_fails document traces) where
-  held : (given : Drawn) → (draws : DrawsFormed document traces claimed name given)
+  held : (given : Drawn) → (draws : DrawsFormed document traces claimed wish given)
       → IsSessionOf bytes read.streams document traces draws.messages
   held given draws = record {
     read = read.is_document;
@@ -103,8 +107,8 @@ module _ (bytes : List ℕ) (inputs : List (Option (List ℕ))) (never_fails : B
     counted = draws.counted;
   }
 
-  pub session_drawn : (given : Drawn) → DrawsTraces document traces claimed name given
-      → DrawsOf bytes claimed inputs never_fails name given
+  pub session_drawn : (given : Drawn) → DrawsTraces document traces claimed wish given
+      → DrawsOf bytes claimed inputs never_fails wish given
   session_drawn (drawn.Picture picture) draws report is_report = record {
     streams = read.streams;
     are_given = read.are_given;
@@ -133,6 +137,14 @@ module _ (bytes : List ℕ) (inputs : List (Option (List ℕ))) (never_fails : B
         is_report (held drawn.NoPredicate draws) draws.comes.found;
     is_unknown = draws.comes.is_unknown;
   }
+  session_drawn drawn.NoEvidence draws report is_report = record {
+    streams = read.streams;
+    are_given = read.are_given;
+    checked = draws.comes.checked;
+    right = finding_of_session bytes report read.streams document traces draws.messages claimed _
+        is_report (held drawn.NoEvidence draws) draws.comes.found;
+    is_lacking = draws.comes.is_lacking;
+  }
   session_drawn (drawn.Cycle picture) draws report is_report = record {
     streams = read.streams;
     are_given = read.are_given;
@@ -148,28 +160,27 @@ module _ (bytes : List ℕ) (inputs : List (Option (List ℕ))) (never_fails : B
   }
 
 -- a refused session
-refusal_stands : (refusal : Refusal) (claimed : Report) (name : Option (List ℕ)) (finding : Finding)
-    → IsFoundOfRefused refusal claimed finding → stands_against name finding ≡ true
-refusal_stands refusal claimed name finding (of_refused_session good right) = refl
+refusal_stands : (refusal : Refusal) (claimed : Report) (wish : Wished) (finding : Finding)
+    → IsFoundOfRefused refusal claimed finding → stands_against wish finding ≡ true
+refusal_stands refusal claimed wish finding (of_refused_session good right) = refl
 
 pub refusal_drawn : (bytes : List ℕ) (inputs : List (Option (List ℕ))) (never_fails : Bool) (refusal : Refusal)
     (claimed : Report)
-    (name : Option (List ℕ)) (finding : Finding) → IsReportOfInputs (plain bytes) inputs never_fails (Refused refusal)
+    (wish : Wished) (finding : Finding) → IsReportOfInputs (plain bytes) inputs never_fails (Refused refusal)
     → IsFoundOfRefused refusal claimed finding → (report : List ℕ) → IsReport report claimed
-    → IsAgainst bytes report inputs never_fails name finding
-refusal_drawn bytes inputs never_fails refusal claimed name finding refused found report is_report =
+    → IsAgainst bytes report inputs never_fails wish finding
+refusal_drawn bytes inputs never_fails refusal claimed wish finding refused found report is_report =
     let finds = refusal_found bytes inputs never_fails refusal claimed finding refused found in record {
       streams = finds.streams;
       are_given = finds.are_given;
       right = finds.right report is_report;
-      stands = refusal_stands refusal claimed name finding found;
+      stands = refusal_stands refusal claimed wish finding found;
     }
 
 -- a report that isn't read
-pub unread_drawn : (bytes report : List ℕ) (inputs : List (Option (List ℕ))) (never_fails : Bool) (name : Option
-    (List ℕ)) (line : ℕ)
-    → IsNoReport report line → IsAgainst bytes report inputs never_fails name (NotRead line)
-unread_drawn bytes report inputs never_fails name line none =
+pub unread_drawn : (bytes report : List ℕ) (inputs : List (Option (List ℕ))) (never_fails : Bool) (wish : Wished)
+    (line : ℕ) → IsNoReport report line → IsAgainst bytes report inputs never_fails wish (NotRead line)
+unread_drawn bytes report inputs never_fails wish line none =
     let finds = unread_found bytes report inputs never_fails line none in record {
       streams = finds.streams;
       are_given = finds.are_given;

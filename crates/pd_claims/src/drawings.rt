@@ -1,5 +1,4 @@
 //! Draws a report's evidence.
-ghost use Rattle.pd_draw.specs.Choices.{name_view};
 ghost use Rattle.pd_claims.specs.Drawings.{Draws, DrawsOf, DrawsTraces, ShowsEnd, WritesPicture};
 ghost use Rattle.pd_match.specs.Views.{pairs_view};
 ghost use Rattle.pd_model.specs.Messages.{IsMessageList};
@@ -16,7 +15,8 @@ ghost use Rattle.pd_judgement.specs.Writes.{Writes};
 ghost use Rattle.pd_report.specs.Views.{report_view};
 ghost use Rattle.pd_spec.specs.Views.{document_view};
 ghost use Rattle.pd_svg.specs.Svg.{drawing_text};
-ghost use Rattle.std.specs.Prelude.{◌≡◌, ◌⊎◌, ℕ, All, IfErr, IfOk, IsOkUnless, List, Option, false, map};
+ghost use Rattle.pd_wish.specs.Wishes.{wish_view};
+ghost use Rattle.std.specs.Prelude.{◌≡◌, ◌⊎◌, All, IfErr, IfOk, IsOkUnless, false, map};
 
 use super::session::read_session;
 use pd_check::{Finding, find_refused, text};
@@ -27,6 +27,7 @@ use pd_report::{Report, ReportFault, WriteFault};
 use pd_sessions::{EngineFault, Unanswered, build, messages_of};
 use pd_spec::Spec;
 use pd_traces::Trace;
+use pd_wish::Wish;
 use std::alloc::{AllocError, Global};
 use std::io::Write;
 use std::random::RandomSource;
@@ -44,6 +45,8 @@ pub enum DrawOutcome {
     Refused(Vec<u8>),
     /// No picture is written: there is no predicate of the name that was asked for.
     NoPredicate,
+    /// No picture is written: there is no evidence of the kind that was asked for.
+    NoEvidence,
 }
 
 /// What is drawn of a well-formed session and a report on it.
@@ -52,15 +55,15 @@ fn draw_formed(
     run: &Run<'_, '_>,
     claimed: &Report,
     messages: u64,
-    name: Option<&str>,
+    wish: &Wish<'_>,
 ) -> Result<Drawn, AllocError>
     requires formed { AreWellFormed (document_view run.now.spec.now) (traces_view run.now.traces.now)
         run.now.computation.now messages }
     requires pairs { IsMessageList (computation_view run.now.traces.now) (pairs_view run.now.pairs.now) }
     ensures { IfOk result (DrawsTraces (document_view run.now.spec.now) (traces_view run.now.traces.now)
-        (report_view claimed.now) (name_view name.entry)) }
+        (report_view claimed.now) (wish_view wish.now)) }
 {
-    let drawn = pd_draw::draw(alloc, run, claimed, messages, name)?;
+    let drawn = pd_draw::draw(alloc, run, claimed, messages, wish)?;
     Ok(drawn)
 }
 
@@ -72,18 +75,19 @@ fn draw_unanswered(
     claimed: &Report,
     traces: &[Trace],
     pairs: &[(Place, Place)],
+    wish: &Wish<'_>,
     unanswered: Unanswered,
 ) -> Result<Drawn, Unanswered>
     requires messages { IsMessageList (computation_view traces.now) (pairs_view pairs.now) }
     requires refused { IsUnanswered (IsTracesReport (document_view spec.now) (traces_view traces.now)) unanswered }
-    ensures drawn { IfOk result (λ drawn. (name : Option (List ℕ))
-        → DrawsTraces (document_view spec.now) (traces_view traces.now) (report_view claimed.now) name drawn) }
+    ensures drawn { IfOk result (DrawsTraces (document_view spec.now) (traces_view traces.now)
+        (report_view claimed.now) (wish_view wish.now)) }
     ensures refused { IfErr result (IsUnanswered (IsTracesReport (document_view spec.now)
         (traces_view traces.now))) }
 {
     match unanswered {
         Unanswered::Refused(refusal) => {
-            let drawn = draw_cycle(alloc, spec, claimed, traces, pairs, &refusal)?;
+            let drawn = draw_cycle(alloc, spec, claimed, traces, pairs, &refusal, wish.extent)?;
             match drawn {
                 Some(picture) => Ok(Drawn::Cycle(picture)),
                 None => Err(Unanswered::Refused(refusal)),
@@ -100,11 +104,11 @@ fn draw_traces<S: RandomSource>(
     spec: &Spec,
     claimed: &Report,
     traces: &[Trace],
-    name: Option<&str>,
+    wish: &Wish<'_>,
 ) -> Result<Drawn, Unanswered>
     requires { AreTraces (document_view spec.now).names traces.now }
     ensures drawn { IfOk result (DrawsTraces (document_view spec.now) (traces_view traces.now)
-        (report_view claimed.now) (name_view name.entry)) }
+        (report_view claimed.now) (wish_view wish.now)) }
     ensures refused { IfErr result (IsUnanswered (IsTracesReport (document_view spec.now)
         (traces_view traces.now))) }
 {
@@ -118,10 +122,10 @@ fn draw_traces<S: RandomSource>(
                 traces,
                 pairs: &pairs,
             };
-            let drawn = draw_formed(alloc, &run, claimed, messages, name)?;
+            let drawn = draw_formed(alloc, &run, claimed, messages, wish)?;
             Ok(drawn)
         }
-        Err(unanswered) => draw_unanswered(alloc, spec, claimed, traces, &pairs, unanswered),
+        Err(unanswered) => draw_unanswered(alloc, spec, claimed, traces, &pairs, wish, unanswered),
     }
 }
 
@@ -132,16 +136,16 @@ fn draw_session<S: RandomSource + Threads + Wait + Sync, R: ByteSource + Send + 
     claimed: &Report,
     document: &[u8],
     streams: Vec<R>,
-    name: Option<&str>,
+    wish: &Wish<'_>,
 ) -> Result<Drawn, Unanswered>
     requires open { All (λ r. R.has_ended r ≡ false) streams.items }
     ensures drawn { IfOk result (DrawsOf document.now (report_view claimed.now)
-        (map R.remaining streams.items) R.never_fails (name_view name.entry)) }
+        (map R.remaining streams.items) R.never_fails (wish_view wish.now)) }
     ensures refused { IfErr result (IsUnanswered
         (IsReportOfInputs (plain document.now) (map R.remaining streams.items) R.never_fails)) }
 {
     let session = read_session(rt, alloc, document, streams)?;
-    let drawn = draw_traces(rt, alloc, &session.spec, claimed, &session.traces, name)?;
+    let drawn = draw_traces(rt, alloc, &session.spec, claimed, &session.traces, wish)?;
     Ok(drawn)
 }
 
@@ -152,14 +156,14 @@ fn draw_claimed<S: RandomSource + Threads + Wait + Sync, R: ByteSource + Send + 
     claimed: &Report,
     document: &[u8],
     streams: Vec<R>,
-    name: Option<&str>,
+    wish: &Wish<'_>,
 ) -> Result<Drawn, EngineFault>
     requires open { All (λ r. R.has_ended r ≡ false) streams.items }
     ensures drawn { IfOk result (DrawsOf document.now (report_view claimed.now)
-        (map R.remaining streams.items) R.never_fails (name_view name.entry)) }
+        (map R.remaining streams.items) R.never_fails (wish_view wish.now)) }
     ensures err { IsOkUnless result EngineFault.Memory }
 {
-    match draw_session(rt, alloc, claimed, document, streams, name) {
+    match draw_session(rt, alloc, claimed, document, streams, wish) {
         Ok(drawn) => Ok(drawn),
         Err(unanswered) => match unanswered {
             Unanswered::Refused(refusal) => Ok(Drawn::Bad(find_refused(claimed, &refusal))),
@@ -175,15 +179,15 @@ fn draw_read<S: RandomSource + Threads + Wait + Sync, R: ByteSource + Send + Dro
     document: &[u8],
     report: &[u8],
     streams: Vec<R>,
-    name: Option<&str>,
+    wish: &Wish<'_>,
 ) -> Result<Drawn, EngineFault>
     requires open { All (λ r. R.has_ended r ≡ false) streams.items }
     ensures drawn { IfOk result (Draws document.now report.now (map R.remaining streams.items)
-        R.never_fails (name_view name.entry)) }
+        R.never_fails (wish_view wish.now)) }
     ensures err { IsOkUnless result EngineFault.Memory }
 {
     match pd_report::read(alloc, report) {
-        Ok(claimed) => draw_claimed(rt, alloc, &claimed, document, streams, name),
+        Ok(claimed) => draw_claimed(rt, alloc, &claimed, document, streams, wish),
         Err(ReportFault::Line(line)) => Ok(Drawn::Bad(Finding::NotRead(line))),
         Err(ReportFault::Memory) => Err(EngineFault::Memory),
     }
@@ -214,7 +218,9 @@ fn write_picture<W: Write>(
 }
 
 /// Draws a session and a report on it, and writes the picture as SVG: the run, and the evidence of the predicate of
-/// this name, or without a name of the first predicate that has evidence. It reads and judges both as `check` does. If
+/// the name that is asked for, or without a name of the first predicate that has evidence; of the kind that is asked
+/// for, if one is. Of a session that is refused for a causal cycle, as the report says, it draws the run with its
+/// cycle. It reads and judges both as `check` does. If
 /// something in what a check finds stands against the picture, nothing is written, and the text of what it finds is
 /// given: the report isn't read, or it is a refusal or the session is refused, or the counts or the names are wrong, or
 /// the evidence that would be drawn is bad.
@@ -228,23 +234,25 @@ pub fn draw<S: RandomSource + Threads + Wait + Sync, R: ByteSource + Send + Drop
     spec: &[u8],
     report: &[u8],
     streams: Vec<R>,
-    name: Option<&str>,
+    wish: &Wish<'_>,
     writer: &mut W,
 ) -> Result<DrawOutcome, EngineFault>
     requires open { All (λ r. R.has_ended r ≡ false) streams.items }
     // The picture's text is written whole, or a write fails and a prefix of it is; else nothing is.
     ensures written { WritesPicture spec.now report.now (map R.remaining streams.items) R.never_fails
-        (name_view name.entry) result (W.contents writer.old) (W.contents writer.new) }
-    // What stands against a picture is what a check finds, or that there is no predicate of this name.
+        (wish_view wish.now) result (W.contents writer.old) (W.contents writer.new) }
+    // What stands against a picture is what a check finds, or that no predicate has the name, or the evidence,
+    // that is asked for.
     ensures shown { IfOk result (ShowsEnd spec.now report.now (map R.remaining streams.items)
-        R.never_fails (name_view name.entry)) }
+        R.never_fails (wish_view wish.now)) }
     ensures err { IfErr result (λ fault. (fault ≡ EngineFault.Memory) ⊎ (fault ≡ EngineFault.Write)) }
 {
-    let drawn = draw_read(rt, alloc, spec, report, streams, name)?;
+    let drawn = draw_read(rt, alloc, spec, report, streams, wish)?;
     match drawn {
         Drawn::Picture(picture) => write_picture(alloc, &picture, writer, DrawOutcome::Written),
         Drawn::Cycle(picture) => write_picture(alloc, &picture, writer, DrawOutcome::CycleWritten),
         Drawn::Bad(finding) => Ok(DrawOutcome::Refused(text(alloc, &finding)?)),
         Drawn::NoPredicate => Ok(DrawOutcome::NoPredicate),
+        Drawn::NoEvidence => Ok(DrawOutcome::NoEvidence),
     }
 }

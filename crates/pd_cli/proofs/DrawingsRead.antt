@@ -4,9 +4,10 @@ use Rattle.std.specs.Prelude.{Bool, Result}
 use Rattle.std.specs.List.{AllZip}
 use Rattle.pd_judgement.specs.Writes.{IsWholeInput, Whole}
 use Rattle.pd_judgement.proofs.Writing.{writes_weaker}
-use Rattle.pd_claims.specs.Drawings.{IsAnyTextOf, IsCycleTextOf, IsDrawingTextOf, LacksPredicate}
+use Rattle.pd_wish.specs.Wishes.{Wished}
+use Rattle.pd_claims.specs.Drawings.{IsAnyTextOf, IsCycleTextOf, IsDrawingTextOf, LacksKind, LacksPredicate}
 use Rattle.pd_claims.specs.declared.drawings.DrawOutcome.{DrawOutcome}
-use Rattle.pd_claims.specs.declared.drawings.DrawOutcome.TheVariants.{Written, CycleWritten, Refused, NoPredicate}
+use Rattle.pd_claims.specs.declared.drawings.DrawOutcome.TheVariants.{Written, CycleWritten, Refused, NoPredicate, NoEvidence}
 use Rattle.pd_sessions.specs.declared.fault.EngineFault.{EngineFault}
 use Rattle.pd_sessions.specs.declared.fault.EngineFault.TheVariants.{Memory, Write, Read, BundleLong}
 use Rattle.pd_cli.specs.Drawings.{DrawLeaves, IsNoticeOf}
@@ -15,9 +16,9 @@ use Rattle.pd_cli.proofs.DocumentPrefixes.{same_document, same_finding, same_ses
 use Rattle.pd_cli.proofs.FilesRead.{given_as_files, of_files, up_to_weaker}
 
 module _ (read document report : List ℕ) (files lefts : List (Option (List ℕ))) (never_fails : Bool)
-    (name : Option (List ℕ)) (same : SameOutline read document) (are : AllZip HasWholeFile files lefts) where
-  drawing_of_files : (text : List ℕ) → IsDrawingTextOf read report lefts never_fails name text
-      → IsDrawingTextOf document report files never_fails name text
+    (wish : Wished) (same : SameOutline read document) (are : AllZip HasWholeFile files lefts) where
+  drawing_of_files : (text : List ℕ) → IsDrawingTextOf read report lefts never_fails wish text
+      → IsDrawingTextOf document report files never_fails wish text
   drawing_of_files text h =
       let is = h.is_picture in record {
         picture = h.picture;
@@ -37,8 +38,8 @@ module _ (read document report : List ℕ) (files lefts : List (Option (List ℕ
         is_text = h.is_text;
       }
 
-  cycle_of_files : (text : List ℕ) → IsCycleTextOf read report lefts never_fails text
-      → IsCycleTextOf document report files never_fails text
+  cycle_of_files : (text : List ℕ) → IsCycleTextOf read report lefts never_fails wish.extent text
+      → IsCycleTextOf document report files never_fails wish.extent text
   cycle_of_files text h =
       let is = h.is_picture in record {
         picture = h.picture;
@@ -58,13 +59,13 @@ module _ (read document report : List ℕ) (files lefts : List (Option (List ℕ
         is_text = h.is_text;
       }
 
-  any_of_files : (text : List ℕ) → IsAnyTextOf read report lefts never_fails name text
-      → IsAnyTextOf document report files never_fails name text
+  any_of_files : (text : List ℕ) → IsAnyTextOf read report lefts never_fails wish text
+      → IsAnyTextOf document report files never_fails wish text
   any_of_files text (inl h) = inl (drawing_of_files text h)
   any_of_files text (inr h) = inr (cycle_of_files text h)
 
-  notice_of_files : (notice : List ℕ) → IsNoticeOf read report lefts never_fails name notice
-      → IsNoticeOf document report files never_fails name notice
+  notice_of_files : (notice : List ℕ) → IsNoticeOf read report lefts never_fails wish notice
+      → IsNoticeOf document report files never_fails wish notice
   notice_of_files notice h =
       let is = h.is_against.is_against in record {
         found = h.found;
@@ -81,8 +82,8 @@ module _ (read document report : List ℕ) (files lefts : List (Option (List ℕ
         is_notice = h.is_notice;
       }
 
-  lack_of_files : LacksPredicate read report lefts never_fails name
-      → LacksPredicate document report files never_fails name
+  lack_of_files : LacksPredicate read report lefts never_fails wish
+      → LacksPredicate document report files never_fails wish
   lack_of_files h = record {
     streams = h.streams;
     are_given = given_as_files never_fails files lefts h.streams are h.are_given;
@@ -91,34 +92,48 @@ module _ (read document report : List ℕ) (files lefts : List (Option (List ℕ
     is_unknown = h.is_unknown;
   }
 
+  kind_of_files : LacksKind read report lefts never_fails wish → LacksKind document report files never_fails wish
+  kind_of_files h = record {
+    streams = h.streams;
+    are_given = given_as_files never_fails files lefts h.streams are h.are_given;
+    checked = h.checked;
+    right = same_finding read document report h.streams _ same h.right;
+    is_lacking = h.is_lacking;
+  }
+
 module _ (file report_file : Option (List ℕ)) (read claimed : List ℕ) (files lefts : List (Option (List ℕ)))
-    (never_fails : Bool) (MayBeUnread : Type 0) (name : Option (List ℕ)) (old new : Option (List ℕ))
+    (never_fails : Bool) (MayBeUnread : Type 0) (wish : Wished) (old new : Option (List ℕ))
     (stands : StandsFor read file)
     (whole : IsWholeInput report_file claimed) (are : AllZip HasWholeFile files lefts) where
   pub drawn_of_files : (result : Result DrawOutcome EngineFault)
-      → DrawLeaves (Some read) (Some claimed) lefts never_fails ⊥ name result old new
-      → DrawLeaves file report_file files never_fails MayBeUnread name result old new
+      → DrawLeaves (Some read) (Some claimed) lefts never_fails ⊥ wish result old new
+      → DrawLeaves file report_file files never_fails MayBeUnread wish result old new
   drawn_of_files (Ok Written) left =
       of_files file report_file read claimed _ _ stands whole (λ document report same.
       writes_weaker _ _ Whole old new
-      (drawing_of_files read document report files lefts never_fails name same are)) left
+      (drawing_of_files read document report files lefts never_fails wish same are)) left
   drawn_of_files (Ok CycleWritten) left =
       of_files file report_file read claimed _ _ stands whole (λ document report same.
       writes_weaker _ _ Whole old new
-      (cycle_of_files read document report files lefts never_fails name same are)) left
+      (cycle_of_files read document report files lefts never_fails wish same are)) left
   drawn_of_files (Ok (Refused notice)) left = (
     of_files file report_file read claimed _ _ stands whole (λ document report same.
-        notice_of_files read document report files lefts never_fails name same are notice.items) left.0,
+        notice_of_files read document report files lefts never_fails wish same are notice.items) left.0,
     left.1,
   )
   drawn_of_files (Ok NoPredicate) left = (
     of_files file report_file read claimed _ _ stands whole (λ document report same.
-        lack_of_files read document report files lefts never_fails name same are) left.0,
+        lack_of_files read document report files lefts never_fails wish same are) left.0,
+    left.1,
+  )
+  drawn_of_files (Ok NoEvidence) left = (
+    of_files file report_file read claimed _ _ stands whole (λ document report same.
+        kind_of_files read document report files lefts never_fails wish same are) left.0,
     left.1,
   )
   drawn_of_files (Err Memory) left = left
   drawn_of_files (Err Read) left = absurd left.0
   drawn_of_files (Err Write) left =
       of_files file report_file read claimed _ _ stands whole (λ document report same.
-      up_to_weaker _ _ old new (any_of_files read document report files lefts never_fails name same are)) left
+      up_to_weaker _ _ old new (any_of_files read document report files lefts never_fails wish same are)) left
   drawn_of_files (Err BundleLong) left = left

@@ -6,6 +6,7 @@ use Rattle.pd_fail_on.specs.Conditions.{Condition}
 use Rattle.pd_arguments.specs.Statuses.{CheckLeaves, FilesJudgementLeaves, ServiceLeaves}
 use Rattle.pd_sessions.specs.declared.fault.EngineFault.{EngineFault}
 use Rattle.pd_sessions.specs.declared.fault.EngineFault.TheVariants.{BundleLong, Memory, Read, Write}
+use Rattle.pd_wish.specs.Wishes.{Wished}
 use Rattle.pd_cli.specs.declared.service_fault.ServiceFault.TheVariants.{Engine}
 use Rattle.pd_cli.specs.Drawings.{DrawLeaves}
 use Rattle.pd_cli.specs.Explorations.{ExploreLeaves}
@@ -53,15 +54,15 @@ module _ (streams : List (Option (List ℕ))) (never_fails : Bool) (MayBeUnread 
   unread_check report BundleLong (inl is) unread document = absurd (cc)
   unread_check report BundleLong (inr is) unread document = absurd (cc)
 
-  pub unread_drawing : (report : Option (List ℕ)) (name : Option (List ℕ)) (fault : EngineFault) → IsReadFault fault
+  pub unread_drawing : (report : Option (List ℕ)) (wish : Wished) (fault : EngineFault) → IsReadFault fault
       → (fault ≡ Read → MayBeUnread) → (document : List ℕ)
-      → DrawLeaves (Some document) report streams never_fails MayBeUnread name (Err fault) old old
-  unread_drawing report name Memory is unread document = keeps_same old
-  unread_drawing report name Read is unread document = (unread refl, keeps_same old)
-  unread_drawing report name Write (inl is) unread document = absurd (cc)
-  unread_drawing report name Write (inr is) unread document = absurd (cc)
-  unread_drawing report name BundleLong (inl is) unread document = absurd (cc)
-  unread_drawing report name BundleLong (inr is) unread document = absurd (cc)
+      → DrawLeaves (Some document) report streams never_fails MayBeUnread wish (Err fault) old old
+  unread_drawing report wish Memory is unread document = keeps_same old
+  unread_drawing report wish Read is unread document = (unread refl, keeps_same old)
+  unread_drawing report wish Write (inl is) unread document = absurd (cc)
+  unread_drawing report wish Write (inr is) unread document = absurd (cc)
+  unread_drawing report wish BundleLong (inl is) unread document = absurd (cc)
+  unread_drawing report wish BundleLong (inr is) unread document = absurd (cc)
 
 pub unread_service : (beyond_width : Bool) (fail_on : List Condition) (G : Option (List ℕ) → Type 0)
     (never_fails : Bool) (MayBeUnread MayNotServe : Type 0) (old : Option (List ℕ)) (fault : EngineFault)

@@ -1,9 +1,9 @@
 //! Draws a report with the session in files.
 ghost use Rattle.pd_cli.specs.Drawings.{DrawLeaves, Finishes, draw_notice, draw_status, refusal_heading};
-ghost use Rattle.pd_draw.specs.Choices.{name_view};
 ghost use Rattle.pd_format.specs.Limits.{report_byte_limit};
 ghost use Rattle.pd_arguments.specs.Statuses.{HoldsAsked, IsLongReport, WritesUpTo};
 ghost use Rattle.pd_asked.specs.Views.{asks_view};
+ghost use Rattle.pd_wish.specs.Wishes.{wish_view};
 ghost use Rattle.std.specs.Prelude.{◌≡◌, ◌⊎◌, ◌≤◌, ◌++◌, All, IfOk, Some, false, length, map, true};
 
 use super::claim_files::read_claim;
@@ -14,6 +14,7 @@ use pd_arguments::SessionNames;
 use pd_claims::{DrawOutcome, draw};
 use pd_engine::ByteSource;
 use pd_sessions::EngineFault;
+use pd_wish::Wish;
 use std::alloc::{AllocError, Global};
 use std::io::Write;
 use std::random::RandomSource;
@@ -52,6 +53,7 @@ fn finish<O: Write>(
         }
         DrawOutcome::Refused(found) => Ok(DrawOutcome::Refused(notice(alloc, &found)?)),
         DrawOutcome::NoPredicate => Ok(DrawOutcome::NoPredicate),
+        DrawOutcome::NoEvidence => Ok(DrawOutcome::NoEvidence),
     }
 }
 
@@ -66,15 +68,15 @@ fn draw_read<S: RandomSource + Threads + Wait + Sync, R: ByteSource + Send + Dro
     spec: &[u8],
     report: &[u8],
     streams: Vec<R>,
-    predicate: Option<&str>,
+    wish: &Wish<'_>,
     output: &mut O,
 ) -> Result<DrawOutcome, EngineFault>
     requires open { All (λ stream. R.has_ended stream ≡ false) streams.items }
     requires short { length report.now ≤ report_byte_limit }
     ensures { DrawLeaves (Some spec.now) (Some report.now) (map R.remaining streams.items) R.never_fails ⊥
-        (name_view predicate.entry) result (O.contents output.old) (O.contents output.new) }
+        (wish_view wish.now) result (O.contents output.old) (O.contents output.new) }
 {
-    let drawing = draw(rt, alloc, spec, report, streams, predicate, output)?;
+    let drawing = draw(rt, alloc, spec, report, streams, wish, output)?;
     finish(alloc, drawing, output)
 }
 
@@ -91,7 +93,7 @@ pub(crate) fn draw_files<S: RandomSource + Threads + Wait + Sync, F: FileSource,
     files: &F,
     alloc: Global,
     report: &str,
-    predicate: Option<&str>,
+    wish: &Wish<'_>,
     names: &SessionNames<'_>,
     output: &mut O,
 ) -> Result<DrawOutcome, EngineFault>
@@ -99,7 +101,7 @@ pub(crate) fn draw_files<S: RandomSource + Threads + Wait + Sync, F: FileSource,
         (F.bytes_of files.now report.now)
         (map (λ name. F.bytes_of files.now name.now) names.now.streams.items) F.File.never_fails
         ((F.always_opens ≡ true → F.File.never_fails ≡ true → ⊥) ⊎ IsLongReport (F.bytes_of files.now report.now))
-        (name_view predicate.entry) result (O.contents output.old) (O.contents output.new)) }
+        (wish_view wish.now) result (O.contents output.old) (O.contents output.new)) }
 {
     match read_claim(files, alloc, report, names) {
         Ok(read) => {
@@ -110,7 +112,7 @@ pub(crate) fn draw_files<S: RandomSource + Threads + Wait + Sync, F: FileSource,
                 &read.document,
                 &read.report,
                 streams,
-                predicate,
+                wish,
                 output,
             )
         }
@@ -135,6 +137,10 @@ pub(crate) fn report_drawing<E: Write>(end: &Result<DrawOutcome, EngineFault>, e
             }
             DrawOutcome::NoPredicate => {
                 write_line(b"monitor: no predicate of this name\n", errors);
+                MISUSED
+            }
+            DrawOutcome::NoEvidence => {
+                write_line(b"monitor: no evidence of this kind\n", errors);
                 MISUSED
             }
         },

@@ -290,6 +290,15 @@ pub(crate) fn check_text<S: RandomSource + Threads + Wait + Sync, F: FileSource>
     rows_of(alloc, out)
 }
 
+/// Explains that there is no evidence of the kind that is asked for.
+fn explain_no_evidence(out: &mut Vec<u8>) -> Result<(), AllocError> {
+    out.extend_from_slice(
+        b"Evidence is the cut after `possibly yes` or the path after `definitely no`. The report has none of the kind \
+that is asked for, of the predicate whose name is given, or of any if none is.\n\
+What to do: leave --evidence out, or name a predicate whose answer has such evidence.\n",
+    )
+}
+
 /// Explains how a run that draws ended.
 fn put_drawing<F: FileSource>(
     out: &mut Vec<u8>,
@@ -309,6 +318,7 @@ fn put_drawing<F: FileSource>(
             Some(spec) => explain_no_predicate(out, spec.predicates()),
             None => Ok(()),
         },
+        Ok(DrawOutcome::NoEvidence) => explain_no_evidence(out),
         Ok(DrawOutcome::Written | DrawOutcome::CycleWritten | DrawOutcome::Refused(_)) => Ok(()),
         Err(fault) => put_fault(
             out,

@@ -5,7 +5,7 @@ ghost use Rattle.pd_cli.specs.Drawings.{EndsDrawn, RunsAsAsked};
 ghost use Rattle.pd_cli.specs.Explained.{Explained};
 ghost use Rattle.pd_cli.specs.Explorations.{ExploreLeaves};
 ghost use Rattle.pd_explore.specs.Sources.{AreFilesOf};
-ghost use Rattle.pd_draw.specs.Choices.{name_view};
+ghost use Rattle.pd_wish.specs.Wishes.{wish_view};
 ghost use Rattle.pd_fail_on.specs.Views.{fail_on_view};
 ghost use Rattle.pd_arguments.specs.Statuses.{CheckLeaves, Ends, FilesJudgementLeaves, HoldsAsked, IsLongReport, JudgementLeaves, ServiceLeaves, ServiceMayFail, reliance};
 ghost use Rattle.pd_judgement.specs.Writes.{WritesTruthOfBundle};
@@ -32,6 +32,7 @@ use super::status::{
 use pd_arguments::{Exploration, Judgement, Request, Service, SessionNames, parse};
 use pd_engine::ByteSource;
 use pd_peers::Peers;
+use pd_wish::Wish;
 use std::alloc::Global;
 use std::io::Write;
 use std::random::RandomSource;
@@ -68,7 +69,7 @@ fn run_draw<S: RandomSource + Threads + Wait + Sync, F: FileSource, O: Write, E:
     files: &F,
     alloc: Global,
     report: &str,
-    predicate: Option<&str>,
+    wish: &Wish<'_>,
     names: &SessionNames<'_>,
     explain: bool,
     output: &mut O,
@@ -78,10 +79,10 @@ fn run_draw<S: RandomSource + Threads + Wait + Sync, F: FileSource, O: Write, E:
         (F.bytes_of files.now report.now)
         (map (λ name. F.bytes_of files.now name.now) names.now.streams.items) F.File.never_fails
         ((F.always_opens ≡ true → F.File.never_fails ≡ true → ⊥) ⊎ IsLongReport (F.bytes_of files.now report.now))
-        (name_view predicate.entry) result (O.contents output.old) (O.contents output.new) start
+        (wish_view wish.now) result (O.contents output.old) (O.contents output.new) start
         (E.contents errors.new)) (E.contents errors.old) }
 {
-    let end = draw_files(rt, files, alloc, report, predicate, names, output);
+    let end = draw_files(rt, files, alloc, report, wish, names, output);
     let text = drawing_text(explain, files, alloc, report, names, &end);
     write_explanation(explain, &text, errors);
     report_drawing(&end, errors)
@@ -220,9 +221,9 @@ fn run_arguments<
         Ok(Request::Check(report, names)) => {
             run_check(rt, files, alloc, report, &names, explain, output, errors)
         }
-        Ok(Request::Draw(report, predicate, names)) => {
+        Ok(Request::Draw(report, wish, names)) => {
             run_draw(
-                rt, files, alloc, report, predicate, &names, explain, output, errors,
+                rt, files, alloc, report, &wish, &names, explain, output, errors,
             )
         }
         Ok(Request::Serve(service)) => {

@@ -11,6 +11,7 @@ use Rattle.pd_format.specs.OtherTexts.{Finding}
 use Rattle.pd_format.specs.Reports.{Cycle, NamedPlace, Refusal, Refused, Report}
 use Rattle.pd_judgement.specs.Findings.{is_clean}
 use Rattle.pd_svg.specs.declared.drawing.Drawing.{Drawing}
+use Rattle.pd_wish.specs.declared.extent.Extent.{Extent}
 use Rattle.pd_draw.specs.Cycles.{IsCycleDrawn, IsRefusalDrawn}
 use Rattle.pd_check.specs.Found.{IsFoundOfRefused, of_refused_session}
 
@@ -44,10 +45,11 @@ anyway (Err e) P p = tt
 
 -- a picture of the cycle for which a session is refused
 pub refusal_drawn : {E : Type 0} (document : Document) (events : Computation) (pairs : List (Place × Place))
-    (places : List NamedPlace) (refusal : Refusal) → refusal ≡ Cycle places → (result : Result (Option Drawing) E)
-    → IfOk result (λ drawn. IfSome drawn (IsCycleDrawn document events pairs places))
-    → IfOk result (λ drawn. IfSome drawn (IsRefusalDrawn document events pairs refusal))
-refusal_drawn document events pairs places refusal is (Ok (Some drawing)) drawn =
+    (places : List NamedPlace) (refusal : Refusal) (extent : Extent) → refusal ≡ Cycle places
+    → (result : Result (Option Drawing) E)
+    → IfOk result (λ drawn. IfSome drawn (IsCycleDrawn document events pairs places extent))
+    → IfOk result (λ drawn. IfSome drawn (IsRefusalDrawn document events pairs refusal extent))
+refusal_drawn document events pairs places refusal extent is (Ok (Some drawing)) drawn =
     record { places = places; is_cycle = is; drawn = drawn }
-refusal_drawn document events pairs places refusal is (Ok None) drawn = tt
-refusal_drawn document events pairs places refusal is (Err e) drawn = tt
+refusal_drawn document events pairs places refusal extent is (Ok None) drawn = tt
+refusal_drawn document events pairs places refusal extent is (Err e) drawn = tt

@@ -1,5 +1,5 @@
 -- The evidence that a check found good.
-use Rattle.std.proofs.Common.{◌≡◌, ℕ, zero, suc, ◌<◌, Bool, true, false, ◌||◌, IsTrue, Option, Some, None, List, [], ◌∷◌, length, get_or, zip, refl, sym, ap, ◌∙◌, subst, arith}
+use Rattle.std.proofs.Common.{◌≡◌, ℕ, zero, suc, ◌<◌, Bool, true, false, ◌||◌, if◌then◌else◌, IsTrue, Option, Some, None, List, [], ◌∷◌, length, get_or, zip, refl, sym, ap, ◌∙◌, subst, arith}
 use Rattle.std.specs.Prelude.{position, slice_get}
 use Rattle.std.specs.List.{AllZip}
 use Rattle.std.specs.Str.{bytes_eq}
@@ -14,11 +14,13 @@ use Rattle.pd_format.specs.Reports.{Answer, Judged, Report}
 use Rattle.pd_judgement.specs.Findings.{IsAnswersFinding, IsChecked, IsCheckedFor, has_bad, is_bad, of_verdicts}
 use Rattle.pd_judgement.specs.Judgements.{recorded_of}
 use Rattle.pd_check.specs.Found.{IsFoundOf, of_session}
-use Rattle.pd_draw.specs.Choices.{by_evidence, by_name, choice, has_bad_in, has_evidence, is_chosen_bad, stands_against}
+use Rattle.pd_wish.specs.Wishes.{Wished}
+use Rattle.pd_wish.specs.declared.kind.Kind.{Kind}
+use Rattle.pd_draw.specs.Choices.{by_evidence, by_kind, by_name, choice, choice_of, has_bad_in, has_evidence, has_evidence_in, is_chosen_bad, stands_against}
 use Rattle.pd_draw.specs.Drawn.{IsGoodAt, IsGoodChoice, IsLetBy}
 use Rattle.pd_draw.specs.Exhibits.{HasGoodEvidence}
 use Rattle.pd_draw.specs.declared.choice.Choice.{Choice}
-use Rattle.pd_draw.specs.declared.choice.Choice.TheVariants.{Alone, Of, Unknown}
+use Rattle.pd_draw.specs.declared.choice.Choice.TheVariants.{Alone, Of, Unknown, Lacking}
 
 -- ---- one answer
 
@@ -82,33 +84,46 @@ zipped_at R (a ∷ xs) (b ∷ ys) (d ∷ zs) (suc i) x y z all is_x is_y is_z =
 nothing : Checked
 nothing = record { name = []; possibly = Unchecked; definitely = Unchecked }
 
-by_evidence_at : (place : Option ℕ) (i : ℕ) → by_evidence place ≡ Of i → place ≡ Some i
-by_evidence_at None i is = absurd (cc)
-by_evidence_at (Some j) i is = let e : j ≡ i = cc in ap Some e
+by_evidence_at : (kind : Option Kind) (place : Option ℕ) (i : ℕ) → by_evidence kind place ≡ Of i → place ≡ Some i
+by_evidence_at None None i is = absurd (cc)
+by_evidence_at (Some kind) None i is = absurd (cc)
+by_evidence_at kind (Some j) i is = let e : j ≡ i = cc in ap Some e
 
-by_name_at : (place : Option ℕ) (i : ℕ) → by_name place ≡ Of i → place ≡ Some i
-by_name_at None i is = absurd (cc)
-by_name_at (Some j) i is = let e : j ≡ i = cc in ap Some e
+if_there : (there : Bool) (j i : ℕ) → (if there then Of j else Lacking) ≡ Of i → j ≡ i
+if_there true j i is = cc
+if_there false j i is = absurd (cc)
 
-chosen_there : (name : Option (List ℕ)) (checked : List Checked) (i : ℕ) → choice name checked ≡ Of i
-    → i < length checked
-chosen_there None checked i is =
-    (position-Some has_evidence checked i nothing
-    (by_evidence_at (position has_evidence checked) i is)).0
-chosen_there (Some name) checked i is =
+by_kind_at : (kind : Option Kind) (checked : List Checked) (j i : ℕ) → by_kind kind checked j ≡ Of i → j ≡ i
+by_kind_at None checked j i is = cc
+by_kind_at (Some kind) checked j i is = if_there (has_evidence_in (Some kind) (slice_get checked j)) j i is
+
+by_name_at : (kind : Option Kind) (checked : List Checked) (place : Option ℕ) (i : ℕ)
+    → by_name kind checked place ≡ Of i → place ≡ Some i
+by_name_at kind checked None i is = absurd (cc)
+by_name_at kind checked (Some j) i is = ap Some (by_kind_at kind checked j i is)
+
+of_there : (name : Option (List ℕ)) (kind : Option Kind) (checked : List Checked) (i : ℕ)
+    → choice_of name kind checked ≡ Of i → i < length checked
+of_there None kind checked i is =
+    (position-Some (has_evidence kind) checked i nothing
+    (by_evidence_at kind (position (has_evidence kind) checked) i is)).0
+of_there (Some name) kind checked i is =
     (position-Some (λ (c : Checked). bytes_eq c.name name) checked i nothing
-    (by_name_at (position (λ (c : Checked). bytes_eq c.name name) checked) i is)).0
+    (by_name_at kind checked (position (λ (c : Checked). bytes_eq c.name name) checked) i is)).0
+
+chosen_there : (wish : Wished) (checked : List Checked) (i : ℕ) → choice wish checked ≡ Of i → i < length checked
+chosen_there wish checked i is = of_there wish.name wish.kind checked i is
 
 same_answers : (p e m q f n : ℕ) (answers others : List Answer) → Judged p e m answers ≡ Judged q f n others
     → answers ≡ others
 same_answers p e m q f n answers others same = cc
 
-module _ (document : Document) (traces : List Trace) (name : Option (List ℕ)) (i : ℕ) where
+module _ (document : Document) (traces : List Trace) (wish : Wished) (i : ℕ) where
   good_at : (answers : List Answer) (checked : List Checked) → IsAnswersFinding document traces answers (Some checked)
-      → choice name checked ≡ Of i → stands_against name (OfSession true (Some checked)) ≡ false
+      → choice wish checked ≡ Of i → stands_against wish (OfSession true (Some checked)) ≡ false
       → IsGoodAt document (recorded_of document traces) answers i
   good_at answers checked (of_verdicts _ names all) is stands =
-      let there : i < length checked = chosen_there name checked i is in
+      let there : i < length checked = chosen_there wish checked i is in
       let both = zipped_there (IsCheckedFor document traces) document.predicates answers checked i all there in
       let found : slice_get checked i ≡ Some (get_or checked i nothing) =
       slice_get-get_or checked i nothing there in
@@ -125,7 +140,7 @@ module _ (document : Document) (traces : List Trace) (name : Option (List ℕ)) 
   found_at : (messages : ℕ) (claimed : Report) (p e m : ℕ) (answers : List Answer)
       (checked : List Checked) → claimed ≡ Judged p e m answers
       → IsFoundOf document traces messages claimed (OfSession true (Some checked))
-      → choice name checked ≡ Of i → stands_against name (OfSession true (Some checked)) ≡ false
+      → choice wish checked ≡ Of i → stands_against wish (OfSession true (Some checked)) ≡ false
       → IsGoodAt document (recorded_of document traces) answers i
   found_at messages claimed p e m answers checked judged
       (of_session processes events matched others good found is counts verdicts) chosen stands =
@@ -136,14 +151,15 @@ module _ (document : Document) (traces : List Trace) (name : Option (List ℕ)) 
 
 -- what the choice draws is good
 pub good_choice : (document : Document) (traces : List Trace) (messages : ℕ) (recorded : Recorded)
-    (claimed : Report) (p e m : ℕ) (answers : List Answer) (name : Option (List ℕ)) (finding : Finding)
+    (claimed : Report) (p e m : ℕ) (answers : List Answer) (wish : Wished) (finding : Finding)
     (chosen : Choice) → recorded ≡ recorded_of document traces → claimed ≡ Judged p e m answers
-    → IsFoundOf document traces messages claimed finding → IsLetBy name finding (Some chosen)
+    → IsFoundOf document traces messages claimed finding → IsLetBy wish finding (Some chosen)
     → IsGoodChoice document recorded answers chosen
-good_choice document traces messages recorded claimed p e m answers name finding Alone same judged found lets = tt
-good_choice document traces messages recorded claimed p e m answers name finding Unknown same judged found lets = tt
-good_choice document traces messages recorded claimed p e m answers name finding (Of i) same judged found lets =
+good_choice document traces messages recorded claimed p e m answers wish finding Alone same judged found lets = tt
+good_choice document traces messages recorded claimed p e m answers wish finding Unknown same judged found lets = tt
+good_choice document traces messages recorded claimed p e m answers wish finding Lacking same judged found lets = tt
+good_choice document traces messages recorded claimed p e m answers wish finding (Of i) same judged found lets =
     subst (λ (r : Recorded). IsGoodAt document r answers i) (sym same)
-    (found_at document traces name i messages claimed p e m answers lets.0 judged
+    (found_at document traces wish i messages claimed p e m answers lets.0 judged
     (subst (IsFoundOf document traces messages claimed) lets.1 found) (sym lets.3)
-    (subst (λ (f : Finding). stands_against name f ≡ false) lets.1 lets.2))
+    (subst (λ (f : Finding). stands_against wish f ≡ false) lets.1 lets.2))

@@ -13,6 +13,7 @@ use Rattle.pd_judgement.specs.Judgements.{recorded_of}
 use Rattle.pd_picture.specs.Pictures.{IsPicture}
 use Rattle.pd_picture.specs.declared.evidence.Evidence.{Evidence}
 use Rattle.pd_svg.specs.declared.drawing.Drawing.{Drawing}
+use Rattle.pd_wish.specs.declared.extent.Extent.{Extent}
 use Rattle.pd_draw.specs.Drawn.{IsPictureOf, process_names}
 
 -- what stands at a place of a list that is seen through a function
@@ -25,17 +26,17 @@ seen_at view xs ys i x same lt is =
 
 pub pictured : (document : Document) (traces : List Trace) (pairs : List (Place × Place)) (recorded : Recorded)
     (ShowsIt : Evidence → List ℕ → Type 0) (result : Result Drawing AllocError) (evidence : Evidence) (title : List ℕ)
-    → recorded ≡ recorded_of document traces → ShowsIt evidence title
-    → IfOk result (IsPicture recorded.events pairs (process_names document) title evidence)
-    → IfOk result (IsPictureOf document traces pairs ShowsIt)
-pictured document traces pairs recorded ShowsIt result evidence title same shows is =
-    IfOk-weaker result (IsPicture recorded.events pairs (process_names document) title evidence)
-    (IsPictureOf document traces pairs ShowsIt)
+    (extent : Extent) → recorded ≡ recorded_of document traces → ShowsIt evidence title
+    → IfOk result (IsPicture recorded.events pairs (process_names document) title evidence extent)
+    → IfOk result (IsPictureOf document traces pairs ShowsIt extent)
+pictured document traces pairs recorded ShowsIt result evidence title extent same shows is =
+    IfOk-weaker result (IsPicture recorded.events pairs (process_names document) title evidence extent)
+    (IsPictureOf document traces pairs ShowsIt extent)
     (λ drawing picture. record {
       evidence = evidence;
       title = title;
       shows = shows;
       is_picture =
-          subst (λ (r : Recorded). IsPicture r.events pairs (process_names document) title evidence drawing) same
+          subst (λ (r : Recorded). IsPicture r.events pairs (process_names document) title evidence extent drawing) same
           picture;
     }) is

@@ -1,16 +1,13 @@
 -- Which predicate is drawn, and what stands against a picture.
-use Rattle.std.specs.Prelude.{◌≡◌, ℕ, Bool, true, false, ◌||◌, List, Option, Some, None, position, slice_get}
-use Rattle.std.specs.Borrow.{Bor}
+use Rattle.std.specs.Prelude.{◌≡◌, ℕ, Bool, true, false, ◌||◌, if◌then◌else◌, List, Option, Some, None, position, slice_get}
 use Rattle.std.specs.Str.{bytes_eq}
 use Rattle.pd_format.specs.OtherTexts.{Checked, Finding, NotRead, OfRefusal, OfSession, Verdict, Good, Bad, Unchecked}
 use Rattle.pd_judgement.specs.Findings.{has_bad}
+use Rattle.pd_wish.specs.Wishes.{Wished}
+use Rattle.pd_wish.specs.declared.kind.Kind.{Kind}
+use Rattle.pd_wish.specs.declared.kind.Kind.TheVariants.{Possibly, Definitely}
 use Rattle.pd_draw.specs.declared.choice.Choice.{Choice}
-use Rattle.pd_draw.specs.declared.choice.Choice.TheVariants.{Alone, Of, Unknown}
-
--- the name that is asked for, if there is one
-abbrev pub name_view : Option (Bor (List ℕ)) → Option (List ℕ)
-name_view None = None
-name_view (Some name) = Some name.now
+use Rattle.pd_draw.specs.declared.choice.Choice.TheVariants.{Alone, Of, Unknown, Lacking}
 
 -- evidence is printed, if this is the verdict on it
 abbrev pub is_printed : Verdict → Bool
@@ -18,25 +15,50 @@ is_printed Good = true
 is_printed Bad = true
 is_printed Unchecked = false
 
-abbrev pub has_evidence : Checked → Bool
-has_evidence checked = is_printed checked.possibly || is_printed checked.definitely
+-- a predicate has evidence, of this kind if one is asked for
+abbrev pub has_evidence : Option Kind → Checked → Bool
+has_evidence None checked = is_printed checked.possibly || is_printed checked.definitely
+has_evidence (Some Possibly) checked = is_printed checked.possibly
+has_evidence (Some Definitely) checked = is_printed checked.definitely
 
-abbrev pub by_evidence : Option ℕ → Choice
-by_evidence None = Alone
-by_evidence (Some i) = Of i
+abbrev pub has_evidence_in : Option Kind → Option Checked → Bool
+has_evidence_in kind None = false
+has_evidence_in kind (Some checked) = has_evidence kind checked
 
-abbrev pub by_name : Option ℕ → Choice
-by_name None = Unknown
-by_name (Some i) = Of i
+-- no predicate has evidence: the run alone is drawn, unless evidence of a kind is asked for
+abbrev pub without_evidence : Option Kind → Choice
+without_evidence None = Alone
+without_evidence (Some kind) = Lacking
 
--- the predicate that is drawn: the one of this name, and without a name the first that has evidence
-abbrev pub choice : Option (List ℕ) → List Checked → Choice
-choice None checked = by_evidence (position has_evidence checked)
-choice (Some name) checked = by_name (position (λ (c : Checked). bytes_eq c.name name) checked)
+abbrev pub by_evidence : Option Kind → Option ℕ → Choice
+by_evidence kind None = without_evidence kind
+by_evidence kind (Some i) = Of i
+
+-- the predicate with this number, unless evidence of a kind is asked for that it doesn't have
+abbrev pub by_kind : Option Kind → List Checked → ℕ → Choice
+by_kind None checked i = Of i
+by_kind (Some kind) checked i = if has_evidence_in (Some kind) (slice_get checked i) then Of i else Lacking
+
+abbrev pub by_name : Option Kind → List Checked → Option ℕ → Choice
+by_name kind checked None = Unknown
+by_name kind checked (Some i) = by_kind kind checked i
+
+abbrev pub choice_of : Option (List ℕ) → Option Kind → List Checked → Choice
+choice_of None kind checked = by_evidence kind (position (has_evidence kind) checked)
+choice_of (Some name) kind checked = by_name kind checked (position (λ (c : Checked). bytes_eq c.name name) checked)
+
+-- The predicate that is drawn: the one of the name that is asked for, and without a name the first that has evidence;
+-- of the kind that is asked for, if one is.
+abbrev pub choice : Wished → List Checked → Choice
+choice wish checked = choice_of wish.name wish.kind checked
 
 -- there is no predicate of the name that is asked for
-abbrev pub LacksName : Option (List ℕ) → List Checked → Type 0
-LacksName name checked = choice name checked ≡ Unknown
+abbrev pub LacksName : Wished → List Checked → Type 0
+LacksName wish checked = choice wish checked ≡ Unknown
+
+-- there is no evidence of the kind that is asked for
+abbrev pub LacksEvidence : Wished → List Checked → Type 0
+LacksEvidence wish checked = choice wish checked ≡ Lacking
 
 abbrev pub has_bad_in : Option Checked → Bool
 has_bad_in None = false
@@ -47,12 +69,13 @@ abbrev pub is_chosen_bad : List Checked → Choice → Bool
 is_chosen_bad checked Alone = false
 is_chosen_bad checked (Of i) = has_bad_in (slice_get checked i)
 is_chosen_bad checked Unknown = false
+is_chosen_bad checked Lacking = false
 
 -- Something in the finding stands against the picture: the report isn't read, or it is a refusal or the session is
 -- refused, or the counts or the names are wrong, or the evidence that would be drawn is bad.
-abbrev pub stands_against : Option (List ℕ) → Finding → Bool
-stands_against name (NotRead line) = true
-stands_against name (OfRefusal good) = true
-stands_against name (OfSession false found) = true
-stands_against name (OfSession true None) = true
-stands_against name (OfSession true (Some checked)) = is_chosen_bad checked (choice name checked)
+abbrev pub stands_against : Wished → Finding → Bool
+stands_against wish (NotRead line) = true
+stands_against wish (OfRefusal good) = true
+stands_against wish (OfSession false found) = true
+stands_against wish (OfSession true None) = true
+stands_against wish (OfSession true (Some checked)) = is_chosen_bad checked (choice wish checked)

@@ -1,5 +1,5 @@
 -- The evidence that a picture shows of a predicate, and what the picture is called.
-use Rattle.std.specs.Prelude.{◌≡◌, ℕ, Contains, List, ◌++◌, codes, decimal, map}
+use Rattle.std.specs.Prelude.{◌≡◌, ℕ, Contains, List, ◌++◌, codes, decimal, map, Option, Some, None}
 use Rattle.pd_model.specs.Answers.{IsAvoidingObservation, cuts_along}
 use Rattle.pd_model.specs.Cuts.{empty_cut}
 use Rattle.pd_model.specs.Events.{Computation}
@@ -12,6 +12,8 @@ use Rattle.pd_evidence.specs.Ways.{IsThrough}
 use Rattle.pd_picture.specs.Pictures.{texts_view}
 use Rattle.pd_picture.specs.declared.evidence.Evidence.{Evidence}
 use Rattle.pd_picture.specs.declared.evidence.Evidence.TheVariants.{Absent, Cut, Observation}
+use Rattle.pd_wish.specs.declared.kind.Kind.{Kind}
+use Rattle.pd_wish.specs.declared.kind.Kind.TheVariants as kind
 use Rattle.pd_draw.specs.Values.{value_texts}
 
 -- ---- what is good
@@ -71,11 +73,21 @@ ShowsPossibly names recorded predicate Possibly.No definitely evidence =
 ShowsPossibly names recorded predicate (Possibly.Unknown level) definitely evidence =
     ShowsDefinitely names recorded predicate definitely evidence
 
+-- what is shown of a *possibly* alone: its cut, if it has one
+abbrev pub ShowsCutAlone : List ProcessNames → Recorded → Predicate → Possibly → Evidence → Type 0
+ShowsCutAlone names recorded predicate (Possibly.Yes cut) evidence = ShowsCut names recorded predicate cut evidence
+ShowsCutAlone names recorded predicate Possibly.No evidence = ShowsNothing evidence
+ShowsCutAlone names recorded predicate (Possibly.Unknown level) evidence = ShowsNothing evidence
+
 -- What is shown of an answer: the cut of a *possibly yes* and an observation through it, else the observation of a
--- *definitely no*, else nothing.
-abbrev pub Shows : List ProcessNames → Recorded → Predicate → Answer → Evidence → Type 0
-Shows names recorded predicate answer evidence =
+-- *definitely no*, else nothing. If evidence of one kind is asked for, it is that or nothing.
+abbrev pub Shows : Option Kind → List ProcessNames → Recorded → Predicate → Answer → Evidence → Type 0
+Shows None names recorded predicate answer evidence =
     ShowsPossibly names recorded predicate answer.possibly answer.definitely evidence
+Shows (Some kind.Possibly) names recorded predicate answer evidence =
+    ShowsCutAlone names recorded predicate answer.possibly evidence
+Shows (Some kind.Definitely) names recorded predicate answer evidence =
+    ShowsDefinitely names recorded predicate answer.definitely evidence
 
 -- ---- what the picture is called
 

@@ -1,11 +1,14 @@
 //! Which predicate is drawn.
 ghost use Rattle.pd_check.specs.Views.{checked_view, verdict_view};
-ghost use Rattle.pd_draw.specs.Choices.{by_evidence, by_name, choice, has_evidence, is_chosen_bad, is_printed, name_view};
+ghost use Rattle.pd_draw.specs.Choices.{by_evidence, by_kind, by_name, choice, has_evidence, has_evidence_in, is_chosen_bad, is_printed, without_evidence};
+ghost use Rattle.pd_draw.specs.declared.choice.Choice.TheVariants.{Lacking};
 ghost use Rattle.pd_judgement.specs.Findings.{has_bad};
-ghost use Rattle.std.specs.Prelude.{◌≡◌, map, position, string_bytes};
+ghost use Rattle.pd_wish.specs.Wishes.{wish_view};
+ghost use Rattle.std.specs.Prelude.{◌≡◌, ◌≢◌, false, map, position, slice_get, string_bytes, true};
 ghost use Rattle.std.specs.Str.{bytes_eq};
 
 use pd_check::{Checked, Verdict};
+use pd_wish::{Kind, Wish};
 
 /// Which predicate is drawn.
 #[derive(Clone, Copy, Debug, PartialEq, Eq)]
@@ -16,6 +19,8 @@ pub(crate) enum Choice {
     Of(usize),
     /// The one that was asked for, which isn't there.
     Unknown,
+    /// None: there is no evidence of the kind that was asked for.
+    Lacking,
 }
 
 /// Whether evidence is printed, if this is the verdict on it.
@@ -28,27 +33,43 @@ fn is_printed(verdict: Verdict) -> bool
     }
 }
 
-/// Whether a predicate has evidence.
-fn has_evidence(checked: &Checked) -> bool
-    ensures { result ≡ has_evidence (checked_view checked.now) }
+/// Whether a predicate has evidence, of this kind if one is asked for.
+fn has_evidence(kind: Option<Kind>, checked: &Checked) -> bool
+    ensures { result ≡ has_evidence kind (checked_view checked.now) }
 {
-    is_printed(checked.possibly) || is_printed(checked.definitely)
+    match kind {
+        None => is_printed(checked.possibly) || is_printed(checked.definitely),
+        Some(kind) => match kind {
+            Kind::Possibly => is_printed(checked.possibly),
+            Kind::Definitely => is_printed(checked.definitely),
+        },
+    }
 }
 
-/// The number of the first predicate that has evidence.
-fn place_with_evidence(checked: &[Checked]) -> Option<usize>
-    ensures { result ≡ position (λ c. has_evidence (checked_view c)) checked.now }
+/// The number of the first predicate that has evidence, of this kind if one is asked for.
+fn place_with_evidence(kind: Option<Kind>, checked: &[Checked]) -> Option<usize>
+    ensures { result ≡ position (λ c. has_evidence kind (checked_view c)) checked.now }
 {
-    checked.iter().position(|c| has_evidence(c))
+    checked.iter().position(|c| has_evidence(kind, c))
 }
 
-/// The first predicate that has evidence.
-fn first_with_evidence(checked: &[Checked]) -> Choice
-    ensures { result ≡ by_evidence (position (λ c. has_evidence (checked_view c)) checked.now) }
+/// What is drawn if no predicate has evidence.
+fn without_evidence(kind: Option<Kind>) -> Choice
+    ensures { result ≡ without_evidence kind }
 {
-    match place_with_evidence(checked) {
-        Some(i) => Choice::Of(i),
+    match kind {
         None => Choice::Alone,
+        Some(_) => Choice::Lacking,
+    }
+}
+
+/// The first predicate that has evidence, of this kind if one is asked for.
+fn first_with_evidence(kind: Option<Kind>, checked: &[Checked]) -> Choice
+    ensures { result ≡ by_evidence kind (position (λ c. has_evidence kind (checked_view c)) checked.now) }
+{
+    match place_with_evidence(kind, checked) {
+        Some(i) => Choice::Of(i),
+        None => without_evidence(kind),
     }
 }
 
@@ -59,23 +80,62 @@ fn place_of(checked: &[Checked], name: &str) -> Option<usize>
     checked.iter().position(|c| c.name.as_str() == name)
 }
 
+/// Whether the predicate with this number has evidence, of this kind if one is asked for.
+fn has_evidence_at(kind: Option<Kind>, checked: &[Checked], i: usize) -> bool
+    ensures { result ≡ has_evidence_in kind (slice_get (map checked_view checked.now) i) }
+{
+    match checked.get(i) {
+        Some(c) => has_evidence(kind, c),
+        None => false,
+    }
+}
+
+/// The predicate with this number, unless evidence of a kind is asked for that it doesn't have.
+fn of_kind(kind: Option<Kind>, checked: &[Checked], i: usize) -> Choice
+    ensures { result ≡ by_kind kind (map checked_view checked.now) i }
+{
+    match kind {
+        None => Choice::Of(i),
+        Some(_) => {
+            if has_evidence_at(kind, checked, i) {
+                Choice::Of(i)
+            } else {
+                Choice::Lacking
+            }
+        }
+    }
+}
+
 /// The predicate of this name.
-fn of_name(checked: &[Checked], name: &str) -> Choice
-    ensures { result ≡ by_name (position (λ c. bytes_eq (string_bytes c.name) name.now) checked.now) }
+fn of_name(kind: Option<Kind>, checked: &[Checked], name: &str) -> Choice
+    ensures { result ≡ by_name kind (map checked_view checked.now)
+        (position (λ c. bytes_eq (string_bytes c.name) name.now) checked.now) }
 {
     match place_of(checked, name) {
-        Some(i) => Choice::Of(i),
+        Some(i) => of_kind(kind, checked, i),
         None => Choice::Unknown,
     }
 }
 
-/// Which predicate is drawn: the one of this name, and without a name the first that has evidence.
-pub(crate) fn chosen(checked: &[Checked], name: Option<&str>) -> Choice
-    ensures { result ≡ choice (name_view name.entry) (map checked_view checked.now) }
+/// Which predicate is drawn: the one of the name that is asked for, and without a name the first that has evidence; of
+/// the kind that is asked for, if one is.
+pub(crate) fn chosen(checked: &[Checked], wish: &Wish<'_>) -> Choice
+    ensures { result ≡ choice (wish_view wish.now) (map checked_view checked.now) }
 {
-    match name {
-        Some(name) => of_name(checked, name),
-        None => first_with_evidence(checked),
+    match wish.predicate {
+        Some(name) => of_name(wish.kind, checked, name),
+        None => first_with_evidence(wish.kind, checked),
+    }
+}
+
+/// Whether there is no evidence of the kind that was asked for.
+pub(crate) fn is_lacking(choice: Choice) -> bool
+    ensures yes { result ≡ true → choice ≡ Lacking }
+    ensures no { result ≡ false → choice ≢ Lacking }
+{
+    match choice {
+        Choice::Lacking => true,
+        Choice::Alone | Choice::Of(_) | Choice::Unknown => false,
     }
 }
 
@@ -88,6 +148,6 @@ pub(crate) fn is_chosen_bad(checked: &[Checked], choice: Choice) -> bool
             Some(c) => c.has_bad(),
             None => false,
         },
-        Choice::Alone | Choice::Unknown => false,
+        Choice::Alone | Choice::Unknown | Choice::Lacking => false,
     }
 }

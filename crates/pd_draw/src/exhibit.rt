@@ -1,5 +1,5 @@
 //! The evidence that is drawn, and what the picture is called.
-ghost use Rattle.pd_draw.specs.Exhibits.{HasGoodEvidence, Shows, ShowsCut, ShowsDefinitely, ShowsPath, definitely_words, possibly_words, title_text};
+ghost use Rattle.pd_draw.specs.Exhibits.{HasGoodEvidence, Shows, ShowsCut, ShowsCutAlone, ShowsDefinitely, ShowsPath, ShowsPossibly, definitely_words, possibly_words, title_text};
 ghost use Rattle.pd_draw.specs.Values.{value_texts};
 ghost use Rattle.pd_judgement.specs.Findings.{IsGoodCut, IsGoodPath};
 ghost use Rattle.pd_model.specs.Cuts.{IsConsistent};
@@ -18,6 +18,7 @@ use pd_picture::Evidence;
 use pd_pred::{Names, Pred};
 use pd_report::{Answer, Definitely, Path, Possibly};
 use pd_spec::NamedPred;
+use pd_wish::Kind;
 use std::alloc::{AllocError, Global};
 
 /// What the predicate's variables are worth at a cut.
@@ -102,11 +103,27 @@ fn definitely_evidence(
     }
 }
 
-/// The evidence of an answer that the check found good: its cut, else its observation, else none.
-///
-/// # Errors
-/// Out of memory.
-pub(crate) fn evidence_of(
+/// The cut of a *possibly yes*, if it is one.
+fn possibly_evidence(
+    alloc: Global,
+    names: &Names,
+    computation: &Computation<'_>,
+    asked: &NamedPred,
+    answer: &Answer,
+) -> Result<Evidence, AllocError>
+    requires good { HasGoodEvidence names.now computation.now (named_view asked.now).predicate
+        (views.answer_view answer.now) }
+    ensures { IfOk result (ShowsCutAlone names.now computation.now (named_view asked.now).predicate
+        (views.possibly_view answer.now.possibly)) }
+{
+    match &answer.possibly {
+        Possibly::Yes(counts) => cut_of(alloc, names, computation, &asked.pred, counts),
+        Possibly::No | Possibly::Unknown(_) => Ok(Evidence::Absent),
+    }
+}
+
+/// The cut of a *possibly yes*, else the observation of a *definitely no*, else nothing.
+fn any_evidence(
     alloc: Global,
     names: &Names,
     computation: &Computation<'_>,
@@ -116,14 +133,42 @@ pub(crate) fn evidence_of(
     requires good { HasGoodEvidence names.now computation.now (named_view asked.now).predicate
         (views.answer_view answer.now) }
     requires one_each { length computation.now.events ≡ length names.now }
-    ensures { IfOk result (Shows names.now computation.now (named_view asked.now).predicate
-        (views.answer_view answer.now)) }
+    ensures { IfOk result (ShowsPossibly names.now computation.now (named_view asked.now).predicate
+        (views.possibly_view answer.now.possibly) (views.definitely_view answer.now.definitely)) }
 {
     match &answer.possibly {
         Possibly::Yes(counts) => cut_of(alloc, names, computation, &asked.pred, counts),
         Possibly::No | Possibly::Unknown(_) => {
             definitely_evidence(alloc, names, computation, asked, answer)
         }
+    }
+}
+
+/// The evidence of an answer that the check found good: its cut, else its observation, else none; if evidence of one
+/// kind is asked for, that or none.
+///
+/// # Errors
+/// Out of memory.
+pub(crate) fn evidence_of(
+    alloc: Global,
+    kind: Option<Kind>,
+    names: &Names,
+    computation: &Computation<'_>,
+    asked: &NamedPred,
+    answer: &Answer,
+) -> Result<Evidence, AllocError>
+    requires good { HasGoodEvidence names.now computation.now (named_view asked.now).predicate
+        (views.answer_view answer.now) }
+    requires one_each { length computation.now.events ≡ length names.now }
+    ensures { IfOk result (Shows kind names.now computation.now (named_view asked.now).predicate
+        (views.answer_view answer.now)) }
+{
+    match kind {
+        None => any_evidence(alloc, names, computation, asked, answer),
+        Some(kind) => match kind {
+            Kind::Possibly => possibly_evidence(alloc, names, computation, asked, answer),
+            Kind::Definitely => definitely_evidence(alloc, names, computation, asked, answer),
+        },
     }
 }
 

@@ -22,6 +22,7 @@ use pd_report::{Refusal, Report};
 use pd_spec::Spec;
 use pd_svg::Drawing;
 use pd_traces::Trace;
+use pd_wish::Extent;
 use std::alloc::{AllocError, Global};
 
 /// The place of an event by the name of its process, if there is such a process.
@@ -105,13 +106,14 @@ fn run_picture(
     pairs: &[(Place, Place)],
     title: &str,
     cycle: &[Place],
+    extent: Extent,
 ) -> Result<Drawing, AllocError>
     requires { IsMessageList (computation_view traces.now) (pairs_view pairs.now) }
     ensures { IfOk result (IsCyclePicture (computation_view traces.now) (pairs_view pairs.now)
-        (process_names (document_view spec.now)) title.now (places_view cycle.now)) }
+        (process_names (document_view spec.now)) title.now (places_view cycle.now) extent) }
 {
     let lanes = lane_names(alloc, spec.names())?;
-    cycle_picture(alloc, traces, pairs, &lanes, title, cycle)
+    cycle_picture(alloc, traces, pairs, &lanes, title, cycle, extent)
 }
 
 /// The picture of a run with this cycle, whose places are these by the names of their processes.
@@ -122,15 +124,16 @@ fn titled_picture(
     pairs: &[(Place, Place)],
     places: &[(String, u64)],
     cycle: &[Place],
+    extent: Extent,
 ) -> Result<Drawing, AllocError>
     requires messages { IsMessageList (computation_view traces.now) (pairs_view pairs.now) }
     requires named { map (named_place (document_view spec.now).names) (places_view cycle.now)
         ≡ views.named_places_view places.now }
     ensures { IfOk result (IsCycleDrawn (document_view spec.now) (computation_view traces.now) (pairs_view pairs.now)
-        (views.named_places_view places.now)) }
+        (views.named_places_view places.now) extent) }
 {
     let title = cycle_title(alloc, places)?;
-    let drawing = run_picture(alloc, spec, traces, pairs, &title, cycle)?;
+    let drawing = run_picture(alloc, spec, traces, pairs, &title, cycle, extent)?;
     Ok(drawing)
 }
 
@@ -141,15 +144,16 @@ fn draw_places(
     traces: &[Trace],
     pairs: &[(Place, Place)],
     places: &[(String, u64)],
+    extent: Extent,
 ) -> Result<Option<Drawing>, AllocError>
     requires { IsMessageList (computation_view traces.now) (pairs_view pairs.now) }
     ensures { IfOk result (λ drawn. IfSome drawn (IsCycleDrawn (document_view spec.now) (computation_view traces.now)
-        (pairs_view pairs.now) (views.named_places_view places.now))) }
+        (pairs_view pairs.now) (views.named_places_view places.now) extent)) }
 {
     let found = cycle_of(alloc, spec.names(), places)?;
     match found {
         Some(cycle) => {
-            let drawing = titled_picture(alloc, spec, traces, pairs, places, &cycle)?;
+            let drawing = titled_picture(alloc, spec, traces, pairs, places, &cycle, extent)?;
             Ok(Some(drawing))
         }
         None => Ok(None),
@@ -168,10 +172,11 @@ pub fn draw_cycle(
     traces: &[Trace],
     pairs: &[(Place, Place)],
     refusal: &Refusal,
+    extent: Extent,
 ) -> Result<Option<Drawing>, AllocError>
     requires { IsMessageList (computation_view traces.now) (pairs_view pairs.now) }
     ensures drawn { IfOk result (λ drawn. IfSome drawn (IsRefusalDrawn (document_view spec.now)
-        (computation_view traces.now) (pairs_view pairs.now) (views.refusal_view refusal.now))) }
+        (computation_view traces.now) (pairs_view pairs.now) (views.refusal_view refusal.now) extent)) }
     ensures claimed { IfOk result (λ drawn. IfSome drawn (λ _.
         views.report_view claimed.now ≡ reports.Refused (views.refusal_view refusal.now))) }
 {
@@ -179,7 +184,7 @@ pub fn draw_cycle(
         return Ok(None);
     }
     match refusal {
-        Refusal::Cycle(places) => draw_places(alloc, spec, traces, pairs, places),
+        Refusal::Cycle(places) => draw_places(alloc, spec, traces, pairs, places, extent),
         _ => Ok(None),
     }
 }

@@ -11,10 +11,11 @@ use Rattle.pd_model.proofs.Consistency.{process_in_range}
 use Rattle.pd_match.specs.Views.{pairs_view}
 use Rattle.pd_match.specs.declared.place.Place.{Place as MatchedPlace}
 use Rattle.pd_svg.specs.declared.drawing.Drawing.{Drawing}
+use Rattle.pd_wish.specs.declared.extent.Extent.{Extent}
 use Rattle.pd_picture.specs.CycleTables.{IsCycleTable}
 use Rattle.pd_picture.specs.Cycles.{AreCycleColumns, IsCyclePicture, below_shapes, cycle_description, cycle_focus, cycle_legend, cycle_row, cycle_window, kept_column, shift}
 use Rattle.pd_picture.specs.Flights.{is_flight}
-use Rattle.pd_picture.specs.Layout.{greatest_column, lane_y, max_upto, upto, window_around}
+use Rattle.pd_picture.specs.Layout.{greatest_column, lane_y, max_upto, upto, window_of}
 use Rattle.pd_picture.specs.Pictures.{event_shapes, heading_shapes, page_width, shown_events, widest}
 use Rattle.pd_picture.specs.Rooms.{names_room}
 use Rattle.pd_picture.specs.Shapes.{all_seen}
@@ -87,14 +88,15 @@ module _ (c : Computation) (cycle : List Place) (rows : List (Vec ℕ Global)) (
 -- ---- the picture
 
 module _ (c : Computation) (columns : Place → ℕ) (messages : List (MatchedPlace × MatchedPlace))
-    (names : List (List ℕ)) (title : List ℕ) (cycle : List Place) (most last room : ℕ) (shown : Window)
+    (names : List (List ℕ)) (title : List ℕ) (cycle : List Place) (extent : Extent) (most last room : ℕ)
+    (shown : Window)
     (most_is : most ≡ widest columns c) (last_is : last ≡ kept_column (cycle_focus cycle))
-    (room_is : room ≡ names_room names) (shown_is : shown ≡ window_around most last room) where
-  window_is : shown ≡ cycle_window columns c names cycle
+    (room_is : room ≡ names_room names) (shown_is : shown ≡ window_of extent most last room) where
+  window_is : shown ≡ cycle_window columns c names cycle extent
   window_is =
-      shown_is ∙ (ap (λ (n : ℕ). window_around n last room) most_is
-      ∙ (ap (λ (n : ℕ). window_around (widest columns c) n room) last_is
-      ∙ ap (λ (n : ℕ). window_around (widest columns c) (kept_column (cycle_focus cycle)) n) room_is))
+      shown_is ∙ (ap (λ (n : ℕ). window_of extent n last room) most_is
+      ∙ (ap (λ (n : ℕ). window_of extent (widest columns c) n room) last_is
+      ∙ ap (λ (n : ℕ). window_of extent (widest columns c) (kept_column (cycle_focus cycle)) n) room_is))
 
   pub is_cycle_picture : IsMessageList c (pairs_view messages) → AreCycleColumns c cycle columns → (drawing : Drawing)
       → all_seen drawing.shapes.items ≡ heading_shapes shown most title cycle_legend
@@ -103,7 +105,7 @@ module _ (c : Computation) (columns : Place → ℕ) (messages : List (MatchedPl
       → drawing.width ≡ page_width shown title Absent → drawing.height ≡ lane_y (length c) - 30
       → string_bytes drawing.title ≡ title
       → string_bytes drawing.description ≡ cycle_description shown most
-      → IsCyclePicture c (pairs_view messages) names title cycle drawing
+      → IsCyclePicture c (pairs_view messages) names title cycle extent drawing
   is_cycle_picture lawful are drawing shapes wide high titled described = record {
     columns = columns;
     are_columns = are;

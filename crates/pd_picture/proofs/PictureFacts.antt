@@ -6,9 +6,10 @@ use Rattle.pd_model.specs.Messages.{IsMessageList}
 use Rattle.pd_match.specs.Views.{pairs_view}
 use Rattle.pd_match.specs.declared.place.Place.{Place as MatchedPlace}
 use Rattle.pd_svg.specs.declared.drawing.Drawing.{Drawing}
+use Rattle.pd_wish.specs.declared.extent.Extent.{Extent}
 use Rattle.pd_picture.specs.Columns.{AreColumns}
 use Rattle.pd_picture.specs.Flights.{is_flight}
-use Rattle.pd_picture.specs.Layout.{lane_y, window_around}
+use Rattle.pd_picture.specs.Layout.{lane_y, window_of}
 use Rattle.pd_picture.specs.Pictures.{IsPicture, description, evidence_shapes, focus, heading_shapes, legend, page_width, run_shapes, widest, window}
 use Rattle.pd_picture.specs.Rooms.{names_room}
 use Rattle.pd_picture.specs.Shapes.{all_seen}
@@ -17,14 +18,15 @@ use Rattle.pd_picture.specs.declared.window.Window.{Window}
 use Rattle.pd_picture.proofs.FlightFacts.{flights_are}
 
 module _ (c recorded : Computation) (columns : Place → ℕ) (messages : List (MatchedPlace × MatchedPlace))
-    (names : List (List ℕ)) (title : List ℕ) (evidence : Evidence) (most last room : ℕ) (shown : Window)
+    (names : List (List ℕ)) (title : List ℕ) (evidence : Evidence) (extent : Extent) (most last room : ℕ)
+    (shown : Window)
     (same : recorded ≡ c) (most_is : most ≡ widest columns c) (last_is : last ≡ focus columns c evidence)
-    (room_is : room ≡ names_room names) (shown_is : shown ≡ window_around most last room) where
-  window_is : shown ≡ window columns c names evidence
+    (room_is : room ≡ names_room names) (shown_is : shown ≡ window_of extent most last room) where
+  window_is : shown ≡ window columns c names evidence extent
   window_is =
-      shown_is ∙ (ap (λ (n : ℕ). window_around n last room) most_is
-      ∙ (ap (λ (n : ℕ). window_around (widest columns c) n room) last_is
-      ∙ ap (λ (n : ℕ). window_around (widest columns c) (focus columns c evidence) n) room_is))
+      shown_is ∙ (ap (λ (n : ℕ). window_of extent n last room) most_is
+      ∙ (ap (λ (n : ℕ). window_of extent (widest columns c) n room) last_is
+      ∙ ap (λ (n : ℕ). window_of extent (widest columns c) (focus columns c evidence) n) room_is))
 
   pub is_picture : IsMessageList c (pairs_view messages) → AreColumns c columns → (drawing : Drawing)
       → all_seen drawing.shapes.items ≡ heading_shapes shown most title (legend evidence)
@@ -33,7 +35,7 @@ module _ (c recorded : Computation) (columns : Place → ℕ) (messages : List (
       → drawing.width ≡ page_width shown title evidence → drawing.height ≡ lane_y (length c) - 30
       → string_bytes drawing.title ≡ title
       → string_bytes drawing.description ≡ description shown most c names evidence
-      → IsPicture c (pairs_view messages) names title evidence drawing
+      → IsPicture c (pairs_view messages) names title evidence extent drawing
   is_picture lawful are drawing shapes wide high titled described = record {
     columns = columns;
     are_columns = are;

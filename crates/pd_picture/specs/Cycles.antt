@@ -5,7 +5,8 @@ use Rattle.std.specs.Prelude.{◌≡◌, ℕ, ◌+◌, ◌-◌, ◌==◌, min, m
 use Rattle.pd_model.specs.Events.{Computation, Place, place, IsEvent}
 use Rattle.pd_svg.specs.declared.class.Class.TheVariants as class
 use Rattle.pd_svg.specs.declared.drawing.Drawing.{Drawing}
-use Rattle.pd_picture.specs.Layout.{upto, window_around, event_point}
+use Rattle.pd_wish.specs.declared.extent.Extent.{Extent}
+use Rattle.pd_picture.specs.Layout.{upto, window_of, event_point}
 use Rattle.pd_picture.specs.Pictures.{IsInFlight, ends_shapes, event_shapes, flight_shapes, heading_shapes, lanes_shapes, messages_shapes, page_height, page_width, shown_events, widest, window_note}
 use Rattle.pd_picture.specs.Rooms.{names_room}
 use Rattle.pd_picture.specs.Shapes.{Seen, SeenLine, SeenCircle, all_seen}
@@ -45,9 +46,9 @@ abbrev pub AreCycleColumns : Computation → (cycle : List Place) → (Place →
 AreCycleColumns c cycle columns = (e : Place) → IsEvent c e → columns e ≡ cycle_column cycle e
 
 -- the columns that are shown
-abbrev pub cycle_window : (Place → ℕ) → Computation → (names : List (List ℕ)) → (cycle : List Place) → Window
-cycle_window columns c names cycle =
-    window_around (widest columns c) (kept_column (cycle_focus cycle)) (names_room names)
+abbrev pub cycle_window : (Place → ℕ) → Computation → (names : List (List ℕ)) → (cycle : List Place) → Extent → Window
+cycle_window columns c names cycle extent =
+    window_of extent (widest columns c) (kept_column (cycle_focus cycle)) (names_room names)
 
 -- ---- marks
 
@@ -109,18 +110,18 @@ cycle_shapes columns flights c messages names title cycle shown =
 
 -- The picture of a run with these messages and this causal cycle.
 pub record IsCyclePicture (c : Computation) (messages : List (Place × Place)) (names : List (List ℕ)) (title : List ℕ)
-    (cycle : List Place) (drawing : Drawing) : Type 0 where
+    (cycle : List Place) (extent : Extent) (drawing : Drawing) : Type 0 where
   pub columns : Place → ℕ
   pub are_columns : AreCycleColumns c cycle columns
   pub flights : Place → Bool
   pub are_flights : (e : Place) → IsEvent c e → IsTrue (flights e) ↔ IsInFlight c e
   pub shapes : all_seen drawing.shapes.items
-      ≡ cycle_shapes columns flights c messages names title cycle (cycle_window columns c names cycle)
-  pub width : drawing.width ≡ page_width (cycle_window columns c names cycle) title Absent
+      ≡ cycle_shapes columns flights c messages names title cycle (cycle_window columns c names cycle extent)
+  pub width : drawing.width ≡ page_width (cycle_window columns c names cycle extent) title Absent
   pub height : drawing.height ≡ page_height c
   pub is_titled : string_bytes drawing.title ≡ title
   pub is_described : string_bytes drawing.description
-      ≡ cycle_description (cycle_window columns c names cycle) (widest columns c)
+      ≡ cycle_description (cycle_window columns c names cycle extent) (widest columns c)
 
 -- ---- on the way
 

@@ -3,6 +3,8 @@ use Rattle.std.specs.Prelude.{ℕ, zero, suc, ◌+◌, ◌-◌, ◌*◌, min, ma
 use Rattle.pd_format.specs.Limits.{process_limit}
 use Rattle.pd_model.specs.Events.{Place, place}
 use Rattle.pd_svg.specs.declared.point.Point.{Point}
+use Rattle.pd_wish.specs.declared.extent.Extent.{Extent}
+use Rattle.pd_wish.specs.declared.extent.Extent.TheVariants.{Around, From, All}
 use Rattle.pd_picture.specs.declared.window.Window.{Window}
 
 -- what f gives for 0, 1 and so on, below n, one after another
@@ -40,6 +42,32 @@ window_around widest focus names = record {
   shown = min (last_shown widest focus) column_limit;
   left = left_of names;
 }
+
+-- the first column that is shown, if those from this one on are asked for: the last one at most
+abbrev pub first_from : (column widest : ℕ) → ℕ
+first_from column widest = max 1 (min column widest)
+
+-- the columns that are shown, if those from this one on are asked for
+abbrev pub window_from : (column widest names : ℕ) → Window
+window_from column widest names = record {
+  first = first_from column widest;
+  shown = min (widest - (first_from column widest - 1)) column_limit;
+  left = left_of names;
+}
+
+-- how many columns are shown at most, if all are asked for
+abbrev pub all_limit : ℕ
+all_limit = 65535
+
+-- the columns that are shown, if all are asked for
+abbrev pub window_of_all : (widest names : ℕ) → Window
+window_of_all widest names = record { first = 1; shown = min widest all_limit; left = left_of names }
+
+-- The columns that are shown, if this is asked for.
+abbrev pub window_of : Extent → (widest focus names : ℕ) → Window
+window_of Around widest focus names = window_around widest focus names
+window_of (From column) widest focus names = window_from column widest names
+window_of All widest focus names = window_of_all widest names
 
 -- a column is among those that are shown
 abbrev pub is_shown : Window → ℕ → Bool

@@ -1,5 +1,5 @@
 -- What a picture shows, and where.
-use Rattle.std.specs.Prelude.{◌≡◌, ◌<◌, ◌≤◌, ℕ, ◌+◌, ◌-◌, max, Bool, true, ◌||◌, nat_le, nat_lt, if◌then◌else◌, IsTrue, ◌↔◌, List, [], ◌∷◌, ◌++◌, length, flat_map, codes, decimal, string_bytes, slice_index, slice_get, replicate, Option, Some, None, String, map}
+use Rattle.std.specs.Prelude.{◌≡◌, ◌<◌, ◌≤◌, ℕ, ◌+◌, ◌-◌, min, max, Bool, true, ◌||◌, nat_le, nat_lt, if◌then◌else◌, IsTrue, ◌↔◌, List, [], ◌∷◌, ◌++◌, length, flat_map, codes, decimal, string_bytes, slice_index, slice_get, replicate, Option, Some, None, String, map}
 use Rattle.std.specs.Global.{Global}
 use Rattle.std.specs.Fmt.Cut.{cut_to}
 use Rattle.pd_model.specs.Events.{Computation, Place, place, event_count, IsEvent}
@@ -9,8 +9,9 @@ use Rattle.pd_svg.specs.declared.anchor.Anchor.TheVariants as anchor
 use Rattle.pd_svg.specs.declared.class.Class.TheVariants as class
 use Rattle.pd_svg.specs.declared.drawing.Drawing.{Drawing}
 use Rattle.pd_svg.specs.declared.point.Point.{Point}
+use Rattle.pd_wish.specs.declared.extent.Extent.{Extent}
 use Rattle.pd_picture.specs.Columns.{AreColumns}
-use Rattle.pd_picture.specs.Layout.{upto, window_around, is_shown, greatest_column, right, column_x, lane_y, event_point}
+use Rattle.pd_picture.specs.Layout.{upto, window_of, is_shown, greatest_column, right, column_x, lane_y, event_point}
 use Rattle.pd_picture.specs.Rooms.{names_room, title_room, values_room}
 use Rattle.pd_picture.specs.Shapes.{Seen, SeenLine, SeenArrow, SeenCircle, SeenPolyline, SeenText, all_seen}
 use Rattle.pd_picture.specs.declared.evidence.Evidence.{Evidence}
@@ -129,9 +130,11 @@ event_shapes window columns evidence e =
 
 -- ---- the evidence
 
--- where the cut crosses the lane of a process: right of its last event in the cut, and left of the next one
+-- where the cut crosses the lane of a process: right of its last event in the cut, and left of the next one; at the
+-- lane's end, if that event stands after all that is shown
 abbrev pub cut_x : Window → (Place → ℕ) → List ℕ → ℕ → ℕ
-cut_x window columns counts p = column_x window (columns (place p (slice_index counts p))) + 24
+cut_x window columns counts p =
+    min (column_x window (columns (place p (slice_index counts p))) + 24) (right window)
 
 abbrev pub cut_points : Window → (Place → ℕ) → List ℕ → ℕ → List Point
 cut_points window columns counts p =
@@ -266,8 +269,9 @@ abbrev pub widest : (Place → ℕ) → Computation → ℕ
 widest columns c = greatest_column columns (λ p. event_count c p) (length c)
 
 -- the columns that are shown
-abbrev pub window : (Place → ℕ) → Computation → (names : List (List ℕ)) → Evidence → Window
-window columns c names evidence = window_around (widest columns c) (focus columns c evidence) (names_room names)
+abbrev pub window : (Place → ℕ) → Computation → (names : List (List ℕ)) → Evidence → Extent → Window
+window columns c names evidence extent =
+    window_of extent (widest columns c) (focus columns c evidence) (names_room names)
 
 -- the room right of the lanes
 abbrev pub room_right : Evidence → ℕ
@@ -300,16 +304,16 @@ picture_shapes columns flights c messages names title evidence shown =
 -- The picture of a run with these messages. Its columns are the lengths of longest chains, and its broken arrows are
 -- those of the sends that no event receives.
 pub record IsPicture (c : Computation) (messages : List (Place × Place)) (names : List (List ℕ)) (title : List ℕ)
-    (evidence : Evidence) (drawing : Drawing) : Type 0 where
+    (evidence : Evidence) (extent : Extent) (drawing : Drawing) : Type 0 where
   pub columns : Place → ℕ
   pub are_columns : AreColumns c columns
   pub flights : Place → Bool
   pub are_flights : (e : Place) → IsEvent c e → IsTrue (flights e) ↔ IsInFlight c e
   pub shapes : all_seen drawing.shapes.items
       ≡ picture_shapes columns flights c messages names title evidence
-      (window columns c names evidence)
-  pub width : drawing.width ≡ page_width (window columns c names evidence) title evidence
+      (window columns c names evidence extent)
+  pub width : drawing.width ≡ page_width (window columns c names evidence extent) title evidence
   pub height : drawing.height ≡ page_height c
   pub is_titled : string_bytes drawing.title ≡ title
   pub is_described : string_bytes drawing.description
-      ≡ description (window columns c names evidence) (widest columns c) c names evidence
+      ≡ description (window columns c names evidence extent) (widest columns c) c names evidence

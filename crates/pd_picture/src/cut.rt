@@ -12,7 +12,8 @@ use pd_clock::Place;
 use pd_svg::{Anchor, Class, Point, Shape};
 use std::alloc::{AllocError, Global};
 
-/// Where the cut crosses the lane of a process: right of its last event in the cut, and left of the next one.
+/// Where the cut crosses the lane of a process: right of its last event in the cut, and left of the next one; at the
+/// lane's end, if that event stands after all that is shown.
 fn cut_x(window: Window, rows: &[Vec<u32>], counts: &[u64], p: usize) -> u32
     ensures { result ≡ cut_x window (column_at rows.now) counts.now p }
 {
@@ -20,7 +21,8 @@ fn cut_x(window: Window, rows: &[Vec<u32>], counts: &[u64], p: usize) -> u32
         process: p,
         number: count_at(counts, p),
     };
-    window.column_x(column_at(rows, last)) + 24
+    let x = window.column_x(column_at(rows, last)) + 24;
+    x.min(window.right())
 }
 
 /// Adds the two points at which the cut comes to the lane of a process and leaves it.

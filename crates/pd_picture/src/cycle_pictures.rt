@@ -25,6 +25,7 @@ use super::window::{Window, lane_y};
 use pd_clock::Place;
 use pd_svg::{Drawing, Shape};
 use pd_traces::Trace;
+use pd_wish::Extent;
 use std::alloc::{AllocError, Global};
 
 /// What a picture shows: a run, with its messages as pairs of a send and a receipt, and a causal cycle in it.
@@ -35,6 +36,7 @@ struct Refused<'a> {
     names: &'a [String],
     title: &'a str,
     cycle: &'a [Place],
+    extent: Extent,
 }
 
 /// Adds what stands below the dots of these events.
@@ -107,11 +109,11 @@ fn drawn_cycle(
         (pairs_view subject.now.messages.now) }
     ensures { IfOk result (IsCyclePicture (computation_view subject.now.traces.now)
         (pairs_view subject.now.messages.now) (texts_view subject.now.names.now) subject.now.title.now
-        (places_view subject.now.cycle.now)) }
+        (places_view subject.now.cycle.now) subject.now.extent) }
 {
     let widest = cycle_widest(rows, subject.traces, subject.cycle);
     let focus = kept_column(cycle_focus(subject.cycle));
-    let window = Window::around(widest, focus, names_room(subject.names));
+    let window = Window::of(subject.extent, widest, focus, names_room(subject.names));
     let width = page_width(alloc, window, subject.title, &Evidence::Absent)?;
     let shapes = all_shapes(alloc, window, widest, rows, subject)?;
     let title = String::from_str(alloc, subject.title)?;
@@ -138,10 +140,11 @@ pub fn cycle_picture(
     names: &[String],
     title: &str,
     cycle: &[Place],
+    extent: Extent,
 ) -> Result<Drawing, AllocError>
     requires { IsMessageList (computation_view traces.now) (pairs_view messages.now) }
     ensures { IfOk result (IsCyclePicture (computation_view traces.now) (pairs_view messages.now)
-        (texts_view names.now) title.now (places_view cycle.now)) }
+        (texts_view names.now) title.now (places_view cycle.now) extent) }
 {
     let rows = cycle_columns(alloc, traces, cycle)?;
     let subject = Refused {
@@ -150,6 +153,7 @@ pub fn cycle_picture(
         names,
         title,
         cycle,
+        extent,
     };
     drawn_cycle(alloc, &rows, &subject)
 }

@@ -6,8 +6,8 @@
 //! steps of an observation are numbers at the events. A send that no event receives has a broken arrow. An event's
 //! column is the length of the longest chain of events that ends in it, so it stands right of all that happened before
 //! it, and each arrow points forward. Each event and each arrow of the columns that are shown stands in it exactly
-//! once. If a run has more columns than fit a page, those around the evidence are shown, and the picture says which; a
-//! message of which one end isn't shown has a diamond there.
+//! once. If a run has more columns than fit a page, those around the evidence are shown, or those that are asked for,
+//! and the picture says which; a message of which one end isn't shown has a diamond there.
 //!
 //! - `columns`: the columns of events
 //! - `window`: the columns that are shown

@@ -24,6 +24,7 @@ use super::window::{Window, greatest_column, lane_y, widest_column};
 use pd_clock::{Computation, Place};
 use pd_svg::{Drawing, Shape};
 use pd_traces::Trace;
+use pd_wish::Extent;
 use std::alloc::{AllocError, Global};
 
 /// The column in which the evidence ends, and 0 if it has no end.
@@ -106,6 +107,7 @@ struct Subject<'a, 'b> {
     names: &'a [String],
     title: &'a str,
     evidence: &'a Evidence,
+    extent: Extent,
 }
 
 /// Adds the lines of the processes, the arrows of the messages, and the dots of the events.
@@ -177,13 +179,13 @@ fn drawn(alloc: Global, rows: &[Vec<u32>], subject: &Subject<'_, '_>) -> Result<
     requires traces { computation_view subject.now.traces.now ≡ subject.now.computation.now.events }
     requires messages { IsMessageList subject.now.computation.now.events (pairs_view subject.now.messages.now) }
     ensures { IfOk result (IsPicture subject.now.computation.now.events (pairs_view subject.now.messages.now)
-        (texts_view subject.now.names.now) subject.now.title.now subject.now.evidence.now) }
+        (texts_view subject.now.names.now) subject.now.title.now subject.now.evidence.now subject.now.extent) }
 {
     let computation = subject.computation;
     let evidence = subject.evidence;
     let widest = widest(rows, computation);
     let focus = focus(rows, computation, evidence);
-    let window = Window::around(widest, focus, names_room(subject.names));
+    let window = Window::of(subject.extent, widest, focus, names_room(subject.names));
     let width = page_width(alloc, window, subject.title, evidence)?;
     let shapes = all_shapes(alloc, window, widest, rows, subject)?;
     let title = String::from_str(alloc, subject.title)?;
@@ -200,8 +202,7 @@ fn drawn(alloc: Global, rows: &[Vec<u32>], subject: &Subject<'_, '_>) -> Result<
 /// The picture of a run: a line for each process with its events in order, an arrow for each message from its send to
 /// each of its receipts, and the evidence. The traces and the messages, as pairs of a send and a receipt, are those of
 /// the computation, and the names those of its processes. An event's column is the length of the longest chain that
-/// ends in it. If there are more columns than fit a page, those around the evidence are shown, and the picture says
-/// which.
+/// ends in it. Those columns are shown that are asked for, and the picture says which, if not all are.
 ///
 /// # Errors
 /// Out of memory.
@@ -213,11 +214,12 @@ pub fn picture(
     names: &[String],
     title: &str,
     evidence: &Evidence,
+    extent: Extent,
 ) -> Result<Drawing, AllocError>
     requires traces { computation_view traces.now ≡ computation.now.events }
     requires messages { IsMessageList computation.now.events (pairs_view messages.now) }
     ensures { IfOk result (IsPicture computation.now.events (pairs_view messages.now) (texts_view names.now) title.now
-        evidence.now) }
+        evidence.now extent) }
 {
     let rows = columns(alloc, computation)?;
     let subject = Subject {
@@ -227,6 +229,7 @@ pub fn picture(
         names,
         title,
         evidence,
+        extent,
     };
     drawn(alloc, &rows, &subject)
 }

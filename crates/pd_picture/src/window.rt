@@ -1,12 +1,13 @@
 //! The columns that are shown.
 ghost use Rattle.pd_match.specs.Views.{place_view};
-ghost use Rattle.pd_picture.specs.Layout.{column_x, event_point, greatest_column, is_shown, lane_y, right, window_around};
+ghost use Rattle.pd_picture.specs.Layout.{column_x, event_point, first_from, greatest_column, is_shown, lane_y, left_of, right, window_around, window_from, window_of, window_of_all};
 ghost use Rattle.pd_picture.specs.Tables.{column_at, row_of};
 ghost use Rattle.std.specs.Prelude.{◌≡◌, ◌-◌, length, slice_index};
 
 use pd_clock::Place;
 use pd_format::PROCESS_LIMIT;
 use pd_svg::Point;
+use pd_wish::Extent;
 
 /// How many columns are shown at most.
 const COLUMN_LIMIT: u32 = 24;
@@ -14,28 +15,81 @@ const COLUMN_LIMIT: u32 = 24;
 /// How many columns are shown right of the evidence, if the run has them.
 const COLUMNS_AFTER: u32 = 8;
 
+/// How many columns are shown at most, if all are asked for.
+const ALL_LIMIT: u32 = 65_535;
+
 /// The columns that are shown.
 #[derive(Clone, Copy, Debug)]
 pub(crate) struct Window {
     /// The first of them, counted from 1.
     pub(crate) first: u32,
     /// How many they are.
-    pub(crate) shown: u8,
+    pub(crate) shown: u16,
     /// The left end of the lanes.
     pub(crate) left: u16,
 }
 
+/// The left end of the lanes, if the names of the processes are given this room.
+fn left_of(names: u32) -> u16
+    ensures { result ≡ left_of names }
+{
+    (names.min(600).max(182) + 38) as u16
+}
+
+/// The first column that is shown, if those from this one on are asked for.
+fn first_from(column: u64, widest: u32) -> u32
+    ensures { result ≡ first_from column widest }
+{
+    column.min(u64::from(widest)).max(1) as u32
+}
+
 impl Window {
+    /// The columns that are shown, if this is asked for, a run has this many, its evidence ends in column `focus`, and
+    /// the names of its processes are given this room.
+    pub(crate) fn of(extent: Extent, widest: u32, focus: u32, names: u32) -> Window
+        ensures { result ≡ window_of extent widest focus names }
+    {
+        match extent {
+            Extent::Around => Window::around(widest, focus, names),
+            Extent::From(column) => Window::beginning(column, widest, names),
+            Extent::All => Window::of_all(widest, names),
+        }
+    }
+
+    /// The columns that are shown, if those from this one on are asked for.
+    fn beginning(column: u64, widest: u32, names: u32) -> Window
+        ensures { result ≡ window_from column widest names }
+    {
+        let first = first_from(column, widest);
+        let after = widest.saturating_sub(first.saturating_sub(1));
+        Window {
+            first,
+            shown: after.min(COLUMN_LIMIT) as u16,
+            left: left_of(names),
+        }
+    }
+
+    /// The columns that are shown, if all are asked for.
+    fn of_all(widest: u32, names: u32) -> Window
+        ensures { result ≡ window_of_all widest names }
+    {
+        Window {
+            first: 1,
+            shown: widest.min(ALL_LIMIT) as u16,
+            left: left_of(names),
+        }
+    }
+
     /// The columns that are shown, if a run has this many, its evidence ends in column `focus`, and the names of its
     /// processes are given this room.
-    pub(crate) fn around(widest: u32, focus: u32, names: u32) -> Window
+    fn around(widest: u32, focus: u32, names: u32) -> Window
         ensures { result ≡ window_around widest focus names }
     {
         let last = widest.min(focus.saturating_add(COLUMNS_AFTER).max(COLUMN_LIMIT));
         Window {
             first: last.saturating_sub(COLUMN_LIMIT) + 1,
-            shown: last.min(COLUMN_LIMIT) as u8,
-            left: (names.min(600).max(182) + 38) as u16,
+            shown: last.min(COLUMN_LIMIT) as u16,
+            left: left_of(names),
         }
     }
 

@@ -8,6 +8,7 @@ use pd_clock::{Computation, Place};
 use pd_picture::{Evidence, columns_stand_right, picture, values_stand_clear};
 use pd_svg::{Drawing, Shape};
 use pd_traces::Trace;
+use pd_wish::Extent;
 use std::alloc::{AllocError, Global};
 
 /// Values of more than 80 bytes, of which byte 77 begins or ends a character of two bytes.
@@ -54,6 +55,7 @@ fn drawing_of(
         &names,
         "p possibly yes",
         &evidence,
+        Extent::Around,
     )
 }
 

@@ -5,17 +5,26 @@ use Rattle.clap.specs.Walk.{rows_of}
 use Rattle.clap.proofs.WalkLemmas.{first_value-rows}
 use Rattle.std.specs.Prelude.{IfSome}
 use Rattle.pd_asked.specs.Views.{asks_view}
-use Rattle.pd_arguments.specs.Arguments.{NamesAsks, FindsSession, of_missing, of_missing_report}
+use Rattle.pd_arguments.specs.Arguments.{NamesAsks, FindsSession, FindsWish, of_missing, of_missing_report, of_no_wish}
 use Rattle.pd_arguments.specs.Views.{session_view}
+use Rattle.pd_wish.specs.Wishes.{wish_view}
+use Rattle.pd_wish.specs.declared.wish.Wish.{Wish}
 use Rattle.pd_arguments.specs.declared.request.SessionNames.{SessionNames}
 use Rattle.pd_arguments.proofs.Parsed.{not_none}
 use Rattle.pd_arguments.proofs.arguments.draw_request.Goals as goal
 
 pub returns-in_default : goal.returns-in_default
 returns-in_default c arguments taken are =
+    of_no_wish (rows_of (found_of c.args.matches.now)) are
+    (subst (λ (wish : Option Wish). FindsWish (rows_of (found_of c.args.matches.now)) (option_map wish_view wish))
+    c.in_default.is c.wish_of.ensures)
+
+pub returns-in_default-get_str : goal.returns-in_default-get_str
+returns-in_default-get_str c arguments taken are =
     of_missing_report (codes "draw") (rows_of (found_of c.args.matches.now)) (inr refl) are
     (λ found. not_none _ c.get_str.result found.0
-    (c.get_str.ensures ∙ (first_value-rows (found_of c.args.matches.now) (codes "REPORT") ∙ found.1)) c.in_default.is)
+    (c.get_str.ensures ∙ (first_value-rows (found_of c.args.matches.now) (codes "REPORT") ∙ found.1))
+    c.in_default-get_str.is)
 
 pub returns-in_default-2 : goal.returns-in_default-2
 returns-in_default-2 c arguments taken are =
@@ -33,7 +42,7 @@ returns c arguments taken are = record {
   names_asks = subst (λ (names : Option SessionNames). IfSome names (λ names.
       NamesAsks (rows_of (found_of c.args.matches.now)) (asks_view names.asks))) c.in-Some-2.is
       c.in_ok-names.ensures.asks;
-  names_report = sym (first_value-rows (found_of c.args.matches.now) (codes "REPORT")) ∙ sym c.in-Some.ensures;
-  names_predicate = sym (c.get_str-predicate.ensures
-      ∙ first_value-rows (found_of c.args.matches.now) (codes "PREDICATE"));
+  names_report = sym (first_value-rows (found_of c.args.matches.now) (codes "REPORT")) ∙ sym c.in-Some-get_str.ensures;
+  names_wish = subst (λ (wish : Option Wish). FindsWish (rows_of (found_of c.args.matches.now))
+      (option_map wish_view wish)) c.in-Some.is c.wish_of.ensures;
 }

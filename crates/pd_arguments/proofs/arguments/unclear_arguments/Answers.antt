@@ -13,8 +13,8 @@ invalid_not_shown : (kind : ErrorKind) → kind ≡ ValueValidation → ¬ IsSho
 invalid_not_shown kind e (inl help) = cc
 invalid_not_shown kind e (inr version) = cc
 
-pub returns-then-has_list : goal.returns-then-has_list
-returns-then-has_list c other = invalid_not_shown _ (c.error_of.ensures other)
+pub returns-in-Some : goal.returns-in-Some
+returns-in-Some c other = invalid_not_shown _ (c.error_of.ensures other)
 
-pub returns : goal.returns
-returns c other = missing_not_shown _ (c.error_of-2.ensures other)
+pub returns-in-None : goal.returns-in-None
+returns-in-None c other = missing_not_shown _ (c.error_of-in-None.ensures other)

@@ -1,7 +1,7 @@
 -- What stands against the picture of a refused session.
 use Rattle.std.proofs.Common.{map}
 use Rattle.pd_check.specs.Views.{finding_view}
-use Rattle.pd_draw.specs.Choices.{name_view}
+use Rattle.pd_wish.specs.Wishes.{wish_view}
 use Rattle.pd_report.specs.Views.{refusal_view, report_view}
 use Rattle.pd_claims.proofs.SessionDrawings.{refusal_drawn}
 use Rattle.pd_claims.proofs.drawings.draw_claimed.Goals as goal
@@ -10,6 +10,6 @@ pub returns-in-Refused-clause-drawn : goal.returns-in-Refused-clause-drawn
 returns-in-Refused-clause-drawn g c =
     refusal_drawn c.args.document.now (map g.R.ByteSource.remaining c.args.streams.items)
     g.R.ByteSource.never_fails
-    (refusal_view c.in-Refused.refusal) (report_view c.args.claimed.now) (name_view c.args.name)
+    (refusal_view c.in-Refused.refusal) (report_view c.args.claimed.now) (wish_view c.args.wish.now)
     (finding_view c.find_refused.result)
     (rw c.in-Refused.is at c.in-Err.ensures.refused) c.find_refused.ensures

@@ -1,7 +1,7 @@
 -- What is drawn by the session, or why it comes to no answers.
 use Rattle.std.proofs.Common.{List, map, subst}
 use Rattle.pd_format.specs.Documents.{plain}
-use Rattle.pd_draw.specs.Choices.{name_view}
+use Rattle.pd_wish.specs.Wishes.{wish_view}
 use Rattle.pd_traces.specs.declared.event.Trace.{Trace}
 use Rattle.pd_gather.specs.Views.{traces_view}
 use Rattle.pd_judgement.specs.Judgements.{IsTracesReport}
@@ -34,7 +34,7 @@ returns-clause-drawn g c =
     let document = document_view c.in_ok-session.session.spec in
     let traces = traces_view c.in_ok-session.session.traces.items in
     session_drawn c.args.document.now (map g.R.ByteSource.remaining c.args.streams.items) g.R.ByteSource.never_fails
-    document traces (report_view c.args.claimed.now) (name_view c.args.name) c.in_ok-session.ensures.read
+    document traces (report_view c.args.claimed.now) (wish_view c.args.wish.now) c.in_ok-session.ensures.read
     c.in_ok-drawn.drawn
     (subst (λ (all : List Trace). DrawsTraces document (traces_view all) (report_view c.args.claimed.now)
-    (name_view c.args.name) c.in_ok-drawn.drawn) c.deref.ensures.value c.in_ok-drawn.ensures.drawn)
+    (wish_view c.args.wish.now) c.in_ok-drawn.drawn) c.deref.ensures.value c.in_ok-drawn.ensures.drawn)

@@ -2,7 +2,7 @@
 use Rattle.std.proofs.Common.{List, ℕ, Some, Err, ap, map, refl, subst, sym}
 use Rattle.pd_arguments.specs.Statuses.{of_any}
 use Rattle.pd_asked.specs.Views.{asks_view}
-use Rattle.pd_draw.specs.Choices.{name_view}
+use Rattle.pd_wish.specs.Wishes.{wish_view}
 use Rattle.pd_judgement.specs.Writes.{IsWholeInput}
 use Rattle.pd_cli.specs.FileSources.{AreAsked}
 use Rattle.pd_cli.proofs.DrawingsRead.{drawn_of_files}
@@ -22,11 +22,11 @@ returns-in-Ok g c =
     holds_asked asks file c.deref.result.now _ asked
     (drawn_of_files (Some c.deref.result.now) report_file c.deref.result.now c.deref-in-Ok.result.now _
     (map g.F.File.ByteSource.remaining c.in-Ok.read.streams.items) g.F.File.ByteSource.never_fails _
-    (name_view c.args.predicate) (g.O.Write.contents c.args.output.now) (g.O.Write.contents c.draw_read.new.output)
+    (wish_view c.args.wish.now) (g.O.Write.contents c.args.output.now) (g.O.Write.contents c.draw_read.new.output)
     refl claimed c.in-Ok.ensures.streams c.draw_read.result c.draw_read.ensures)
 
 pub returns-in-Err : goal.returns-in-Err
 returns-in-Err g c =
     of_any (unread_drawing _ g.F.File.ByteSource.never_fails _ (g.O.Write.contents c.args.output.now)
-    (g.F.FileSource.bytes_of c.args.files.now c.args.report.now) (name_view c.args.predicate) c.in-Err.fault
+    (g.F.FileSource.bytes_of c.args.files.now c.args.report.now) (wish_view c.args.wish.now) c.in-Err.fault
     c.in-Err.ensures.err (λ e. c.in-Err.ensures.unread (ap Err e)))

@@ -4,7 +4,7 @@ use Rattle.pd_arguments.specs.Statuses.{CheckFiles, CheckLeaves, Ends, FilesJudg
 use Rattle.pd_cli.proofs.Explanations.{unexplained}
 use Rattle.pd_cli.proofs.FilesRead.{files_of_names}
 use Rattle.clap.specs.Values.{kind_of}
-use Rattle.pd_draw.specs.Choices.{name_view}
+use Rattle.pd_wish.specs.Wishes.{wish_view}
 use Rattle.pd_asked.specs.Views.{asks_view}
 use Rattle.pd_fail_on.specs.Views.{fail_on_view}
 use Rattle.pd_cli.specs.Drawings.{EndsDrawn}
@@ -15,11 +15,6 @@ use Rattle.pd_arguments.specs.Views.{IsAsked, session_view}
 use Rattle.pd_arguments.proofs.ParserEnds.{error_as_asked}
 use Rattle.pd_arguments.proofs.ServicePorts.{port_of_service}
 use Rattle.pd_cli.proofs.program.run_arguments.Goals as goal
-
--- the name that is asked for, in the words of the arguments and in those of the picture
-named : (found : Option (Bor (List ℕ))) → option_map (λ (name : Bor (List ℕ)). name.now) found ≡ name_view found
-named None = refl
-named (Some name) = refl
 
 pub run_service-requires-clause-some : goal.run_service-requires-clause-some
 run_service-requires-clause-some g c _ _ =
@@ -125,20 +120,16 @@ returns-in-Ok-Draw g c = record {
       document = (session_view c.in-Ok-Draw.names).0;
       report = c.in-Ok-Draw.report.now;
       streams = (session_view c.in-Ok-Draw.names).1;
-      name = name_view c.in-Ok-Draw.predicate;
-      asked = subst (λ (name : Option (List ℕ)). AsksToDraw
-          (map (λ argument. argument.bytes.items) c.args.arguments.now) (asks_view c.in-Ok-Draw.names.asks)
-          (session_view c.in-Ok-Draw.names).0 c.in-Ok-Draw.report.now (session_view c.in-Ok-Draw.names).1 name)
-          (named c.in-Ok-Draw.predicate)
-          (subst (IsAsked (map (λ argument. argument.bytes.items) c.args.arguments.now)) c.in-Ok-Draw.field-0-is
-          c.in-Ok-Draw.ensures.asked);
+      wish = wish_view c.in-Ok-Draw.wish;
+      asked = subst (IsAsked (map (λ argument. argument.bytes.items) c.args.arguments.now)) c.in-Ok-Draw.field-0-is
+          c.in-Ok-Draw.ensures.asked;
       ends = subst (λ (streams : List (Option (List ℕ))). EndsDrawn (asks_view c.in-Ok-Draw.names.asks)
           (g.F.FileSource.bytes_of c.args.files.now c.in-Ok-Draw.names.spec.now)
           (g.F.FileSource.bytes_of c.args.files.now c.in-Ok-Draw.report.now) streams
           g.F.File.ByteSource.never_fails
           ((g.F.FileSource.always_opens ≡ true → g.F.File.ByteSource.never_fails ≡ true → ⊥)
           ⊎ IsLongReport (g.F.FileSource.bytes_of c.args.files.now c.in-Ok-Draw.report.now))
-          (name_view c.in-Ok-Draw.predicate)
+          (wish_view c.in-Ok-Draw.wish)
           c.run_draw.result (g.O.Write.contents c.args.output.now) (g.O.Write.contents c.run_draw.new.output)
           c.run_draw.ensures.start (g.E.Write.contents c.run_draw.new.errors))
           (files_of_names (g.F.FileSource.bytes_of c.args.files.now) (λ (name : Bor (List ℕ)). name.now)

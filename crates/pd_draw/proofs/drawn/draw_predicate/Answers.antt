@@ -32,12 +32,15 @@ returns c =
     let asked = named_view c.index-predicates-i.result in
     let answer = views.answer_view c.index-answers-i.result in
     let evidence = c.in_ok-evidence.evidence in
-    let shows : Shows document.names (recorded_of document traces) asked.predicate answer evidence =
-    subst (λ (names : List ProcessNames). Shows names (recorded_of document traces) asked.predicate answer evidence)
-    c.names.ensures (subst (λ (r : Recorded). Shows c.names.result.now r asked.predicate answer evidence)
+    let kind = c.args.wish.now.kind in
+    let shows : Shows kind document.names (recorded_of document traces) asked.predicate answer evidence =
+    subst (λ (names : List ProcessNames). Shows kind names (recorded_of document traces) asked.predicate answer
+    evidence)
+    c.names.ensures (subst (λ (r : Recorded). Shows kind c.names.result.now r asked.predicate answer evidence)
     c.requires.read.recorded c.in_ok-evidence.ensures) in
     pictured document traces (pairs_view c.args.run.now.pairs.now) c.args.run.now.computation.now
-    (ShowsPredicate document traces answers c.args.i) c.run_picture.result evidence c.deref-2.result.now
+    (ShowsPredicate kind document traces answers c.args.i) c.run_picture.result evidence c.deref-2.result.now
+    c.args.wish.now.extent
     c.requires.read.recorded
     (record {
       asked = asked;

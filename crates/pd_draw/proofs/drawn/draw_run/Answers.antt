@@ -14,4 +14,4 @@ returns c =
     pictured (document_view c.args.run.now.spec.now) (traces_view c.args.run.now.traces.now)
     (pairs_view c.args.run.now.pairs.now) c.args.run.now.computation.now
     (λ (evidence : Evidence) (title : List ℕ). ShowsNothing evidence × (title ≡ run_title))
-    c.run_picture.result Absent run_title c.requires.read.recorded (tt, refl) c.run_picture.ensures
+    c.run_picture.result Absent run_title c.args.extent c.requires.read.recorded (tt, refl) c.run_picture.ensures

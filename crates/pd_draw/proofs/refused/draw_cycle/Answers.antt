@@ -11,7 +11,8 @@ use Rattle.pd_draw.proofs.refused.draw_cycle.Goals as goal
 pub returns-in-Cycle-clause-drawn : goal.returns-in-Cycle-clause-drawn
 returns-in-Cycle-clause-drawn c =
     refusal_drawn (document_view c.args.spec.now) (computation_view c.args.traces.now) (pairs_view c.args.pairs.now)
-    (named_places_view c.deref.result.now) (refusal_view c.args.refusal.now) (ap refusal_view c.in-Cycle.is
+    (named_places_view c.deref.result.now) (refusal_view c.args.refusal.now) c.args.extent
+    (ap refusal_view c.in-Cycle.is
     ∙ ap (λ places. Cycle (named_places_view places)) (sym c.deref.ensures.value)) c.draw_places.result
     c.draw_places.ensures
 

@@ -20,9 +20,9 @@ returns c =
     let high : c.lane_y.result - 30 ≡ lane_y (length run) - 30 =
     ap (λ (n : ℕ). n - 30) c.lane_y.ensures ∙ ap (λ (n : ℕ). lane_y n - 30) many in
     is_cycle_picture run (column_at c.args.rows.now) subject.messages.now (texts_view subject.names.now)
-    subject.title.now cycle c.cycle_widest-widest.result c.kept_column-focus.result c.names_room.result
-    c.around-window.result c.cycle_widest-widest.ensures
+    subject.title.now cycle subject.extent c.cycle_widest-widest.result c.kept_column-focus.result c.names_room.result
+    c.of-window.result c.cycle_widest-widest.ensures
     (c.kept_column-focus.ensures ∙ ap kept_column c.cycle_focus.ensures) c.names_room.ensures
-    c.around-window.ensures c.requires.messages
+    c.of-window.ensures c.requires.messages
     (columns_are run cycle c.args.rows.now c.requires.table) _
     c.in_ok-shapes.ensures c.in_ok-width.ensures high c.in_ok-title.ensures.ok c.in_ok-description.ensures

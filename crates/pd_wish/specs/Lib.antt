@@ -1,0 +1,2 @@
+-- The modules of specs of this crate.
+pub mod Wishes
