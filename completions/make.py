@@ -19,6 +19,7 @@ ROOT = os.path.dirname(HERE)
 CONDITIONS = ["possibly", "possibly-no", "definitely", "definitely-no", "unknown"]
 # What each value of an option may be: words; or None, if any text is.
 VALUES = {
+    "FOLDER": None,
     "LIST": CONDITIONS,
     "PORT": None,
     "PREDICATE": None,
