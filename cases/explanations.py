@@ -31,6 +31,8 @@ FIXED = ("read", "write", "memory", "network", "bundle too long")
 COLUMNS = 116
 # The columns of a line of an explanation, but for those that show a part of a file.
 ROW = 100
+# What is told while a server runs, in an order that may change: `servers.py` has the cases.
+TOLD = re.compile(r"^serve: .*\n(?:  .*\n)*", re.MULTILINE)
 
 Case = collections.namedtuple("Case", "name files words input output memory peers",
                               defaults=({}, (), b"", None, None, ()))
@@ -190,6 +192,8 @@ def connections():
     yield Case("a connection that sends nothing", files, serve, peers=(A + END, ""))
     yield Case("two connections of one process", files, serve, peers=(B + END, B + END))
     yield Case("a connection that doesn't come in time", files, (*serve, "--wait", "2"), peers=(B + END,))
+    folder = {**files, "kept": None, "kept/session.json": ""}
+    yield Case("a session can't be kept", folder, (*serve, "--keep", "kept"), peers=None)
     yield Case("no connection comes in time", files, (*serve, "--wait", "1"), peers=None)
 
 
@@ -263,7 +267,7 @@ def explained(program, case):
         plain = ran(program, folder, case, words)
         found = [ran(program, folder, case, [*words[:at], "--explain", *words[at:]])
                  for at in sorted({0, min(1, len(words)), len(words)})]
-        found = [(*run[:2], re.sub(r"\b(127\.0\.0\.1):\d+", r"\1:40000", run[2])) for run in found]
+        found = [(*run[:2], re.sub(r"\b(127\.0\.0\.1):\d+", r"\1:40000", TOLD.sub("", run[2]))) for run in found]
         errors = found[0][2]
         wrong = []
         if any(other != found[0] for other in found):

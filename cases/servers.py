@@ -15,6 +15,8 @@ import fcntl
 import json
 import os
 import re
+import resource
+import select
 import socket
 import struct
 import subprocess
@@ -79,12 +81,26 @@ def two_ports(taken):
             return number, bound.pop_all()
 
 
+def limited(room):
+    """Has a process write no file with more than this many bytes: a write that goes on fails."""
+    def limit():
+        resource.setrlimit(resource.RLIMIT_FSIZE, (room, room))
+    return limit
+
+
 class Server(contextlib.ExitStack):
     """The program as a server on a free port, and the connections to it. All of it ends with the context."""
 
     def __init__(self, program, folder, document=DOCUMENT, watchers=0, workers=None, taken=(), beyond=False,
-                 fail_on=None, asked=()):
+                 fail_on=None, asked=(), before=None, room=None):
         super().__init__()
+        self.folder = folder
+        for name, content in (before or {}).items():
+            path = os.path.join(folder, name)
+            os.makedirs(path if content is None else os.path.dirname(path), exist_ok=True)
+            if content is not None:
+                with open(path, "wb") as file:
+                    file.write(content)
         if document is not None:
             with open(os.path.join(folder, "session.json"), "wb") as file:
                 file.write(document)
@@ -96,7 +112,8 @@ class Server(contextlib.ExitStack):
         words += ["--fail-on", fail_on] if fail_on else []
         words += asked
         self.process = self.enter_context(subprocess.Popen(
-            [program, "serve", "session.json", *words], cwd=folder, stdout=subprocess.PIPE, stderr=subprocess.PIPE))
+            [program, "serve", "session.json", *words], cwd=folder, stdout=subprocess.PIPE, stderr=subprocess.PIPE,
+            restore_signals=room is None, preexec_fn=limited(room) if room else None))
         self.callback(self.process.kill)
 
     def connect(self, place=0, seconds=SECONDS):
@@ -190,6 +207,167 @@ def slow(server):
         send(sender, stream)
 
 
+def kept_files(folder):
+    """What each file of a folder has; nothing, if there is no such folder."""
+    found = {}
+    for name in os.listdir(folder) if os.path.isdir(folder) else []:
+        with open(os.path.join(folder, name), "rb") as file:
+            found[name] = file.read()
+    return found
+
+
+def keeps(act, files):
+    """Clients of a server whose session is kept, and then what the folder has to have."""
+    def keep(server):
+        act(server)
+        server.process.wait(SECONDS)
+        found = kept_files(os.path.join(server.folder, "kept"))
+        if found != files:
+            differ("what is kept", repr(files).encode(), repr(found).encode())
+    return keep
+
+
+def comes_between(server):
+    """Two streams connect, and a file of the name of one of them is there before they are sent."""
+    senders = [server.connect(), server.connect()]
+    while not os.path.exists(os.path.join(server.folder, "kept", "1.stream")):
+        time.sleep(0.01)
+    with open(os.path.join(server.folder, "kept", "a.stream"), "wb") as file:
+        file.write(b"x")
+    for sender, stream in zip(senders, (OF_A, OF_B)):
+        send(sender, stream)
+
+
+def tells(server, wanted):
+    """Compares this with what comes next on the errors, as soon as that is as long."""
+    found = b""
+    until = time.monotonic() + SECONDS
+    while len(found) < len(wanted):
+        if not select.select([server.process.stderr], [], [], max(0, until - time.monotonic()))[0]:
+            raise Differs(f"nothing more is told after {found!r}")
+        more = os.read(server.process.stderr.fileno(), len(wanted) - len(found))
+        if not more:
+            break
+        found += more
+    if found != wanted:
+        differ("what is told", wanted, found)
+
+
+def told(server):
+    """Two streams connect, and what is told of that."""
+    tells(server, f"serve: port {server.port} of this machine waits for the streams of `a`, `b`.\n".encode())
+    senders = []
+    for number in (1, 2):
+        sender = server.connect()
+        port = sender.getsockname()[1]
+        tells(server, f"serve: stream {number} of 2 has connected, from 127.0.0.1:{port}.\n".encode())
+        senders.append(sender)
+    return senders
+
+
+def joins(server):
+    """The streams begin one after the other, and what is told of that, before any of them has ended."""
+    first, second = told(server)
+    at = OF_B.index(b"\n") + 1
+    first.sendall(OF_B[:at])
+    tells(server, b"serve: stream 1 is the one of `b`. Missing: `a`.\n")
+    second.sendall(OF_A[:at])
+    tells(server, b"serve: stream 2 is the one of `a`. None is missing.\n")
+    send(first, OF_B[at:])
+    send(second, OF_A[at:])
+
+
+def begins_otherwise(server):
+    """A stream that isn't one of ours, and what is told of that before the other one has begun."""
+    first, second = told(server)
+    port = first.getsockname()[1]
+    send(first, b"GET / HTTP/1.1\r\n\r\n")
+    tells(server, b"serve: stream 1 hasn't said whose it is. It begins so:\n    GET / HTTP/1.1\\x0d\n")
+    send(second, OF_B)
+    tells(server, b"serve: stream 2 is the one of `b`. Missing: `a`.\n")
+    tells(server, f"Stream 1, from 127.0.0.1:{port}, is refused at line 1".encode())
+
+
+def full_meanwhile(server):
+    """There is no room for a stream, which is told before any stream has ended."""
+    first, second = told(server)
+    first.sendall(LONG[:-len(END)])
+    tells(server, b"serve: stream 1 is the one of `a`. Missing: `b`.\n" + STOPPED)
+    send(first, END)
+    second.sendall(OF_B[:OF_B.index(b"\n") + 1])
+    tells(server, b"serve: stream 2 is the one of `b`. None is missing.\n")
+    send(second, OF_B[OF_B.index(b"\n") + 1:])
+
+
+# A stream that is longer than there is room for.
+END = b'{"end":true}\n'
+LONG = b'{"process":"a"}\n' + b'{"set":{"x":0}}\n' * 30 + END
+OF_LONG = (b"session 2 processes 32 events 0 messages\nboth possibly no\n"
+           b"both definitely no b,b" + b",a" * 30 + b"\n")
+# What is told of it at once, and at the end.
+STOPPED = (b"serve: kept/1.stream can't be written: File too large (os error 27). What comes of that stream from\n"
+           b"  here on isn't kept; the session is judged all the same.\n")
+UNKEPT = (b"Not all of the session is kept. kept/1.stream: File too large (os error 27).\n"
+          b"Expected: a folder with no file in it, or none of that name yet, and room for all that comes.\n"
+          b"What to do: give another folder after --keep, or make room.\nmonitor: write\n")
+
+
+def kept():
+    """The cases of sessions that are kept."""
+    options = {"asked": ["--keep", "kept"]}
+    document = {"session.json": DOCUMENT}
+    files = {**document, "a.stream": OF_A, "b.stream": OF_B, "report": REPORT}
+    yield "kept", keeps(clients([OF_B, OF_A]), files), options, (0, REPORT, b"")
+    empty = {**options, "before": {"kept": None}}
+    yield "kept, in an empty folder", keeps(clients([OF_B, OF_A]), files), empty, (0, REPORT, b"")
+    files = {**document, "a.stream": OF_A, "2.stream": OF_A, "report": b"refused stream 2 line 1 taken\n"}
+    yield "kept, one stream twice", keeps(clients([OF_A, OF_A]), files), options, (1, files["report"], b"")
+    files = {**document, "1.stream": b"GET /../x HTTP/1.1\r\n\r\n", "b.stream": OF_B,
+             "report": b"refused stream 1 line 1 json\n"}
+    streams = [files["1.stream"], OF_B]
+    yield "kept, and no stream of ours", keeps(clients(streams), files), options, (1, files["report"], b"")
+    unkept = (3, b"", b"monitor: write\n")
+    for name in ("session.json", "...", "2.stream", "other"):
+        before = {f"kept/{name}": b"x"}
+        yield f"kept, and there is {name}", keeps(nobody, {name: b"x"}), {**options, "before": before}, unkept
+    yield "kept, and it is a file", nobody, {**options, "before": {"kept": b"x"}}, unkept
+    yield "kept, with no folder above", nobody, {"asked": ["--keep", "no/kept"]}, unkept
+    yield "kept, with no name", nobody, {"asked": ["--keep", ""]}, unkept
+    yield "kept, and there is no room for the document", keeps(nobody, {"session.json": DOCUMENT[:100]}), {
+        **options, "room": 100}, unkept
+    yield "kept, and the port is taken", keeps(nobody, {}), {**options, "taken": [0]}, (3, b"", NO_NETWORK)
+    yield "kept, and the watchers' port is taken", keeps(nobody, {}), {**options, "taken": [1], "watchers": 1}, (
+        3, b"", NO_NETWORK)
+    refused = {**options, "document": b"{"}
+    yield "kept, and the document is refused", keeps(nobody, {}), refused, (1, b"refused spec json\n", b"")
+    files = {**document, "a.stream": b"", "2.stream": b""}
+    late = {"asked": ["--keep", "kept", "--wait", "2"]}
+    yield "kept, and one of two comes in time", keeps(senders([OF_A]), files), late, (3, b"", NO_NETWORK)
+    files = {**document, "a.stream": LONG[:300], "b.stream": OF_B, "report": OF_LONG}
+    full = (3, OF_LONG, b"monitor: write\n")
+    yield "kept, and there is no room", keeps(clients([LONG, OF_B]), files), {**options, "room": 300}, full
+    explained = {"asked": ["--keep", "kept", "--explain"], "room": 300}
+    yield "kept, and there is no room, explained", keeps(full_meanwhile, files), explained, (3, OF_LONG, UNKEPT)
+    files = {**document, "a.stream": b"x", "1.stream": OF_A, "b.stream": OF_B, "report": REPORT}
+    yield "kept, and a process has a file already", keeps(comes_between, files), options, (
+        3, REPORT, b"monitor: write\n")
+
+
+# What is explained of a stream that isn't one of ours, after where it came from.
+NO_STREAM = (b": this line isn't a JSON text.\nIt begins so:\n    GET / HTTP/1.1\\x0d\n"
+             b"Streams count in the order in which they connected.\n"
+             b"Expected: one JSON object a line, in UTF-8, ended by a line feed.\n"
+             b"What to do: look how the line was written: whether two writers share the file, or a crash cut the\n"
+             b"  line off.\n")
+
+
+def at_once():
+    """The cases of what is told while a server runs."""
+    explained = {"asked": ["--explain"]}
+    yield "told who joins", joins, explained, (0, REPORT, b"")
+    yield "told who doesn't", begins_otherwise, explained, (1, b"refused stream 1 line 1 json\n", NO_STREAM)
+
+
 def cases():
     """Of each case the name, who connects, what the server is started with, and its status, output and errors."""
     for name, (streams, report, status) in SESSIONS.items():
@@ -239,6 +417,8 @@ def cases():
     yield "the port is taken, and the document refused", nobody, options, (1, b"refused spec json\n", b"")
     options = {"taken": [0], "document": None}
     yield "the port is taken, and there is no document", nobody, options, (3, b"", b"monitor: read\n")
+    yield from kept()
+    yield from at_once()
     late = (3, b"", NO_NETWORK)
     yield "nobody comes in a second", nobody, {"asked": ["--wait", "1"]}, late
     yield "one of two comes in time", senders([OF_A]), {"asked": ["--wait", "2"], "watchers": 1}, late

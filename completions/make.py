@@ -20,6 +20,7 @@ CONDITIONS = ["possibly", "possibly-no", "definitely", "definitely-no", "unknown
 # What each value of an option may be: words; or None, if any text is.
 VALUES = {
     "COLUMN": None,
+    "FOLDER": None,
     "KIND": ["possibly", "definitely"],
     "LIST": CONDITIONS,
     "PORT": None,

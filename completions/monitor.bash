@@ -48,12 +48,14 @@ _monitor() {
       return ;;
     --wait)
       return ;;
+    --keep)
+      return ;;
   esac
   case "$command" in
     judge) options='--width --ask --workers --beyond-width --fail-on -h --help --explain' ;;
     check) options='--width --ask -h --help --explain' ;;
     draw) options='--width --ask --predicate --evidence --from --all -h --help --explain' ;;
-    serve) options='--width --ask --port --watchers --wait --workers --beyond-width --fail-on -h --help --explain' ;;
+    serve) options='--width --ask --port --watchers --wait --keep --workers --beyond-width --fail-on -h --help --explain' ;;
     explore) options='--width --ask --workers --beyond-width -h --help --explain' ;;
     help)
       COMPREPLY=($(compgen -W 'judge check draw serve explore help' -- "$current"))

@@ -40,6 +40,7 @@ complete -c monitor -n '__fish_seen_subcommand_from serve' -l ask -x -d 'A predi
 complete -c monitor -n '__fish_seen_subcommand_from serve' -l port -x -d 'The port, from 1 to 65534, on which the streams are accepted'
 complete -c monitor -n '__fish_seen_subcommand_from serve' -l watchers -x -d 'How many connections to the next port, at most 64, are shown how far the streams are read [default: 0]'
 complete -c monitor -n '__fish_seen_subcommand_from serve' -l wait -x -d 'How many seconds, at most 86400, the streams are waited for; without it they are waited for forever'
+complete -c monitor -n '__fish_seen_subcommand_from serve' -l keep -x -d 'Keep the document, the streams as they come and the report in this folder, which is made if there is none'
 complete -c monitor -n '__fish_seen_subcommand_from serve' -l workers -x -a '1 2 3 4 5 6 7 8 9 10 11 12 13 14 15 16' -d 'How many threads, at most 16, share the work on levels with many cuts; they change no byte of the report [default: 1]'
 complete -c monitor -n '__fish_seen_subcommand_from serve' -l beyond-width -d 'Answer predicates whatever the width, as far as they are decided without the levels of the lattice'
 complete -c monitor -n '__fish_seen_subcommand_from serve' -l fail-on -x -a '(__monitor_conditions)' -d 'End with status 5 if an answer is one of these, as possibly or NAME:unknown, with commas between them'

@@ -64,6 +64,10 @@ watchers_rule = record (number_rule (codes "WATCHERS") (codes "watchers") 0 watc
 abbrev pub wait_rule : Rule
 wait_rule = number_rule (codes "SECONDS") (codes "wait") 1 wait_limit
 
+-- the folder in which the session is kept
+abbrev pub keep_rule : Rule
+keep_rule = record (new_rule (codes "FOLDER")) { long = Some (codes "keep") }
+
 -- the number of workers
 abbrev pub workers_rule : Rule
 workers_rule = record (number_rule (codes "WORKERS") (codes "workers") 1 worker_limit) { defaults = codes "1" ∷ [] }
@@ -126,11 +130,11 @@ abbrev pub draw_app : App
 draw_app = with_rule (with_rule (with_rule (with_rule (report_app (codes "draw")) predicate_rule) kind_rule) from_rule)
     all_rule
 
--- `serve SPEC --port PORT [--watchers WATCHERS] [--wait SECONDS] [--workers WORKERS] [--beyond-width]
--- [--fail-on LIST]`
+-- `serve SPEC --port PORT [--watchers WATCHERS] [--wait SECONDS] [--keep FOLDER] [--workers WORKERS]
+-- [--beyond-width] [--fail-on LIST]`
 abbrev pub serve_app : App
-serve_app =
-    judging_app (with_rule (with_rule (with_rule (document_app (codes "serve")) port_rule) watchers_rule) wait_rule)
+serve_app = judging_app (with_rule (with_rule (with_rule (with_rule (document_app (codes "serve")) port_rule)
+    watchers_rule) wait_rule) keep_rule)
 
 -- `explore SPEC STREAM... [--workers WORKERS] [--beyond-width]`
 abbrev pub explore_app : App
@@ -230,6 +234,10 @@ NamesWidth rows width = MayNameNumber rows (codes "WIDTH") width
 -- how many seconds the streams are waited for, if the option has a number
 abbrev pub NamesWait : List Row → (wait : Option ℕ) → Type 0
 NamesWait rows wait = MayNameNumber rows (codes "SECONDS") wait
+
+-- the folder in which the session is kept, if the option has a name
+abbrev pub NamesKeep : List Row → (keep : Option Text) → Type 0
+NamesKeep rows keep = first_of (codes "FOLDER") rows ≡ keep
 
 -- the texts of predicates that are asked for: none if no option has one
 abbrev pub NamesPredicates : Option (List Text) → (texts : List Text) → Type 0
@@ -343,11 +351,12 @@ pub data AsksFor (arguments : List Text) : Request → Type 0 where
   of_check : (rows : List Row) (document report : Text) (streams : List Text) (asks : Asks) → AreTaken arguments
       → AreOf (codes "check") arguments rows → NamesSession rows document streams → NamesAsks rows asks
       → NamesReport rows report → AsksFor arguments (CheckFiles asks document report streams)
-  of_serve : (rows : List Row) (document : Text) (port watchers workers : ℕ) (wait : Option ℕ) (beyond_width : Bool)
-      (fail_on : List Condition) (asks : Asks) → AreTaken arguments → AreOf (codes "serve") arguments rows
-      → NamesService rows document port watchers → NamesWait rows wait → NamesAsks rows asks
-      → NamesWorkers rows workers → SaysBeyondWidth rows beyond_width → NamesConditions rows fail_on
-      → AsksFor arguments (ServeStreams beyond_width fail_on asks document port watchers wait)
+  of_serve : (rows : List Row) (document : Text) (port watchers workers : ℕ) (wait : Option ℕ) (keep : Option Text)
+      (beyond_width : Bool) (fail_on : List Condition) (asks : Asks) → AreTaken arguments
+      → AreOf (codes "serve") arguments rows → NamesService rows document port watchers → NamesWait rows wait
+      → NamesKeep rows keep → NamesAsks rows asks → NamesWorkers rows workers
+      → SaysBeyondWidth rows beyond_width → NamesConditions rows fail_on
+      → AsksFor arguments (ServeStreams beyond_width fail_on asks document port watchers wait keep)
   of_help : (kind : ErrorKind) → IsShownKind kind → HasFault arguments kind → AsksFor arguments ShowHelp
   of_fault : (kind : ErrorKind) → ¬ IsShownKind kind → HasFault arguments kind → AsksFor arguments Unclear
   of_missing : (command : Text) (rows : List Row) → TakesStreams command → AreOf command arguments rows

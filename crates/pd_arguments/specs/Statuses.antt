@@ -1,5 +1,5 @@
 -- How a run of the program ends: its exit status, and what that says of what it leaves on its output and on its errors.
-use Rattle.std.specs.Prelude.{◌≡◌, ◌<◌, ◌≤◌, ◌⊎◌, ⊤, ℕ, true, false, Bool, All, List, [], codes, length, map, Option, Some, None, IfSome}
+use Rattle.std.specs.Prelude.{◌≡◌, ◌≢◌, ◌<◌, ◌≤◌, ◌⊎◌, ⊤, ℕ, true, false, Bool, All, List, [], codes, length, map, Option, Some, None, IfSome}
 use Rattle.std.specs.Io.KnownBytes.{Keeps}
 use Rattle.pd_format.specs.Documents.{Document, DocumentFault, IsDocument, IsRefusedDocument, Inquiry, inquiry}
 use Rattle.pd_format.specs.Limits.{report_byte_limit}
@@ -21,10 +21,10 @@ pub data Request : Type 0 where
   -- to check a report by a session document and streams of events, each in a file of this name
   CheckFiles : (asks : Asks) (document report : List ℕ) (streams : List (List ℕ)) → Request
   -- to judge a session document, in the file of this name, and streams of events that come by connections to this port,
-  -- in the same way; to show meanwhile how far they are read to this many watchers; and to wait no longer than this
-  -- many seconds for the connections, if that is asked for
+  -- in the same way; to show meanwhile how far they are read to this many watchers; to wait no longer than this many
+  -- seconds for the connections, and to keep the session in the folder of this name, if that is asked for
   ServeStreams : (beyond_width : Bool) (fail_on : List Condition) (asks : Asks) (document : List ℕ) (port watchers : ℕ)
-      (wait : Option ℕ) → Request
+      (wait : Option ℕ) (keep : Option (List ℕ)) → Request
   -- to show the help
   ShowHelp : Request
   -- the arguments ask for nothing that can be done
@@ -70,7 +70,7 @@ pub data Failure : Type 0 where
   MemoryFailure : Failure
   -- the input or a file can't be read, or a report is too long
   ReadFailure : Failure
-  -- the output can't be written, or not be flushed
+  -- the output can't be written, or not be flushed; or a session that is to be kept can't be
   WriteFailure : Failure
   -- the bundle is too long
   BundleFailure : Failure
@@ -214,31 +214,36 @@ abbrev pub HoldsDocument : List ℕ → Type 0
 HoldsDocument bytes = (document : Document) × IsDocument bytes document
 
 -- The same of a document that stands in a file, and of streams that come by connections. If a port can't be bound, or a
--- stream not be accepted, or not in time: nothing; and that comes only of a document that isn't refused.
+-- stream not be accepted, or not in time: nothing; and that comes only of a document that isn't refused. If the session
+-- is to be kept, and can't be: nothing, in the same way, or all of the report.
 abbrev pub ServiceLeaves : (beyond_width : Bool) (fail_on : List Condition) (document : Option (List ℕ))
-    (G : Option (List ℕ) → Type 0) (never_fails : Bool) (MayBeUnread MayNotServe : Type 0) → Ending
+    (G : Option (List ℕ) → Type 0) (never_fails : Bool) (MayBeUnread MayNotServe IsKept : Type 0) → Ending
     → (old new : Option (List ℕ)) → Type 0
-ServiceLeaves beyond_width fail_on document G never_fails MayBeUnread MayNotServe Success old new =
+ServiceLeaves beyond_width fail_on document G never_fails MayBeUnread MayNotServe IsKept Success old new =
     OfDocument document (λ d. Writes (IsTextOfAccepted (inquiry beyond_width d) G never_fails
     (ComesTo fail_on conditions.Unmet)) Whole old new)
-ServiceLeaves beyond_width fail_on document G never_fails MayBeUnread MayNotServe Negative old new =
+ServiceLeaves beyond_width fail_on document G never_fails MayBeUnread MayNotServe IsKept Negative old new =
     OfDocument document (λ d. Writes (IsTextOfAccepted (inquiry beyond_width d) G never_fails IsRefused) Whole
     old new)
-ServiceLeaves beyond_width fail_on document G never_fails MayBeUnread MayNotServe Alarm old new =
+ServiceLeaves beyond_width fail_on document G never_fails MayBeUnread MayNotServe IsKept Alarm old new =
     OfDocument document (λ d. Writes (IsTextOfAccepted (inquiry beyond_width d) G never_fails
     (ComesTo fail_on conditions.Met)) Whole old new)
-ServiceLeaves beyond_width fail_on document G never_fails MayBeUnread MayNotServe NoPredicate old new =
+ServiceLeaves beyond_width fail_on document G never_fails MayBeUnread MayNotServe IsKept NoPredicate old new =
     OfDocument document (λ d. Writes (IsTextOfAccepted (inquiry beyond_width d) G never_fails
     (ComesTo fail_on conditions.NoPredicate)) Whole old new)
-ServiceLeaves beyond_width fail_on document G never_fails MayBeUnread MayNotServe Misuse old new = ⊥
-ServiceLeaves beyond_width fail_on document G never_fails MayBeUnread MayNotServe (Failed MemoryFailure) old new =
+ServiceLeaves beyond_width fail_on document G never_fails MayBeUnread MayNotServe IsKept Misuse old new = ⊥
+ServiceLeaves beyond_width fail_on document G never_fails MayBeUnread MayNotServe IsKept (Failed MemoryFailure)
+    old new =
     Keeps old new
-ServiceLeaves beyond_width fail_on document G never_fails MayBeUnread MayNotServe (Failed ReadFailure) old new =
+ServiceLeaves beyond_width fail_on document G never_fails MayBeUnread MayNotServe IsKept (Failed ReadFailure) old new =
     MayBeUnread × Keeps old new
-ServiceLeaves beyond_width fail_on document G never_fails MayBeUnread MayNotServe (Failed WriteFailure) old new =
+ServiceLeaves beyond_width fail_on document G never_fails MayBeUnread MayNotServe IsKept (Failed WriteFailure) old new =
     OfDocument document (λ d. WritesUpTo (IsTextOfAccepted (inquiry beyond_width d) G never_fails IsAnyReport) old new)
-ServiceLeaves beyond_width fail_on document G never_fails MayBeUnread MayNotServe (Failed BundleFailure) old new = ⊥
-ServiceLeaves beyond_width fail_on document G never_fails MayBeUnread MayNotServe (Failed NetworkFailure) old new =
+    ⊎ (IsKept × OfDocument document HoldsDocument × Keeps old new)
+ServiceLeaves beyond_width fail_on document G never_fails MayBeUnread MayNotServe IsKept (Failed BundleFailure)
+    old new = ⊥
+ServiceLeaves beyond_width fail_on document G never_fails MayBeUnread MayNotServe IsKept (Failed NetworkFailure)
+    old new =
     MayNotServe × OfDocument document HoldsDocument × Keeps old new
 
 -- P holds of the bytes of a document and of those of a report, which are all that their files hold, if that is known,
@@ -312,9 +317,10 @@ Leaves on input files connections (JudgeFiles beyond_width fail_on asks document
 Leaves on input files connections (CheckFiles asks document report streams) ending old new =
     HoldsAsked asks (files document) (λ d. CheckLeaves (Some d) (files report) (map files streams) on.files_are_read
     (FilesMayFail on ⊎ IsLongReport (files report)) ending old new)
-Leaves on input files connections (ServeStreams beyond_width fail_on asks document port watchers wait) ending old new =
+Leaves on input files connections (ServeStreams beyond_width fail_on asks document port watchers wait keep) ending
+    old new =
     HoldsAsked asks (files document) (λ d. ServiceLeaves beyond_width fail_on (Some d) (connections port)
-    on.connections_are_read (FilesMayFail on) (ServiceMayFail wait on.network_serves) ending old new)
+    on.connections_are_read (FilesMayFail on) (ServiceMayFail wait on.network_serves) (keep ≢ None) ending old new)
 Leaves on input files connections ShowHelp ending old new = HelpLeaves ending old new
 Leaves on input files connections Unclear ending old new = MisuseLeaves ending old new
 

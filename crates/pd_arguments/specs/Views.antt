@@ -14,6 +14,10 @@ use Rattle.pd_arguments.specs.declared.request.SessionNames.{SessionNames}
 abbrev pub session_view : SessionNames → List ℕ × List (List ℕ)
 session_view names = (names.spec.now, map (λ name. name.now) names.streams.items)
 
+-- the name of the folder in which a session is kept, if it is
+abbrev pub keep_view : Option (Bor (List ℕ)) → Option (List ℕ)
+keep_view keep = option_map (λ (folder : Bor (List ℕ)). folder.now) keep
+
 -- the arguments ask for this
 abbrev pub IsAsked : List Text → Request → Type 0
 IsAsked arguments Bundle = AsksFor arguments asked.JudgeInput
@@ -27,7 +31,7 @@ IsAsked arguments (Draw report wish names) =
     (wish_view wish)
 IsAsked arguments (Serve service) =
     AsksFor arguments (asked.ServeStreams service.beyond_width (fail_on_view service.fail_on) (asks_view service.asks)
-    service.spec.now service.port service.watchers service.wait)
+    service.spec.now service.port service.watchers service.wait (keep_view service.keep))
 IsAsked arguments (Explore exploration) =
     AsksToExplore arguments exploration.beyond_width (asks_view exploration.names.asks)
     (session_view exploration.names).0 (session_view exploration.names).1

@@ -323,6 +323,7 @@ fn service_request<'a>(
         port,
         watchers,
         wait: wait_of(matches),
+        keep: matches.get_str("FOLDER"),
         beyond_width: flag_of(matches, "BEYOND_WIDTH"),
         fail_on,
         workers,

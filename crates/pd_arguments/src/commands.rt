@@ -2,7 +2,7 @@
 ghost use Rattle.clap.specs.Simple.{app_of};
 ghost use Rattle.clap.specs.Walk.{rule_of};
 ghost use Rattle.clap.specs.declared.builder.command.Command.TheViews.{out-Command};
-ghost use Rattle.pd_arguments.specs.Arguments.{AddsCommand, all_rule, ask_rule, beyond_width_rule, check_app, document_app, draw_app, explore_app, fail_on_rule, from_rule, judge_app, judging_app, kind_rule, monitor_app, number_rule, plain_app, port_rule, predicate_rule, report_app, required_rule, serve_app, stream_rule, wait_rule, watchers_rule, width_rule, workers_rule};
+ghost use Rattle.pd_arguments.specs.Arguments.{AddsCommand, all_rule, ask_rule, beyond_width_rule, check_app, document_app, draw_app, explore_app, fail_on_rule, from_rule, judge_app, judging_app, keep_rule, kind_rule, monitor_app, number_rule, plain_app, port_rule, predicate_rule, report_app, required_rule, serve_app, stream_rule, wait_rule, watchers_rule, width_rule, workers_rule};
 ghost use Rattle.std.specs.Prelude.{◌≡◌, IfOk, false};
 
 use clap::builder::ValueParser;
@@ -33,7 +33,7 @@ the help is written
   1  The session is refused; a check finds something bad, or what stands against the picture
   2  The arguments are refused, or name a predicate or evidence that isn't there
   3  A file can't be opened or read, a port can't be bound, a stream can't be accepted or doesn't come in time, or the \
-output can't be written
+output or what is to be kept can't be written
   4  Memory runs out
   5  The session is judged, and a condition of --fail-on is met";
 
@@ -112,6 +112,8 @@ is written to the standard output once all of them have ended and all watchers w
 the session is judged, 1 if it is refused, 2 if the arguments are refused, 3 if the document can't be read, a port \
 can't be bound, a stream can't be accepted or the output can't be written, and 4 if memory runs out.\n\n\
 With --wait the status is 3 if not all streams have connected when so many seconds have passed since the start.\n\n\
+With --keep the status is 3 if something of the session can't be kept, as in a folder that has files already; nothing \
+is ever written over.\n\n\
 With --fail-on the status may be 5, as that of `judge`, whose help says what LIST is.\n\n\
 An answer is unknown where a level of the lattice has more cuts than the document's width. With --beyond-width \
 predicates that name at most two processes are answered all the same and, as far as docs/SPECIFICATION.md says, those \
@@ -244,6 +246,16 @@ fn all_option<'a>(alloc: Global) -> Arg<'a>
         .long("all")
         .action(ArgAction::SetTrue)
         .help("Draw all columns")
+}
+
+/// The option that names the folder in which the session is kept.
+fn keep_option<'a>(alloc: Global) -> Arg<'a>
+    ensures rule { rule_of result ≡ keep_rule }
+    ensures local { result.global ≡ false }
+{
+    Arg::new(alloc, "FOLDER").long("keep").help(
+        "Keep the document, the streams as they come and the report in this folder, which is made if there is none",
+    )
 }
 
 /// The option that says how many workers there are.
@@ -388,7 +400,8 @@ fn serve_command<'a>(alloc: Global) -> Result<Command<'a>, AllocError>
     let command = document_command(alloc, "serve", SERVE_ABOUT, SERVE_AFTER)?
         .arg(port_option(alloc))?
         .arg(watchers_option(alloc))?
-        .arg(wait_option(alloc))?;
+        .arg(wait_option(alloc))?
+        .arg(keep_option(alloc))?;
     judging_command(alloc, command)
 }
 

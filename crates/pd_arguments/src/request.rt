@@ -53,6 +53,8 @@ pub struct Service<'a> {
     pub watchers: u64,
     /// How many seconds the streams are waited for, from 1 to 86,400, if that has an end.
     pub wait: Option<u64>,
+    /// The name of the folder in which the session is kept, if it is.
+    pub keep: Option<&'a str>,
     /// Whether predicates are answered whatever the width, as far as they are decided without the levels.
     pub beyond_width: bool,
     /// The answers to fail on.

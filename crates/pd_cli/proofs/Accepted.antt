@@ -9,6 +9,7 @@ use Rattle.pd_judgement.specs.Headline.{is_judged}
 use Rattle.pd_judgement.specs.Judgements.{IsJudgement, RawStream, of_read, of_refused}
 use Rattle.pd_arguments.specs.Statuses.{Ending, Success, Negative, Alarm, NoPredicate, Misuse, Failed, ComesTo, MemoryFailure, ReadFailure, WriteFailure, BundleFailure, NetworkFailure, FilesJudgementLeaves, IsTextOfAccepted, OfDocument, ServiceLeaves}
 use Rattle.pd_judgement.specs.Writes.{Whole, IsAnyReport, IsRefused, IsTextOfStreams}
+use Rattle.pd_judgement.proofs.TextsOwed.{weaker_said}
 use Rattle.pd_judgement.proofs.Writing.{writes_weaker}
 use Rattle.pd_pred.specs.Views.{predicate_fault_view}
 use Rattle.pd_format.specs.Documents as faults
@@ -17,13 +18,13 @@ use Rattle.pd_spec.specs.Views.{IsFaultOf}
 use Rattle.pd_spec.specs.declared.fault.SpecFault.{SpecFault}
 use Rattle.pd_spec.specs.declared.fault.SpecFault.TheVariants as kinds
 use Rattle.pd_fail_on.specs.Conditions as conditions
-use Rattle.pd_fail_on.specs.Conditions.{Condition, conclusion}
+use Rattle.pd_fail_on.specs.Conditions.{Condition, Conclusion, conclusion}
 use Rattle.pd_report.specs.Views.{report_view}
 use Rattle.pd_report.specs.declared.report.Report as programs
 use Rattle.pd_report.specs.declared.report.Report.TheVariants.{Judged, Refused}
-use Rattle.pd_cli.specs.Faults.{is_out_of_memory, judgement_ending}
+use Rattle.pd_cli.specs.Faults.{concluded_ending, is_out_of_memory, judgement_ending, service_ending}
 use Rattle.pd_cli.specs.declared.service_fault.ServiceFault.{ServiceFault}
-use Rattle.pd_cli.specs.declared.service_fault.ServiceFault.TheVariants.{Engine}
+use Rattle.pd_cli.specs.declared.service_fault.ServiceFault.TheVariants.{Engine, Unkept}
 use Rattle.pd_sessions.specs.declared.fault.EngineFault.{EngineFault}
 use Rattle.pd_sessions.specs.declared.fault.EngineFault.TheVariants.{Memory, Write}
 use Rattle.pd_cli.specs.FileSources.{SameOutline, StandsFor}
@@ -102,30 +103,30 @@ of_known document P Q go h = record {
 -- what is left by these streams is what is to be left by accepted ones
 pub service_of_judgement : (beyond : Bool) (fail_on : List Condition) (document : List ℕ) (G : Option (List ℕ)
     → Type 0) (inputs : List (Option (List ℕ)))
-    (never_fails : Bool) (MayNotServe : Type 0) (ending : Ending) (old new : Option (List ℕ))
+    (never_fails : Bool) (MayNotServe IsKept : Type 0) (ending : Ending) (old new : Option (List ℕ))
     → AreAccepted document G inputs → FilesJudgementLeaves beyond fail_on (Some document) inputs never_fails ⊥
     ending old new
-    → ServiceLeaves beyond fail_on (Some document) G never_fails ⊥ MayNotServe ending old new
-service_of_judgement beyond fail_on document G inputs never_fails N Success old new are left =
+    → ServiceLeaves beyond fail_on (Some document) G never_fails ⊥ MayNotServe IsKept ending old new
+service_of_judgement beyond fail_on document G inputs never_fails N K Success old new are left =
     of_known document _ _ (writes_weaker _ _ Whole old new (λ text.
     accepted_text beyond document G inputs never_fails (ComesTo fail_on conditions.Unmet) text are)) left
-service_of_judgement beyond fail_on document G inputs never_fails N Alarm old new are left =
+service_of_judgement beyond fail_on document G inputs never_fails N K Alarm old new are left =
     of_known document _ _ (writes_weaker _ _ Whole old new (λ text.
     accepted_text beyond document G inputs never_fails (ComesTo fail_on conditions.Met) text are)) left
-service_of_judgement beyond fail_on document G inputs never_fails N NoPredicate old new are left =
+service_of_judgement beyond fail_on document G inputs never_fails N K NoPredicate old new are left =
     of_known document _ _ (writes_weaker _ _ Whole old new (λ text.
     accepted_text beyond document G inputs never_fails (ComesTo fail_on conditions.NoPredicate) text are)) left
-service_of_judgement beyond fail_on document G inputs never_fails N Negative old new are left =
+service_of_judgement beyond fail_on document G inputs never_fails N K Negative old new are left =
     of_known document _ _ (writes_weaker _ _ Whole old new (λ text.
     accepted_text beyond document G inputs never_fails IsRefused text are)) left
-service_of_judgement beyond fail_on document G inputs never_fails N Misuse old new are left = left
-service_of_judgement beyond fail_on document G inputs never_fails N (Failed MemoryFailure) old new are left = left
-service_of_judgement beyond fail_on document G inputs never_fails N (Failed ReadFailure) old new are left = left
-service_of_judgement beyond fail_on document G inputs never_fails N (Failed WriteFailure) old new are left =
-    of_known document _ _ (up_to_weaker _ _ old new
-    (λ text. accepted_text beyond document G inputs never_fails IsAnyReport text are)) left
-service_of_judgement beyond fail_on document G inputs never_fails N (Failed BundleFailure) old new are left = left
-service_of_judgement beyond fail_on document G inputs never_fails N (Failed NetworkFailure) old new are left =
+service_of_judgement beyond fail_on document G inputs never_fails N K Misuse old new are left = left
+service_of_judgement beyond fail_on document G inputs never_fails N K (Failed MemoryFailure) old new are left = left
+service_of_judgement beyond fail_on document G inputs never_fails N K (Failed ReadFailure) old new are left = left
+service_of_judgement beyond fail_on document G inputs never_fails N K (Failed WriteFailure) old new are left =
+    inl (of_known document _ _ (up_to_weaker _ _ old new
+    (λ text. accepted_text beyond document G inputs never_fails IsAnyReport text are)) left)
+service_of_judgement beyond fail_on document G inputs never_fails N K (Failed BundleFailure) old new are left = left
+service_of_judgement beyond fail_on document G inputs never_fails N K (Failed NetworkFailure) old new are left =
     absurd left
 
 -- ---- how a session ends
@@ -206,31 +207,93 @@ accepted_of_file beyond read document G never_fails IsSaid text same h = record 
 -- what is left by the bytes that were read is what is to be left by the file
 pub service_of_file : (beyond : Bool) (fail_on : List Condition) (file : Option (List ℕ)) (read : List ℕ) (G :
     Option (List ℕ) → Type 0)
-    (never_fails : Bool) (MayBeUnread MayNotServe : Type 0) (ending : Ending) (old new : Option (List ℕ))
-    → StandsFor read file → ServiceLeaves beyond fail_on (Some read) G never_fails ⊥ MayNotServe ending old new
-    → ServiceLeaves beyond fail_on file G never_fails MayBeUnread MayNotServe ending old new
-service_of_file beyond fail_on file read G never_fails M N Success old new stands left =
+    (never_fails : Bool) (MayBeUnread MayNotServe IsKept : Type 0) (ending : Ending) (old new : Option (List ℕ))
+    → StandsFor read file → ServiceLeaves beyond fail_on (Some read) G never_fails ⊥ MayNotServe IsKept ending old new
+    → ServiceLeaves beyond fail_on file G never_fails MayBeUnread MayNotServe IsKept ending old new
+service_of_file beyond fail_on file read G never_fails M N K Success old new stands left =
     of_document file read _ _ stands (λ document same. writes_weaker _ _ Whole old new (λ text.
     accepted_of_file beyond read document G never_fails (ComesTo fail_on conditions.Unmet) text same)) left
-service_of_file beyond fail_on file read G never_fails M N Alarm old new stands left =
+service_of_file beyond fail_on file read G never_fails M N K Alarm old new stands left =
     of_document file read _ _ stands (λ document same. writes_weaker _ _ Whole old new (λ text.
     accepted_of_file beyond read document G never_fails (ComesTo fail_on conditions.Met) text same)) left
-service_of_file beyond fail_on file read G never_fails M N NoPredicate old new stands left =
+service_of_file beyond fail_on file read G never_fails M N K NoPredicate old new stands left =
     of_document file read _ _ stands (λ document same. writes_weaker _ _ Whole old new (λ text.
     accepted_of_file beyond read document G never_fails (ComesTo fail_on conditions.NoPredicate) text same)) left
-service_of_file beyond fail_on file read G never_fails M N Negative old new stands left =
+service_of_file beyond fail_on file read G never_fails M N K Negative old new stands left =
     of_document file read _ _ stands (λ document same. writes_weaker _ _ Whole old new (λ text.
     accepted_of_file beyond read document G never_fails IsRefused text same)) left
-service_of_file beyond fail_on file read G never_fails M N Misuse old new stands left = left
-service_of_file beyond fail_on file read G never_fails M N (Failed MemoryFailure) old new stands left = left
-service_of_file beyond fail_on file read G never_fails M N (Failed ReadFailure) old new stands left = absurd left.0
-service_of_file beyond fail_on file read G never_fails M N (Failed WriteFailure) old new stands left =
-    of_document file read _ _ stands (λ document same. up_to_weaker _ _ old new (λ text.
-    accepted_of_file beyond read document G never_fails IsAnyReport text same)) left
-service_of_file beyond fail_on file read G never_fails M N (Failed BundleFailure) old new stands left = left
-service_of_file beyond fail_on file read G never_fails M N (Failed NetworkFailure) old new stands left = (
+service_of_file beyond fail_on file read G never_fails M N K Misuse old new stands left = left
+service_of_file beyond fail_on file read G never_fails M N K (Failed MemoryFailure) old new stands left = left
+service_of_file beyond fail_on file read G never_fails M N K (Failed ReadFailure) old new stands left = absurd left.0
+service_of_file beyond fail_on file read G never_fails M N K (Failed WriteFailure) old new stands (inl left) =
+    inl (of_document file read _ _ stands (λ document same. up_to_weaker _ _ old new (λ text.
+    accepted_of_file beyond read document G never_fails IsAnyReport text same)) left)
+service_of_file beyond fail_on file read G never_fails M N K (Failed WriteFailure) old new stands (inr left) = inr (
   left.0,
   of_document file read _ _ stands (λ document same holds.
       (holds.0, same_document read document holds.0 same holds.1)) left.1,
   left.2,
 )
+service_of_file beyond fail_on file read G never_fails M N K (Failed BundleFailure) old new stands left = left
+service_of_file beyond fail_on file read G never_fails M N K (Failed NetworkFailure) old new stands left = (
+  left.0,
+  of_document file read _ _ stands (λ document same holds.
+      (holds.0, same_document read document holds.0 same holds.1)) left.1,
+  left.2,
+)
+
+-- ---- a session that is kept
+
+any_accepted : (beyond : Bool) (document : List ℕ) (G : Option (List ℕ) → Type 0) (never_fails : Bool)
+    (IsSaid : Report → Type 0) (text : List ℕ) → IsTextOfAccepted (inquiry beyond document) G never_fails IsSaid text
+    → IsTextOfAccepted (inquiry beyond document) G never_fails IsAnyReport text
+any_accepted beyond document G never_fails IsSaid text h = record {
+  inputs = h.inputs;
+  accepted = h.accepted;
+  one_each = h.one_each;
+  none_refused = h.none_refused;
+  is_text = record {
+    streams = h.is_text.streams;
+    are_given = h.is_text.are_given;
+    is_report_text = weaker_said (inquiry beyond document) h.is_text.streams IsSaid IsAnyReport text (λ _ _. tt)
+        h.is_text.is_report_text;
+  };
+}
+
+-- all of a report is written, whatever it comes to
+unkept_left : (beyond : Bool) (document : List ℕ) (G : Option (List ℕ) → Type 0) (never_fails : Bool)
+    (MayNotServe IsKept : Type 0) (fail_on : List Condition) (end : Conclusion) (old new : Option (List ℕ))
+    → ServiceLeaves beyond fail_on (Some document) G never_fails ⊥ MayNotServe IsKept (concluded_ending end) old new
+    → ServiceLeaves beyond fail_on (Some document) G never_fails ⊥ MayNotServe IsKept (Failed WriteFailure) old new
+unkept_left beyond document G never_fails N K fail_on conditions.OfRefusal old new left =
+    inl (of_known document _ _ (λ whole. inl (writes_weaker _ _ Whole old new
+    (any_accepted beyond document G never_fails IsRefused) whole)) left)
+unkept_left beyond document G never_fails N K fail_on conditions.NoPredicate old new left =
+    inl (of_known document _ _ (λ whole. inl (writes_weaker _ _ Whole old new
+    (any_accepted beyond document G never_fails (ComesTo fail_on conditions.NoPredicate)) whole)) left)
+unkept_left beyond document G never_fails N K fail_on conditions.Met old new left =
+    inl (of_known document _ _ (λ whole. inl (writes_weaker _ _ Whole old new
+    (any_accepted beyond document G never_fails (ComesTo fail_on conditions.Met)) whole)) left)
+unkept_left beyond document G never_fails N K fail_on conditions.Unmet old new left =
+    inl (of_known document _ _ (λ whole. inl (writes_weaker _ _ Whole old new
+    (any_accepted beyond document G never_fails (ComesTo fail_on conditions.Unmet)) whole)) left)
+
+-- how a server ends whose session is kept, or isn't
+pub kept_service : (beyond : Bool) (fail_on : List Condition) (document : List ℕ) (G : Option (List ℕ) → Type 0)
+    (never_fails : Bool) (MayNotServe IsKept : Type 0) (end result : Result programs.Report ServiceFault)
+    (is_kept : Bool) (old new : Option (List ℕ)) → (is_kept ≡ true → result ≡ end)
+    → (is_kept ≡ false → MatchResult end (λ _. result ≡ Err Unkept) (λ fault. result ≡ Err fault))
+    → ServiceLeaves beyond fail_on (Some document) G never_fails ⊥ MayNotServe IsKept (service_ending fail_on end) old
+    new
+    → ServiceLeaves beyond fail_on (Some document) G never_fails ⊥ MayNotServe IsKept (service_ending fail_on result)
+    old new
+kept_service beyond fail_on document G never_fails N K end result true old new kept unkept left =
+    subst (λ (r : Result programs.Report ServiceFault). ServiceLeaves beyond fail_on (Some document) G never_fails ⊥ N K
+    (service_ending fail_on r) old new) (sym (kept refl)) left
+kept_service beyond fail_on document G never_fails N K (Ok report) result false old new kept unkept left =
+    subst (λ (r : Result programs.Report ServiceFault). ServiceLeaves beyond fail_on (Some document) G never_fails ⊥ N K
+    (service_ending fail_on r) old new) (sym (unkept refl))
+    (unkept_left beyond document G never_fails N K fail_on (conclusion fail_on (report_view report)) old new left)
+kept_service beyond fail_on document G never_fails N K (Err fault) result false old new kept unkept left =
+    subst (λ (r : Result programs.Report ServiceFault). ServiceLeaves beyond fail_on (Some document) G never_fails ⊥ N K
+    (service_ending fail_on r) old new) (sym (unkept refl)) left

@@ -65,13 +65,13 @@ module _ (streams : List (Option (List ℕ))) (never_fails : Bool) (MayBeUnread 
   unread_drawing report wish BundleLong (inr is) unread document = absurd (cc)
 
 pub unread_service : (beyond_width : Bool) (fail_on : List Condition) (G : Option (List ℕ) → Type 0)
-    (never_fails : Bool) (MayBeUnread MayNotServe : Type 0) (old : Option (List ℕ)) (fault : EngineFault)
+    (never_fails : Bool) (MayBeUnread MayNotServe IsKept : Type 0) (old : Option (List ℕ)) (fault : EngineFault)
     → IsReadFault fault → (fault ≡ Read → MayBeUnread) → (document : List ℕ)
-    → ServiceLeaves beyond_width fail_on (Some document) G never_fails MayBeUnread MayNotServe
+    → ServiceLeaves beyond_width fail_on (Some document) G never_fails MayBeUnread MayNotServe IsKept
     (service_ending fail_on (Err (Engine fault))) old old
-unread_service beyond_width fail_on G never_fails M N old Memory is unread document = keeps_same old
-unread_service beyond_width fail_on G never_fails M N old Read is unread document = (unread refl, keeps_same old)
-unread_service beyond_width fail_on G never_fails M N old Write (inl is) unread document = absurd (cc)
-unread_service beyond_width fail_on G never_fails M N old Write (inr is) unread document = absurd (cc)
-unread_service beyond_width fail_on G never_fails M N old BundleLong (inl is) unread document = absurd (cc)
-unread_service beyond_width fail_on G never_fails M N old BundleLong (inr is) unread document = absurd (cc)
+unread_service beyond_width fail_on G never_fails M N K old Memory is unread document = keeps_same old
+unread_service beyond_width fail_on G never_fails M N K old Read is unread document = (unread refl, keeps_same old)
+unread_service beyond_width fail_on G never_fails M N K old Write (inl is) unread document = absurd (cc)
+unread_service beyond_width fail_on G never_fails M N K old Write (inr is) unread document = absurd (cc)
+unread_service beyond_width fail_on G never_fails M N K old BundleLong (inl is) unread document = absurd (cc)
+unread_service beyond_width fail_on G never_fails M N K old BundleLong (inr is) unread document = absurd (cc)

@@ -5,7 +5,7 @@ use Rattle.pd_arguments.specs.Statuses.{Failure, MemoryFailure, ReadFailure, Wri
 use Rattle.pd_fail_on.specs.Conditions as conditions
 use Rattle.pd_fail_on.specs.Conditions.{Condition, Conclusion, conclusion}
 use Rattle.pd_cli.specs.declared.service_fault.ServiceFault.{ServiceFault}
-use Rattle.pd_cli.specs.declared.service_fault.ServiceFault.TheVariants.{Engine, Late, Network}
+use Rattle.pd_cli.specs.declared.service_fault.ServiceFault.TheVariants.{Engine, Late, Network, Unkept}
 use Rattle.pd_report.specs.Views.{report_view}
 use Rattle.pd_report.specs.declared.report.Report.{Report}
 use Rattle.pd_sessions.specs.declared.fault.EngineFault.{EngineFault}
@@ -53,6 +53,7 @@ service_ending fail_on (Ok report) = concluded_ending (conclusion fail_on (repor
 service_ending fail_on (Err (Engine fault)) = Failed (failure_view fault)
 service_ending fail_on (Err Network) = Failed NetworkFailure
 service_ending fail_on (Err Late) = Failed NetworkFailure
+service_ending fail_on (Err Unkept) = Failed WriteFailure
 
 -- how a run that explores ends: the session is judged, or refused; or the fault
 abbrev pub exploration_ending : Result (Option Report) EngineFault → Ending

@@ -7,7 +7,8 @@ use super::senders::{known_senders, senders};
 use super::service_fault::ServiceFault;
 use pd_arguments::Service;
 use pd_explain::{
-    StreamFault, Widest, explain_connection, explain_port, explain_sent_stream, explain_wait,
+    StreamFault, Widest, explain_connection, explain_port, explain_sent_stream, explain_unkept,
+    explain_wait,
 };
 use pd_peers::Peers;
 use pd_report::{Refusal, Report};
@@ -110,6 +111,7 @@ fn put_service<F: FileSource, N: Network>(
         }
         Err(ServiceFault::Network) => put_network(out, network, alloc, service),
         Err(ServiceFault::Late) => put_wait(out, files, alloc, service, peers),
+        Err(ServiceFault::Unkept) => explain_unkept(out, peers.unkept()),
     }
 }
 

@@ -1,8 +1,8 @@
-//! Where files are read, and who hears how far their judging has come.
+//! Where files are read, and those of a session that is kept are written; and what hears how far a walk has come.
 use pd_engine::{ByteSource, Reached};
 use pd_sessions::EngineFault;
 use std::alloc::{AllocError, Global};
-use std::io::{ErrorKind, Read};
+use std::io::{ErrorKind, Read, Write};
 use std::os::unix::fs::FileTypeExt;
 use std::rt::Files;
 use std::{fs, io};
@@ -19,6 +19,9 @@ pub trait FileSource: Sync {
 
     type File: ByteSource + Send + Drop;
 
+    /// A file that is written.
+    type Sink: Write + Send + Drop;
+
     // The bytes of the file of each name, if they are known.
     ghost bytes_of: { Self → List ℕ → Option (List ℕ) };
 
@@ -34,6 +37,24 @@ pub trait FileSource: Sync {
         ensures open { IfOk result (λ file. Self.File.has_ended file ≡ false) }
         ensures sure { always_opens ≡ true → IsOk result }
         ensures err { IsOkUnless result faults.Read };
+
+    /// Makes the file of this name, to write it from its start.
+    ///
+    /// # Errors
+    /// If it is there already, or can't be made.
+    fn create(&self, name: &str) -> io::Result<Self::Sink>;
+
+    /// Makes the folder of this name, unless there is one in which nothing is.
+    ///
+    /// # Errors
+    /// If something else of that name is there, or it can't be made.
+    fn make_folder(&self, alloc: Global, name: &str) -> io::Result<()>;
+
+    /// Gives a file another name, in place of the file that has that one.
+    ///
+    /// # Errors
+    /// If it can't be given that.
+    fn rename(&self, name: &str, other: &str) -> io::Result<()>;
 
     /// How many bytes the file of this name has, if it can be read a second time and that is known, and else 0.
     fn size(&self, _name: &str) -> u64 {
@@ -89,6 +110,28 @@ fn open_failure<R: Files>(files: &R, name: &str) -> Option<io::Error> {
     }
 }
 
+/// Whether there is a name of a file among these names of a folder, each of which is ended by a NUL.
+fn names_file(names: &[u8]) -> bool {
+    names
+        .split(|byte| *byte == 0)
+        .any(|name| !matches!(name, b"" | b"." | b".."))
+}
+
+/// Whether a folder that reads as its names has any files.
+fn has_files<D: Read>(folder: &mut D) -> io::Result<bool> {
+    let mut piece = [0u8; 4096];
+    for _read in 0..u64::MAX {
+        let count = folder.read(&mut piece)?;
+        if count == 0 {
+            return Ok(false);
+        }
+        if names_file(piece.get(..count).unwrap_or(&[])) {
+            return Ok(true);
+        }
+    }
+    Ok(true)
+}
+
 impl<R: Files + Sync> FileSource for R
 where
     R::File: Send,
@@ -97,12 +140,34 @@ where
 
     type File = R::File;
 
+    type Sink = R::File;
+
     ghost bytes_of = { λ _ _. None };
 
     ghost always_opens = { false };
 
     fn open(&self, name: &str) -> Result<R::File, EngineFault> {
         fs::open(self, name).map_err(|_| EngineFault::Read)
+    }
+
+    fn create(&self, name: &str) -> io::Result<R::File> {
+        fs::File::create_new(self, name)
+    }
+
+    fn make_folder(&self, alloc: Global, name: &str) -> io::Result<()> {
+        match fs::create_dir(self, name) {
+            Err(error) if error.kind() == ErrorKind::AlreadyExists => {}
+            made => return made,
+        }
+        let path = format!(in alloc; "{name}/")?;
+        if has_files(&mut self.open_dir(&path)?)? {
+            return Err(io::Error::from(ErrorKind::DirectoryNotEmpty));
+        }
+        Ok(())
+    }
+
+    fn rename(&self, name: &str, other: &str) -> io::Result<()> {
+        fs::rename(self, name, other)
     }
 
     fn size(&self, name: &str) -> u64 {

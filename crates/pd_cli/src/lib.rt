@@ -22,9 +22,11 @@
 //! - `draw_files`: draws a report with the session in files
 //! - `explore_files`: explores the session in files
 //! - `server`: judges a session whose streams come by connections
+//! - `kept_session`: keeps the session of a server as files of a folder
 //! - `watchers`: shows watchers how far the streams are read
 //! - `network`: where connections come from
 //! - `service_fault`: why a server gives no report
+//! - `service_notices`: tells at once what becomes of a server's session
 //! - `level_gate`: the gate of a walk over a session in files
 //! - `session_files`: opens and reads the files of a session
 //! - `file_source`: where files are read
@@ -50,6 +52,7 @@ mod explanation;
 mod explore_files;
 mod file_source;
 mod judge_files;
+mod kept_session;
 mod level_gate;
 mod line;
 mod network;
@@ -59,6 +62,7 @@ mod second_look;
 mod senders;
 mod server;
 mod service_fault;
+mod service_notices;
 mod session_files;
 mod status;
 mod watchers;

@@ -1,7 +1,7 @@
 //! Where connections come from.
 use pd_engine::ByteSource;
 use std::alloc::{AllocError, Global};
-use std::io::{ErrorKind, Write};
+use std::io::{Eprint, ErrorKind, Write};
 use std::net::{Ipv4Addr, Net, OpenListener, OpenStream, SocketAddr, SocketAddrV4};
 use std::time::{Clock, Duration, Instant};
 use std::{io, thread};
@@ -77,6 +77,9 @@ pub trait Network {
     fn first_bytes(&self, _connection: &Self::Connection, _piece: &mut [u8]) -> usize {
         0
     }
+
+    /// Tells this at once to whoever runs the program, on the standard error. What of it can't be written is left off.
+    fn tell(&self, _text: &[u8]) {}
 }
 
 /// The next connection that has come, if one has come before this moment.
@@ -99,7 +102,7 @@ fn connection_before<L: OpenListener, C: Clock>(
     Ok(None)
 }
 
-impl<R: Net + Clock> Network for R
+impl<R: Net + Clock + Eprint> Network for R
 where
     R::Listener: Sync,
     R::Stream: Send,
@@ -157,5 +160,11 @@ where
             return 0;
         }
         connection.peek(piece).unwrap_or(0)
+    }
+
+    fn tell(&self, text: &[u8]) {
+        if let Ok(text) = str::from_utf8(text) {
+            let _ = eprint!(self; "{text}");
+        }
     }
 }

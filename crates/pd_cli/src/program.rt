@@ -8,8 +8,9 @@ ghost use Rattle.pd_explore.specs.Sources.{AreFilesOf};
 ghost use Rattle.pd_wish.specs.Wishes.{wish_view};
 ghost use Rattle.pd_fail_on.specs.Views.{fail_on_view};
 ghost use Rattle.pd_arguments.specs.Statuses.{CheckLeaves, Ends, FilesJudgementLeaves, HoldsAsked, IsLongReport, JudgementLeaves, ServiceLeaves, ServiceMayFail, reliance};
+ghost use Rattle.pd_arguments.specs.Views.{keep_view};
 ghost use Rattle.pd_judgement.specs.Writes.{WritesTruthOfBundle};
-ghost use Rattle.std.specs.Prelude.{◌≡◌, ◌⊎◌, ◌≤◌, drop, false, length, map, true, vec_len, Some};
+ghost use Rattle.std.specs.Prelude.{◌≡◌, ◌≢◌, ◌⊎◌, ◌≤◌, drop, false, length, map, true, vec_len, None, Some};
 
 use super::bundle::judge_input;
 use super::check_files::check_files;
@@ -111,12 +112,12 @@ fn run_service<
         (F.bytes_of files.now service.now.spec.now) (λ d. ServiceLeaves service.now.beyond_width
         (fail_on_view service.now.fail_on) (Some d)
         (N.may_give network.now service.now.port) N.Connection.never_fails
-        (F.always_opens ≡ true → F.File.never_fails ≡ true → ⊥) (ServiceMayFail service.now.wait N.never_fails) ending
-        (O.contents output.old) (O.contents output.new))) result start (E.contents errors.new))
-        (E.contents errors.old) }
+        (F.always_opens ≡ true → F.File.never_fails ≡ true → ⊥) (ServiceMayFail service.now.wait N.never_fails)
+        (keep_view service.now.keep ≢ None) ending (O.contents output.old) (O.contents output.new))) result start
+        (E.contents errors.new)) (E.contents errors.old) }
 {
-    let peers = Peers::new(alloc, explain);
-    let end = serve(rt, files, network, alloc, service, &peers, output);
+    let peers = Peers::new(alloc, explain || service.keep.is_some());
+    let end = serve(rt, files, network, alloc, service, &peers, explain, output);
     let text = service_text(explain, files, network, alloc, service, &peers, &end);
     write_explanation(explain, &text, errors);
     report_service_end(&service.fail_on, &end, errors)

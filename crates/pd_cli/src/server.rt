@@ -8,22 +8,27 @@ ghost use Rattle.pd_fail_on.specs.Conditions.{Condition};
 ghost use Rattle.pd_format.specs.Documents.{IsDocument};
 ghost use Rattle.pd_judgement.specs.Headline.{is_judged};
 ghost use Rattle.pd_arguments.specs.Statuses.{FilesJudgementLeaves, HoldsAsked, ServiceLeaves, ServiceMayFail};
+ghost use Rattle.pd_arguments.specs.Views.{keep_view};
 ghost use Rattle.pd_report.specs.Views.{report_view};
 ghost use Rattle.pd_spec.specs.Views.{IsFaultOf, document_view};
-ghost use Rattle.std.specs.Prelude.{◌≡◌, ◌⊎◌, ◌↔◌, ◌+◌, ◌<◌, ◌≤◌, ℕ, All, List, Option, Err, IfErr, IfOk, IfSome, IsOk, IsSome, MatchResult, None, Ok, Some, [], false, length, map, true};
+ghost use Rattle.std.specs.Prelude.{◌≡◌, ◌≢◌, ◌⊎◌, ◌↔◌, ◌+◌, ◌<◌, ◌≤◌, ℕ, All, List, Option, Err, IfErr, IfOk, IfSome, IsOk, IsSome, MatchResult, None, Ok, Some, [], false, length, map, true};
 
 use super::file_source::FileSource;
 use super::judge_files::judge_read;
+use super::kept_session::{begin_keeping, end_keeping};
+use super::level_gate::LevelGate;
 use super::network::Network;
 use super::service_fault::ServiceFault;
+use super::service_notices::ServiceNotices;
 use super::session_files::read_asked;
 use super::watchers::Watchers;
 use pd_arguments::{Service, Workers};
 use pd_engine::{
-    ByteSource, Crew, Inquiry, NoGate, Observer, Report, Spec, SpecFault, judge_inquiry_watched,
+    ByteSource, Crew, Gate, Inquiry, NoGate, Observer, Report, Spec, SpecFault,
+    judge_inquiry_watched,
 };
 use pd_judgement::one_document;
-use pd_peers::{HeardSource, Peer, Peers};
+use pd_peers::{HeardSource, Keeping, Notices, Peer, Peers};
 use pd_sessions::EngineFault;
 use std::alloc::{AllocError, Global};
 use std::io::Write;
@@ -101,17 +106,20 @@ fn note_address<N: Network>(
     }
 }
 
-/// Accepts the next stream on a port, and notes its address for this peer.
+/// Accepts the stream at this place on a port, and notes its address for its peer.
 ///
 /// # Errors
 /// `Network`, if it can't be accepted, and `Late`, if it doesn't come in time.
-fn accept_stream<'a, N: Network>(
+fn accept_stream<'a, N: Network, W: Write + Drop, T: Notices>(
     network: &N,
     alloc: Global,
     listener: &N::Listener,
     end: Option<Instant>,
-    peer: Option<&'a Peer>,
-) -> Result<HeardSource<'a, N::Connection>, ServiceFault>
+    place: usize,
+    peers: &'a Peers,
+    keeping: Option<Keeping<'a, W, T>>,
+    notices: &'a T,
+) -> Result<HeardSource<'a, N::Connection, W, T>, ServiceFault>
     ensures given { IfOk result (λ stream. (port : ℕ) → N.is_on listener.now port
         → N.may_give network.now port (N.Connection.remaining stream.source)) }
     ensures open { IfOk result (λ stream. N.Connection.has_ended stream.source ≡ false) }
@@ -121,26 +129,30 @@ fn accept_stream<'a, N: Network>(
 {
     match network.next_connection(listener, end) {
         Ok(Some(connection)) => {
-            note_address(network, alloc, &connection, peer);
-            Ok(HeardSource::new(alloc, connection, peer))
+            note_address(network, alloc, &connection, peers.at(place));
+            notices.has_connected(place);
+            Ok(HeardSource::new(alloc, connection, place, peers, keeping, notices))
         }
         Ok(None) => Err(ServiceFault::Late),
         Err(_) => Err(ServiceFault::Network),
     }
 }
 
-/// Accepts this many streams on a port, and gives the port up. Of each it is noted who sends it.
+/// Accepts this many streams on a port, and gives the port up. Of each it is noted who sends it; they are kept by
+/// these, from the last one on, as long as there are any.
 ///
 /// # Errors
 /// `Network`, if one can't be accepted, `Late`, if one doesn't come in time, and `Memory`.
-fn accept_streams<'a, N: Network>(
+fn accept_streams<'a, N: Network, W: Write + Drop, T: Notices>(
     network: &N,
     alloc: Global,
     listener: N::Listener,
     count: usize,
     end: Option<Instant>,
     peers: &'a Peers,
-) -> Result<Vec<HeardSource<'a, N::Connection>>, ServiceFault>
+    kept: Vec<Keeping<'a, W, T>>,
+    notices: &'a T,
+) -> Result<Vec<HeardSource<'a, N::Connection, W, T>>, ServiceFault>
     ensures count { IfOk result (λ streams. length streams.items ≡ count) }
     ensures given { IfOk result (λ streams. (port : ℕ) → N.is_on listener port
         → All (λ stream. N.may_give network.now port (N.Connection.remaining stream.source)) streams.items) }
@@ -152,8 +164,12 @@ fn accept_streams<'a, N: Network>(
         ⊎ (fault ≡ faults.Engine EngineFault.Memory)) }
 {
     let mut streams = Vec::new(alloc);
+    let mut kept = kept;
     for place in 0..count {
-        match accept_stream(network, alloc, &listener, end, peers.at(place)) {
+        let keeping = kept.pop();
+        match accept_stream(
+            network, alloc, &listener, end, place, peers, keeping, notices,
+        ) {
             Ok(stream) => streams.push(stream)?,
             Err(fault) => {
                 note_starts(network, alloc, &streams, peers);
@@ -165,10 +181,10 @@ fn accept_streams<'a, N: Network>(
 }
 
 /// Notes of each of these streams how it begins, as far as it has come.
-fn note_starts<N: Network>(
+fn note_starts<N: Network, W, T>(
     network: &N,
     alloc: Global,
-    streams: &[HeardSource<'_, N::Connection>],
+    streams: &[HeardSource<'_, N::Connection, W, T>],
     peers: &Peers,
 ) {
     for (place, stream) in streams.iter().enumerate() {
@@ -216,15 +232,15 @@ fn service_end(end: Result<Report, EngineFault>) -> Result<Report, ServiceFault>
 /// `Memory` leaves nothing written. `Write` leaves a part of the report written, or all of it if only the flush failed.
 fn judge_accepted<
     S: RandomSource + Threads + Wait + Sync,
+    G: Gate + Sync,
     R: ByteSource + Send + Drop,
     B: Observer + Sync,
     O: Write,
 >(
-    rt: &S,
+    crew: &Crew<'_, '_, S, G>,
     alloc: Global,
     inquiry: Inquiry<'_>,
     streams: Vec<R>,
-    workers: &Workers,
     observer: &B,
     output: &mut O,
 ) -> Result<Report, EngineFault>
@@ -234,36 +250,44 @@ fn judge_accepted<
         (judgement_ending fail_on result) (O.contents output.old) (O.contents output.new) }
     ensures err { IfErr result (λ fault. (fault ≡ EngineFault.Memory) ⊎ (fault ≡ EngineFault.Write)) }
 {
-    let crew = Crew::new(rt, workers.count(), &NoGate);
-    let report = judge_inquiry_watched(&crew, alloc, inquiry, streams, observer, output)?;
+    let report = judge_inquiry_watched(crew, alloc, inquiry, streams, observer, output)?;
     if output.flush().is_err() {
         return Err(EngineFault::Write);
     }
     Ok(report)
 }
 
-/// Binds the ports, accepts a stream for each process of the document, judges the document and the streams, and writes
-/// the report. Meanwhile the watchers are accepted, and each is shown how far the streams are read.
+/// Binds the ports, begins to keep the session, if it is to be kept, accepts a stream for each process of the document,
+/// judges the document and the streams, and writes the report. Meanwhile the watchers are accepted, and each is shown
+/// how far the streams are read.
 ///
 /// # Errors
-/// As `serve`, but for `Read`.
-fn serve_session<S: RandomSource + Threads + Wait + Sync, N: Network + Sync, O: Write>(
+/// As `serve`, but for `Read`; `Unkept` leaves nothing written.
+fn serve_session<
+    S: RandomSource + Threads + Wait + Sync,
+    F: FileSource,
+    N: Network + Sync,
+    O: Write,
+>(
     rt: &S,
+    files: &F,
     network: &N,
     alloc: Global,
     inquiry: Inquiry<'_>,
     spec: &Spec,
     service: &Service<'_>,
     peers: &Peers,
+    explain: bool,
     output: &mut O,
 ) -> Result<Report, ServiceFault>
     requires document { IsDocument inquiry.document.now (document_view spec.now) }
     requires port { service.now.port ≤ port_limit }
     ensures written { (fail_on : List Condition) → ServiceLeaves inquiry.entry.beyond_width fail_on
         (Some inquiry.entry.document.now) (N.may_give network.now service.now.port) N.Connection.never_fails ⊥
-        (ServiceMayFail service.now.wait N.never_fails) (service_ending fail_on result) (O.contents output.old)
-        (O.contents output.new) }
+        (ServiceMayFail service.now.wait N.never_fails) (keep_view service.now.keep ≢ None)
+        (service_ending fail_on result) (O.contents output.old) (O.contents output.new) }
     ensures err { IfErr result (λ fault. (fault ≡ faults.Network) ⊎ (fault ≡ faults.Late)
+        ⊎ ((fault ≡ faults.Unkept) × (keep_view service.now.keep ≢ None))
         ⊎ (fault ≡ faults.Engine EngineFault.Memory) ⊎ (fault ≡ faults.Engine EngineFault.Write)) }
 {
     one_document();
@@ -276,17 +300,15 @@ fn serve_session<S: RandomSource + Threads + Wait + Sync, N: Network + Sync, O: 
         spec,
         alloc,
     };
+    let notices = ServiceNotices::new(network, alloc, spec, peers, explain);
+    let document = inquiry.document;
+    let kept = begin_keeping(files, alloc, service.keep, document, spec, peers, &notices)?;
+    notices.listens(service.port, service.watchers);
     let count = spec.names().processes();
-    let streams = accept_streams(network, alloc, listener, count, end, peers)?;
-    service_end(judge_accepted(
-        rt,
-        alloc,
-        inquiry,
-        streams,
-        &service.workers,
-        &watchers,
-        output,
-    ))
+    let streams = accept_streams(network, alloc, listener, count, end, peers, kept, &notices)?;
+    let gate = LevelGate::new(files);
+    let crew = Crew::new(rt, service.workers.count(), &gate);
+    service_end(judge_accepted(&crew, alloc, inquiry, streams, &watchers, output))
 }
 
 /// Judges a document's bytes and no streams, writes the report, and flushes the output.
@@ -349,9 +371,9 @@ fn refuse_document<S: RandomSource + Threads + Wait + Sync, N: Network, O: Write
 ) -> Result<Report, ServiceFault>
     requires { IsFaultOf inquiry.document.now fault.now }
     ensures written { (port : ℕ) (fail_on : List Condition) (wait : Option ℕ)
-        → ServiceLeaves inquiry.entry.beyond_width fail_on
+        (keep : Option (List ℕ)) → ServiceLeaves inquiry.entry.beyond_width fail_on
         (Some inquiry.entry.document.now) (N.may_give _network.now port) N.Connection.never_fails ⊥
-        (ServiceMayFail wait N.never_fails) (service_ending fail_on result) (O.contents output.old)
+        (ServiceMayFail wait N.never_fails) (keep ≢ None) (service_ending fail_on result) (O.contents output.old)
         (O.contents output.new) }
     // Its refusal is the report that is written whole, or the call fails.
     ensures refused { IfOk result (λ report. is_judged (report_view report) ≡ false) }
@@ -365,31 +387,96 @@ fn refuse_document<S: RandomSource + Threads + Wait + Sync, N: Network, O: Write
     service_end(judge_no_streams::<S, N, O>(rt, alloc, inquiry, output))
 }
 
+/// How a server ends whose session is kept, or isn't, by how it ended before that was known.
+fn kept_end(end: Result<Report, ServiceFault>, is_kept: bool) -> Result<Report, ServiceFault>
+    ensures kept { is_kept ≡ true → result ≡ end }
+    ensures unkept { is_kept ≡ false
+        → MatchResult end (λ _. result ≡ Err faults.Unkept) (λ fault. result ≡ Err fault) }
+{
+    match end {
+        Ok(report) => {
+            if is_kept {
+                Ok(report)
+            } else {
+                Err(ServiceFault::Unkept)
+            }
+        }
+        Err(fault) => Err(fault),
+    }
+}
+
+/// The report, if there is one.
+fn report_of(end: &Result<Report, ServiceFault>) -> Option<&Report> {
+    match end {
+        Ok(report) => Some(report),
+        Err(_) => None,
+    }
+}
+
+/// Keeps the session, if it is to be kept, while it is judged as by `serve_session`.
+///
+/// # Errors
+/// As `serve`, but for `Read`.
+fn serve_kept<S: RandomSource + Threads + Wait + Sync, F: FileSource, N: Network + Sync, O: Write>(
+    rt: &S,
+    files: &F,
+    network: &N,
+    alloc: Global,
+    inquiry: Inquiry<'_>,
+    spec: &Spec,
+    service: &Service<'_>,
+    peers: &Peers,
+    explain: bool,
+    output: &mut O,
+) -> Result<Report, ServiceFault>
+    requires document { IsDocument inquiry.document.now (document_view spec.now) }
+    requires port { service.now.port ≤ port_limit }
+    ensures { (fail_on : List Condition) → ServiceLeaves inquiry.entry.beyond_width fail_on
+        (Some inquiry.entry.document.now) (N.may_give network.now service.now.port) N.Connection.never_fails ⊥
+        (ServiceMayFail service.now.wait N.never_fails) (keep_view service.now.keep ≢ None)
+        (service_ending fail_on result) (O.contents output.old) (O.contents output.new) }
+{
+    let end = serve_session(
+        rt, files, network, alloc, inquiry, spec, service, peers, explain, output,
+    );
+    let is_kept = end_keeping(files, alloc, service.keep, spec, peers, report_of(&end));
+    kept_end(end, is_kept)
+}
+
 /// Judges a document's bytes and the streams that come, or reports why the document is refused.
 ///
 /// # Errors
 /// As `serve`, but for `Read`.
-fn serve_document<S: RandomSource + Threads + Wait + Sync, N: Network + Sync, O: Write>(
+fn serve_document<
+    S: RandomSource + Threads + Wait + Sync,
+    F: FileSource,
+    N: Network + Sync,
+    O: Write,
+>(
     rt: &S,
+    files: &F,
     network: &N,
     alloc: Global,
     document: &[u8],
     service: &Service<'_>,
     peers: &Peers,
+    explain: bool,
     output: &mut O,
 ) -> Result<Report, ServiceFault>
     requires { service.now.port ≤ port_limit }
     ensures { (fail_on : List Condition) → ServiceLeaves service.now.beyond_width fail_on (Some document.now)
         (N.may_give network.now service.now.port) N.Connection.never_fails ⊥
-        (ServiceMayFail service.now.wait N.never_fails) (service_ending fail_on result) (O.contents output.old)
-        (O.contents output.new) }
+        (ServiceMayFail service.now.wait N.never_fails) (keep_view service.now.keep ≢ None)
+        (service_ending fail_on result) (O.contents output.old) (O.contents output.new) }
 {
     let inquiry = Inquiry {
         document,
         beyond_width: service.beyond_width,
     };
     match Spec::read(alloc, inquiry.document) {
-        Ok(spec) => serve_session(rt, network, alloc, inquiry, &spec, service, peers, output),
+        Ok(spec) => serve_kept(
+            rt, files, network, alloc, inquiry, &spec, service, peers, explain, output,
+        ),
         Err(fault) => refuse_document(rt, network, alloc, inquiry, &fault, output),
     }
 }
@@ -422,7 +509,8 @@ fn read_service<F: FileSource>(
 /// # Errors
 /// `Read`, if the document can't be opened or read, `Network`, if a port can't be bound or a stream not be accepted,
 /// `Late`, if a stream doesn't come in time, and `Memory` leave nothing written. `Write` leaves a part of the report
-/// written, or all of it if only the flush failed.
+/// written, or all of it if only the flush failed. `Unkept`, if the session can't be kept that is to be, leaves nothing
+/// written, or all of the report.
 pub(crate) fn serve<
     S: RandomSource + Threads + Wait + Sync,
     F: FileSource,
@@ -435,6 +523,7 @@ pub(crate) fn serve<
     alloc: Global,
     service: &Service<'_>,
     peers: &Peers,
+    explain: bool,
     output: &mut O,
 ) -> Result<Report, ServiceFault>
     requires { service.now.port ≤ port_limit }
@@ -443,10 +532,13 @@ pub(crate) fn serve<
         (F.bytes_of files.now service.now.spec.now) (λ d. ServiceLeaves service.now.beyond_width fail_on (Some d)
         (N.may_give network.now service.now.port) N.Connection.never_fails
         (F.always_opens ≡ true → F.File.never_fails ≡ true → ⊥) (ServiceMayFail service.now.wait N.never_fails)
-        (service_ending fail_on result) (O.contents output.old) (O.contents output.new)) }
+        (keep_view service.now.keep ≢ None) (service_ending fail_on result) (O.contents output.old)
+        (O.contents output.new)) }
 {
     match read_service(files, alloc, service) {
-        Ok(document) => serve_document(rt, network, alloc, &document, service, peers, output),
+        Ok(document) => serve_document(
+            rt, files, network, alloc, &document, service, peers, explain, output,
+        ),
         Err(fault) => Err(ServiceFault::Engine(fault)),
     }
 }

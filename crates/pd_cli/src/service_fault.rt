@@ -1,6 +1,6 @@
 //! Why a server gives no report.
 use pd_sessions::EngineFault;
-use std::alloc::AllocFailed;
+use std::alloc::{AllocError, AllocFailed};
 
 /// What kept a server from its report. None of these says anything about what was read.
 #[derive(Debug, Drop)]
@@ -11,6 +11,8 @@ pub(crate) enum ServiceFault {
     Network,
     /// Not all streams had connected in time.
     Late,
+    /// The session could not be kept.
+    Unkept,
 }
 
 impl From<EngineFault> for ServiceFault {
@@ -21,6 +23,18 @@ impl From<EngineFault> for ServiceFault {
 
     fn from(fault: EngineFault) -> ServiceFault {
         ServiceFault::Engine(fault)
+    }
+}
+
+impl From<AllocError> for ServiceFault {
+    ghost use Rattle.pd_cli.specs.declared.service_fault.ServiceFault.TheVariants.{Engine};
+    ghost use Rattle.pd_sessions.specs.declared.fault.EngineFault.TheVariants.{Memory};
+    ghost use Rattle.std.specs.Prelude.{◌≡◌};
+
+    ghost from_gives = { λ _ fault. fault ≡ Engine Memory };
+
+    fn from(_e: AllocError) -> ServiceFault {
+        ServiceFault::Engine(EngineFault::Memory)
     }
 }
 

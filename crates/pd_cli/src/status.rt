@@ -177,5 +177,6 @@ pub(crate) fn report_service_end<E: Write>(
         Ok(report) => report_conclusion(fail_on.conclusion(report), errors),
         Err(ServiceFault::Engine(fault)) => report_fault(fault, errors),
         Err(ServiceFault::Network | ServiceFault::Late) => report_network(errors),
+        Err(ServiceFault::Unkept) => report_fault(&EngineFault::Write, errors),
     }
 }

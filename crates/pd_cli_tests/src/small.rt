@@ -1,6 +1,8 @@
 //! The files of a small session, and what the program makes of them.
 use pd_cli::FileSource;
 use pd_sessions::EngineFault;
+use std::alloc::Global;
+use std::io;
 
 /// The session as a bundle.
 pub(crate) const BUNDLE: &str =
@@ -39,6 +41,8 @@ impl FileSource for Files {
 
     type File = &'static [u8];
 
+    type Sink = io::Sink;
+
     ghost bytes_of = { λ _ _. None };
 
     ghost always_opens = { false };
@@ -53,5 +57,17 @@ impl FileSource for Files {
             "garbage" => Ok(b"x\n"),
             _ => Err(EngineFault::Read),
         }
+    }
+
+    fn create(&self, _name: &str) -> io::Result<io::Sink> {
+        Err(io::Error::from(io::ErrorKind::Unsupported))
+    }
+
+    fn make_folder(&self, _alloc: Global, _name: &str) -> io::Result<()> {
+        Err(io::Error::from(io::ErrorKind::Unsupported))
+    }
+
+    fn rename(&self, _name: &str, _other: &str) -> io::Result<()> {
+        Err(io::Error::from(io::ErrorKind::Unsupported))
     }
 }

@@ -53,7 +53,10 @@ pub use messages::{
     EventName, Others, advise_absent, advise_cycle, advise_messages, explain_absent, explain_cycle,
     explain_message, explain_streams, message_of, show_event, show_join, show_other, show_step,
 };
-pub use peers::{Sender, explain_sent_stream, explain_wait};
+pub use peers::{
+    Sender, explain_sent_stream, explain_unkept, explain_wait, tell_connection, tell_ports,
+    tell_start, tell_stop,
+};
 pub use predicates::{PredicateFault, explain_predicate, explain_predicate_word};
 pub use rows::in_rows;
 pub use source::Source;

@@ -1,10 +1,13 @@
 //! Explains what concerns those who send the streams of a server.
-use super::known_names::name_at;
+use super::known_names::{name_at, say_processes};
 use super::says::{say, say_advice, say_name, say_number, say_shown};
 use super::streams::{StreamFault, advice, expected, say_head};
 use super::window::show_line;
 use pd_pred::Names;
 use std::alloc::AllocError;
+
+/// What begins a line that is told while a server runs.
+const TELLING: &str = "serve: ";
 
 /// Who sends a stream, as far as it is known.
 #[derive(Clone, Copy)]
@@ -163,4 +166,124 @@ pub fn explain_wait(
         "a connection for each process of the document.",
         "start what is missing, let it connect to that port of this machine, or wait longer by --wait.",
     )
+}
+
+/// Explains that a session couldn't be kept: which file, and why.
+///
+/// # Errors
+/// Out of memory; what was put until then stays.
+pub fn explain_unkept(out: &mut Vec<u8>, why: Option<&str>) -> Result<(), AllocError> {
+    say(out, "Not all of the session is kept. ")?;
+    if let Some(why) = why {
+        say_shown(out, why.as_bytes())?;
+        say(out, ".\n")?;
+    }
+    say_advice(
+        out,
+        "a folder with no file in it, or none of that name yet, and room for all that comes.",
+        "give another folder after --keep, or make room.",
+    )
+}
+
+/// Tells that what comes of a stream isn't kept any more in the file of this name, and why.
+///
+/// # Errors
+/// Out of memory; what was put until then stays.
+pub fn tell_stop(out: &mut Vec<u8>, path: &str, why: &str) -> Result<(), AllocError> {
+    say(out, TELLING)?;
+    say_shown(out, path.as_bytes())?;
+    say(out, " can't be written: ")?;
+    say_shown(out, why.as_bytes())?;
+    say(
+        out,
+        ". What comes of that stream from here on isn't kept; the session is judged all the same.\n",
+    )
+}
+
+/// Tells on which port the streams are waited for, and whose, and on the next one how many watchers.
+///
+/// # Errors
+/// Out of memory; what was put until then stays.
+pub fn tell_ports(
+    out: &mut Vec<u8>,
+    names: &Names,
+    port: u64,
+    watchers: u64,
+) -> Result<(), AllocError> {
+    say(out, TELLING)?;
+    say(out, "port ")?;
+    say_number(out, port)?;
+    say(out, " of this machine waits for the streams of ")?;
+    say_processes(out, names)?;
+    if watchers > 0 {
+        say(out, ", and the next one for ")?;
+        say_number(out, watchers)?;
+        say(
+            out,
+            if watchers == 1 {
+                " watcher"
+            } else {
+                " watchers"
+            },
+        )?;
+    }
+    say(out, ".\n")
+}
+
+/// Tells that a stream has connected, one of this many.
+///
+/// # Errors
+/// Out of memory; what was put until then stays.
+pub fn tell_connection(
+    out: &mut Vec<u8>,
+    sender: Sender<'_>,
+    count: u64,
+) -> Result<(), AllocError> {
+    say(out, TELLING)?;
+    say(out, "stream ")?;
+    say_number(out, sender.stream)?;
+    say(out, " of ")?;
+    say_number(out, count)?;
+    say(out, " has connected")?;
+    if !sender.origin.is_empty() {
+        say(out, ", ")?;
+        say_shown(out, sender.origin.as_bytes())?;
+    }
+    say(out, ".\n")
+}
+
+/// Whether a process of the document has sent none of these streams.
+fn is_missing(names: &Names, senders: &[Sender<'_>]) -> bool {
+    for process in 0..names.processes() {
+        if !is_sent(senders, name_at(names, process)) {
+            return true;
+        }
+    }
+    false
+}
+
+/// Tells how a stream begins, one of these: whose it is, and whose are missing; or that it doesn't say that.
+///
+/// # Errors
+/// Out of memory; what was put until then stays.
+pub fn tell_start(
+    out: &mut Vec<u8>,
+    names: &Names,
+    sender: Sender<'_>,
+    senders: &[Sender<'_>],
+) -> Result<(), AllocError> {
+    say(out, TELLING)?;
+    say(out, "stream ")?;
+    say_number(out, sender.stream)?;
+    let Some(process) = sender.process else {
+        say(out, " hasn't said whose it is. ")?;
+        return show_start(out, sender);
+    };
+    say(out, " is the one of ")?;
+    say_name(out, process)?;
+    if is_missing(names, senders) {
+        say(out, ". ")?;
+        return say_missing(out, names, senders);
+    }
+    say(out, ". None is missing.\n")
 }

@@ -36,19 +36,22 @@ impl<'a> Ear<'a> {
         }
     }
 
-    /// Hears the next bytes of the stream, or its end, if there are none. What there is no memory for isn't noted.
-    pub(crate) fn hear(&mut self, bytes: &[u8]) {
+    /// Hears the next bytes of the stream, or its end, if there are none, and gives whether it is noted now how it
+    /// begins. What there is no memory for isn't noted.
+    pub(crate) fn hear(&mut self, bytes: &[u8]) -> bool {
         let Some(peer) = self.peer else {
-            return;
+            return false;
         };
         let room = START_LIMIT.saturating_sub(self.heard.len());
         let (count, is_whole) = first_part(bytes, room);
         let part = bytes.get(..count).unwrap_or(&[]);
         let is_kept = self.heard.extend_from_slice(part).is_ok();
-        if is_whole || bytes.is_empty() || !is_kept {
+        let is_noted = is_whole || bytes.is_empty() || !is_kept;
+        if is_noted {
             self.peer = None;
             let empty = Vec::new(*self.heard.allocator());
             peer.note_start(std::mem::replace(&mut self.heard, empty));
         }
+        is_noted
     }
 }

@@ -2,12 +2,19 @@
 use super::peer::Peer;
 use pd_format::PROCESS_LIMIT;
 use std::alloc::{AllocError, Global};
+use std::io;
+use std::sync::OnceLock;
+use std::sync::atomic::{AtomicBool, Ordering};
 
 /// Who sends the streams, in the order in which they connected; or nobody, if that isn't wanted.
 #[derive(Drop)]
 pub struct Peers {
     /// A peer for each stream that there may be, or none.
     all: Vec<Peer>,
+    /// Whether something couldn't be kept that is to be.
+    has_failed: AtomicBool,
+    /// What couldn't be, and why.
+    unkept: OnceLock<String>,
 }
 
 /// A peer for each stream that there may be.
@@ -24,11 +31,39 @@ impl Peers {
     pub fn new(alloc: Global, is_wanted: bool) -> Peers {
         if is_wanted {
             if let Ok(all) = unknown_peers(alloc) {
-                return Peers { all };
+                return Peers::of(all);
             }
         }
+        Peers::of(Vec::new(alloc))
+    }
+
+    /// These peers, of whom nothing has failed to be kept.
+    fn of(all: Vec<Peer>) -> Peers {
         Peers {
-            all: Vec::new(alloc),
+            all,
+            has_failed: AtomicBool::new(false),
+            unkept: OnceLock::new(),
+        }
+    }
+
+    /// Notes that this couldn't be kept, and why.
+    pub fn note_unkept(&self, alloc: Global, name: &str, error: &io::Error) {
+        self.has_failed.store(true, Ordering::SeqCst);
+        if let Ok(text) = format!(in alloc; "{name}: {error}") {
+            let _ = self.unkept.try_set(text);
+        }
+    }
+
+    /// Whether something couldn't be kept.
+    pub fn has_failed(&self) -> bool {
+        self.has_failed.load(Ordering::SeqCst)
+    }
+
+    /// What couldn't be kept first, and why.
+    pub fn unkept(&self) -> Option<&str> {
+        match self.unkept.get() {
+            Some(text) => Some(text.as_str()),
+            None => None,
         }
     }
 

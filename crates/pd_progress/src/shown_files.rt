@@ -5,6 +5,7 @@ use pd_cli::FileSource;
 use pd_engine::Reached;
 use pd_sessions::EngineFault;
 use std::alloc::{AllocError, Global};
+use std::io;
 use std::io::Eprint;
 use std::time::Clock;
 
@@ -26,6 +27,8 @@ impl<'a, F, R> ShownFiles<'a, F, R> {
 impl<'a, F: FileSource, R: Clock + Eprint + Sync> FileSource for ShownFiles<'a, F, R> {
     type File = ShownFile<'a, F::File, R>;
 
+    type Sink = F::Sink;
+
     ghost bytes_of = { λ shown. F.bytes_of shown.files.now };
 
     ghost always_opens = { F.always_opens };
@@ -36,6 +39,18 @@ impl<'a, F: FileSource, R: Clock + Eprint + Sync> FileSource for ShownFiles<'a, 
             Ok(file) => Ok(ShownFile::new(file, size, self.screen)),
             Err(fault) => Err(fault),
         }
+    }
+
+    fn create(&self, name: &str) -> io::Result<F::Sink> {
+        self.files.create(name)
+    }
+
+    fn make_folder(&self, alloc: Global, name: &str) -> io::Result<()> {
+        self.files.make_folder(alloc, name)
+    }
+
+    fn rename(&self, name: &str, other: &str) -> io::Result<()> {
+        self.files.rename(name, other)
     }
 
     fn size(&self, name: &str) -> u64 {

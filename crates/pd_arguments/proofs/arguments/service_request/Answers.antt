@@ -53,11 +53,13 @@ returns-in_default-workers_of c arguments taken are asked named =
 pub returns : goal.returns
 returns c arguments taken are asked named =
     let rows = rows_of (found_of c.args.matches.now) in
-    of_serve rows _ _ _ _ _ _ _ _ taken are (record {
+    of_serve rows _ _ _ _ _ _ _ _ _ taken are (record {
       names_document = sym (first_value-rows (found_of c.args.matches.now) (codes "SPEC")) ∙ sym c.in-Some.ensures;
       names_port = subst (λ (n : ℕ). NamesNumber rows (codes "PORT") n) (sym c.in-Some-port_of.ensures.same)
           c.in-Some-number_of.ensures.some;
       is_port = c.in-Some-port_of.ensures.in_range;
       names_watchers = c.in-Some-number_of-2.ensures.some;
       few_watchers = omega (arith, c.if-watchers-gt-WATCHER_LIMIT.false);
-    }) c.wait_of.ensures asked c.in-Some-workers_of.ensures.some c.flag_of.ensures named
+    }) c.wait_of.ensures
+    (sym (c.get_str-2.ensures ∙ first_value-rows (found_of c.args.matches.now) (codes "FOLDER"))) asked
+    c.in-Some-workers_of.ensures.some c.flag_of.ensures named

@@ -11,7 +11,7 @@ use Rattle.pd_cli.specs.Drawings.{EndsDrawn}
 use Rattle.pd_cli.specs.Explorations.{ExploreLeaves}
 use Rattle.pd_explore.specs.Sources.{AreFilesOf}
 use Rattle.pd_arguments.specs.Arguments.{AsksToDraw}
-use Rattle.pd_arguments.specs.Views.{IsAsked, session_view}
+use Rattle.pd_arguments.specs.Views.{IsAsked, keep_view, session_view}
 use Rattle.pd_arguments.proofs.ParserEnds.{error_as_asked}
 use Rattle.pd_arguments.proofs.ServicePorts.{port_of_service}
 use Rattle.pd_cli.proofs.program.run_arguments.Goals as goal
@@ -100,7 +100,8 @@ returns-in-Ok-Serve g c = record {
         ServeStreams c.in-Ok-Serve.service.beyond_width (fail_on_view c.in-Ok-Serve.service.fail_on)
             (asks_view c.in-Ok-Serve.service.asks)
             c.in-Ok-Serve.service.spec.now c.in-Ok-Serve.service.port c.in-Ok-Serve.service.watchers
-            c.in-Ok-Serve.service.wait,
+            c.in-Ok-Serve.service.wait
+            (keep_view c.in-Ok-Serve.service.keep),
         subst (IsAsked (map (λ argument. argument.bytes.items) c.args.arguments.now)) c.in-Ok-Serve.field-0-is
             c.in-Ok-Serve.ensures.asked,
         c.run_service.ensures.reported.output,

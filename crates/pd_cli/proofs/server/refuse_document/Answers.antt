@@ -1,5 +1,5 @@
 -- A refused document has no streams.
-use Rattle.std.proofs.Common.{◌≡◌, [], ◌∙◌, false, subst, sym}
+use Rattle.std.proofs.Common.{◌≡◌, ◌≢◌, [], ◌∙◌, None, false, subst, sym}
 use Rattle.std.specs.Prelude.{Some}
 use Rattle.pd_judgement.specs.Headline.{is_judged}
 use Rattle.pd_report.specs.Views.{report_view}
@@ -9,16 +9,16 @@ use Rattle.pd_cli.specs.Faults.{judgement_ending}
 use Rattle.pd_cli.proofs.server.refuse_document.Goals as goal
 
 pub returns-clause-written : goal.returns-clause-written
-returns-clause-written g c port fail_on wait =
+returns-clause-written g c port fail_on wait keep =
     let document = c.args.inquiry.document.now in
     let G = g.N.Network.may_give c.args._network.now port in
     let refused = refused_unless_memory document c.args.fault.now
     (sym c.is_out_of_memory.ensures ∙ c.if-is_out_of_memory.false) c.requires in
     subst (λ (e : Ending). ServiceLeaves c.args.inquiry.beyond_width fail_on (Some document) G
     g.N.Connection.ByteSource.never_fails
-    ⊥ (ServiceMayFail wait g.N.Network.never_fails) e (g.O.Write.contents c.args.output.now)
+    ⊥ (ServiceMayFail wait g.N.Network.never_fails) (keep ≢ None) e (g.O.Write.contents c.args.output.now)
     (g.O.Write.contents c.judge_no_streams.new.output)) (sym (c.service_end.ensures.ending fail_on))
-    (service_of_judgement c.args.inquiry.beyond_width fail_on document G [] g.N.Connection.ByteSource.never_fails _
+    (service_of_judgement c.args.inquiry.beyond_width fail_on document G [] g.N.Connection.ByteSource.never_fails _ _
     (judgement_ending fail_on c.judge_no_streams.result)
     (g.O.Write.contents c.args.output.now) (g.O.Write.contents c.judge_no_streams.new.output)
     (accepted_of_refused document G refused.0 c.one_document.ensures.not_refused refused.1)

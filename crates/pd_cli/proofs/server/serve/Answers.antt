@@ -17,13 +17,13 @@ returns-in-Ok g c fail_on =
     subst (λ (read : List ℕ). AreAsked asks file read) (sym c.deref.ensures.value) c.in-Ok.ensures.document in
     holds_asked asks file c.deref.result.now _ asked
     (service_of_file c.args.service.now.beyond_width fail_on (Some c.deref.result.now) c.deref.result.now
-    (g.N.Network.may_give c.args.network.now c.args.service.now.port) g.N.Connection.ByteSource.never_fails _ _
+    (g.N.Network.may_give c.args.network.now c.args.service.now.port) g.N.Connection.ByteSource.never_fails _ _ _
     (service_ending fail_on c.serve_document.result) (g.O.Write.contents c.args.output.now)
     (g.O.Write.contents c.serve_document.new.output) refl (c.serve_document.ensures fail_on))
 
 pub returns-in-Err : goal.returns-in-Err
 returns-in-Err g c fail_on =
     of_any (unread_service c.args.service.now.beyond_width fail_on
-    (g.N.Network.may_give c.args.network.now c.args.service.now.port) g.N.Connection.ByteSource.never_fails _ _
+    (g.N.Network.may_give c.args.network.now c.args.service.now.port) g.N.Connection.ByteSource.never_fails _ _ _
     (g.O.Write.contents c.args.output.now) c.in-Err.fault c.in-Err.ensures.err
     (λ e. c.in-Err.ensures.unread (ap Err e)))

@@ -1,12 +1,14 @@
 -- The streams are as many as the document has processes, and each was accepted on the port.
-use Rattle.std.proofs.Common.{◌≡◌, ◌∙◌, ℕ, List, Option, ap, length, map, subst, sym}
+use Rattle.std.proofs.Common.{◌≡◌, ◌≢◌, ◌∙◌, None, ℕ, List, Option, ap, length, map, subst, sym}
 use Rattle.std.proofs.lemmas.List.{length-map}
 use Rattle.std.proofs.lemmas.List.Elements.{All-map}
 use Rattle.pd_format.specs.Names.{ProcessNames}
+use Rattle.pd_arguments.specs.Views.{keep_view}
 use Rattle.pd_arguments.specs.Statuses.{Ending, ServiceLeaves, ServiceMayFail}
 use Rattle.std.specs.Prelude.{Some}
 use Rattle.pd_cli.proofs.Accepted.{accepted_of_read, service_of_judgement}
 use Rattle.pd_cli.specs.Faults.{judgement_ending}
+use Rattle.pd_cli.specs.declared.service_notices.ServiceNotices.{ServiceNotices}
 use Rattle.pd_peers.specs.declared.heard_source.HeardSource.{HeardSource}
 use Rattle.pd_spec.specs.Views.{document_view}
 use Rattle.pd_cli.proofs.server.serve_session.Goals as goal
@@ -15,7 +17,8 @@ pub returns-clause-written : goal.returns-clause-written
 returns-clause-written g c fail_on =
     let port = c.args.service.now.port in
     let G = g.N.Network.may_give c.args.network.now port in
-    let remaining : HeardSource g.row.N-Connection.Denot → Option (List ℕ) =
+    let remaining : HeardSource g.row.N-Connection.Denot g.row.F-Sink.Denot
+    (ServiceNotices g.row.N.Denot) → Option (List ℕ) =
     λ stream. g.N.Connection.ByteSource.remaining stream.source in
     let streams = c.in_ok-streams.streams.items in
     let document = c.args.inquiry.document.now in
@@ -27,10 +30,11 @@ returns-clause-written g c fail_on =
     c.one_document.ensures.single c.one_document.ensures.not_refused c.requires.document given count in
     subst (λ (e : Ending). ServiceLeaves c.args.inquiry.beyond_width fail_on (Some document) G
     g.N.Connection.ByteSource.never_fails
-    ⊥ (ServiceMayFail c.args.service.now.wait g.N.Network.never_fails) e (g.O.Write.contents c.args.output.now)
+    ⊥ (ServiceMayFail c.args.service.now.wait g.N.Network.never_fails) (keep_view c.args.service.now.keep ≢ None) e
+    (g.O.Write.contents c.args.output.now)
     (g.O.Write.contents c.judge_accepted.new.output)) (sym (c.service_end.ensures.ending fail_on))
     (service_of_judgement c.args.inquiry.beyond_width fail_on document G (map remaining streams)
-    g.N.Connection.ByteSource.never_fails _
+    g.N.Connection.ByteSource.never_fails _ _
     (judgement_ending fail_on c.judge_accepted.result)
     (g.O.Write.contents c.args.output.now) (g.O.Write.contents c.judge_accepted.new.output) are
     (c.judge_accepted.ensures.written fail_on))
