@@ -4,17 +4,17 @@ ghost use Rattle.pd_asked.specs.Views.{asks_view};
 ghost use Rattle.pd_cli.specs.Explorations.{ExploreLeaves};
 ghost use Rattle.pd_cli.specs.Faults.{exploration_ending};
 ghost use Rattle.pd_explore.specs.FileViews.{file_view, files_view};
-ghost use Rattle.pd_explore.specs.Sources.{AreFilesOf, IsFileOf};
-ghost use Rattle.std.specs.Prelude.{◌≡◌, All, IfOk, Some, false, map, true};
+ghost use Rattle.pd_explore.specs.Sources.{AreFilesOf, IsFileOf, stream_bytes};
+ghost use Rattle.std.specs.Prelude.{◌≡◌, All, IfOk, IfSome, Some, false, map, true};
 
 use super::file_source::FileSource;
 use super::level_gate::LevelGate;
-use super::second_look::stream_again;
 use super::session_files::read_session;
 use pd_arguments::{Exploration, Workers};
 use pd_engine::{ByteSource, Gate, Inquiry, Report};
 use pd_explore::{StreamFile, explore};
-use pd_sessions::EngineFault;
+use pd_format::STREAM_BYTE_LIMIT;
+use pd_sessions::{EngineFault, read_upto};
 use std::alloc::{AllocError, Global};
 use std::io::Write;
 use std::random::RandomSource;
@@ -62,6 +62,43 @@ fn explore_read<
     Ok(refusal)
 }
 
+/// The bytes that a stream's file has left, and of more than a stream may have one more, if they can be read.
+///
+/// # Errors
+/// Out of memory.
+fn stream_left<R: ByteSource + Drop>(alloc: Global, file: R) -> Result<Option<Vec<u8>>, AllocError>
+    requires { R.has_ended file ≡ false }
+    ensures { IfOk result (λ found. IfSome found (λ found. IfSome (R.remaining file)
+        (λ bytes. found.items ≡ stream_bytes bytes))) }
+{
+    match read_upto(alloc, file, STREAM_BYTE_LIMIT as usize) {
+        Ok(bytes) => Ok(Some(bytes)),
+        Err(EngineFault::Memory) => Err(AllocError),
+        Err(_) => Ok(None),
+    }
+}
+
+/// The same of the file of this name, if it can be read a second time.
+///
+/// # Errors
+/// Out of memory.
+fn read_again<F: FileSource>(
+    files: &F,
+    alloc: Global,
+    name: &str,
+) -> Result<Option<Vec<u8>>, AllocError>
+    ensures { IfOk result (λ found. IfSome found (λ found. IfSome (F.bytes_of files.now name.now)
+        (λ bytes. found.items ≡ stream_bytes bytes))) }
+{
+    if !files.can_be_reread(name) {
+        return Ok(None);
+    }
+    match files.open(name) {
+        Ok(file) => stream_left(alloc, file),
+        Err(_) => Ok(None),
+    }
+}
+
 /// The file of a stream, with its lines, if it can be read a second time.
 ///
 /// # Errors
@@ -73,7 +110,8 @@ fn stream_file<'a, F: FileSource>(
 ) -> Result<StreamFile<'a>, AllocError>
     ensures { IfOk result (λ file. IsFileOf (F.bytes_of files.now) name.now (file_view file)) }
 {
-    match stream_again(files, alloc, name) {
+    let found = read_again(files, alloc, name)?;
+    match found {
         Some(bytes) => StreamFile::read(alloc, name, &bytes),
         None => Ok(StreamFile::unread(alloc, name)),
     }

@@ -1,12 +1,9 @@
-//! Reads the files of a session again, for an explanation, and for the lines of streams.
-ghost use Rattle.pd_explore.specs.Sources.{stream_bytes};
-ghost use Rattle.std.specs.Prelude.{◌≡◌, IfSome, false};
-
+//! Reads the files of a session again, for an explanation.
 use super::file_source::FileSource;
 use super::session_files::{read_asked, read_document};
 use pd_arguments::SessionNames;
 use pd_asked::Asks;
-use pd_engine::{ByteSource, Spec};
+use pd_engine::Spec;
 use pd_explain::{Widest, joined_name};
 use pd_format::{REPORT_BYTE_LIMIT, STREAM_BYTE_LIMIT};
 use pd_sessions::read_upto;
@@ -61,28 +58,14 @@ pub(crate) fn spec_again<F: FileSource>(
     Spec::read(alloc, &bytes).ok()
 }
 
-/// The bytes that a stream's file has left, if they can be read, and one more than a stream may have at most.
-fn stream_left<R: ByteSource + Drop>(alloc: Global, file: R) -> Option<Vec<u8>>
-    requires { R.has_ended file ≡ false }
-    ensures { IfSome result (λ found. IfSome (R.remaining file) (λ bytes. found.items ≡ stream_bytes bytes)) }
-{
-    match read_upto(alloc, file, STREAM_BYTE_LIMIT as usize) {
-        Ok(bytes) => Some(bytes),
-        Err(_) => None,
-    }
-}
-
 /// The bytes of the stream in the file of this name, if they can be read again, and one more than a stream may have at
 /// most.
-pub(crate) fn stream_again<F: FileSource>(files: &F, alloc: Global, name: &str) -> Option<Vec<u8>>
-    ensures { IfSome result (λ found. IfSome (F.bytes_of files.now name.now)
-        (λ bytes. found.items ≡ stream_bytes bytes)) }
-{
+pub(crate) fn stream_again<F: FileSource>(files: &F, alloc: Global, name: &str) -> Option<Vec<u8>> {
     if !files.can_be_reread(name) {
         return None;
     }
     match files.open(name) {
-        Ok(file) => stream_left(alloc, file),
+        Ok(file) => read_upto(alloc, file, STREAM_BYTE_LIMIT as usize).ok(),
         Err(_) => None,
     }
 }

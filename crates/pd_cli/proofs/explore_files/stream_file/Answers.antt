@@ -13,7 +13,7 @@ returns-in-Some g c =
     let name = c.args.name.now in
     let known : IfSome (bytes_of name) (λ bytes. c.deref.result.now ≡ stream_bytes bytes) =
     subst (λ (given : List ℕ). IfSome (bytes_of name) (λ bytes. given ≡ stream_bytes bytes))
-    (sym c.deref.ensures.value) c.in-Some.ensures in
+    (sym c.deref.ensures.value) (rw c.in-Some.is at c.in_ok-found.ensures) in
     IfOk-weaker c.read.result (λ file. file_view file ≡ stream_file name c.deref.result.now)
     (λ file. IsFileOf bytes_of name (file_view file))
     (λ file is. file_read bytes_of name c.deref.result.now (file_view file) known is) c.read.ensures

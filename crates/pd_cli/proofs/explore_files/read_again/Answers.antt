@@ -2,10 +2,11 @@
 use Rattle.std.proofs.Common.{◌≡◌, List, ℕ, None, Some, Option}
 use Rattle.std.specs.Global.{Global}
 use Rattle.std.specs.Prelude.{IfSome, Vec}
+use Rattle.std.proofs.lemmas.Result.{IfOk-weaker}
 use Rattle.pd_explore.specs.Sources.{stream_bytes}
 use Rattle.pd_cli.specs.FileSources.{HasWholeFile}
 use Rattle.pd_cli.proofs.FilesAgain.{of_file}
-use Rattle.pd_cli.proofs.second_look.stream_again.Goals as goal
+use Rattle.pd_cli.proofs.explore_files.read_again.Goals as goal
 
 found_again : (found : Option (Vec ℕ Global)) (file left : Option (List ℕ)) → HasWholeFile file left
     → IfSome found (λ bytes. IfSome left (λ all. bytes.items ≡ stream_bytes all))
@@ -16,5 +17,7 @@ found_again (Some bytes) file left has all =
 
 pub returns-in-Ok : goal.returns-in-Ok
 returns-in-Ok g c =
-    found_again c.stream_left.result (g.F.FileSource.bytes_of c.args.files.now c.args.name.now)
-    (g.F.File.ByteSource.remaining c.in-Ok.file) c.in-Ok.ensures.file c.stream_left.ensures
+    let file = g.F.FileSource.bytes_of c.args.files.now c.args.name.now in
+    let left = g.F.File.ByteSource.remaining c.in-Ok.file in
+    IfOk-weaker c.stream_left.result _ _ (λ found all. found_again found file left c.in-Ok.ensures.file all)
+    c.stream_left.ensures
