@@ -1,5 +1,6 @@
 -- What the program is asked for, as the definitions name it.
-use Rattle.std.specs.Prelude.{List, ℕ, map, Option, Some, None}
+use Rattle.std.specs.Prelude.{List, ℕ, map, option_map, Option, Some, None}
+use Rattle.std.specs.Borrow.{Bor}
 use Rattle.pd_arguments.specs.Statuses as asked
 use Rattle.clap.specs.Words.{Text}
 use Rattle.pd_asked.specs.Views.{asks_view}
