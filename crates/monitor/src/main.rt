@@ -12,6 +12,20 @@ const BUNDLE_READ: &[u8] =
     b"A bundle is read from standard input: the session document, and before each stream a line \
 ---. `monitor --help` says what else there is.\n";
 
+/// What is said where `-`, the input, stands for two files: what comes on it can't be given to both.
+const INPUT_TWICE: &[u8] = b"monitor: - stands for two files\n";
+
+/// How many arguments are `-`.
+fn inputs(arguments: &[String]) -> u64 {
+    let mut count = 0u64;
+    for argument in arguments {
+        if argument.as_str() == "-" {
+            count = count.saturating_add(1);
+        }
+    }
+    count
+}
+
 /// The program's arguments, of which the first is its name.
 fn arguments(rt: &HostRuntime) -> io::Result<Vec<String>> {
     Ok(env::args(rt)?.collect(rt.alloc())?)
@@ -26,6 +40,10 @@ fn main(rt: HostRuntime) -> ExitCode {
             let explain = is_asked || errors.is_terminal();
             if explain && arguments.len() <= 1 && rt.stdin().is_terminal() {
                 let _ = errors.write_all(BUNDLE_READ);
+            }
+            if inputs(&arguments) > 1 {
+                let _ = errors.write_all(INPUT_TWICE);
+                return ExitCode::from(2);
             }
             let screen = Screen::new(&rt, errors.is_terminal());
             pd_cli::run(

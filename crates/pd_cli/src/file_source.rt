@@ -10,6 +10,14 @@ use std::{fs, io};
 /// The name by which the system knows the output.
 const OUTPUT: &str = "/dev/stdout";
 
+/// The name by which the system knows the input.
+const INPUT: &str = "/dev/stdin";
+
+/// The name by which the system knows the file of this name: `-` is the input.
+fn system_name(name: &str) -> &str {
+    if name == "-" { INPUT } else { name }
+}
+
 /// Opens files by their names. What each holds may be known, as it is in proofs over files that are made up; of the
 /// system's files nothing is known.
 pub trait FileSource: Sync {
@@ -147,7 +155,7 @@ where
     ghost always_opens = { false };
 
     fn open(&self, name: &str) -> Result<R::File, EngineFault> {
-        fs::open(self, name).map_err(|_| EngineFault::Read)
+        fs::open(self, system_name(name)).map_err(|_| EngineFault::Read)
     }
 
     fn create(&self, name: &str) -> io::Result<R::File> {
@@ -171,14 +179,14 @@ where
     }
 
     fn size(&self, name: &str) -> u64 {
-        match fs::metadata(self, name) {
+        match fs::metadata(self, system_name(name)) {
             Ok(found) if found.is_file() => found.len(),
             _ => 0,
         }
     }
 
     fn can_be_reread(&self, name: &str) -> bool {
-        match fs::metadata(self, name) {
+        match fs::metadata(self, system_name(name)) {
             Ok(found) => found.is_file(),
             Err(_) => false,
         }
@@ -192,8 +200,8 @@ where
     }
 
     fn failure(&self, alloc: Global, name: &str) -> Result<Option<String>, AllocError> {
-        let found = match fs::metadata(self, name) {
-            Ok(found) if found.is_file() || found.is_dir() => open_failure(self, name),
+        let found = match fs::metadata(self, system_name(name)) {
+            Ok(found) if found.is_file() || found.is_dir() => open_failure(self, system_name(name)),
             Ok(_) => None,
             Err(error) => Some(error),
         };
