@@ -24,8 +24,7 @@ use super::session_files::read_asked;
 use super::watchers::Watchers;
 use pd_arguments::{Service, Workers};
 use pd_engine::{
-    ByteSource, Crew, Gate, Inquiry, NoGate, Observer, Report, Spec, SpecFault,
-    judge_inquiry_watched,
+    ByteSource, Crew, Inquiry, NoGate, Observer, Report, Spec, SpecFault, judge_inquiry_watched,
 };
 use pd_judgement::one_document;
 use pd_peers::{HeardSource, Keeping, Notices, Peer, Peers};
@@ -232,15 +231,17 @@ fn service_end(end: Result<Report, EngineFault>) -> Result<Report, ServiceFault>
 /// `Memory` leaves nothing written. `Write` leaves a part of the report written, or all of it if only the flush failed.
 fn judge_accepted<
     S: RandomSource + Threads + Wait + Sync,
-    G: Gate + Sync,
+    F: FileSource,
     R: ByteSource + Send + Drop,
     B: Observer + Sync,
     O: Write,
 >(
-    crew: &Crew<'_, '_, S, G>,
+    rt: &S,
+    files: &F,
     alloc: Global,
     inquiry: Inquiry<'_>,
     streams: Vec<R>,
+    workers: &Workers,
     observer: &B,
     output: &mut O,
 ) -> Result<Report, EngineFault>
@@ -250,7 +251,9 @@ fn judge_accepted<
         (judgement_ending fail_on result) (O.contents output.old) (O.contents output.new) }
     ensures err { IfErr result (λ fault. (fault ≡ EngineFault.Memory) ⊎ (fault ≡ EngineFault.Write)) }
 {
-    let report = judge_inquiry_watched(crew, alloc, inquiry, streams, observer, output)?;
+    let gate = LevelGate::new(files);
+    let crew = Crew::new(rt, workers.count(), &gate);
+    let report = judge_inquiry_watched(&crew, alloc, inquiry, streams, observer, output)?;
     if output.flush().is_err() {
         return Err(EngineFault::Write);
     }
@@ -306,9 +309,16 @@ fn serve_session<
     notices.listens(service.port, service.watchers);
     let count = spec.names().processes();
     let streams = accept_streams(network, alloc, listener, count, end, peers, kept, &notices)?;
-    let gate = LevelGate::new(files);
-    let crew = Crew::new(rt, service.workers.count(), &gate);
-    service_end(judge_accepted(&crew, alloc, inquiry, streams, &watchers, output))
+    service_end(judge_accepted(
+        rt,
+        files,
+        alloc,
+        inquiry,
+        streams,
+        &service.workers,
+        &watchers,
+        output,
+    ))
 }
 
 /// Judges a document's bytes and no streams, writes the report, and flushes the output.
