@@ -1,6 +1,6 @@
 #!/usr/bin/env python3
-"""The page of `monitor explore`, put together from the files in crates/pd_page/page: its text before the data and after
-it, as the program has them in crates/pd_page/src/text_before.rt and text_after.rt.
+"""The page of `monitor explore`, put together from the files in crates/pd_page/page: its text before the data, and the
+texts after it, one a script, as the program has them in crates/pd_page/src/text_*.rt.
 
 `explore_page.py` says whether the program's texts are those of the files, with the hashes of the page's policy, and
 `explore_page.py --write` writes them. `explore_page.py --page DATA` prints the page with this data, for a look at it.
@@ -56,10 +56,20 @@ def literal(text):
     return 'b"\\\n' + "\n".join(lines) + '"'
 
 
-def module(name, text):
-    place = "before its data" if name == "BEFORE" else "after its data"
-    return (f"//! The page's text {place}, as the files in `page/` make it. `.ci/explore_page.py --write` writes it.\n\n"
-            f"/// The page's text {place}.\npub(crate) const {name}: &[u8] = {literal(text)};\n")
+def modules(before, after):
+    """The program's modules: of each its name, what its text is, and the text."""
+    starts = [place for place in range(len(after)) if after.startswith("<script>", place)][1:]
+    pieces = [after[start:end] for start, end in zip([0, *starts], [*starts, len(after)])]
+    found = [("before", "The page's text before its data", before)]
+    for script, piece in zip(SCRIPTS, pieces, strict=True):
+        name = script.split(".")[0]
+        found.append((name, f"The page's text after its data: the one with the script `page/{script}`", piece))
+    return found
+
+
+def module(name, said, text):
+    return (f"//! {said}. `.ci/explore_page.py --write` writes it.\n\n"
+            f"/// {said}.\npub(crate) const {name.upper()}: &[u8] = {literal(text)};\n")
 
 
 def main():
@@ -69,9 +79,9 @@ def main():
         sys.stdout.write(before + data + after)
         return
     wrong = 0
-    for name, text in (("BEFORE", before), ("AFTER", after)):
-        path = CRATE / "src" / f"text_{name.lower()}.rt"
-        wanted = module(name, text)
+    for name, said, text in modules(before, after):
+        path = CRATE / "src" / f"text_{name}.rt"
+        wanted = module(name, said, text)
         if sys.argv[1:] == ["--write"]:
             path.write_text(wanted, encoding="utf-8")
         elif path.read_text(encoding="utf-8") != wanted:

@@ -16,6 +16,7 @@ import json
 import os
 import re
 import resource
+import shutil
 import socket
 import subprocess
 import sys
@@ -29,8 +30,10 @@ SPECS = os.path.join(HERE, "..", "crates", "pd_format", "specs", "RefusalWords.a
 SECONDS = 60
 FIXED = ("read", "write", "memory", "network", "bundle too long")
 COLUMNS = 116
-# The columns of a line of an explanation, but for those that show a part of a file.
+# The columns of a line of an explanation.
 ROW = 100
+# How errors begin that have more than one fixed line.
+FINDING = "monitor: no picture, for a check finds:\n"
 # What is told while a server runs, in an order that may change: `servers.py` has the cases.
 TOLD = re.compile(r"^serve: .*\n(?:  .*\n)*", re.MULTILINE)
 
@@ -50,9 +53,12 @@ def document(text="a.x == 1 and b.y == 1", **fields):
     return "{" + ",\n ".join(fields) + "}\n"
 
 
-def session(name, spec=None, a=A + '{"set":{"x":1}}\n' + END, b=B + '{"set":{"y":1}}\n' + END, words=(), **more):
-    """A case that judges two streams."""
+def session(name, spec=None, a=A + '{"set":{"x":1}}\n' + END, b=B + '{"set":{"y":1}}\n' + END, words=(), c=None,
+            **more):
+    """A case that judges two streams, or three if the words name the third."""
     files = {"session.json": document() if spec is None else spec, "a.stream": a, "b.stream": b}
+    if c is not None:
+        files["c.stream"] = c
     return Case(name, files, ("judge", "session.json", "a.stream", "b.stream", *words), **more)
 
 
@@ -69,6 +75,14 @@ def wide():
     return Case("an answer is unknown", {"session.json": spec, **files}, ("judge", "session.json", *files))
 
 
+def wide_by_connections():
+    """The same of streams that come by connections, so that it is judged once."""
+    case = wide()
+    peers = tuple(text for name, text in case.files.items() if name.endswith(".stream"))
+    return Case("an answer about connections is unknown", {"session.json": case.files["session.json"]},
+                ("serve", "session.json", "--port", "FREE"), peers=peers)
+
+
 def large():
     """A session of 16 processes with 10,000 messages each, in too little memory."""
     names = [f"p{number}" for number in range(16)]
@@ -82,11 +96,14 @@ def documents():
     yield session("the document is too long", document() + " " * 262_144)
     yield session("the document isn't JSON", document().replace('0}},{"name":"b"', '0},{"name":"b"'))
     yield session("the document ends too soon", document()[:-40])
+    yield session("the document is empty", "")
     yield session("the document has a field too many", document(widht=5))
     yield session("the document has no predicates", '{"processes":[]}\n')
     yield session("a process has no variables", document(processes=[{"name": "a"}, {"name": "b", "vars": {}}]))
     yield session("the document has too many processes", processes(*((f"p{number}", {}) for number in range(17))))
     yield session("a name can't be one", processes(("a", {"x": 0}), ("b-1", {"y": 0})))
+    yield session("a name can't be one, and a width is asked for", processes(("a", {"x": 0}), ("the b", {"y": 0})),
+                  words=("--width", "5"))
     yield session("two processes have one name", processes(("a", {"x": 0}), ("a", {"y": 0})))
     yield session("an initial value isn't a whole number", processes(("a", {"x": 0}), ("b", {"y": 0.5})))
     yield session("the document has no predicate", document(predicates=[]))
@@ -121,6 +138,8 @@ def checks():
         whole = session(name)
         yield whole._replace(files={**whole.files, "report": text},
                              words=("check", "session.json", "report", "a.stream", "b.stream"))
+    yield session("a report that comes by a pipe", input=bad["a cut is bad, and a path"].encode())._replace(
+        words=("check", "session.json", "-", "a.stream", "b.stream"))
 
 
 def lines():
@@ -155,6 +174,9 @@ def messages():
     yield session("a process receives what it sent", a=A + '{"send":"m1"}\n{"recv":"m1"}\n' + END)
     yield session("a message is received twice", a=A + '{"send":"m1"}\n' + END,
                   b=B + '{"recv":"m1"}\n{"recv":"m1"}\n' + END)
+    yield session("a message is received by two processes", spec=processes(("a", {"x": 0}), ("b", {"y": 0}), ("c", {})),
+                  a=A + '{"send":"m1"}\n' + END, b=B + '{"recv":"m1"}\n' + END, words=("c.stream",),
+                  c='{"process":"c"}\n{"recv":"m1"}\n' + END)
     yield session("each of two processes waits for the other", a=A + '{"recv":"m2"}\n{"send":"m1"}\n' + END,
                   b=B + '{"recv":"m1"}\n{"send":"m2"}\n' + END)
 
@@ -174,6 +196,9 @@ def faults():
     yield session("the output is full")._replace(output="/dev/full")
     yield good._replace(name="there is no predicate of that name", files={**good.files, "report": REPORT},
                         words=("draw", "session.json", "report", "a.stream", "b.stream", "--predicate", "bot"))
+    yield session("there is no predicate of that name to fail on", words=("--fail-on", "bot:possibly"))
+    yield good._replace(name="there is no picture of a bad report", files={**good.files, "report": "all possibly no\n"},
+                        words=("draw", "session.json", "report", "a.stream", "b.stream"))
     yield good._replace(name="there is no evidence of that kind", files={**good.files, "report": REPORT},
                         words=("draw", "session.json", "report", "a.stream", "b.stream", "--evidence", "definitely"))
     yield good._replace(name="the report is too long", files={**good.files, "report": TOO_LONG},
@@ -188,6 +213,11 @@ def connections():
         words=("judge", "session.json", "a.stream", "/dev/stdin"))
     files = {"session.json": document()}
     yield Case("a stream that comes by a connection", files, serve, peers=(A + "{}\n", B + END))
+    unknown = A + '{"set":{"z":1}}\n' + END
+    yield Case("a variable that there isn't, by a connection", files, serve, peers=(unknown, B + END))
+    yield Case("a process that there isn't, by a connection", files, serve, peers=('{"process":"c"}\n' + END, B + END))
+    yield Case("a message of a session that is kept", files, (*serve, "--keep", "kept"),
+               peers=(A + '{"recv":"m9"}\n' + END, B + END))
     yield Case("a connection of a browser", files, serve, peers=("GET / HTTP/1.1\r\nHost: a\r\n\r\n", B + END))
     yield Case("a connection that sends nothing", files, serve, peers=(A + END, ""))
     yield Case("two connections of one process", files, serve, peers=(B + END, B + END))
@@ -205,7 +235,7 @@ REPORT = "session 2 processes 2 events 0 messages\nboth possibly yes 1,1\nboth d
 KINDS = {
     "The session document": documents, "The text of a predicate": predicates,
     "The text of a predicate that is asked for": asked, "A line of a stream": lines,
-    "The list of streams": streams, "Messages": messages, "Unknown answers": lambda: [wide()],
+    "The list of streams": streams, "Messages": messages, "Unknown answers": lambda: [wide(), wide_by_connections()],
     "Reports that a check finds bad": checks,
     "Streams whose bytes are gone": connections, "A bundle, whose bytes are gone": bundles, "Faults": faults,
 }
@@ -242,6 +272,8 @@ def send(server, port, peers):
 def ran(program, folder, case, words):
     """The status, the output and the errors of the program."""
     path = os.path.join(folder, ".output")
+    if "kept" not in case.files:
+        shutil.rmtree(os.path.join(folder, "kept"), ignore_errors=True)
     options = {"preexec_fn": limited(case.memory)} if case.memory else {}
     with open(case.output or path, "wb") as out:
         with subprocess.Popen([program, *words], stdin=subprocess.PIPE, stdout=out, stderr=subprocess.PIPE, cwd=folder,
@@ -274,12 +306,13 @@ def explained(program, case):
             wrong.append("it goes otherwise where the word stands elsewhere")
         if plain[:2] != found[0][:2]:
             wrong.append(f"output or status change: {plain[:2]} and {found[0][:2]}")
-        if plain[2] and (plain[2].count("\n") != 1 or not errors.endswith(plain[2])):
+        lines = 1 if not plain[2].startswith(FINDING) else plain[2].count("\n")
+        if plain[2] and (plain[2].count("\n") != lines or not errors.endswith(plain[2])):
             wrong.append(f"the fixed line {plain[2]!r} isn't last of {errors!r}")
         explanation = errors.removesuffix(plain[2]) if plain[2] else errors
         if not explanation:
             wrong.append("nothing is explained")
-        if any(len(line) > ROW and not line.startswith("    ") for line in explanation.splitlines()):
+        if any(len(line) > ROW for line in explanation.splitlines()):
             wrong.append(f"a line has more than {ROW} columns: {explanation!r}")
         explanation = re.sub(rf"\b([Pp]ort) (?:{port}|{ports['FREE'] or port})\b", r"\1 7411", explanation)
         return plain[2] or plain[1], explanation, wrong

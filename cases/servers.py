@@ -216,14 +216,14 @@ def kept_files(folder):
     return found
 
 
-def keeps(act, files):
-    """Clients of a server whose session is kept, and then what the folder has to have."""
+def keeps(act, *wanted):
+    """Clients of a server whose session is kept, and then what the folder has to have: one of these."""
     def keep(server):
         act(server)
         server.process.wait(SECONDS)
         found = kept_files(os.path.join(server.folder, "kept"))
-        if found != files:
-            differ("what is kept", repr(files).encode(), repr(found).encode())
+        if found not in wanted:
+            differ("what is kept", repr(wanted[0]).encode(), repr(found).encode())
     return keep
 
 
@@ -236,6 +236,20 @@ def comes_between(server):
         file.write(b"x")
     for sender, stream in zip(senders, (OF_A, OF_B)):
         send(sender, stream)
+
+
+def ended_by_force(server):
+    """Two streams begin, and the server is killed once both files have their names and what has come."""
+    begun = {"b.stream": OF_B[:OF_B.index(b"\n") + 1], "a.stream": OF_A[:OF_A.index(b"\n") + 1]}
+    senders = [server.connect(), server.connect()]
+    for sender, stream in zip(senders, begun.values()):
+        sender.sendall(stream)
+    until = time.monotonic() + SECONDS
+    while not begun.items() <= kept_files(os.path.join(server.folder, "kept")).items():
+        if time.monotonic() > until:
+            raise Differs("the files don't get their names")
+        time.sleep(0.01)
+    server.process.kill()
 
 
 def tells(server, wanted):
@@ -283,9 +297,26 @@ def begins_otherwise(server):
     port = first.getsockname()[1]
     send(first, b"GET / HTTP/1.1\r\n\r\n")
     tells(server, b"serve: stream 1 hasn't said whose it is. It begins so:\n    GET / HTTP/1.1\\x0d\n")
+    tells(server, f"serve: stream 1, from 127.0.0.1:{port}, is refused at line 1".encode())
+    tells(server, b": this line isn't a JSON text.\n" + NO_MORE)
     send(second, OF_B)
     tells(server, b"serve: stream 2 is the one of `b`. Missing: `a`.\n")
     tells(server, f"Stream 1, from 127.0.0.1:{port}, is refused at line 1".encode())
+
+
+def refused_meanwhile(server):
+    """A line of a stream is refused, which is told before the other stream has begun."""
+    first, second = told(server)
+    port = first.getsockname()[1]
+    first.sendall(OF_A[:OF_A.index(b"\n") + 1])
+    tells(server, b"serve: stream 1 is the one of `a`. Missing: `b`.\n")
+    first.sendall(b'{"set":{"z":1}}\n')
+    tells(server, f"serve: stream 1, from 127.0.0.1:{port}, of process `a`, is refused at line 2: the process".encode())
+    tells(server, b" has no\n  variable of this name.\n"
+          b'serve: stream 1, line 2, byte 9:\n    {"set":{"z":1}}\n            ^\n' + NO_MORE)
+    send(second, OF_B)
+    tells(server, b"serve: stream 2 is the one of `b`. None is missing.\n")
+    tells(server, f"Stream 1, from 127.0.0.1:{port}, of process `a`, is refused at line 2".encode())
 
 
 def full_meanwhile(server):
@@ -305,10 +336,11 @@ LONG = b'{"process":"a"}\n' + b'{"set":{"x":0}}\n' * 30 + END
 OF_LONG = (b"session 2 processes 32 events 0 messages\nboth possibly no\n"
            b"both definitely no b,b" + b",a" * 30 + b"\n")
 # What is told of it at once, and at the end.
-STOPPED = (b"serve: kept/1.stream can't be written: File too large (os error 27). What comes of that stream from\n"
+STOPPED = (b"serve: kept/a.stream can't be written: File too large (os error 27). What comes of that stream from\n"
            b"  here on isn't kept; the session is judged all the same.\n")
-UNKEPT = (b"Not all of the session is kept. kept/1.stream: File too large (os error 27).\n"
-          b"Expected: a folder with no file in it, or none of that name yet, and room for all that comes.\n"
+UNKEPT = (b"Not all of the session is kept. kept/a.stream: File too large (os error 27).\n"
+          b"Expected: an empty folder, or a name that nothing has yet in a folder that there is; and room for\n"
+          b"  all that comes.\n"
           b"What to do: give another folder after --keep, or make room.\nmonitor: write\n")
 
 
@@ -320,8 +352,9 @@ def kept():
     yield "kept", keeps(clients([OF_B, OF_A]), files), options, (0, REPORT, b"")
     empty = {**options, "before": {"kept": None}}
     yield "kept, in an empty folder", keeps(clients([OF_B, OF_A]), files), empty, (0, REPORT, b"")
-    files = {**document, "a.stream": OF_A, "2.stream": OF_A, "report": b"refused stream 2 line 1 taken\n"}
-    yield "kept, one stream twice", keeps(clients([OF_A, OF_A]), files), options, (1, files["report"], b"")
+    files = {**document, "a.stream": OF_A, "report": b"refused stream 2 line 1 taken\n"}
+    either = ({**files, name: OF_A} for name in ("2.stream", "1.stream"))
+    yield "kept, one stream twice", keeps(clients([OF_A, OF_A]), *either), options, (1, files["report"], b"")
     files = {**document, "1.stream": b"GET /../x HTTP/1.1\r\n\r\n", "b.stream": OF_B,
              "report": b"refused stream 1 line 1 json\n"}
     streams = [files["1.stream"], OF_B]
@@ -340,7 +373,7 @@ def kept():
         3, b"", NO_NETWORK)
     refused = {**options, "document": b"{"}
     yield "kept, and the document is refused", keeps(nobody, {}), refused, (1, b"refused spec json\n", b"")
-    files = {**document, "a.stream": b"", "2.stream": b""}
+    files = {**document, "1.stream": b"", "2.stream": b""}
     late = {"asked": ["--keep", "kept", "--wait", "2"]}
     yield "kept, and one of two comes in time", keeps(senders([OF_A]), files), late, (3, b"", NO_NETWORK)
     files = {**document, "a.stream": LONG[:300], "b.stream": OF_B, "report": OF_LONG}
@@ -349,16 +382,27 @@ def kept():
     explained = {"asked": ["--keep", "kept", "--explain"], "room": 300}
     yield "kept, and there is no room, explained", keeps(full_meanwhile, files), explained, (3, OF_LONG, UNKEPT)
     files = {**document, "a.stream": b"x", "1.stream": OF_A, "b.stream": OF_B, "report": REPORT}
-    yield "kept, and a process has a file already", keeps(comes_between, files), options, (
-        3, REPORT, b"monitor: write\n")
+    yield "kept, and a process has a file already", keeps(comes_between, files), options, (0, REPORT, b"")
+    files = {**document, "a.stream": OF_A[:OF_A.index(b"\n") + 1], "b.stream": OF_B[:OF_B.index(b"\n") + 1]}
+    yield "kept, and the server is ended by force", keeps(ended_by_force, files), options, (-9, b"", b"")
 
 
+# What is told at last of a stream that is refused.
+NO_MORE = b"serve: no more of it is read; the report comes once the other streams have ended.\n"
 # What is explained of a stream that isn't one of ours, after where it came from.
-NO_STREAM = (b": this line isn't a JSON text.\nIt begins so:\n    GET / HTTP/1.1\\x0d\n"
+NO_STREAM = (b": this line isn't a JSON text.\nIn stream 1, line 1, byte 1:\n    GET / HTTP/1.1\\x0d\n    ^\n"
              b"Streams count in the order in which they connected.\n"
              b"Expected: one JSON object a line, in UTF-8, ended by a line feed.\n"
-             b"What to do: look how the line was written: whether two writers share the file, or a crash cut the\n"
-             b"  line off.\n")
+             b"What to do: look how the line was written: two writers may share the file; or a crash cut it off,\n"
+             b"  then put {\"end\":true} in its place.\n")
+
+
+# What is explained of a variable that there isn't, after where the stream came from.
+NO_VARIABLE = (b": the process has no variable of\n  this name.\n"
+               b'In stream 1, line 2, byte 9:\n    {"set":{"z":1}}\n            ^\n'
+               b"Expected here: a variable of process `a`, which has `x`.\n"
+               b"Streams count in the order in which they connected.\n"
+               b"What to do: correct the name in the stream, or add the variable to the process in the document.\n")
 
 
 def at_once():
@@ -366,6 +410,8 @@ def at_once():
     explained = {"asked": ["--explain"]}
     yield "told who joins", joins, explained, (0, REPORT, b"")
     yield "told who doesn't", begins_otherwise, explained, (1, b"refused stream 1 line 1 json\n", NO_STREAM)
+    refused = (1, b"refused stream 1 line 2 unknownvar\n", NO_VARIABLE)
+    yield "told what is refused", refused_meanwhile, explained, refused
 
 
 def cases():

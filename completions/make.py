@@ -106,9 +106,12 @@ _monitor_conditions() {{
 }}
 
 _monitor() {{
-  local line="${{COMP_LINE:0:COMP_POINT}}" words current previous command options
-  read -ra words <<< "$line"
-  case "$line" in *[[:space:]]) words+=('') ;; esac
+  local line="${{COMP_LINE:0:COMP_POINT}}" all words=() word current previous command options
+  read -ra all <<< "$line"
+  case "$line" in *[[:space:]]) all+=('') ;; esac
+  # --explain may stand anywhere, before a command too
+  for word in "${{all[@]:0:${{#all[@]}}-1}}"; do [ "$word" = --explain ] || words+=("$word"); done
+  words+=("${{all[-1]}}")
   current="${{words[-1]}}" previous='' command="${{words[1]:-}}"
   [ "${{#words[@]}}" -gt 1 ] && previous="${{words[-2]}}"
   case "$current" in --*=*) previous="${{current%%=*}}" current="${{current#*=}}" ;; esac
@@ -302,6 +305,8 @@ def wrong_completions(files):
         "monitor ": every,
         "monitor j": ["judge"],
         "monitor --v": ["--version"],
+        "monitor --explain ju": ["judge"],
+        "monitor --explain draw session report a --evidence ": ["possibly", "definitely"],
         "monitor judge -": ["--width", "--ask", "--workers", "--beyond-width", "--fail-on", "-h", "--help", "--explain"],
         "monitor judge --f": ["--fail-on"],
         "monitor judge session --fail-on ": CONDITIONS,

@@ -9,8 +9,8 @@ use std::{env, io};
 
 /// What is said of a bundle that is to be typed at a terminal.
 const BUNDLE_READ: &[u8] =
-    b"A bundle is read from standard input: the session document, and before each stream a line \
----. `monitor --help` says what else there is.\n";
+    b"A bundle is read from standard input: the session document, and before each stream a line ---.\n\
+`monitor --help` says what else there is.\n";
 
 /// What is said where `-`, the input, stands for two files: what comes on it can't be given to both.
 const INPUT_TWICE: &[u8] = b"monitor: - stands for two files\n";

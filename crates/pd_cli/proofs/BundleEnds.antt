@@ -1,6 +1,6 @@
 -- A run with no further argument judges the bundle on the input, and its status 0 or 1 says that the truth is written.
 use Rattle.std.proofs.Common.{◌≡◌, ◌≤◌, ℕ, List, [], ◌∷◌, drop, map, length, refl, sym, subst, arith, Option, inr}
-use Rattle.std.specs.Prelude.{Bool, true, false}
+use Rattle.std.specs.Prelude.{Bool}
 use Rattle.clap.specs.Walk.{Text}
 use Rattle.pd_arguments.specs.Statuses.{Ending, Success, Negative, Alarm, NoPredicate, Misuse, Failed, MemoryFailure, ReadFailure, WriteFailure, BundleFailure, NetworkFailure, Ends, EndsAsAsked, JudgeInput, JudgementLeaves, Reliance, status_of}
 use Rattle.pd_judgement.specs.Writes.{IsJudged, IsRefused, WritesTruthOfBundle}

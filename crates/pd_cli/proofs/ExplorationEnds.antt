@@ -4,7 +4,7 @@ use Rattle.std.specs.Prelude.{◌⊎◌, IsErrAnd, Result}
 use Rattle.std.specs.List.{AllZip}
 use Rattle.std.specs.Io.KnownBytes.{Keeps}
 use Rattle.pd_format.specs.Documents.{Inquiry, inquiry}
-use Rattle.pd_arguments.specs.Statuses.{Alarm, BundleFailure, Ending, Failed, MemoryFailure, Misuse, Negative, NetworkFailure, NoPredicate, ReadFailure, Success, WriteFailure, WritesUpTo}
+use Rattle.pd_arguments.specs.Statuses.{Alarm, BundleFailure, Ending, Failed, MemoryFailure, Misuse, Negative, NetworkFailure, NoPredicate, ReadFailure, Success, WriteFailure}
 use Rattle.pd_format.specs.Reports as reports
 use Rattle.pd_judgement.specs.Writes.{IsAnyReport, IsJudged, Partial, Whole, Writes}
 use Rattle.pd_judgement.proofs.Writing.{writes_weaker}

@@ -4,12 +4,14 @@ use super::explained_refusals::put_refusal;
 use super::file_source::FileSource;
 use super::second_look::{Seen, can_be_checked_again, report_again, spec_again};
 use pd_arguments::{Exploration, Judgement, SessionNames};
+use pd_asked::Asks;
 use pd_claims::DrawOutcome;
 use pd_explain::{
     Judged, Source, Widest, explain_answers, explain_bundle_fault, explain_file, explain_finding,
-    explain_long_report, explain_memory, explain_no_file, explain_no_predicate, explain_output,
-    in_rows,
+    explain_long_report, explain_memory, explain_no_file, explain_no_picture, explain_no_predicate,
+    explain_output, explain_unread_finding, in_rows,
 };
+use pd_fail_on::{Conclusion, FailOn};
 use pd_report::Report;
 use pd_sessions::EngineFault;
 use std::alloc::{AllocError, Global};
@@ -106,6 +108,37 @@ pub(crate) fn put_fault<F: FileSource>(
     }
 }
 
+/// Says which predicates there are.
+fn put_predicates<F: FileSource>(
+    out: &mut Vec<u8>,
+    files: &F,
+    alloc: Global,
+    spec: &str,
+    asks: Option<&Asks<'_>>,
+) -> Result<(), AllocError> {
+    match spec_again(files, alloc, spec, asks) {
+        Some(spec) => explain_no_predicate(out, spec.predicates()),
+        None => Ok(()),
+    }
+}
+
+/// Says which predicates there are, if answers are to be failed on of one that there isn't.
+pub(crate) fn put_named<F: FileSource>(
+    out: &mut Vec<u8>,
+    files: &F,
+    alloc: Global,
+    seen: Seen<'_>,
+    fail_on: &FailOn<'_>,
+    report: &Report,
+) -> Result<(), AllocError> {
+    match (fail_on.conclusion(report), seen.spec) {
+        (Conclusion::NoPredicate, Some(spec)) => {
+            put_predicates(out, files, alloc, spec, seen.asks)
+        }
+        _ => Ok(()),
+    }
+}
+
 /// Explains how a judgement of files ended.
 fn put_judgement<F: FileSource>(
     out: &mut Vec<u8>,
@@ -124,7 +157,10 @@ fn put_judgement<F: FileSource>(
         widest,
     };
     match end {
-        Ok(report) => put_report(out, files, alloc, seen, report),
+        Ok(report) => {
+            put_report(out, files, alloc, seen, report)?;
+            put_named(out, files, alloc, seen, &judgement.fail_on, report)
+        }
         Err(fault) => put_fault(out, files, alloc, None, names.spec, &names.streams, fault),
     }
 }
@@ -233,7 +269,7 @@ fn put_finding<S: RandomSource + Threads + Wait + Sync, F: FileSource>(
     names: &SessionNames<'_>,
 ) -> Result<(), AllocError> {
     if !can_be_checked_again(files, report, names) {
-        return Ok(());
+        return explain_unread_finding(out);
     }
     let Some(bytes) = report_again(files, alloc, report) else {
         return Ok(());
@@ -309,17 +345,12 @@ fn put_drawing<F: FileSource>(
     end: &Result<DrawOutcome, EngineFault>,
 ) -> Result<(), AllocError> {
     match end {
-        Ok(DrawOutcome::NoPredicate) => match spec_again(
-            files,
-            alloc,
-            names.spec,
-            Some(&names.asks),
-        ) {
-            Some(spec) => explain_no_predicate(out, spec.predicates()),
-            None => Ok(()),
-        },
+        Ok(DrawOutcome::NoPredicate) => {
+            put_predicates(out, files, alloc, names.spec, Some(&names.asks))
+        }
         Ok(DrawOutcome::NoEvidence) => explain_no_evidence(out),
-        Ok(DrawOutcome::Written | DrawOutcome::CycleWritten | DrawOutcome::Refused(_)) => Ok(()),
+        Ok(DrawOutcome::Refused(_)) => explain_no_picture(out),
+        Ok(DrawOutcome::Written | DrawOutcome::CycleWritten) => Ok(()),
         Err(fault) => put_fault(
             out,
             files,

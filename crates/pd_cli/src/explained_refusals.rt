@@ -27,10 +27,10 @@ fn name_at<'a>(streams: &[&'a str], number: u64) -> &'a str {
     ""
 }
 
-/// Whether something else is asked than what the document says.
-fn is_changed(asks: Option<&Asks<'_>>) -> bool {
+/// Whether a fault of this word may be one of what is asked in place of what the document says, and not of that.
+fn may_be_asked(asks: Option<&Asks<'_>>, word: &str) -> bool {
     match asks {
-        Some(asks) => !asks.are_none(),
+        Some(asks) => !asks.are_none() && (word == "shape" || word == "predicates"),
         None => false,
     }
 }
@@ -46,10 +46,10 @@ fn put_document<F: FileSource>(
     let Some(name) = seen.spec else {
         return explain_document_word(out, word);
     };
-    if is_changed(seen.asks) {
+    if may_be_asked(seen.asks, word) {
         return explain_document_word(out, word);
     }
-    match document_again(files, alloc, name, seen.asks) {
+    match document_again(files, alloc, name, None) {
         Some(bytes) => {
             let source = Source {
                 name,
@@ -123,8 +123,9 @@ fn put_taken<F: FileSource>(
     };
     let why = match stream_of(files, alloc, seen.streams, &process)? {
         Some(place) => {
-            let other = name_at(seen.streams, (place as u64).saturating_add(1));
-            format!(in alloc; "{other} is a stream of process `{process}` too")?
+            let number = (place as u64).saturating_add(1);
+            let other = name_at(seen.streams, number);
+            format!(in alloc; "Stream {number}, {other}, is one of process `{process}` too")?
         }
         None => String::new(alloc),
     };
@@ -207,14 +208,19 @@ fn others_of(word: &str) -> Others<'static> {
             field: "send",
             said: "It is sent here too. ",
         },
-        "selfmessage" => Others {
-            field: "send",
-            said: "It is sent here. ",
-        },
+        "selfmessage" => senders(),
         _ => Others {
             field: "recv",
             said: "It is received here too. ",
         },
+    }
+}
+
+/// The event that sends a message.
+fn senders() -> Others<'static> {
+    Others {
+        field: "send",
+        said: "It is sent here. ",
     }
 }
 
@@ -235,7 +241,7 @@ fn put_others<F: FileSource>(
                 bytes: &bytes,
             };
             let number = if place == but.0 { but.1 } else { 0 };
-            show_other(out, alloc, &source, others, id, number)?;
+            let _ = show_other(out, alloc, &source, others, id, number)?;
         }
     }
     Ok(())
@@ -269,10 +275,14 @@ fn put_event<F: FileSource>(
         return Ok(());
     };
     let others = others_of(word);
+    // A process that receives a message twice has that fault in either version, whoever else receives it.
+    if word == "receivedtwice" && show_other(out, alloc, &source, others, &id, event.number)? {
+        return Ok(());
+    }
     put_others(out, files, alloc, seen, others, &id, (place, event.number))
 }
 
-/// Shows an event of a causal cycle.
+/// Shows an event of a causal cycle, and where its message is sent.
 fn put_step<F: FileSource>(
     out: &mut Vec<u8>,
     files: &F,
@@ -284,15 +294,17 @@ fn put_step<F: FileSource>(
         return show_step(out, alloc, None, event);
     };
     let name = name_at(seen.streams, (place as u64).saturating_add(1));
-    match stream_again(files, alloc, name) {
-        Some(bytes) => {
-            let source = Source {
-                name,
-                bytes: &bytes,
-            };
-            show_step(out, alloc, Some(&source), event)
-        }
-        None => show_step(out, alloc, None, event),
+    let Some(bytes) = stream_again(files, alloc, name) else {
+        return show_step(out, alloc, None, event);
+    };
+    let source = Source {
+        name,
+        bytes: &bytes,
+    };
+    show_step(out, alloc, Some(&source), event)?;
+    match message_of(alloc, &bytes, event.number)? {
+        Some(id) => put_others(out, files, alloc, seen, senders(), &id, (place, 0)),
+        None => Ok(()),
     }
 }
 

@@ -4,10 +4,10 @@ ghost use Rattle.pd_cli.specs.declared.service_fault.ServiceFault.TheVariants as
 ghost use Rattle.std.specs.Prelude.{◌≡◌, ◌≢◌, ◌⊎◌, IfErr, None, true};
 
 use super::file_source::FileSource;
+use super::host::Host;
 use super::service_fault::ServiceFault;
 use pd_engine::{Report, Spec, text};
-use pd_explain::joined_name;
-use pd_peers::{Keeping, Notices, Peers};
+use pd_peers::{Keeping, Notices};
 use pd_sessions::EngineFault;
 use std::alloc::{AllocError, Global};
 use std::io;
@@ -38,20 +38,18 @@ fn write_file<F: FileSource>(files: &F, path: &str, bytes: &[u8]) -> io::Result<
 }
 
 /// Makes the folder, and the document's file in it. It gives whether both are there; if not, it is noted why.
-fn keep_document<F: FileSource>(
-    files: &F,
-    alloc: Global,
+fn keep_document<F: FileSource, N>(
+    host: &Host<'_, F, N>,
     folder: &str,
     document: &[u8],
-    peers: &Peers,
 ) -> Result<bool, AllocError> {
-    if let Err(error) = files.make_folder(alloc, folder) {
-        peers.note_unkept(alloc, folder, &error);
+    if let Err(error) = host.files.make_folder(host.alloc, folder) {
+        host.peers.note_unkept(host.alloc, folder, &error);
         return Ok(false);
     }
-    let path = path_in(alloc, folder, DOCUMENT)?;
-    if let Err(error) = write_file(files, &path, document) {
-        peers.note_unkept(alloc, &path, &error);
+    let path = path_in(host.alloc, folder, DOCUMENT)?;
+    if let Err(error) = write_file(host.files, &path, document) {
+        host.peers.note_unkept(host.alloc, &path, &error);
         return Ok(false);
     }
     Ok(true)
@@ -59,21 +57,19 @@ fn keep_document<F: FileSource>(
 
 /// Makes the files of this many streams, the last one first. It gives none of them if one can't be made, and it is
 /// noted why.
-fn make_streams<'a, F: FileSource, T: Notices>(
-    files: &F,
-    alloc: Global,
+fn make_streams<'a, F: FileSource, N, T: Notices>(
+    host: &Host<'a, F, N>,
     folder: &str,
     count: usize,
-    peers: &'a Peers,
     notices: &'a T,
 ) -> Result<Option<Vec<Keeping<'a, F::Sink, T>>>, AllocError> {
-    let mut kept = Vec::new(alloc);
+    let mut kept = Vec::new(host.alloc);
     for place in (0..count).rev() {
-        let path = numbered_path(alloc, folder, place)?;
-        match files.create(&path) {
-            Ok(file) => kept.push(Keeping::new(alloc, file, path, peers, notices))?,
+        let path = numbered_path(host.alloc, folder, place)?;
+        match host.files.create(&path) {
+            Ok(file) => kept.push(Keeping::new(host.alloc, file, path, host.peers, notices))?,
             Err(error) => {
-                peers.note_unkept(alloc, &path, &error);
+                host.peers.note_unkept(host.alloc, &path, &error);
                 return Ok(None);
             }
         }
@@ -86,140 +82,69 @@ fn make_streams<'a, F: FileSource, T: Notices>(
 ///
 /// # Errors
 /// `Unkept`, if one of these can't be made, as if the folder has a file already, and `Memory`.
-pub(crate) fn begin_keeping<'a, F: FileSource, T: Notices>(
-    files: &F,
-    alloc: Global,
-    keep: Option<&str>,
+pub(crate) fn begin_keeping<'a, F: FileSource, N, T: Notices>(
+    host: &Host<'a, F, N>,
     document: &[u8],
     spec: &Spec,
-    peers: &'a Peers,
     notices: &'a T,
 ) -> Result<Vec<Keeping<'a, F::Sink, T>>, ServiceFault>
-    ensures { IfErr result (λ fault. ((fault ≡ faults.Unkept) × (keep_view keep.entry ≢ None))
+    ensures { IfErr result (λ fault. ((fault ≡ faults.Unkept) × (keep_view host.now.service.now.keep ≢ None))
         ⊎ (fault ≡ faults.Engine EngineFault.Memory)) }
 {
-    let Some(folder) = keep else {
-        return Ok(Vec::new(alloc));
+    let Some(folder) = host.service.keep else {
+        return Ok(Vec::new(host.alloc));
     };
-    if !keep_document(files, alloc, folder, document, peers)? {
+    if !keep_document(host, folder, document)? {
         return Err(ServiceFault::Unkept);
     }
     let count = spec.names().processes();
-    match make_streams(files, alloc, folder, count, peers, notices)? {
+    match make_streams(host, folder, count, notices)? {
         Some(kept) => Ok(kept),
         None => Err(ServiceFault::Unkept),
     }
 }
 
-/// The process of the document whose stream the one at this place is, if it says so.
-fn process_at(
-    alloc: Global,
-    spec: &Spec,
-    peers: &Peers,
-    place: usize,
-) -> Result<Option<usize>, AllocError> {
-    let Some(start) = peers.at(place).and_then(|peer| peer.start()) else {
-        return Ok(None);
-    };
-    match joined_name(alloc, start)? {
-        Some(name) => Ok(spec.names().find(&name)),
-        None => Ok(None),
-    }
-}
-
-/// The name of the process whose stream the one at this place is, if it is the first one of a process of the document.
-fn first_name<'a>(
-    alloc: Global,
-    spec: &'a Spec,
-    peers: &Peers,
-    place: usize,
-) -> Result<Option<&'a str>, AllocError> {
-    let Some(process) = process_at(alloc, spec, peers, place)? else {
-        return Ok(None);
-    };
-    for other in 0..place {
-        if process_at(alloc, spec, peers, other)? == Some(process) {
-            return Ok(None);
-        }
-    }
-    if process < spec.names().processes() {
-        return Ok(Some(spec.names().name(process)));
-    }
-    Ok(None)
-}
-
-/// Gives the file of the stream at this place the name of its process, unless there is a file of that name.
-fn name_stream<F: FileSource>(
-    files: &F,
+/// The name that the file of the stream at this place, which is counted from 0, has in this folder, and the one that it
+/// is given once the stream has joined this process.
+///
+/// # Errors
+/// Out of memory.
+pub(crate) fn stream_names(
     alloc: Global,
     folder: &str,
     place: usize,
-    name: &str,
-    peers: &Peers,
-) -> Result<(), AllocError> {
-    let old = numbered_path(alloc, folder, place)?;
-    let new = format!(in alloc; "{folder}/{name}.stream")?;
-    let named = match files.create(&new) {
-        Ok(_) => files.rename(&old, &new),
-        Err(error) => Err(error),
-    };
-    if let Err(error) = named {
-        peers.note_unkept(alloc, &new, &error);
-    }
-    Ok(())
-}
-
-/// Gives the files of the streams the names of their processes.
-fn name_streams<F: FileSource>(
-    files: &F,
-    alloc: Global,
-    folder: &str,
-    spec: &Spec,
-    peers: &Peers,
-) -> Result<(), AllocError> {
-    for place in 0..spec.names().processes() {
-        if let Some(name) = first_name(alloc, spec, peers, place)? {
-            name_stream(files, alloc, folder, place, name, peers)?;
-        }
-    }
-    Ok(())
+    process: &str,
+) -> Result<(String, String), AllocError> {
+    let numbered = numbered_path(alloc, folder, place)?;
+    let named = format!(in alloc; "{folder}/{process}.stream")?;
+    Ok((numbered, named))
 }
 
 /// Makes the file of a report.
-fn keep_report<F: FileSource>(
-    files: &F,
-    alloc: Global,
+fn keep_report<F: FileSource, N>(
+    host: &Host<'_, F, N>,
     folder: &str,
     report: &Report,
-    peers: &Peers,
 ) -> Result<(), AllocError> {
-    let path = path_in(alloc, folder, REPORT)?;
-    let bytes = text(alloc, report)?;
-    if let Err(error) = write_file(files, &path, &bytes) {
-        peers.note_unkept(alloc, &path, &error);
+    let path = path_in(host.alloc, folder, REPORT)?;
+    let bytes = text(host.alloc, report)?;
+    if let Err(error) = write_file(host.files, &path, &bytes) {
+        host.peers.note_unkept(host.alloc, &path, &error);
     }
     Ok(())
 }
 
-/// Ends the keeping of a session: gives the files of the streams the names of their processes, and makes the report's,
-/// if there is one. It gives whether all of the session is kept that is to be.
-pub(crate) fn end_keeping<F: FileSource>(
-    files: &F,
-    alloc: Global,
-    keep: Option<&str>,
-    spec: &Spec,
-    peers: &Peers,
-    report: Option<&Report>,
-) -> bool
-    ensures { keep.entry ≡ None → result ≡ true }
+/// Ends the keeping of a session: makes the report's file, if there is a report. It gives whether all of the session is
+/// kept that is to be.
+pub(crate) fn end_keeping<F: FileSource, N>(host: &Host<'_, F, N>, report: Option<&Report>) -> bool
+    ensures { host.now.service.now.keep ≡ None → result ≡ true }
 {
-    let Some(folder) = keep else {
+    let Some(folder) = host.service.keep else {
         return true;
     };
-    let is_named = name_streams(files, alloc, folder, spec, peers).is_ok();
     let is_reported = match report {
-        Some(report) => keep_report(files, alloc, folder, report, peers).is_ok(),
+        Some(report) => keep_report(host, folder, report).is_ok(),
         None => true,
     };
-    is_named && is_reported && !peers.has_failed()
+    is_reported && !host.peers.has_failed()
 }

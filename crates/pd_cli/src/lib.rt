@@ -22,6 +22,7 @@
 //! - `draw_files`: draws a report with the session in files
 //! - `explore_files`: explores the session in files
 //! - `server`: judges a session whose streams come by connections
+//! - `host`: what a server works with
 //! - `kept_session`: keeps the session of a server as files of a folder
 //! - `watchers`: shows watchers how far the streams are read
 //! - `network`: where connections come from
@@ -51,6 +52,7 @@ mod explaining;
 mod explanation;
 mod explore_files;
 mod file_source;
+mod host;
 mod judge_files;
 mod kept_session;
 mod level_gate;

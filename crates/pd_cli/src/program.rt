@@ -22,6 +22,7 @@ use super::explained_services::service_text;
 use super::explanation::write_explanation;
 use super::explore_files::explore_files;
 use super::file_source::FileSource;
+use super::host::Host;
 use super::judge_files::judge_files;
 use super::level_gate::LevelGate;
 use super::network::Network;
@@ -117,8 +118,18 @@ fn run_service<
         (E.contents errors.new)) (E.contents errors.old) }
 {
     let peers = Peers::new(alloc, explain || service.keep.is_some());
-    let end = serve(rt, files, network, alloc, service, &peers, explain, output);
-    let text = service_text(explain, files, network, alloc, service, &peers, &end);
+    let gate = LevelGate::new(files);
+    let host = Host {
+        files,
+        network,
+        alloc,
+        service,
+        peers: &peers,
+        gate: &gate,
+        explain,
+    };
+    let end = serve(rt, &host, output);
+    let text = service_text(&host, &end);
     write_explanation(explain, &text, errors);
     report_service_end(&service.fail_on, &end, errors)
 }

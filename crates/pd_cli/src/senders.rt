@@ -68,6 +68,7 @@ pub(crate) fn senders<'a>(
             origin: sender.origin.as_str(),
             process: sender.process.as_deref(),
             start: start_of(peers, sender.place),
+            line: peers.at(sender.place).and_then(|peer| peer.line()),
         })?;
     }
     Ok(found)

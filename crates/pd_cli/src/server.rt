@@ -14,20 +14,20 @@ ghost use Rattle.pd_spec.specs.Views.{IsFaultOf, document_view};
 ghost use Rattle.std.specs.Prelude.{◌≡◌, ◌≢◌, ◌⊎◌, ◌↔◌, ◌+◌, ◌<◌, ◌≤◌, ℕ, All, List, Option, Err, IfErr, IfOk, IfSome, IsOk, IsSome, MatchResult, None, Ok, Some, [], false, length, map, true};
 
 use super::file_source::FileSource;
+use super::host::Host;
 use super::judge_files::judge_read;
 use super::kept_session::{begin_keeping, end_keeping};
-use super::level_gate::LevelGate;
 use super::network::Network;
 use super::service_fault::ServiceFault;
 use super::service_notices::ServiceNotices;
 use super::session_files::read_asked;
 use super::watchers::Watchers;
-use pd_arguments::{Service, Workers};
+use pd_arguments::Workers;
 use pd_engine::{
     ByteSource, Crew, Inquiry, NoGate, Observer, Report, Spec, SpecFault, judge_inquiry_watched,
 };
 use pd_judgement::one_document;
-use pd_peers::{HeardSource, Keeping, Notices, Peer, Peers};
+use pd_peers::{HeardSource, Keeping, Notices, Peer};
 use pd_sessions::EngineFault;
 use std::alloc::{AllocError, Global};
 use std::io::Write;
@@ -55,22 +55,19 @@ fn bind<N: Network>(network: &N, port: u16) -> Result<N::Listener, ServiceFault>
 ///
 /// # Errors
 /// `Network`, if it can't be bound.
-fn bind_watchers<N: Network>(
-    network: &N,
-    service: &Service<'_>,
-) -> Result<Option<N::Listener>, ServiceFault>
-    ensures asked { IfOk result (λ listener. IsSome listener ↔ (0 < service.now.watchers)) }
-    ensures on { IfOk result (λ listener. IfSome listener (λ bound. N.is_on bound (service.now.port + 1))) }
-    ensures sure { N.never_fails ≡ true → service.now.port ≤ port_limit → IsOk result }
+fn bind_watchers<F, N: Network>(host: &Host<'_, F, N>) -> Result<Option<N::Listener>, ServiceFault>
+    ensures asked { IfOk result (λ listener. IsSome listener ↔ (0 < host.now.service.now.watchers)) }
+    ensures on { IfOk result (λ listener. IfSome listener (λ bound. N.is_on bound (host.now.service.now.port + 1))) }
+    ensures sure { N.never_fails ≡ true → host.now.service.now.port ≤ port_limit → IsOk result }
     ensures err { IfErr result (λ fault. fault ≡ faults.Network) }
 {
-    if service.watchers == 0 {
+    if host.service.watchers == 0 {
         return Ok(None);
     }
-    let Some(port) = service.port.checked_add(1) else {
+    let Some(port) = host.service.port.checked_add(1) else {
         return Err(ServiceFault::Network);
     };
-    Ok(Some(bind(network, port)?))
+    Ok(Some(bind(host.network, port)?))
 }
 
 /// When the streams are waited for no longer, if there is such a moment.
@@ -92,15 +89,14 @@ fn wait_end<N: Network>(network: &N, wait: Option<u64>) -> Result<Option<Instant
 }
 
 /// Notes the address of who made a connection; it is empty if that isn't known.
-fn note_address<N: Network>(
-    network: &N,
-    alloc: Global,
+fn note_address<F, N: Network>(
+    host: &Host<'_, F, N>,
     connection: &N::Connection,
     peer: Option<&Peer>,
 ) {
     if let Some(peer) = peer {
-        if let Ok(address) = network.peer_address(alloc, connection) {
-            peer.note_address(address.unwrap_or(String::new(alloc)));
+        if let Ok(address) = host.network.peer_address(host.alloc, connection) {
+            peer.note_address(address.unwrap_or(String::new(host.alloc)));
         }
     }
 }
@@ -109,28 +105,26 @@ fn note_address<N: Network>(
 ///
 /// # Errors
 /// `Network`, if it can't be accepted, and `Late`, if it doesn't come in time.
-fn accept_stream<'a, N: Network, W: Write + Drop, T: Notices>(
-    network: &N,
-    alloc: Global,
+fn accept_stream<'a, F, N: Network, W: Write + Drop, T: Notices>(
+    host: &Host<'a, F, N>,
     listener: &N::Listener,
     end: Option<Instant>,
     place: usize,
-    peers: &'a Peers,
     keeping: Option<Keeping<'a, W, T>>,
     notices: &'a T,
 ) -> Result<HeardSource<'a, N::Connection, W, T>, ServiceFault>
     ensures given { IfOk result (λ stream. (port : ℕ) → N.is_on listener.now port
-        → N.may_give network.now port (N.Connection.remaining stream.source)) }
+        → N.may_give host.now.network.now port (N.Connection.remaining stream.source)) }
     ensures open { IfOk result (λ stream. N.Connection.has_ended stream.source ≡ false) }
     ensures sure { end ≡ None → N.never_fails ≡ true → IsOk result }
     ensures err { IfErr result (λ fault. (fault ≡ faults.Network) ⊎ (fault ≡ faults.Late)
         ⊎ (fault ≡ faults.Engine EngineFault.Memory)) }
 {
-    match network.next_connection(listener, end) {
+    match host.network.next_connection(listener, end) {
         Ok(Some(connection)) => {
-            note_address(network, alloc, &connection, peers.at(place));
+            note_address(host, &connection, host.peers.at(place));
             notices.has_connected(place);
-            Ok(HeardSource::new(alloc, connection, place, peers, keeping, notices))
+            Ok(HeardSource::new(host.alloc, connection, place, host.peers, keeping, notices))
         }
         Ok(None) => Err(ServiceFault::Late),
         Err(_) => Err(ServiceFault::Network),
@@ -142,19 +136,18 @@ fn accept_stream<'a, N: Network, W: Write + Drop, T: Notices>(
 ///
 /// # Errors
 /// `Network`, if one can't be accepted, `Late`, if one doesn't come in time, and `Memory`.
-fn accept_streams<'a, N: Network, W: Write + Drop, T: Notices>(
-    network: &N,
-    alloc: Global,
+fn accept_streams<'a, F, N: Network, W: Write + Drop, T: Notices>(
+    host: &Host<'a, F, N>,
     listener: N::Listener,
     count: usize,
     end: Option<Instant>,
-    peers: &'a Peers,
     kept: Vec<Keeping<'a, W, T>>,
     notices: &'a T,
 ) -> Result<Vec<HeardSource<'a, N::Connection, W, T>>, ServiceFault>
     ensures count { IfOk result (λ streams. length streams.items ≡ count) }
     ensures given { IfOk result (λ streams. (port : ℕ) → N.is_on listener port
-        → All (λ stream. N.may_give network.now port (N.Connection.remaining stream.source)) streams.items) }
+        → All (λ stream. N.may_give host.now.network.now port (N.Connection.remaining stream.source))
+        streams.items) }
     ensures open { IfOk result (λ streams.
         All (λ stream. N.Connection.has_ended stream.source ≡ false) streams.items) }
     ensures sure { end ≡ None → N.never_fails ≡ true
@@ -162,16 +155,14 @@ fn accept_streams<'a, N: Network, W: Write + Drop, T: Notices>(
     ensures err { IfErr result (λ fault. (fault ≡ faults.Network) ⊎ (fault ≡ faults.Late)
         ⊎ (fault ≡ faults.Engine EngineFault.Memory)) }
 {
-    let mut streams = Vec::new(alloc);
+    let mut streams = Vec::new(host.alloc);
     let mut kept = kept;
     for place in 0..count {
         let keeping = kept.pop();
-        match accept_stream(
-            network, alloc, &listener, end, place, peers, keeping, notices,
-        ) {
+        match accept_stream(host, &listener, end, place, keeping, notices) {
             Ok(stream) => streams.push(stream)?,
             Err(fault) => {
-                note_starts(network, alloc, &streams, peers);
+                note_starts(host, &streams);
                 return Err(fault);
             }
         }
@@ -180,29 +171,26 @@ fn accept_streams<'a, N: Network, W: Write + Drop, T: Notices>(
 }
 
 /// Notes of each of these streams how it begins, as far as it has come.
-fn note_starts<N: Network, W, T>(
-    network: &N,
-    alloc: Global,
+fn note_starts<F, N: Network, W, T>(
+    host: &Host<'_, F, N>,
     streams: &[HeardSource<'_, N::Connection, W, T>],
-    peers: &Peers,
 ) {
     for (place, stream) in streams.iter().enumerate() {
-        if let Some(peer) = peers.at(place) {
-            let _ = note_start(network, alloc, &stream.source, peer);
+        if let Some(peer) = host.peers.at(place) {
+            let _ = note_start(host, &stream.source, peer);
         }
     }
 }
 
 /// Notes how a stream begins, as far as it has come.
-fn note_start<N: Network>(
-    network: &N,
-    alloc: Global,
+fn note_start<F, N: Network>(
+    host: &Host<'_, F, N>,
     connection: &N::Connection,
     peer: &Peer,
 ) -> Result<(), AllocError> {
     let mut piece = [0u8; 1024];
-    let count = network.first_bytes(connection, &mut piece);
-    let mut start = Vec::new(alloc);
+    let count = host.network.first_bytes(connection, &mut piece);
+    let mut start = Vec::new(host.alloc);
     for byte in piece.iter().take(count) {
         start.push(*byte)?;
         if *byte == b'\n' {
@@ -232,16 +220,15 @@ fn service_end(end: Result<Report, EngineFault>) -> Result<Report, ServiceFault>
 fn judge_accepted<
     S: RandomSource + Threads + Wait + Sync,
     F: FileSource,
+    N,
     R: ByteSource + Send + Drop,
     B: Observer + Sync,
     O: Write,
 >(
     rt: &S,
-    files: &F,
-    alloc: Global,
+    host: &Host<'_, F, N>,
     inquiry: Inquiry<'_>,
     streams: Vec<R>,
-    workers: &Workers,
     observer: &B,
     output: &mut O,
 ) -> Result<Report, EngineFault>
@@ -251,9 +238,8 @@ fn judge_accepted<
         (judgement_ending fail_on result) (O.contents output.old) (O.contents output.new) }
     ensures err { IfErr result (λ fault. (fault ≡ EngineFault.Memory) ⊎ (fault ≡ EngineFault.Write)) }
 {
-    let gate = LevelGate::new(files);
-    let crew = Crew::new(rt, workers.count(), &gate);
-    let report = judge_inquiry_watched(&crew, alloc, inquiry, streams, observer, output)?;
+    let crew = Crew::new(rt, host.service.workers.count(), host.gate);
+    let report = judge_inquiry_watched(&crew, host.alloc, inquiry, streams, observer, output)?;
     if output.flush().is_err() {
         return Err(EngineFault::Write);
     }
@@ -273,52 +259,39 @@ fn serve_session<
     O: Write,
 >(
     rt: &S,
-    files: &F,
-    network: &N,
-    alloc: Global,
+    host: &Host<'_, F, N>,
     inquiry: Inquiry<'_>,
     spec: &Spec,
-    service: &Service<'_>,
-    peers: &Peers,
-    explain: bool,
     output: &mut O,
 ) -> Result<Report, ServiceFault>
     requires document { IsDocument inquiry.document.now (document_view spec.now) }
-    requires port { service.now.port ≤ port_limit }
+    requires port { host.now.service.now.port ≤ port_limit }
     ensures written { (fail_on : List Condition) → ServiceLeaves inquiry.entry.beyond_width fail_on
-        (Some inquiry.entry.document.now) (N.may_give network.now service.now.port) N.Connection.never_fails ⊥
-        (ServiceMayFail service.now.wait N.never_fails) (keep_view service.now.keep ≢ None)
-        (service_ending fail_on result) (O.contents output.old) (O.contents output.new) }
+        (Some inquiry.entry.document.now) (N.may_give host.now.network.now host.now.service.now.port)
+        N.Connection.never_fails ⊥ (ServiceMayFail host.now.service.now.wait N.never_fails)
+        (keep_view host.now.service.now.keep ≢ None) (service_ending fail_on result) (O.contents output.old)
+        (O.contents output.new) }
     ensures err { IfErr result (λ fault. (fault ≡ faults.Network) ⊎ (fault ≡ faults.Late)
-        ⊎ ((fault ≡ faults.Unkept) × (keep_view service.now.keep ≢ None))
+        ⊎ ((fault ≡ faults.Unkept) × (keep_view host.now.service.now.keep ≢ None))
         ⊎ (fault ≡ faults.Engine EngineFault.Memory) ⊎ (fault ≡ faults.Engine EngineFault.Write)) }
 {
     one_document();
-    let end = wait_end(network, service.wait)?;
-    let listener = bind(network, service.port)?;
+    let service = host.service;
+    let end = wait_end(host.network, service.wait)?;
+    let listener = bind(host.network, service.port)?;
     let watchers = Watchers {
-        network,
-        listener: bind_watchers(network, service)?,
+        network: host.network,
+        listener: bind_watchers(host)?,
         count: service.watchers,
         spec,
-        alloc,
+        alloc: host.alloc,
     };
-    let notices = ServiceNotices::new(network, alloc, spec, peers, explain);
-    let document = inquiry.document;
-    let kept = begin_keeping(files, alloc, service.keep, document, spec, peers, &notices)?;
-    notices.listens(service.port, service.watchers);
+    let notices = ServiceNotices { host, spec };
+    let kept = begin_keeping(host, inquiry.document, spec, &notices)?;
+    notices.listens();
     let count = spec.names().processes();
-    let streams = accept_streams(network, alloc, listener, count, end, peers, kept, &notices)?;
-    service_end(judge_accepted(
-        rt,
-        files,
-        alloc,
-        inquiry,
-        streams,
-        &service.workers,
-        &watchers,
-        output,
-    ))
+    let streams = accept_streams(host, listener, count, end, kept, &notices)?;
+    service_end(judge_accepted(rt, host, inquiry, streams, &watchers, output))
 }
 
 /// Judges a document's bytes and no streams, writes the report, and flushes the output.
@@ -371,10 +344,9 @@ fn is_out_of_memory(fault: &SpecFault) -> bool
 ///
 /// # Errors
 /// As `serve`, but for `Read` and `Network`.
-fn refuse_document<S: RandomSource + Threads + Wait + Sync, N: Network, O: Write>(
+fn refuse_document<S: RandomSource + Threads + Wait + Sync, F, N: Network, O: Write>(
     rt: &S,
-    _network: &N,
-    alloc: Global,
+    host: &Host<'_, F, N>,
     inquiry: Inquiry<'_>,
     fault: &SpecFault,
     output: &mut O,
@@ -382,7 +354,7 @@ fn refuse_document<S: RandomSource + Threads + Wait + Sync, N: Network, O: Write
     requires { IsFaultOf inquiry.document.now fault.now }
     ensures written { (port : ℕ) (fail_on : List Condition) (wait : Option ℕ)
         (keep : Option (List ℕ)) → ServiceLeaves inquiry.entry.beyond_width fail_on
-        (Some inquiry.entry.document.now) (N.may_give _network.now port) N.Connection.never_fails ⊥
+        (Some inquiry.entry.document.now) (N.may_give host.now.network.now port) N.Connection.never_fails ⊥
         (ServiceMayFail wait N.never_fails) (keep ≢ None) (service_ending fail_on result) (O.contents output.old)
         (O.contents output.new) }
     // Its refusal is the report that is written whole, or the call fails.
@@ -394,7 +366,7 @@ fn refuse_document<S: RandomSource + Threads + Wait + Sync, N: Network, O: Write
     if is_out_of_memory(fault) {
         return Err(ServiceFault::Engine(EngineFault::Memory));
     }
-    service_end(judge_no_streams::<S, N, O>(rt, alloc, inquiry, output))
+    service_end(judge_no_streams::<S, N, O>(rt, host.alloc, inquiry, output))
 }
 
 /// How a server ends whose session is kept, or isn't, by how it ended before that was known.
@@ -429,27 +401,21 @@ fn report_of(end: &Result<Report, ServiceFault>) -> Option<&Report> {
 /// As `serve`, but for `Read`.
 fn serve_kept<S: RandomSource + Threads + Wait + Sync, F: FileSource, N: Network + Sync, O: Write>(
     rt: &S,
-    files: &F,
-    network: &N,
-    alloc: Global,
+    host: &Host<'_, F, N>,
     inquiry: Inquiry<'_>,
     spec: &Spec,
-    service: &Service<'_>,
-    peers: &Peers,
-    explain: bool,
     output: &mut O,
 ) -> Result<Report, ServiceFault>
     requires document { IsDocument inquiry.document.now (document_view spec.now) }
-    requires port { service.now.port ≤ port_limit }
+    requires port { host.now.service.now.port ≤ port_limit }
     ensures { (fail_on : List Condition) → ServiceLeaves inquiry.entry.beyond_width fail_on
-        (Some inquiry.entry.document.now) (N.may_give network.now service.now.port) N.Connection.never_fails ⊥
-        (ServiceMayFail service.now.wait N.never_fails) (keep_view service.now.keep ≢ None)
-        (service_ending fail_on result) (O.contents output.old) (O.contents output.new) }
+        (Some inquiry.entry.document.now) (N.may_give host.now.network.now host.now.service.now.port)
+        N.Connection.never_fails ⊥ (ServiceMayFail host.now.service.now.wait N.never_fails)
+        (keep_view host.now.service.now.keep ≢ None) (service_ending fail_on result) (O.contents output.old)
+        (O.contents output.new) }
 {
-    let end = serve_session(
-        rt, files, network, alloc, inquiry, spec, service, peers, explain, output,
-    );
-    let is_kept = end_keeping(files, alloc, service.keep, spec, peers, report_of(&end));
+    let end = serve_session(rt, host, inquiry, spec, output);
+    let is_kept = end_keeping(host, report_of(&end));
     kept_end(end, is_kept)
 }
 
@@ -462,32 +428,20 @@ fn serve_document<
     F: FileSource,
     N: Network + Sync,
     O: Write,
->(
-    rt: &S,
-    files: &F,
-    network: &N,
-    alloc: Global,
-    document: &[u8],
-    service: &Service<'_>,
-    peers: &Peers,
-    explain: bool,
-    output: &mut O,
-) -> Result<Report, ServiceFault>
-    requires { service.now.port ≤ port_limit }
-    ensures { (fail_on : List Condition) → ServiceLeaves service.now.beyond_width fail_on (Some document.now)
-        (N.may_give network.now service.now.port) N.Connection.never_fails ⊥
-        (ServiceMayFail service.now.wait N.never_fails) (keep_view service.now.keep ≢ None)
+>(rt: &S, host: &Host<'_, F, N>, document: &[u8], output: &mut O) -> Result<Report, ServiceFault>
+    requires { host.now.service.now.port ≤ port_limit }
+    ensures { (fail_on : List Condition) → ServiceLeaves host.now.service.now.beyond_width fail_on (Some document.now)
+        (N.may_give host.now.network.now host.now.service.now.port) N.Connection.never_fails ⊥
+        (ServiceMayFail host.now.service.now.wait N.never_fails) (keep_view host.now.service.now.keep ≢ None)
         (service_ending fail_on result) (O.contents output.old) (O.contents output.new) }
 {
     let inquiry = Inquiry {
         document,
-        beyond_width: service.beyond_width,
+        beyond_width: host.service.beyond_width,
     };
-    match Spec::read(alloc, inquiry.document) {
-        Ok(spec) => serve_kept(
-            rt, files, network, alloc, inquiry, &spec, service, peers, explain, output,
-        ),
-        Err(fault) => refuse_document(rt, network, alloc, inquiry, &fault, output),
+    match Spec::read(host.alloc, inquiry.document) {
+        Ok(spec) => serve_kept(rt, host, inquiry, &spec, output),
+        Err(fault) => refuse_document(rt, host, inquiry, &fault, output),
     }
 }
 
@@ -495,26 +449,22 @@ fn serve_document<
 ///
 /// # Errors
 /// `Read`, if it can't be opened or read, and `Memory`.
-fn read_service<F: FileSource>(
-    files: &F,
-    alloc: Global,
-    service: &Service<'_>,
-) -> Result<Vec<u8>, EngineFault>
-    ensures document { IfOk result (λ bytes. AreAsked (asks_view service.now.asks)
-        (F.bytes_of files.now service.now.spec.now) bytes.items) }
+fn read_service<F: FileSource, N>(host: &Host<'_, F, N>) -> Result<Vec<u8>, EngineFault>
+    ensures document { IfOk result (λ bytes. AreAsked (asks_view host.now.service.now.asks)
+        (F.bytes_of host.now.files.now host.now.service.now.spec.now) bytes.items) }
     ensures unread { result ≡ Err EngineFault.Read → F.always_opens ≡ true → F.File.never_fails ≡ true → ⊥ }
     ensures err { IfErr result (λ fault. (fault ≡ EngineFault.Memory) ⊎ (fault ≡ EngineFault.Read)) }
 {
-    let file = files.open(service.spec)?;
-    let document = read_asked(alloc, file, &service.asks)?;
+    let file = host.files.open(host.service.spec)?;
+    let document = read_asked(host.alloc, file, &host.service.asks)?;
     Ok(document)
 }
 
 /// Opens and reads the document of a session; binds the ports, unless the document, with what is asked in place of what
 /// it says, is refused; accepts a stream for each process; judges the document and the streams, writes the report, and
-/// flushes the output. It gives the report, and notes for these peers who sends each stream. Meanwhile the watchers are
-/// accepted, and each is shown how far the streams are read; it returns once all of them have come, or one can't be
-/// accepted.
+/// flushes the output. It gives the report, and notes for the host's peers who sends each stream. Meanwhile the
+/// watchers are accepted, and each is shown how far the streams are read; it returns once all of them have come, or one
+/// can't be accepted.
 ///
 /// # Errors
 /// `Read`, if the document can't be opened or read, `Network`, if a port can't be bound or a stream not be accepted,
@@ -526,29 +476,19 @@ pub(crate) fn serve<
     F: FileSource,
     N: Network + Sync,
     O: Write,
->(
-    rt: &S,
-    files: &F,
-    network: &N,
-    alloc: Global,
-    service: &Service<'_>,
-    peers: &Peers,
-    explain: bool,
-    output: &mut O,
-) -> Result<Report, ServiceFault>
-    requires { service.now.port ≤ port_limit }
+>(rt: &S, host: &Host<'_, F, N>, output: &mut O) -> Result<Report, ServiceFault>
+    requires { host.now.service.now.port ≤ port_limit }
     // This is said for all answers on which the run may be to fail.
-    ensures { (fail_on : List Condition) → HoldsAsked (asks_view service.now.asks)
-        (F.bytes_of files.now service.now.spec.now) (λ d. ServiceLeaves service.now.beyond_width fail_on (Some d)
-        (N.may_give network.now service.now.port) N.Connection.never_fails
-        (F.always_opens ≡ true → F.File.never_fails ≡ true → ⊥) (ServiceMayFail service.now.wait N.never_fails)
-        (keep_view service.now.keep ≢ None) (service_ending fail_on result) (O.contents output.old)
-        (O.contents output.new)) }
+    ensures { (fail_on : List Condition) → HoldsAsked (asks_view host.now.service.now.asks)
+        (F.bytes_of host.now.files.now host.now.service.now.spec.now)
+        (λ d. ServiceLeaves host.now.service.now.beyond_width fail_on (Some d)
+        (N.may_give host.now.network.now host.now.service.now.port) N.Connection.never_fails
+        (F.always_opens ≡ true → F.File.never_fails ≡ true → ⊥)
+        (ServiceMayFail host.now.service.now.wait N.never_fails) (keep_view host.now.service.now.keep ≢ None)
+        (service_ending fail_on result) (O.contents output.old) (O.contents output.new)) }
 {
-    match read_service(files, alloc, service) {
-        Ok(document) => serve_document(
-            rt, files, network, alloc, &document, service, peers, explain, output,
-        ),
+    match read_service(host) {
+        Ok(document) => serve_document(rt, host, &document, output),
         Err(fault) => Err(ServiceFault::Engine(fault)),
     }
 }

@@ -1,25 +1,39 @@
 //! Tells at once what becomes of a server's session.
 use super::explained_ends::rows_of;
+use super::file_source::FileSource;
+use super::host::Host;
+use super::kept_session::stream_names;
 use super::network::Network;
 use super::senders::{known_senders, senders};
-use pd_engine::Spec;
-use pd_explain::{tell_connection, tell_ports, tell_start, tell_stop};
-use pd_peers::{Notices, Peers};
+use pd_engine::{Spec, StreamFault};
+use pd_explain::{
+    StreamFault as NamedFault, joined_name, tell_connection, tell_ports, tell_refusal, tell_start,
+    tell_stop,
+};
+use pd_peers::Notices;
+use pd_sessions::stream_word;
 use std::alloc::{AllocError, Global};
 use std::io;
+use std::io::ErrorKind;
 
-/// Tells whoever runs a server at once what becomes of its session, if that is wanted.
+/// Tells whoever runs a server at once what becomes of its session, if that is wanted, and gives the files that are
+/// kept the names of their processes.
 #[derive(Drop)]
-pub(crate) struct ServiceNotices<'a, N> {
-    /// By which it is told.
-    network: &'a N,
+pub(crate) struct ServiceNotices<'a, F, N> {
+    pub(crate) host: &'a Host<'a, F, N>,
     /// The document of the session.
-    spec: &'a Spec,
-    /// Who sends the streams.
-    peers: &'a Peers,
-    /// Whether explanations are wanted.
-    is_wanted: bool,
-    alloc: Global,
+    pub(crate) spec: &'a Spec,
+}
+
+/// What is to be told of a stream.
+#[derive(Clone, Copy)]
+enum Event {
+    /// It has connected.
+    Connected,
+    /// It has said whose it is, or something else.
+    Begun,
+    /// It has a fault.
+    Refused(StreamFault),
 }
 
 /// What is told of a stream that isn't kept any more.
@@ -31,87 +45,139 @@ fn stop_text(alloc: Global, path: &str, error: &io::Error) -> Result<Vec<u8>, Al
 }
 
 /// What is told of the ports.
-fn ports_text(alloc: Global, spec: &Spec, port: u16, watchers: u64) -> Result<Vec<u8>, AllocError> {
-    let mut out = Vec::new(alloc);
-    tell_ports(&mut out, spec.names(), port as u64, watchers)?;
+fn ports_text<F, N>(host: &Host<'_, F, N>, spec: &Spec) -> Result<Vec<u8>, AllocError> {
+    let mut out = Vec::new(host.alloc);
+    let service = host.service;
+    tell_ports(
+        &mut out,
+        spec.names(),
+        service.port as u64,
+        service.watchers,
+    )?;
     Ok(out)
 }
 
-/// What is told of the stream at this place, once it has connected or, later, begun.
-fn stream_text(
-    alloc: Global,
+/// What is told of the stream at this place.
+fn stream_text<F, N>(
+    host: &Host<'_, F, N>,
     spec: &Spec,
-    peers: &Peers,
     place: usize,
-    has_begun: bool,
+    event: Event,
 ) -> Result<Vec<u8>, AllocError> {
-    let known = known_senders(alloc, peers, peers.count())?;
-    let senders = senders(alloc, peers, &known)?;
-    let mut out = Vec::new(alloc);
+    let known = known_senders(host.alloc, host.peers, host.peers.count())?;
+    let senders = senders(host.alloc, host.peers, &known)?;
+    let mut out = Vec::new(host.alloc);
     if let Some(sender) = senders.get(place) {
-        if has_begun {
-            tell_start(&mut out, spec.names(), *sender, &senders)?;
-        } else {
-            tell_connection(&mut out, *sender, spec.names().processes() as u64)?;
+        match event {
+            Event::Connected => {
+                tell_connection(&mut out, *sender, spec.names().processes() as u64)?
+            }
+            Event::Begun => tell_start(&mut out, spec.names(), *sender, &senders)?,
+            Event::Refused(fault) => {
+                let fault = NamedFault {
+                    stream: sender.stream,
+                    line: fault.line,
+                    word: stream_word(fault.kind),
+                };
+                tell_refusal(&mut out, host.alloc, spec.names(), fault, *sender)?
+            }
         }
     }
     Ok(out)
 }
 
-/// A text in rows, as far as it could be made.
-fn told_rows(alloc: Global, text: Result<Vec<u8>, AllocError>) -> Vec<u8> {
+/// The process of the document that the stream at this place has joined, if it has.
+fn process_at<'a, F, N>(
+    host: &Host<'_, F, N>,
+    spec: &'a Spec,
+    place: usize,
+) -> Result<Option<&'a str>, AllocError> {
+    let Some(start) = host.peers.at(place).and_then(|peer| peer.start()) else {
+        return Ok(None);
+    };
+    let Some(name) = joined_name(host.alloc, start)? else {
+        return Ok(None);
+    };
+    match spec.names().find(&name) {
+        Some(process) if process < spec.names().processes() => {
+            Ok(Some(spec.names().name(process)))
+        }
+        _ => Ok(None),
+    }
+}
+
+/// The name of the file in which the stream at this place is kept, and the one that it is given, if it is kept and has
+/// joined a process of the document.
+fn names_at<F, N>(
+    host: &Host<'_, F, N>,
+    spec: &Spec,
+    place: usize,
+) -> Result<Option<(String, String)>, AllocError> {
+    let Some(folder) = host.service.keep else {
+        return Ok(None);
+    };
+    match process_at(host, spec, place)? {
+        Some(process) => Ok(Some(stream_names(host.alloc, folder, place, process)?)),
+        None => Ok(None),
+    }
+}
+
+/// What is told, in rows, if explanations are wanted and it could be made.
+fn told_rows<F, N>(host: &Host<'_, F, N>, text: Result<Vec<u8>, AllocError>) -> Option<Vec<u8>> {
     match text {
-        Ok(text) => rows_of(alloc, text),
-        Err(_) => Vec::new(alloc),
+        Ok(text) if host.explain => Some(rows_of(host.alloc, text)),
+        _ => None,
     }
 }
 
-impl<'a, N: Network> ServiceNotices<'a, N> {
-    /// Tells by this network of the session of this document, whose streams these peers send, if that is wanted.
-    pub(crate) fn new(
-        network: &'a N,
-        alloc: Global,
-        spec: &'a Spec,
-        peers: &'a Peers,
-        is_wanted: bool,
-    ) -> ServiceNotices<'a, N> {
-        ServiceNotices {
-            network,
-            spec,
-            peers,
-            is_wanted,
-            alloc,
-        }
-    }
-
-    /// Tells on which ports the streams and watchers are waited for.
-    pub(crate) fn listens(&self, port: u16, watchers: u64) {
-        if self.is_wanted {
-            let text = ports_text(self.alloc, self.spec, port, watchers);
-            self.network.tell(&told_rows(self.alloc, text));
+impl<'a, F, N: Network> ServiceNotices<'a, F, N> {
+    /// Tells on which ports the streams and watchers are waited for, if that is wanted.
+    pub(crate) fn listens(&self) {
+        if let Some(rows) = told_rows(self.host, ports_text(self.host, self.spec)) {
+            self.host.network.tell(&rows);
         }
     }
 }
 
-impl<'a, N: Network> Notices for ServiceNotices<'a, N> {
+impl<'a, F: FileSource, N: Network> Notices for ServiceNotices<'a, F, N> {
     fn has_connected(&self, place: usize) {
-        if self.is_wanted {
-            let text = stream_text(self.alloc, self.spec, self.peers, place, false);
-            self.network.tell(&told_rows(self.alloc, text));
+        let text = stream_text(self.host, self.spec, place, Event::Connected);
+        if let Some(rows) = told_rows(self.host, text) {
+            self.host.network.tell(&rows);
         }
     }
 
-    fn has_begun(&self, place: usize) {
-        if self.is_wanted {
-            let text = stream_text(self.alloc, self.spec, self.peers, place, true);
-            self.network.tell(&told_rows(self.alloc, text));
+    /// Gives the stream's file the name of its process too, unless there is a file of that name, as another stream's of
+    /// the same process.
+    fn has_begun(&self, place: usize) -> Option<String> {
+        let text = stream_text(self.host, self.spec, place, Event::Begun);
+        if let Some(rows) = told_rows(self.host, text) {
+            self.host.network.tell(&rows);
+        }
+        let (numbered, named) = names_at(self.host, self.spec, place).unwrap_or(None)?;
+        let renamed = match self.host.files.create(&named) {
+            Ok(_) => self.host.files.rename(&numbered, &named),
+            Err(error) if error.kind() == ErrorKind::AlreadyExists => return None,
+            Err(error) => Err(error),
+        };
+        if let Err(error) = renamed {
+            self.host.peers.note_unkept(self.host.alloc, &named, &error);
+            return None;
+        }
+        Some(named)
+    }
+
+    fn has_fault(&self, place: usize, fault: StreamFault) {
+        let text = stream_text(self.host, self.spec, place, Event::Refused(fault));
+        if let Some(rows) = told_rows(self.host, text) {
+            self.host.network.tell(&rows);
         }
     }
 
     fn stops_keeping(&self, path: &str, error: &io::Error) {
-        if self.is_wanted {
-            let text = stop_text(self.alloc, path, error);
-            self.network.tell(&told_rows(self.alloc, text));
+        let text = stop_text(self.host.alloc, path, error);
+        if let Some(rows) = told_rows(self.host, text) {
+            self.host.network.tell(&rows);
         }
     }
 }

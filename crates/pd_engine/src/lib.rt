@@ -29,7 +29,7 @@ pub use bundle_judges::{judge_bundle, write_bundle_report};
 pub use judges::{judge, judge_inquiry, judge_inquiry_watched, judge_watched, write_report};
 pub use outcome::{Outcome, report_outcome};
 pub use pd_expand::Crew;
-pub use pd_gather::{ByteSource, NoObserver, Observer, within_limit};
+pub use pd_gather::{ByteSource, NoObserver, Observer, StreamFault, within_limit};
 pub use pd_level::{Gate, NoGate, Reached};
 pub use pd_register::{Register, Row, RowState, Snapshot, Watcher};
 pub use pd_report::{Answer, Definitely, Possibly, Refusal, Report, text};

@@ -1,4 +1,8 @@
 //! Explains what an answer leaves unknown.
+ghost use Rattle.pd_explain.specs.Answers.{is_definitely_unknown, is_possibly_unknown, is_unknown};
+ghost use Rattle.std.specs.List.{list_any};
+ghost use Rattle.std.specs.Prelude.{◌≡◌, false, IfOk, OnOk};
+
 use super::says::{say, say_name, say_number};
 use pd_report::{Answer, Definitely, Possibly};
 use std::alloc::AllocError;
@@ -31,8 +35,13 @@ pub struct Judged {
 }
 
 impl Judged {
+    ghost use Rattle.pd_explain.specs.Answers.{known_cuts};
+    ghost use Rattle.std.specs.Prelude.{◌≡◌};
+
     /// How many cuts this level has, if that is known and they are more than the width.
-    fn cuts_of(&self, level: u64) -> Option<u64> {
+    fn cuts_of(&self, level: u64) -> Option<u64>
+        ensures { result ≡ known_cuts self.now level }
+    {
         let Widest { number, cuts } = self.widest;
         if number == level && cuts > self.width.unwrap_or(0) && cuts < u64::MAX {
             return Some(cuts);
@@ -83,24 +92,48 @@ fn say_unknown(
     say_cuts(out, level, judged)
 }
 
+/// Says of a predicate that it is unknown whether it possibly holds, if so, and whether it is.
+fn say_possibly(out: &mut Vec<u8>, answer: &Answer, judged: Judged) -> Result<bool, AllocError>
+    ensures said { IfOk result (λ said. said ≡ is_possibly_unknown answer.now.possibly) }
+    ensures quiet { IfOk result (λ said. said ≡ false → out.new.items ≡ out.old.items) }
+{
+    match &answer.possibly {
+        Possibly::Unknown(level) => {
+            say_unknown(out, &answer.name, " possibly holds: level ", *level, judged)?;
+            Ok(true)
+        }
+        Possibly::Yes(_) | Possibly::No => Ok(false),
+    }
+}
+
+/// Says of a predicate that it is unknown whether it definitely holds, if so, and whether it is.
+fn say_definitely(out: &mut Vec<u8>, answer: &Answer, judged: Judged) -> Result<bool, AllocError>
+    ensures said { IfOk result (λ said. said ≡ is_definitely_unknown answer.now.definitely) }
+    ensures quiet { IfOk result (λ said. said ≡ false → out.new.items ≡ out.old.items) }
+{
+    match &answer.definitely {
+        Definitely::Unknown(level) => {
+            say_unknown(
+                out,
+                &answer.name,
+                " definitely holds: level ",
+                *level,
+                judged,
+            )?;
+            Ok(true)
+        }
+        Definitely::Yes(_) | Definitely::No(_) => Ok(false),
+    }
+}
+
 /// Says what is unknown of one predicate, and whether something is.
-fn say_answer(out: &mut Vec<u8>, answer: &Answer, judged: Judged) -> Result<bool, AllocError> {
-    let mut is_unknown = false;
-    if let Possibly::Unknown(level) = &answer.possibly {
-        say_unknown(out, &answer.name, " possibly holds: level ", *level, judged)?;
-        is_unknown = true;
-    }
-    if let Definitely::Unknown(level) = &answer.definitely {
-        say_unknown(
-            out,
-            &answer.name,
-            " definitely holds: level ",
-            *level,
-            judged,
-        )?;
-        is_unknown = true;
-    }
-    Ok(is_unknown)
+fn say_answer(out: &mut Vec<u8>, answer: &Answer, judged: Judged) -> Result<bool, AllocError>
+    ensures said { IfOk result (λ said. said ≡ is_unknown answer.now) }
+    ensures quiet { IfOk result (λ said. said ≡ false → out.new.items ≡ out.old.items) }
+{
+    let possibly = say_possibly(out, answer, judged)?;
+    let definitely = say_definitely(out, answer, judged)?;
+    Ok(possibly || definitely)
 }
 
 /// Says that a greater width might decide answers that are unknown, unless none could.
@@ -144,12 +177,13 @@ pub fn explain_answers(
     out: &mut Vec<u8>,
     answers: &[Answer],
     judged: Judged,
-) -> Result<(), AllocError> {
+) -> Result<(), AllocError>
+    ensures { list_any is_unknown answers.now ≡ false → OnOk result (out.new.items ≡ out.old.items) }
+{
     let mut is_unknown = false;
     for answer in answers {
-        if say_answer(out, answer, judged)? {
-            is_unknown = true;
-        }
+        let said = say_answer(out, answer, judged)?;
+        is_unknown = is_unknown || said;
     }
     if is_unknown {
         say_ways(out, judged)?;

@@ -15,7 +15,8 @@ fn meaning(word: &str) -> &'static str {
         "shape" => "The session document doesn't have the form of one.",
         "processes" => "The session document has no process, or more than 16.",
         "name" => "A name in the session document isn't one that is allowed.",
-        "nametwice" => "Two processes, or two predicates, of the session document have one name.",
+        "nametwice" =>
+            "Two processes, or two predicates, of the session document have the same name.",
         "vars" =>
             "A process in the session document has too many variables, or one without a right initial value.",
         "predicates" => "The session document has no predicate, or more than 16.",
@@ -29,14 +30,16 @@ fn expected(word: &str) -> &'static str {
     match word {
         "long" => "at most 262,144 bytes.",
         "json" =>
-            "one JSON value in UTF-8, in which values stand no more than 127 deep in each other.",
+            "one JSON value in UTF-8, with no comments and no byte order mark, in which values stand no more than 127 \
+deep in each other.",
         "shape" => {
             "{\"processes\":[{\"name\":\"a\",\"vars\":{\"x\":0}}],\
 \"predicates\":[{\"name\":\"p\",\"text\":\"a.x == 1\"}]}, and beside these two fields \"width\" and \"version\" alone."
         }
         "processes" => "1 to 16 processes.",
         "name" => {
-            "a letter or _, then letters, digits and _, at most 32 bytes in all, and none of and, or, not, true, false."
+            "an ASCII letter or _, then such letters, digits and _, at most 32 bytes in all, and none of and, or, not, \
+true, false."
         }
         "nametwice" => "a name of its own for each process, and for each predicate.",
         "vars" => {
@@ -55,7 +58,8 @@ fn advice(word: &str) -> &'static str {
     match word {
         "long" => "leave out processes, variables and predicates that no question needs.",
         "json" => {
-            "look at the marked byte, and before it for a comma, a quote or a bracket that is missing or too many."
+            "look for a comma, a quote or a bracket that is missing or too many; where a byte is marked, there or \
+before it."
         }
         "shape" => "give each part the form of this example.",
         "processes" => "name in \"processes\" each process that you record, and no more than 16.",
@@ -85,6 +89,9 @@ fn show_json(out: &mut Vec<u8>, alloc: Global, source: &Source<'_>) -> Result<()
     let Some(found) = json_place(alloc, source.bytes)? else {
         return Ok(());
     };
+    if source.bytes.is_empty() {
+        return say(out, "It is empty.\n");
+    }
     if found.at_end {
         say(out, "It ends before it is whole.\n")?;
     }

@@ -13,7 +13,7 @@ const TRIED: [(&str, &str); 12] = [
     ("true", "`true` or `false`"),
     ("1", "a whole number"),
     (".", "`.` and a variable"),
-    ("==", "a comparison, as `==`"),
+    ("==", "`==` or another comparison"),
     ("+", "`+`"),
     ("-", "`-`"),
     ("*", "`*`"),

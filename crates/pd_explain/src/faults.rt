@@ -50,7 +50,7 @@ pub fn explain_port(out: &mut Vec<u8>, port: u64, why: &str) -> Result<(), Alloc
     say_shown(out, why.as_bytes())?;
     say(
         out,
-        ". Stop the program that has it, or choose another one after --port.\n",
+        ". If a program has it, end that; or choose another port after --port.\n",
     )
 }
 
@@ -86,7 +86,7 @@ width.\n",
 pub fn explain_output(out: &mut Vec<u8>) -> Result<(), AllocError> {
     say(
         out,
-        "Standard output took a part of what is written at most: look whether its disk is full.\n",
+        "Standard output couldn't take all that is written: look whether its disk is full.\n",
     )
 }
 

@@ -119,6 +119,28 @@ see what it comes to.\n",
     }
 }
 
+/// Says that what a check finds can't be explained, for a part of what it checks can't be read again.
+///
+/// # Errors
+/// Out of memory; what was put until then stays.
+pub fn explain_unread_finding(out: &mut Vec<u8>) -> Result<(), AllocError> {
+    say(
+        out,
+        "What is bad isn't explained, since a part of what is checked came by a pipe: give files.\n",
+    )
+}
+
+/// Says what a report has to be for a picture to be drawn by it.
+///
+/// # Errors
+/// Out of memory; what was put until then stays.
+pub fn explain_no_picture(out: &mut Vec<u8>) -> Result<(), AllocError> {
+    say(
+        out,
+        "A picture needs a report of this very session, and good evidence: `monitor check` explains what is bad.\n",
+    )
+}
+
 /// Explains each line of what a check finds of this report that says that something is bad.
 ///
 /// # Errors

@@ -1,10 +1,15 @@
 //! Says which processes and variables a session has.
+ghost use Rattle.pd_explain.specs.Peers.{process_names};
+ghost use Rattle.std.specs.Prelude.{◌≡◌, [], slice_index_or};
+
 use super::says::{say, say_name};
 use pd_pred::Names;
 use std::alloc::AllocError;
 
 /// The name of a process, which is counted from 0; it is empty if there is no such process.
-pub(crate) fn name_at(names: &Names, process: usize) -> &str {
+pub(crate) fn name_at(names: &Names, process: usize) -> &str
+    ensures { result.now ≡ slice_index_or (process_names names.now) process [] }
+{
     if process < names.processes() {
         names.name(process)
     } else {

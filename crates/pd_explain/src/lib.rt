@@ -4,13 +4,18 @@
 //! An explanation is text for the errors beside a report or a fault's line, and changes neither. Each function here
 //! puts lines to the end of a text. It is given what a report says, and the bytes of the files that it is about, as
 //! they are read again: they may have changed, so nothing is taken for granted of them, and a place is shown only where
-//! it is sure. What the words of refusals mean exactly stands in the definitions of `pd_format`; nothing is stated here
-//! but that each call ends, and stays within its bounds.
+//! it is sure. What the words of refusals mean exactly stands in the definitions of `pd_format`.
+//!
+//! Stated is what is computed: which line, record and place is found, which window of a line is shown and where its
+//! caret stands, how lines are broken into rows, which name and id a record gives, which processes are missing, and
+//! when something is unknown. Of the sentences themselves nothing is stated but that each call ends, and stays within
+//! its bounds.
 //!
 //! - `source`: what is read again of a file, and its lines as they are shown
 //! - `documents`, `document_details`: why a session document is refused
 //! - `predicates`, `expected_tokens`, `known_names`: why the text of a predicate is refused
 //! - `streams`, `record_details`: why a stream is refused
+//! - `fields`: the texts of fields of lines
 //! - `peers`: who sends the streams of a server, and who is missing
 //! - `messages`: why messages, a causal cycle, or a list of streams are refused
 //! - `answers`: what an answer leaves unknown
@@ -28,6 +33,7 @@ mod document_details;
 mod documents;
 mod expected_tokens;
 mod faults;
+mod fields;
 mod findings;
 mod json_faults;
 mod known_names;
@@ -48,14 +54,14 @@ pub use faults::{
     explain_bundle_fault, explain_connection, explain_file, explain_long_report, explain_memory,
     explain_no_file, explain_no_predicate, explain_output, explain_port,
 };
-pub use findings::explain_finding;
+pub use findings::{explain_finding, explain_no_picture, explain_unread_finding};
 pub use messages::{
     EventName, Others, advise_absent, advise_cycle, advise_messages, explain_absent, explain_cycle,
     explain_message, explain_streams, message_of, show_event, show_join, show_other, show_step,
 };
 pub use peers::{
     Sender, explain_sent_stream, explain_unkept, explain_wait, tell_connection, tell_ports,
-    tell_start, tell_stop,
+    tell_refusal, tell_start, tell_stop,
 };
 pub use predicates::{PredicateFault, explain_predicate, explain_predicate_word};
 pub use rows::in_rows;

@@ -1,17 +1,21 @@
 //! Explains why the messages of a session are refused.
-use super::lines::{next_record, record_at};
+ghost use Rattle.pd_explain.specs.Fields.{is_text, message_of, text_in};
+ghost use Rattle.std.specs.Option.{option_map};
+ghost use Rattle.std.specs.Prelude.{◌≡◌, string_bytes, IfOk};
+
+use super::fields::text_in_line;
+use super::lines::{next_record, record_after};
 use super::says::{say, say_advice, say_name, say_number, say_shown};
 use super::source::{Source, show_numbered};
-use serde_json::Value;
 use std::alloc::{AllocError, Global};
 
 /// What a word for messages that don't match means, of an event.
 fn meaning(word: &str) -> &'static str {
     match word {
-        "sendtwice" => "sends a message with an id that an earlier event sends too.",
+        "sendtwice" => "sends a message with an id that another event sends too.",
         "orphan" => "receives a message that no event of the session sends.",
         "selfmessage" => "receives a message that its own process sends.",
-        _ => "receives a message that was received before.",
+        _ => "receives a message that is received by another event too.",
     }
 }
 
@@ -42,23 +46,9 @@ comes from outside of the session as {}."
         "selfmessage" =>
             "record {} in place of both events, since what a process does stands in its order anyway.",
         _ => {
-            "record the first receipt alone; if several processes receive the message, put \"version\":2 into the \
-document."
+            "record the first receipt alone; if several processes receive the message, the document needs \
+\"version\":2."
         }
-    }
-}
-
-/// The id of the message that a record sends or receives, by the name of that field.
-fn id_of(alloc: Global, line: &[u8], field: &str) -> Result<Option<String>, AllocError> {
-    let Ok(value) = Value::from_slice(alloc, line) else {
-        return Ok(None);
-    };
-    let Some(fields) = value.as_object() else {
-        return Ok(None);
-    };
-    match fields.get(field) {
-        Some(Value::String(id)) => Ok(Some(String::from_str(alloc, id.as_str())?)),
-        _ => Ok(None),
     }
 }
 
@@ -66,13 +56,15 @@ fn id_of(alloc: Global, line: &[u8], field: &str) -> Result<Option<String>, Allo
 ///
 /// # Errors
 /// Out of memory.
-pub fn message_of(alloc: Global, bytes: &[u8], number: u64) -> Result<Option<String>, AllocError> {
-    let Some(record) = record_at(bytes, number.saturating_add(1)) else {
+pub fn message_of(alloc: Global, bytes: &[u8], number: u64) -> Result<Option<String>, AllocError>
+    ensures { IfOk result (λ found. option_map string_bytes found ≡ message_of number bytes.now) }
+{
+    let Some(record) = record_after(bytes, number) else {
         return Ok(None);
     };
-    match id_of(alloc, record.bytes, "send")? {
+    match text_in_line(alloc, record.bytes, "send")? {
         Some(id) => Ok(Some(id)),
-        None => id_of(alloc, record.bytes, "recv"),
+        None => text_in_line(alloc, record.bytes, "recv"),
     }
 }
 
@@ -125,7 +117,7 @@ pub fn show_event(
     source: &Source<'_>,
     event: EventName<'_>,
 ) -> Result<(), AllocError> {
-    match record_at(source.bytes, event.number.saturating_add(1)) {
+    match record_after(source.bytes, event.number) {
         Some(record) => show_numbered(out, source.name, record.line, record.bytes, None),
         None => Ok(()),
     }
@@ -141,7 +133,7 @@ pub struct Others<'a> {
 }
 
 /// Shows the first event of a stream that sends or receives the message with this id, as the field says, and isn't the
-/// event with this number.
+/// event with this number. It gives whether there is one.
 ///
 /// # Errors
 /// Out of memory; what was put until then stays.
@@ -152,26 +144,29 @@ pub fn show_other(
     others: Others<'_>,
     id: &str,
     but: u64,
-) -> Result<(), AllocError> {
+) -> Result<bool, AllocError> {
     let mut rest = source.bytes;
     let mut line = 0u64;
     for number in 0..u64::MAX {
         let Some(record) = next_record(rest, line) else {
-            return Ok(());
+            return Ok(false);
         };
         rest = record.after;
         line = record.line;
         if number > 0 && number != but && has_id(alloc, record.bytes, others.field, id)? {
             say(out, others.said)?;
-            return show_numbered(out, source.name, line, record.bytes, None);
+            show_numbered(out, source.name, line, record.bytes, None)?;
+            return Ok(true);
         }
     }
-    Ok(())
+    Ok(false)
 }
 
 /// Whether a record sends or receives, as the field says, the message with this id.
-fn has_id(alloc: Global, line: &[u8], field: &str, id: &str) -> Result<bool, AllocError> {
-    match id_of(alloc, line, field)? {
+fn has_id(alloc: Global, line: &[u8], field: &str, id: &str) -> Result<bool, AllocError>
+    ensures { IfOk result (λ has. has ≡ is_text id.now (text_in field.now line.now)) }
+{
+    match text_in_line(alloc, line, field)? {
         Some(found) => Ok(found.as_str() == id),
         None => Ok(false),
     }
@@ -202,11 +197,11 @@ pub fn show_step(
 ) -> Result<(), AllocError> {
     say_event(out, event)?;
     let Some(source) = source else {
-        return say(out, "\n");
+        return say(out, ".\n");
     };
     let id = message_of(alloc, source.bytes, event.number)?;
     if let Some(id) = id {
-        say(out, ", of the message ")?;
+        say(out, " receives the message ")?;
         say_name(out, &id)?;
     }
     say(out, ". ")?;
@@ -232,7 +227,7 @@ send that is recorded too late, or an id that is used twice.",
 /// # Errors
 /// Out of memory; what was put until then stays.
 pub fn explain_absent(out: &mut Vec<u8>, process: &str) -> Result<(), AllocError> {
-    say(out, "No stream is one of process ")?;
+    say(out, "No stream is that of process ")?;
     say_name(out, process)?;
     say(out, ", which the session document names.\n")
 }

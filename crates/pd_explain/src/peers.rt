@@ -1,10 +1,16 @@
 //! Explains what concerns those who send the streams of a server.
+ghost use Rattle.pd_explain.specs.Peers.{is_earlier, is_sent, missing, missing_text, process_names};
+ghost use Rattle.std.specs.List.{list_any};
+ghost use Rattle.std.specs.Prelude.{◌≡◌, ◌++◌, not, OnOk};
+
 use super::known_names::{name_at, say_processes};
+use super::record_details::place_in_record;
 use super::says::{say, say_advice, say_name, say_number, say_shown};
-use super::streams::{StreamFault, advice, expected, say_head};
+use super::source::show_line_of;
+use super::streams::{StreamFault, advice, expected, say_head, say_known, say_refused};
 use super::window::show_line;
 use pd_pred::Names;
-use std::alloc::AllocError;
+use std::alloc::{AllocError, Global};
 
 /// What begins a line that is told while a server runs.
 const TELLING: &str = "serve: ";
@@ -20,6 +26,8 @@ pub struct Sender<'a> {
     pub process: Option<&'a str>,
     /// Its first line, or what has come of it.
     pub start: &'a [u8],
+    /// The line at which it is refused, or its last one if it ends too soon, if that is known.
+    pub line: Option<&'a [u8]>,
 }
 
 /// The first line without the line feed that ends it, and a carriage return before that.
@@ -61,14 +69,63 @@ fn say_sender(out: &mut Vec<u8>, sender: Sender<'_>) -> Result<(), AllocError> {
     }
 }
 
+/// Shows this line, at which a stream is refused that this peer sent, or the last one if the stream ended too soon.
+fn show_sent_line(
+    out: &mut Vec<u8>,
+    alloc: Global,
+    names: Option<&Names>,
+    fault: StreamFault<'_>,
+    sender: Sender<'_>,
+    line: &[u8],
+) -> Result<(), AllocError> {
+    say(out, "stream ")?;
+    say_number(out, sender.stream)?;
+    let number = fault.line.saturating_sub((fault.word == "unended") as u64);
+    let Some(names) = names else {
+        return show_line_of(out, number, line, None);
+    };
+    let process = sender.process.and_then(|name| names.find(name));
+    let place = place_in_record(alloc, names, process, line, fault.word)?;
+    show_line_of(out, number, line, place)
+}
+
+/// Shows where a stream is refused that this peer sent, or how it begins if it is refused there.
+fn show_refused(
+    out: &mut Vec<u8>,
+    alloc: Global,
+    names: Option<&Names>,
+    fault: StreamFault<'_>,
+    sender: Sender<'_>,
+) -> Result<(), AllocError> {
+    let Some(line) = sender.line else {
+        if sender.process.is_none() || fault.line <= 1 {
+            return show_start(out, sender);
+        }
+        return Ok(());
+    };
+    if fault.word == "unended" {
+        say(out, "Its last line is this one. ")?;
+    }
+    say(out, "In ")?;
+    show_sent_line(out, alloc, names, fault, sender, line)?;
+    match names {
+        Some(names) => say_known(out, names, sender.process, fault.word),
+        None => Ok(()),
+    }
+}
+
 /// Whether an earlier stream than this one is of the same process.
-fn is_earlier(other: Sender<'_>, sender: Sender<'_>) -> bool {
+fn is_earlier(other: Sender<'_>, sender: Sender<'_>) -> bool
+    ensures { result ≡ is_earlier other.entry sender.entry }
+{
     other.stream < sender.stream && other.process == sender.process
 }
 
 /// Explains why a stream is refused that this peer sent.
 fn explain_sent(
     out: &mut Vec<u8>,
+    alloc: Global,
+    names: Option<&Names>,
     fault: StreamFault<'_>,
     sender: Sender<'_>,
     all: &[Sender<'_>],
@@ -81,24 +138,24 @@ fn explain_sent(
             }
         }
     }
-    if sender.process.is_none() || fault.line <= 1 {
-        return show_start(out, sender);
-    }
-    Ok(())
+    show_refused(out, alloc, names, fault, sender)
 }
 
-/// Explains why a stream of a server is refused: by whom it was sent, of these, and how it begins if it doesn't say
-/// whose it is.
+/// Explains why a stream of a server is refused: by whom it was sent, of these, and the line at fault, or how it begins
+/// if it doesn't say whose it is. What there is in place of an unknown name is said if the names of the document are
+/// known.
 ///
 /// # Errors
 /// Out of memory; what was put until then stays.
 pub fn explain_sent_stream(
     out: &mut Vec<u8>,
+    alloc: Global,
+    names: Option<&Names>,
     fault: StreamFault<'_>,
     senders: &[Sender<'_>],
 ) -> Result<(), AllocError> {
     match senders.iter().find(|sender| sender.stream == fault.stream) {
-        Some(sender) => explain_sent(out, fault, *sender, senders)?,
+        Some(sender) => explain_sent(out, alloc, names, fault, *sender, senders)?,
         None => say_head(out, fault, "", None)?,
     }
     say(out, "Streams count in the order in which they connected.\n")?;
@@ -113,13 +170,18 @@ fn show_senders(out: &mut Vec<u8>, senders: &[Sender<'_>]) -> Result<(), AllocEr
     Ok(())
 }
 
-/// Whether one of these streams is that of the process of this name.
-fn is_sent(senders: &[Sender<'_>], name: &str) -> bool {
+/// Whether one of these streams is the one of the process of this name.
+fn is_sent(senders: &[Sender<'_>], name: &str) -> bool
+    ensures { result ≡ is_sent senders.now name.now }
+{
     senders.iter().any(|sender| sender.process == Some(name))
 }
 
 /// Says which processes of the document have sent none of these streams.
-fn say_missing(out: &mut Vec<u8>, names: &Names, senders: &[Sender<'_>]) -> Result<(), AllocError> {
+fn say_missing(out: &mut Vec<u8>, names: &Names, senders: &[Sender<'_>]) -> Result<(), AllocError>
+    ensures { OnOk result (out.new.items
+        ≡ out.old.items ++ missing_text (missing senders.now (process_names names.now))) }
+{
     let mut said = "Missing: ";
     for process in 0..names.processes() {
         let name = name_at(names, process);
@@ -129,7 +191,8 @@ fn say_missing(out: &mut Vec<u8>, names: &Names, senders: &[Sender<'_>]) -> Resu
             said = ", ";
         }
     }
-    say(out, ".\n")
+    say(out, ".\n")?;
+    Ok(())
 }
 
 /// Explains that not all streams have connected in time: which have, and which processes are missing.
@@ -180,7 +243,7 @@ pub fn explain_unkept(out: &mut Vec<u8>, why: Option<&str>) -> Result<(), AllocE
     }
     say_advice(
         out,
-        "a folder with no file in it, or none of that name yet, and room for all that comes.",
+        "an empty folder, or a name that nothing has yet in a folder that there is; and room for all that comes.",
         "give another folder after --keep, or make room.",
     )
 }
@@ -253,7 +316,9 @@ pub fn tell_connection(
 }
 
 /// Whether a process of the document has sent none of these streams.
-fn is_missing(names: &Names, senders: &[Sender<'_>]) -> bool {
+fn is_missing(names: &Names, senders: &[Sender<'_>]) -> bool
+    ensures { result ≡ list_any (λ name. not (is_sent senders.now name)) (process_names names.now) }
+{
     for process in 0..names.processes() {
         if !is_sent(senders, name_at(names, process)) {
             return true;
@@ -286,4 +351,30 @@ pub fn tell_start(
         return say_missing(out, names, senders);
     }
     say(out, ". None is missing.\n")
+}
+
+/// Tells that a stream is refused, at which line and why, and when the report comes. The line is shown, unless it was
+/// told before how the stream begins, since it hasn't said whose it is.
+///
+/// # Errors
+/// Out of memory; what was put until then stays.
+pub fn tell_refusal(
+    out: &mut Vec<u8>,
+    alloc: Global,
+    names: &Names,
+    fault: StreamFault<'_>,
+    sender: Sender<'_>,
+) -> Result<(), AllocError> {
+    say(out, TELLING)?;
+    say(out, "stream ")?;
+    say_refused(out, fault, sender.origin, sender.process)?;
+    if let (Some(_), Some(line)) = (sender.process, sender.line) {
+        say(out, TELLING)?;
+        show_sent_line(out, alloc, Some(names), fault, sender, line)?;
+    }
+    say(out, TELLING)?;
+    say(
+        out,
+        "no more of it is read; the report comes once the other streams have ended.\n",
+    )
 }

@@ -53,7 +53,7 @@ fn advice(word: &str) -> &'static str {
         "character" =>
             "use == for equal, != for unequal, and the words and, or, not between comparisons.",
         "number" => "compare with a smaller number, or record a smaller one.",
-        "expected" => "correct the text at the mark, or just before it.",
+        "expected" => "correct the text at that byte, or just before it.",
         "unknownname" => {
             "correct the name, or add it to the document. A variable is written with its process, as a.x."
         }

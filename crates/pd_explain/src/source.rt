@@ -48,6 +48,19 @@ pub(crate) fn show_numbered(
 ) -> Result<(), AllocError> {
     say(out, "In ")?;
     say_shown(out, name.as_bytes())?;
+    show_line_of(out, number, line, place)
+}
+
+/// Shows the line with this number of what was just said, with a caret below a place of it if there is one.
+///
+/// # Errors
+/// Out of memory.
+pub(crate) fn show_line_of(
+    out: &mut Vec<u8>,
+    number: u64,
+    line: &[u8],
+    place: Option<usize>,
+) -> Result<(), AllocError> {
     say(out, ", line ")?;
     say_number(out, number)?;
     if let Some(place) = place {

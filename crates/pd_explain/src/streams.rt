@@ -1,11 +1,15 @@
 //! Explains why a stream is refused.
+ghost use Rattle.pd_explain.specs.Fields.{joined_name};
+ghost use Rattle.std.specs.Option.{option_map};
+ghost use Rattle.std.specs.Prelude.{◌≡◌, string_bytes, IfOk};
+
+use super::fields::text_in_line;
 use super::known_names::{name_at, say_processes, say_vars};
-use super::lines::{line_at, record_at};
+use super::lines::{line_at, record_after};
 use super::record_details::place_in_record;
 use super::says::{say, say_advice, say_name, say_number, say_shown};
 use super::source::{Source, show_numbered};
 use pd_pred::Names;
-use serde_json::Value;
 use std::alloc::{AllocError, Global};
 
 /// The fault of a stream, as a report has it.
@@ -25,7 +29,7 @@ fn meaning(word: &str) -> &'static str {
         "linetoolong" => "this line has more than 65,536 bytes.",
         "streamtoolong" => "the stream has more than 16,777,216 bytes before its end line.",
         "json" => "this line isn't a JSON text.",
-        "shape" => "this line has the form of nothing that a stream says.",
+        "shape" => "this line has none of the forms of a stream's lines.",
         "join" => "the first line has to say whose stream it is, and no later one may.",
         "unknownprocess" => "the session document has no process of this name.",
         "unknownvar" => "the process has no variable of this name.",
@@ -69,7 +73,8 @@ pub(crate) fn advice(word: &str) -> &'static str {
             "record fewer events: none for what changes no variable that a predicate names, and shorter runs."
         }
         "json" =>
-            "look how the line was written: whether two writers share the file, or a crash cut the line off.",
+            "look how the line was written: two writers may share the file; or a crash cut it off, then put \
+{\"end\":true} in its place.",
         "shape" => "have the recorder write one of these.",
         "join" =>
             "have the recorder write that line once, before all others; for two runs, take two files.",
@@ -93,23 +98,21 @@ then."
 ///
 /// # Errors
 /// Out of memory.
-pub fn joined_name(alloc: Global, bytes: &[u8]) -> Result<Option<String>, AllocError> {
-    let Some(record) = record_at(bytes, 1) else {
-        return Ok(None);
-    };
-    let Ok(value) = Value::from_slice(alloc, record.bytes) else {
-        return Ok(None);
-    };
-    let Some(fields) = value.as_object() else {
-        return Ok(None);
-    };
-    match fields.get("process") {
-        Some(Value::String(name)) => Ok(Some(String::from_str(alloc, name.as_str())?)),
-        _ => Ok(None),
+pub fn joined_name(alloc: Global, bytes: &[u8]) -> Result<Option<String>, AllocError>
+    ensures { IfOk result (λ found. option_map string_bytes found ≡ joined_name bytes.now) }
+{
+    match record_after(bytes, 0) {
+        Some(record) => text_in_line(alloc, record.bytes, "process"),
+        None => Ok(None),
     }
 }
 
-/// Says which stream is refused, and at which line.
+/// What is said of a file by its name.
+fn shown_name(file: &str) -> &str {
+    if file == "-" { "standard input" } else { file }
+}
+
+/// Says which stream is refused, at which line, and why.
 pub(crate) fn say_head(
     out: &mut Vec<u8>,
     fault: StreamFault<'_>,
@@ -117,10 +120,20 @@ pub(crate) fn say_head(
     process: Option<&str>,
 ) -> Result<(), AllocError> {
     say(out, "Stream ")?;
+    say_refused(out, fault, file, process)
+}
+
+/// Says of the stream with this number that it is refused, at which line, and why.
+pub(crate) fn say_refused(
+    out: &mut Vec<u8>,
+    fault: StreamFault<'_>,
+    file: &str,
+    process: Option<&str>,
+) -> Result<(), AllocError> {
     say_number(out, fault.stream)?;
     if !file.is_empty() {
         say(out, ", ")?;
-        say_shown(out, file.as_bytes())?;
+        say_shown(out, shown_name(file).as_bytes())?;
         say(out, ",")?;
     }
     if let Some(process) = process {
@@ -196,7 +209,7 @@ fn show_fault(
 }
 
 /// Says which processes or variables there are in place of a name that there isn't.
-fn say_known(
+pub(crate) fn say_known(
     out: &mut Vec<u8>,
     names: &Names,
     process: Option<&str>,

@@ -1,15 +1,22 @@
 //! Shows a line with a caret below a place of it.
-use super::says::{columns_of, say, say_byte};
+ghost use Rattle.pd_explain.specs.Shown.{columns, dots, shown, shown_byte};
+ghost use Rattle.pd_explain.specs.Window.{IsFittingFirst, IsFittingLast, ShowsPlace, ShowsStart};
+ghost use Rattle.std.specs.Prelude.{◌≡◌, ◌+◌, ◌-◌, ◌^◌, List, ℕ, ◌++◌, length, drop, take, min, replicate, codes, MatchOption, OnOk};
+
+use super::lines::{bytes_before, bytes_from};
+use super::says::{columns_of, dots, say, say_bytes};
 use std::alloc::AllocError;
 
 /// How many columns before the place are shown.
 const BEFORE_LIMIT: usize = 60;
 
-/// How many columns are shown.
-const LIMIT: usize = 100;
+/// How many columns of it are shown: with what stands before and after them no row has more than 100 columns.
+const LIMIT: usize = 90;
 
 /// How many of the first bytes fit in this many columns.
-fn fitting_first(bytes: &[u8], columns: usize) -> usize {
+fn fitting_first(bytes: &[u8], columns: usize) -> usize
+    ensures { IsFittingFirst bytes.now columns result }
+{
     let mut room = columns;
     for (count, byte) in bytes.iter().enumerate() {
         let width = columns_of(*byte);
@@ -21,58 +28,122 @@ fn fitting_first(bytes: &[u8], columns: usize) -> usize {
     bytes.len()
 }
 
-/// How many of the last bytes fit in this many columns.
-fn fitting_last(bytes: &[u8], columns: usize) -> usize {
+/// How many of the first bytes are left out, so that those that remain fit in this many columns.
+fn skipped_first(bytes: &[u8], columns: usize) -> usize
+    ensures { IsFittingLast bytes.now columns result }
+{
     let mut room = columns;
-    for (count, byte) in bytes.iter().rev().enumerate() {
-        let width = columns_of(*byte);
+    let mut skipped = bytes.len();
+    'bytes: while skipped > 0 {
+        let width = columns_of(bytes[skipped - 1]);
         if width > room {
-            return count;
+            return skipped;
         }
         room -= width;
+        skipped -= 1;
     }
-    bytes.len()
+    skipped
 }
 
-/// How many columns the bytes take that follow those that are skipped.
-fn columns_in(bytes: &[u8], skipped: usize) -> usize {
+/// How many columns the bytes take.
+fn columns_in(bytes: &[u8]) -> usize
+    ensures { result ≡ min (columns bytes.now) (2 ^ 64 - 1) }
+{
     let mut columns = 0usize;
-    for byte in bytes.iter().skip(skipped) {
+    for byte in bytes {
         columns = columns.saturating_add(columns_of(*byte));
     }
     columns
 }
 
-/// Puts as many spaces as the bytes take columns that follow those that are skipped.
-fn say_indent(out: &mut Vec<u8>, bytes: &[u8], skipped: usize) -> Result<(), AllocError> {
-    for byte in bytes.iter().skip(skipped) {
-        say(out, if columns_of(*byte) == 1 { " " } else { "    " })?;
+/// Puts as many spaces as the bytes take columns.
+fn say_indent(out: &mut Vec<u8>, bytes: &[u8]) -> Result<(), AllocError>
+    ensures { OnOk result (out.new.items ≡ out.old.items ++ replicate (columns bytes.now) 32) }
+{
+    for byte in bytes {
+        say_width(out, *byte)?;
     }
     Ok(())
 }
 
-/// Shows the bytes before a place and those from it on, and a caret below the place.
-fn show_parts(out: &mut Vec<u8>, before: &[u8], after: &[u8]) -> Result<(), AllocError> {
-    let skipped = before
-        .len()
-        .saturating_sub(fitting_last(before, BEFORE_LIMIT));
-    let shown = fitting_first(after, LIMIT.saturating_sub(columns_in(before, skipped)));
-    let cut = if skipped > 0 { "..." } else { "" };
-    say(out, "    ")?;
-    say(out, cut)?;
-    for byte in before.iter().skip(skipped) {
-        say_byte(out, *byte)?;
-    }
-    for byte in after.iter().take(shown) {
-        say_byte(out, *byte)?;
-    }
-    say(out, if shown < after.len() { "...\n" } else { "\n" })?;
-    say(out, if skipped > 0 { "       " } else { "    " })?;
-    say_indent(out, before, skipped)?;
-    say(out, "^\n")
+/// Puts as many spaces as the byte takes columns.
+fn say_width(out: &mut Vec<u8>, byte: u8) -> Result<(), AllocError>
+    ensures { OnOk result (out.new.items ≡ out.old.items ++ replicate (length (shown_byte byte)) 32) }
+{
+    say(out, if columns_of(byte) == 1 { " " } else { "    " })
 }
 
-/// Shows a line, cut to a window of 100 columns around the place, with a caret below the byte there. A place past the
+/// As many spaces as stand before the first byte that is shown, and dots.
+fn margin(is_cut: bool) -> &'static str
+    ensures { result.now ≡ replicate (4 + length (dots is_cut)) 32 }
+{
+    if is_cut { "       " } else { "    " }
+}
+
+/// Shows the first bytes of a line.
+fn show_start(out: &mut Vec<u8>, line: &[u8]) -> Result<(), AllocError>
+    ensures { OnOk result ((text : List ℕ) × ShowsStart line.now text × (out.new.items ≡ out.old.items ++ text)) }
+{
+    let count = fitting_first(line, LIMIT);
+    say(out, "    ")?;
+    say_bytes(out, &line[..count])?;
+    say(out, dots(count < line.len()))?;
+    say(out, "\n")?;
+    Ok(())
+}
+
+/// Puts these bytes before a place and those from it on, with dots where others are left out.
+fn say_window(
+    out: &mut Vec<u8>,
+    before: &[u8],
+    after: &[u8],
+    is_cut: bool,
+    goes_on: bool,
+) -> Result<(), AllocError>
+    ensures { OnOk result (out.new.items ≡ out.old.items ++ (codes "    " ++ dots is_cut ++ shown before.now
+        ++ shown after.now ++ dots goes_on ++ codes "\n")) }
+{
+    say(out, "    ")?;
+    say(out, dots(is_cut))?;
+    say_bytes(out, before)?;
+    say_bytes(out, after)?;
+    say(out, dots(goes_on))?;
+    say(out, "\n")?;
+    Ok(())
+}
+
+/// Puts a caret below the byte that comes after these, of which some may be left out.
+fn say_caret(out: &mut Vec<u8>, before: &[u8], is_cut: bool) -> Result<(), AllocError>
+    ensures { OnOk result (out.new.items ≡ out.old.items
+        ++ (replicate (length (codes "    " ++ dots is_cut ++ shown before.now)) 32 ++ codes "^\n")) }
+{
+    say(out, margin(is_cut))?;
+    say_indent(out, before)?;
+    say(out, "^\n")?;
+    Ok(())
+}
+
+/// Shows the bytes before a place and those from it on, and a caret below the place.
+fn show_parts(out: &mut Vec<u8>, before: &[u8], after: &[u8]) -> Result<(), AllocError>
+    ensures { OnOk result ((text : List ℕ) × ShowsPlace before.now after.now text
+        × (out.new.items ≡ out.old.items ++ text)) }
+{
+    let skipped = skipped_first(before, BEFORE_LIMIT);
+    let shown_before = &before[skipped..];
+    let count = fitting_first(after, LIMIT.saturating_sub(columns_in(shown_before)));
+    let shown_after = &after[..count];
+    say_window(
+        out,
+        shown_before,
+        shown_after,
+        skipped > 0,
+        count < after.len(),
+    )?;
+    say_caret(out, shown_before, skipped > 0)?;
+    Ok(())
+}
+
+/// Shows a line, cut to a window of 90 columns around the place, with a caret below the byte there. A place past the
 /// line's end is that of its end. With no place the line's start is shown, and no caret.
 ///
 /// # Errors
@@ -81,15 +152,15 @@ pub(crate) fn show_line(
     out: &mut Vec<u8>,
     line: &[u8],
     place: Option<usize>,
-) -> Result<(), AllocError> {
-    let Some(place) = place else {
-        let shown = fitting_first(line, LIMIT);
-        say(out, "    ")?;
-        for byte in line.iter().take(shown) {
-            say_byte(out, *byte)?;
+) -> Result<(), AllocError>
+    ensures { OnOk result ((text : List ℕ) × MatchOption place (ShowsStart line.now text)
+        (λ at. ShowsPlace (take at line.now) (drop at line.now) text) × (out.new.items ≡ out.old.items ++ text)) }
+{
+    match place {
+        Some(place) => {
+            show_parts(out, bytes_before(line, place), bytes_from(line, place))?;
+            Ok(())
         }
-        return say(out, if shown < line.len() { "...\n" } else { "\n" });
-    };
-    let (before, after) = line.split_at(place.min(line.len()));
-    show_parts(out, before, after)
+        None => show_start(out, line),
+    }
 }

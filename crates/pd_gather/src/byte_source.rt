@@ -1,4 +1,5 @@
 //! Where the bytes of streams come from.
+use pd_events::StreamFault;
 use std::io;
 use std::io::Read;
 
@@ -29,6 +30,10 @@ pub trait ByteSource {
         ensures bytes { ReadConsumes (remaining self.old) (remaining self.new) result piece.new }
         ensures open { IfOk result (λ count. count ≢ 0 → has_ended self.new ≡ false) }
         ensures sure { never_fails ≡ true → IsOk result };
+
+    /// Hears, as soon as that is certain, that the stream which the bytes make has this fault: no more of them are
+    /// wanted.
+    fn hear_fault(&self, _fault: StreamFault) {}
 }
 
 impl<R: Read> ByteSource for R {

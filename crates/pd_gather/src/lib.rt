@@ -55,6 +55,7 @@ pub use gathering::gather;
 pub use input::Input;
 pub use limited::{read_bytes, within_limit};
 pub use observer::{NoObserver, Observer};
+pub use pd_events::{StreamFault, StreamKind};
 pub use read_fault::ReadFault;
 pub use readers::read_stream;
 pub use session_streams::{read_streams, read_streams_watched};

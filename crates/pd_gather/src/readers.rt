@@ -76,7 +76,8 @@ fn read_once<R: ByteSource>(
     take_input(stream, input)
 }
 
-/// Reads a stream from a source that is used again: what was consumed of it are the stream's bytes.
+/// Reads a stream from a source that is used again: what was consumed of it are the stream's bytes. The source hears of
+/// the stream's fault, if it has one.
 ///
 /// # Errors
 /// If memory runs out; the seat keeps its posts. They are the first of those that the bytes read until then lead to,
@@ -111,7 +112,11 @@ pub(super) fn read_from<T: Wait, R: ByteSource>(
         read_once(reader, &mut piece, &mut stream)?;
         post_records(rt, register, seat, &stream)?;
     }
-    Ok(stream.outcome())
+    let outcome = stream.outcome();
+    if let Err(fault) = &outcome {
+        reader.hear_fault(*fault);
+    }
+    Ok(outcome)
 }
 
 /// Reads a stream to its end line or its first fault, to the source's end, or until a read fails, and gives its trace

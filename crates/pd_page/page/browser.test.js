@@ -434,6 +434,25 @@ test("a page without events, narrow and dark", needed, async () => {
   await page.close();
 });
 
+test("a dark page is printed on white, with the whole run, and then it is as before", needed, async () => {
+  const page = await Page.open(example("gossip"), "", { dark: true });
+  await page.js("setView(10, 30)");
+  const view = () => page.js("[state.view.left, state.view.scale, size.width, size.lane, size.ratio]");
+  const before = await view();
+  await page.js(`globalThis.papers = [];
+    const look = () => printing && papers.push([state.view.left, state.view.scale === fitScale(run, size.width),
+      ...canvas.getContext("2d").getImageData(canvas.width - 2, canvas.height - 2, 1, 1).data]);
+    addEventListener("beforeprint", look);
+    matchMedia("(prefers-color-scheme: dark)").addEventListener("change", look); 0`);
+  await page.call("Page.printToPDF", { preferCSSPageSize: true });
+  await page.settle();
+  const papers = await page.js("papers");
+  assert.ok(papers.length > 0);
+  for (const paper of papers) assert.deepEqual(paper, [0, true, 255, 255, 255, 255]);
+  assert.deepEqual(await view(), before);
+  await page.close();
+});
+
 test("a large run is opened, drawn and moved in", needed, async () => {
   const page = await Page.open(ring(16, 10000));
   const drawn = await page.js(`(() => {

@@ -3,6 +3,10 @@
 
 const FILM_SPEEDS = [1, 2, 4, 10, 30, 100, 300, 1000];
 const UNDO_LIMIT = 200;
+// On paper, which is a landscape page of A4 or of Letter: how wide the run is drawn with its names, of which these take
+// at least some, and how high at most; from how many pixels of a column on it is shown whole, how many a column has if
+// not, and how fine a pixel is.
+const PAPER = { width: 958, names: 138, height: 400, whole: 9, scale: 26, ratio: 3 };
 const HOW_TO_MOVE = "Move it: click an event, drag a grip, or use the arrow keys on a lane.";
 
 window.addEventListener("error", (event) => { byId("status").textContent = "The page failed: " + event.message; });
@@ -28,15 +32,17 @@ let asked = false;
 let timer = 0;
 let said = 0;
 let searching = 0;
+let printing = false;
 
 // ---- drawing ----------------------------------------------------------------------------------------------------
 
 function measure() {
   const shell = byId("picture");
-  size.ratio = Math.max(1, window.devicePixelRatio || 1);
-  const sought = Math.min(window.innerHeight * 0.6, 720) / run.size;
+  size.ratio = printing ? PAPER.ratio : Math.max(1, window.devicePixelRatio || 1);
+  const sought = (printing ? PAPER.height : Math.min(window.innerHeight * 0.6, 720)) / run.size;
   size.lane = Math.round(Math.max(34, Math.min(96, sought)));
-  size.width = Math.max(120, Math.floor(shell.clientWidth));
+  size.width = printing ? PAPER.width - Math.max(PAPER.names, byId("lanes").offsetWidth)
+    : Math.max(120, Math.floor(shell.clientWidth));
   size.height = size.top * 2 + size.lane * run.size;
   document.documentElement.style.setProperty("--lane-height", size.lane + "px");
   fitCanvas(canvas, size.width, size.height);
@@ -44,7 +50,9 @@ function measure() {
   strip.height = Math.max(26, Math.min(60, 8 + 3 * run.size));
   fitCanvas(overview, strip.width, strip.height);
   strip.ground = drawGround(run, palette, strip.width, strip.height, size.ratio);
-  setView(state.view.left, state.view.scale);
+  if (!printing) return setView(state.view.left, state.view.scale);
+  state.view = paperView();
+  draw();   // no frame may come before the page is on paper
 }
 
 function fitCanvas(which, width, height) {
@@ -96,11 +104,26 @@ function reveal(column) {
   if (x < 30 || x > size.width - 30) setView(column - size.width / 2 / state.view.scale, state.view.scale);
 }
 
+// The columns of the last events in the cut, or of those of the causal cycle.
+function cutColumns() {
+  return run.cycle === null ? state.cut.map((count, p) => run.columns[p][count])
+    : run.cycle.flatMap(({ receipt, send }) => [receipt, send]).map(({ p, i }) => run.columns[p][i]);
+}
+
+// What is shown on paper: the whole run, if its events can be told apart so, and else what is around the whole cut.
+function paperView() {
+  const whole = fitScale(run, size.width);
+  if (whole >= PAPER.whole) return clampView(run, size.width, { left: 0, scale: whole });
+  const columns = cutColumns();
+  const [first, last] = [Math.min(...columns), Math.max(...columns)];
+  const scale = Math.min(PAPER.scale, size.width / (last - first + 4));
+  return clampView(run, size.width, { left: (first + last + 1) / 2 - size.width / 2 / scale, scale });
+}
+
 // Moves the view so that the whole cut, or the causal cycle, stands in it, or at least what is on the lane of it, if it
 // can't.
 function revealCut() {
-  const columns = run.cycle === null ? state.cut.map((count, p) => run.columns[p][count])
-    : run.cycle.flatMap(({ receipt, send }) => [receipt, send]).map(({ p, i }) => run.columns[p][i]);
+  const columns = cutColumns();
   const [first, last] = [Math.min(...columns), Math.max(...columns)];
   const { scale } = state.view;
   if ((last - first + 2) * scale > size.width) return reveal(run.cycle === null ? columns[state.lane] : first);
@@ -652,11 +675,14 @@ function start() {
   for (const wish of ["(prefers-color-scheme: dark)", "(forced-colors: active)"]) {
     matchMedia(wish).addEventListener("change", recolour);
   }
+  let onScreen = null;
   const printed = (on) => {
+    if (on === printing) return;
     document.documentElement.classList.toggle("printed", on);
-    palette = readPalette();
-    strip.ground = drawGround(run, palette, strip.width, strip.height, size.ratio);
-    draw();
+    printing = on;
+    if (on) onScreen = state.view;
+    else state.view = onScreen;
+    recolour();
   };
   window.addEventListener("beforeprint", () => printed(true));
   window.addEventListener("afterprint", () => printed(false));

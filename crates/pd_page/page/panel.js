@@ -232,8 +232,8 @@ function updateEvent(run, state, actions) {
   if (state.selected === null) {
     byId("event-title").textContent = "Event";
     body.replaceChildren(element("p", { class: "hint" },
-      run.cycle !== null ? "Click an event, or use the keys , and . to select one."
-        : "Click an event, and the cut moves there. With Shift, or by the keys , and . it is only selected."));
+      run.cycle !== null ? "Click an event, or use the keys “,” and “.”, to select one."
+        : "Click an event, and the cut moves there. With Shift, or by the keys “,” and “.”, it is only selected."));
     return;
   }
   const { p, i } = state.selected;

@@ -8,8 +8,11 @@ use Rattle.pd_page.specs.PredicateData.{named_text}
 use Rattle.pd_page.specs.EventData.{process_text, values_text, events_text, message_text}
 use Rattle.pd_page.specs.AnswerData.{Outcome, outcome_text}
 use Rattle.pd_page.specs.SourceData.{Source, source_text}
-use Rattle.pd_page.specs.declared.text_after.TheConstants.{AFTER}
 use Rattle.pd_page.specs.declared.text_before.TheConstants.{BEFORE}
+use Rattle.pd_page.specs.declared.text_diagram.TheConstants.{DIAGRAM}
+use Rattle.pd_page.specs.declared.text_main.TheConstants.{MAIN}
+use Rattle.pd_page.specs.declared.text_panel.TheConstants.{PANEL}
+use Rattle.pd_page.specs.declared.text_run.TheConstants.{RUN}
 
 abbrev pub truth_text : Bool → List ℕ
 truth_text true = codes "true"
@@ -55,9 +58,22 @@ data_text document sources events messages outcome =
 unfoldable pub text_before : List ℕ
 text_before = BEFORE.now
 
+-- the page's scripts, and what stands around them
+unfoldable pub text_run : List ℕ
+text_run = RUN.now
+
+unfoldable pub text_diagram : List ℕ
+text_diagram = DIAGRAM.now
+
+unfoldable pub text_panel : List ℕ
+text_panel = PANEL.now
+
+unfoldable pub text_main : List ℕ
+text_main = MAIN.now
+
 -- the page's text after its data
 unfoldable pub text_after : List ℕ
-text_after = AFTER.now
+text_after = text_run ++ text_diagram ++ text_panel ++ text_main
 
 unfoldable pub page_text : Document → List Source → Computation → List (Place × Place) → Outcome → List ℕ
 page_text document sources events messages outcome =

@@ -6,7 +6,8 @@
 //! the definitions give it. No byte of it is `<`, so nothing in it can end the element that it stands in, whatever an
 //! id is.
 //!
-//! - `text_before`, `text_after`: the page's text before its data and after it
+//! - `text_before`: the page's text before its data
+//! - `text_run`, `text_diagram`, `text_panel`, `text_main`: the texts after its data, one a script
 //! - `json_texts`: texts of JSON
 //! - `predicate_data`: a predicate's tree
 //! - `event_data`: processes, variables, events and messages
@@ -27,8 +28,11 @@ mod page_data;
 mod predicate_data;
 mod source;
 mod source_data;
-mod text_after;
 mod text_before;
+mod text_diagram;
+mod text_main;
+mod text_panel;
+mod text_run;
 
 pub use content::{Content, Outcome};
 pub use page::{text, write};

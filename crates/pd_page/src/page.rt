@@ -1,6 +1,6 @@
 //! A page's text, also written.
 ghost use Rattle.pd_match.specs.Views.{pairs_view};
-ghost use Rattle.pd_page.specs.Pages.{page_text, text_after, text_before};
+ghost use Rattle.pd_page.specs.Pages.{page_text, text_after, text_before, text_diagram, text_main, text_panel, text_run};
 ghost use Rattle.pd_page.specs.Views.{outcome_view, sources_view};
 ghost use Rattle.pd_spec.specs.Views.{document_view};
 ghost use Rattle.pd_traces.specs.Views.{computation_view};
@@ -9,8 +9,11 @@ ghost use Rattle.std.specs.Prelude.{◌≡◌, ◌<◌, ◌++◌, ℕ, length, t
 
 use super::Content;
 use super::page_data::push_data;
-use super::text_after::AFTER;
 use super::text_before::BEFORE;
+use super::text_diagram::DIAGRAM;
+use super::text_main::MAIN;
+use super::text_panel::PANEL;
+use super::text_run::RUN;
 use pd_report::{WriteFault, push_bytes, write_all};
 use std::alloc::{AllocError, Global};
 use std::io::Write;
@@ -23,12 +26,47 @@ fn text_before() -> &'static [u8]
     BEFORE
 }
 
-/// The page's text after its data.
-#[tactic(auto, unfolding(crate::specs::Pages::text_after))]
-fn text_after() -> &'static [u8]
-    ensures { result.now ≡ text_after }
+/// The text with the script that knows what follows from the data.
+#[tactic(auto, unfolding(crate::specs::Pages::text_run))]
+fn text_run() -> &'static [u8]
+    ensures { result.now ≡ text_run }
 {
-    AFTER
+    RUN
+}
+
+/// The text with the script that draws the run.
+#[tactic(auto, unfolding(crate::specs::Pages::text_diagram))]
+fn text_diagram() -> &'static [u8]
+    ensures { result.now ≡ text_diagram }
+{
+    DIAGRAM
+}
+
+/// The text with the script that shows what stands beside the run.
+#[tactic(auto, unfolding(crate::specs::Pages::text_panel))]
+fn text_panel() -> &'static [u8]
+    ensures { result.now ≡ text_panel }
+{
+    PANEL
+}
+
+/// The text with the script that starts the page, and the page's end.
+#[tactic(auto, unfolding(crate::specs::Pages::text_main))]
+fn text_main() -> &'static [u8]
+    ensures { result.now ≡ text_main }
+{
+    MAIN
+}
+
+/// Appends the page's text after its data.
+#[tactic(auto, unfolding(crate::specs::Pages::text_after))]
+fn push_after(out: &mut Vec<u8>) -> Result<(), AllocError>
+    ensures { OnOk result (out.new.items ≡ out.old.items ++ text_after) }
+{
+    push_bytes(out, text_run())?;
+    push_bytes(out, text_diagram())?;
+    push_bytes(out, text_panel())?;
+    push_bytes(out, text_main())
 }
 
 /// A page's text: the text before the data, the data, and the text after it.
@@ -44,7 +82,7 @@ pub fn text(alloc: Global, content: &Content<'_, '_>) -> Result<Vec<u8>, AllocEr
     let mut out = Vec::new(alloc);
     push_bytes(&mut out, text_before())?;
     push_data(&mut out, content)?;
-    push_bytes(&mut out, text_after())?;
+    push_after(&mut out)?;
     Ok(out)
 }
 

@@ -1,4 +1,4 @@
-//! The page's text before its data, as the files in `page/` make it. `.ci/explore_page.py --write` writes it.
+//! The page's text before its data. `.ci/explore_page.py --write` writes it.
 
 /// The page's text before its data.
 pub(crate) const BEFORE: &[u8] = b"\
@@ -7,9 +7,9 @@ pub(crate) const BEFORE: &[u8] = b"\
     <head>\n\
     <meta charset=\"utf-8\">\n\
     <meta http-equiv=\"Content-Security-Policy\" content=\"default-src 'none'; script-src 'sha256-SLEwAG8q1PoPmSI\
-    S75hFrd9XmKQx5DiJehIG37VLFrY=' 'sha256-lCf/O7uShxMCsyWw+AlaHu5AJVshmNsyNpBipo8b4+Q=' 'sha256-2U2p/h+DhpVEEBp2\
-    kJP9bAHQfI7SN2gComkH+pOzXb0=' 'sha256-sno2OVboBAXrCd9QizE/Uz6bfEULA3rU8uCqTQHdzEs='; style-src 'sha256-RsWtZh\
-    +BxYqWCWfOSV3GUR44bpLcFqTBWRf6DkyCFSk='; base-uri 'none'; form-action 'none'\">\n\
+    S75hFrd9XmKQx5DiJehIG37VLFrY=' 'sha256-lCf/O7uShxMCsyWw+AlaHu5AJVshmNsyNpBipo8b4+Q=' 'sha256-aK6nw9YOu6opxvvE\
+    0gC4WRzdvoea4Y4B1a92TzNfhGg=' 'sha256-nC/ATxHoKBeTCZ2/UuJI2FGKvyjcU5XA7BeLZ5ZXZU8='; style-src 'sha256-2wEAVB\
+    p7MiBHJq59HDaIVH7vo4e95Z5ou5rsgBrAbT4='; base-uri 'none'; form-action 'none'\">\n\
     <meta name=\"viewport\" content=\"width=device-width, initial-scale=1\">\n\
     <meta name=\"referrer\" content=\"no-referrer\">\n\
     <meta name=\"color-scheme\" content=\"light dark\">\n\
@@ -130,7 +130,7 @@ pub(crate) const BEFORE: &[u8] = b"\
     \x20 text-overflow: ellipsis; white-space: nowrap; }\n\
     #stage { display: flex; border-bottom: 0; padding: 8px 0; }\n\
     #stage.last { border-bottom: 1px solid var(--line); border-radius: 0 0 10px 10px; }\n\
-    #lanes { flex: none; width: 138px; }\n\
+    #lanes { flex: none; min-width: 138px; max-width: 260px; }\n\
     .lane {\n\
     \x20 height: var(--lane-height); display: flex; flex-direction: column; justify-content: center; align-items:\
     \x20flex-end;\n\
@@ -166,6 +166,7 @@ pub(crate) const BEFORE: &[u8] = b"\
     dd { overflow-wrap: anywhere; }\n\
     .hint { color: var(--muted); }\n\
     .actions { display: flex; gap: 6px; margin-top: 10px; flex-wrap: wrap; }\n\
+    #listing-process { max-width: 100%; }\n\
     .pager { display: flex; gap: 6px; align-items: center; margin-bottom: 8px; color: var(--muted); }\n\
     table { border-collapse: collapse; width: 100%; font-variant-numeric: tabular-nums; }\n\
     th { font-weight: 500; text-align: left; }\n\
@@ -252,8 +253,11 @@ pub(crate) const BEFORE: &[u8] = b"\
     \x20 #find { order: 2; flex: 1 0 100%; }\n\
     \x20 #query { flex: 1; width: auto; min-width: 0; }\n\
     \x20 #matches { max-width: 40vw; }\n\
-    \x20 #lanes { width: 86px; }\n\
+    \x20 #lanes { min-width: 86px; max-width: 86px; }\n\
     \x20 .lane { padding: 0 8px 0 6px; }\n\
+    \x20 .lane .name { white-space: normal; overflow-wrap: anywhere; text-align: right; font-size: 12px; line-hei\
+    ght: 1.15;\n\
+    \x20   max-height: 2.3em; }\n\
     \x20 #level { order: 3; flex-basis: 100%; }\n\
     }\n\
     @media print {\n\
@@ -264,13 +268,16 @@ pub(crate) const BEFORE: &[u8] = b"\
     \x20   display: none !important;\n\
     \x20 }\n\
     \x20 main { display: block; }\n\
-    \x20 #stage { border: 0; }\n\
+    \x20 #stage, #stage.last { border: 0; }\n\
     \x20 #tools { border: 0; padding: 0; }\n\
     \x20 #diagram { max-width: 100%; }\n\
     \x20 #panel { display: grid; grid-template-columns: 1fr 1fr; position: static; max-height: none; overflow: vi\
     sible; }\n\
-    \x20 #panel > section { border: 0; padding: 0; break-inside: avoid; }\n\
-    \x20 .predicate { break-inside: avoid; }\n\
+    \x20 #panel > section { border: 0; padding: 0; }\n\
+    \x20 .predicate { margin-left: 0; }\n\
+    \x20 .predicate, #values tbody, footer p { break-inside: avoid; }\n\
+    \x20 h2, #values thead { break-after: avoid; }\n\
+    \x20 footer { font-size: 10px; padding: 12px 0 0; }\n\
     }\n\
     </style>\n\
     </head>\n\

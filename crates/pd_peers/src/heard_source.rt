@@ -5,9 +5,11 @@ ghost use Rattle.std.specs.Prelude.{◌≡◌, [], IfSome, MatchResult, take};
 
 use super::ear::Ear;
 use super::keeping::Keeping;
+use super::last_lines::LastLines;
 use super::notices::Notices;
+use super::peer::Peer;
 use super::peers::Peers;
-use pd_gather::ByteSource;
+use pd_gather::{ByteSource, StreamFault, StreamKind};
 use std::alloc::Global;
 use std::io;
 use std::io::Write;
@@ -17,18 +19,21 @@ use std::io::Write;
 pub struct HeardSource<'a, R, W, T> {
     /// Where the bytes come from.
     pub source: R,
+    /// Of whom it is noted how it begins and where it is refused, if that is wanted.
+    peer: Option<&'a Peer>,
     ear: Ear<'a>,
+    lines: LastLines,
     /// Where they are kept, if they are.
     keeping: Option<Keeping<'a, W, T>>,
-    /// Who is told once it is noted how the stream begins.
+    /// Who is told how the stream begins, and that it is refused.
     notices: &'a T,
     /// The stream's place, counted from 0.
     place: usize,
 }
 
 impl<'a, R, W, T> HeardSource<'a, R, W, T> {
-    /// The source of the stream at this place, of which it is noted for these peers how it begins, if they are noted,
-    /// and which is kept, if it is.
+    /// The source of the stream at this place, of which it is noted for these peers how it begins and where it is
+    /// refused, if they are noted, and which is kept, if it is.
     pub fn new(
         alloc: Global,
         source: R,
@@ -41,10 +46,24 @@ impl<'a, R, W, T> HeardSource<'a, R, W, T> {
     {
         HeardSource {
             source,
+            peer: peers.at(place),
             ear: Ear::new(alloc, peers.at(place)),
+            lines: LastLines::new(alloc),
             keeping,
             notices,
             place,
+        }
+    }
+}
+
+impl<'a, R, W: Write, T: Notices> HeardSource<'a, R, W, T> {
+    /// Tells that it is noted how the stream begins, and calls its file as it is called from here on.
+    fn begin(&mut self)
+        ensures { self.new.source ≡ self.old.source }
+    {
+        let name = self.notices.has_begun(self.place);
+        if let (Some(keeping), Some(name)) = (&mut self.keeping, name) {
+            keeping.call(name);
         }
     }
 }
@@ -60,6 +79,21 @@ fn read_bytes<'a>(read: &io::Result<usize>, piece: &'a [u8]) -> &'a [u8]
     }
 }
 
+/// The number of the line that is at fault, or of the last one if the stream ends too soon.
+fn shown_line(fault: StreamFault) -> u64 {
+    match fault.kind {
+        StreamKind::Unended => fault.line.saturating_sub(1),
+        _ => fault.line,
+    }
+}
+
+/// Notes of this peer at which of these lines its stream is refused, if there is memory for it.
+fn note_line(peer: &Peer, lines: &LastLines, fault: StreamFault) {
+    if let Some(line) = lines.copied_line(shown_line(fault)) {
+        peer.note_line(line);
+    }
+}
+
 impl<'a, R: ByteSource, W: Write, T: Notices> ByteSource for HeardSource<'a, R, W, T> {
     ghost remaining = { λ heard. R.remaining heard.source };
 
@@ -71,11 +105,22 @@ impl<'a, R: ByteSource, W: Write, T: Notices> ByteSource for HeardSource<'a, R, 
         let read = self.source.read_next(piece);
         let bytes = read_bytes(&read, piece);
         if self.ear.hear(bytes) {
-            self.notices.has_begun(self.place);
+            self.begin();
+        }
+        if self.peer.is_some() {
+            self.lines.hear(bytes);
         }
         if let Some(keeping) = &mut self.keeping {
             keeping.keep(bytes);
         }
         read
+    }
+
+    fn hear_fault(&self, fault: StreamFault) {
+        self.source.hear_fault(fault);
+        if let Some(peer) = self.peer {
+            note_line(peer, &self.lines, fault);
+        }
+        self.notices.has_fault(self.place, fault);
     }
 }

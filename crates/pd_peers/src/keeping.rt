@@ -1,5 +1,6 @@
 //! Keeps a stream in a file.
 ghost use Rattle.pd_peers.specs.Kept.{KeepsOn};
+ghost use Rattle.std.specs.Prelude.{◌≡◌};
 
 use super::kept_stream::KeptStream;
 use super::notices::Notices;
@@ -36,6 +37,13 @@ impl<'a, W: Write, T: Notices> Keeping<'a, W, T> {
             notices,
             alloc,
         }
+    }
+
+    /// Calls the file so from here on.
+    pub(crate) fn call(&mut self, path: String)
+        ensures { self.new.stream ≡ self.old.stream }
+    {
+        self.path = path;
     }
 
     /// Keeps the next bytes that came: all of them, or a prefix of them, and then nothing that comes after them. If

@@ -1,10 +1,10 @@
 //! A stream that is kept while it is read.
 ghost use Rattle.pd_peers.specs.Kept.{KeepsOn};
-ghost use Rattle.std.specs.Io.KnownBytes.{Appends};
-ghost use Rattle.std.specs.Prelude.{◌≡◌, take, true, IfErr, OnOk};
+ghost use Rattle.std.specs.Prelude.{◌≡◌, true};
 
+use pd_report::try_write_all;
 use std::io;
-use std::io::{ErrorKind, Write};
+use std::io::Write;
 
 /// Writes the bytes of a stream to a sink as they come, until that fails.
 #[derive(Drop)]
@@ -13,26 +13,6 @@ pub struct KeptStream<W> {
     pub sink: W,
     /// Whether all that came was written.
     pub is_whole: bool,
-}
-
-/// Writes the whole text, in as many calls of the writer as it asks for.
-///
-/// # Errors
-/// How many bytes the writer had taken when it failed, and in what way it did.
-fn write_part<W: Write>(text: &[u8], writer: &mut W) -> Result<(), (u64, io::Error)>
-    ensures written { OnOk result (Appends (W.contents writer.old) (W.contents writer.new) text.now) }
-    ensures part { IfErr result (λ fault. Appends (W.contents writer.old) (W.contents writer.new)
-        (take fault.0 text.now)) }
-{
-    let mut taken = 0;
-    while taken < text.len() {
-        match writer.write(&text[taken..]) {
-            Ok(0) => return Err((taken as u64, io::Error::from(ErrorKind::WriteZero))),
-            Err(error) => return Err((taken as u64, error)),
-            Ok(count) => taken += count,
-        }
-    }
-    Ok(())
 }
 
 impl<W: Write> KeptStream<W> {
@@ -58,7 +38,7 @@ impl<W: Write> KeptStream<W> {
         if !self.is_whole {
             return Ok(());
         }
-        match write_part(bytes, &mut self.sink) {
+        match try_write_all(bytes, &mut self.sink) {
             Ok(()) => Ok(()),
             Err((_, error)) => {
                 self.is_whole = false;

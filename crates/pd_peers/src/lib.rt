@@ -3,6 +3,7 @@
 //! - `peer`: what is known of who sends one stream
 //! - `peers`: of each stream
 //! - `ear`: hears how a stream begins
+//! - `last_lines`: the last lines of a stream, of which one may be at fault
 //! - `kept_stream`: a stream that is kept while it is read
 //! - `keeping`: keeps a stream in a file
 //! - `notices`: what is told at once of the streams
@@ -13,6 +14,7 @@ mod ear;
 mod heard_source;
 mod keeping;
 mod kept_stream;
+mod last_lines;
 mod notices;
 mod peer;
 mod peers;

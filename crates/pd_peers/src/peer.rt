@@ -8,6 +8,8 @@ pub struct Peer {
     address: OnceLock<String>,
     /// How the stream begins: its first line, or as many bytes of it as may be noted.
     start: OnceLock<Vec<u8>>,
+    /// The line at which the stream is refused, or its last one if it ends too soon.
+    line: OnceLock<Vec<u8>>,
 }
 
 impl Peer {
@@ -16,6 +18,7 @@ impl Peer {
         Peer {
             address: OnceLock::new(),
             start: OnceLock::new(),
+            line: OnceLock::new(),
         }
     }
 
@@ -27,6 +30,11 @@ impl Peer {
     /// Notes how the stream begins, unless that was noted before.
     pub fn note_start(&self, start: Vec<u8>) {
         let _ = self.start.try_set(start);
+    }
+
+    /// Notes the line at which the stream is refused, or its last one if it ends too soon, unless one was noted before.
+    pub fn note_line(&self, line: Vec<u8>) {
+        let _ = self.line.try_set(line);
     }
 
     /// Whether the stream has connected.
@@ -46,6 +54,14 @@ impl Peer {
     pub fn start(&self) -> Option<&[u8]> {
         match self.start.get() {
             Some(start) => Some(start.as_slice()),
+            None => None,
+        }
+    }
+
+    /// The line at which the stream is refused, or its last one if it ends too soon, if it was noted.
+    pub fn line(&self) -> Option<&[u8]> {
+        match self.line.get() {
+            Some(line) => Some(line.as_slice()),
             None => None,
         }
     }

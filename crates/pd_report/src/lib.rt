@@ -55,7 +55,7 @@ pub use answer::Answer;
 pub use definitely::Definitely;
 pub use fault::WriteFault;
 pub use fields::{push_bytes, push_number};
-pub use output::{write, write_all, write_all_counted};
+pub use output::{try_write_all, write, write_all, write_all_counted};
 pub use path::Path;
 pub use possibly::Possibly;
 pub use read_fault::ReportFault;

@@ -8,10 +8,31 @@ use super::fault::WriteFault;
 use super::report::Report;
 use super::report_text::text;
 use std::alloc::Global;
-use std::io::Write;
+use std::io;
+use std::io::{ErrorKind, Write};
 
-/// Writes the whole text, in as many calls of the writer as it asks for, and takes no memory. It doesn't flush the
-/// writer.
+/// Writes the whole text, in as many calls of the writer as it asks for. It doesn't flush the writer.
+///
+/// # Errors
+/// The number of bytes that the writer had taken when it failed, or took nothing, and in what way it failed. They are a
+/// prefix of the text, and not all of it.
+pub fn try_write_all<W: Write>(text: &[u8], writer: &mut W) -> Result<(), (u64, io::Error)>
+    ensures written { OnOk result (Appends (W.contents writer.old) (W.contents writer.new) text.now) }
+    ensures part { IfErr result (λ fault. (fault.0 < length text.now)
+        × Appends (W.contents writer.old) (W.contents writer.new) (take fault.0 text.now)) }
+{
+    let mut taken = 0;
+    while taken < text.len() {
+        match writer.write(&text[taken..]) {
+            Ok(0) => return Err((taken as u64, io::Error::from(ErrorKind::WriteZero))),
+            Err(error) => return Err((taken as u64, error)),
+            Ok(count) => taken += count,
+        }
+    }
+    Ok(())
+}
+
+/// Writes the whole text, as [`try_write_all`] does, and takes no memory. It doesn't flush the writer.
 ///
 /// # Errors
 /// The number of bytes that the writer had taken when it failed, in whatever way, or took nothing. They are a prefix
@@ -21,14 +42,10 @@ pub fn write_all_counted<W: Write>(text: &[u8], writer: &mut W) -> Result<(), u6
     ensures part { IfErr result (λ taken. (taken < length text.now)
         × Appends (W.contents writer.old) (W.contents writer.new) (take taken text.now)) }
 {
-    let mut taken = 0;
-    while taken < text.len() {
-        match writer.write(&text[taken..]) {
-            Ok(0) | Err(_) => return Err(taken as u64),
-            Ok(count) => taken += count,
-        }
+    match try_write_all(text, writer) {
+        Ok(()) => Ok(()),
+        Err((taken, _)) => Err(taken),
     }
-    Ok(())
 }
 
 /// Writes the whole text, as [`write_all_counted`] does. It doesn't flush the writer.

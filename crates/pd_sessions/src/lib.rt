@@ -30,7 +30,7 @@ pub use document::{read_document, read_inquiry};
 pub use fault::EngineFault;
 pub use input::read_upto;
 pub use inquiry::Inquiry;
-pub use refusal::of_document;
+pub use refusal::{of_document, stream_word};
 pub use sessions::traces_of;
 pub use snapshots::write_snapshot;
 pub use unanswered::{Unanswered, settled};

@@ -80,8 +80,8 @@ pub fn of_document(alloc: Global, fault: SpecFault) -> Result<Refusal, AllocErro
     Ok(refusal)
 }
 
-/// The word for a stream's fault.
-fn stream_word(kind: StreamKind) -> &'static str
+/// The word of a report for a stream's fault.
+pub fn stream_word(kind: StreamKind) -> &'static str
     ensures { result.now ≡ stream_word (stream_kind_view kind) }
 {
     match kind {

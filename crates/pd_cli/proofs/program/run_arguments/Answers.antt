@@ -1,5 +1,5 @@
 -- What is done is what the arguments ask for.
-use Rattle.std.proofs.Common.{◌≡◌, ◌⊎◌, inl, inr, map, option_map, refl, subst, true, List, ℕ, Option, Some, None, Bor}
+use Rattle.std.proofs.Common.{◌≡◌, ◌⊎◌, inl, inr, map, subst, true, List, ℕ, Option, Some, Bor}
 use Rattle.pd_arguments.specs.Statuses.{CheckFiles, CheckLeaves, Ends, FilesJudgementLeaves, HoldsAsked, IsLongReport, JudgeFiles, ServeStreams, reliance}
 use Rattle.pd_cli.proofs.Explanations.{unexplained}
 use Rattle.pd_cli.proofs.FilesRead.{files_of_names}
@@ -10,7 +10,6 @@ use Rattle.pd_fail_on.specs.Views.{fail_on_view}
 use Rattle.pd_cli.specs.Drawings.{EndsDrawn}
 use Rattle.pd_cli.specs.Explorations.{ExploreLeaves}
 use Rattle.pd_explore.specs.Sources.{AreFilesOf}
-use Rattle.pd_arguments.specs.Arguments.{AsksToDraw}
 use Rattle.pd_arguments.specs.Views.{IsAsked, keep_view, session_view}
 use Rattle.pd_arguments.proofs.ParserEnds.{error_as_asked}
 use Rattle.pd_arguments.proofs.ServicePorts.{port_of_service}

@@ -11,7 +11,7 @@ use Rattle.pd_cli.proofs.server.refuse_document.Goals as goal
 pub returns-clause-written : goal.returns-clause-written
 returns-clause-written g c port fail_on wait keep =
     let document = c.args.inquiry.document.now in
-    let G = g.N.Network.may_give c.args._network.now port in
+    let G = g.N.Network.may_give c.args.host.now.network.now port in
     let refused = refused_unless_memory document c.args.fault.now
     (sym c.is_out_of_memory.ensures ∙ c.if-is_out_of_memory.false) c.requires in
     subst (λ (e : Ending). ServiceLeaves c.args.inquiry.beyond_width fail_on (Some document) G

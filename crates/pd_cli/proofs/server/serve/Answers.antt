@@ -11,19 +11,23 @@ use Rattle.pd_cli.proofs.server.serve.Goals as goal
 
 pub returns-in-Ok : goal.returns-in-Ok
 returns-in-Ok g c fail_on =
-    let asks = asks_view c.args.service.now.asks in
-    let file = g.F.FileSource.bytes_of c.args.files.now c.args.service.now.spec.now in
+    let service = c.args.host.now.service.now in
+    let network = c.args.host.now.network.now in
+    let asks = asks_view service.asks in
+    let file = g.F.FileSource.bytes_of c.args.host.now.files.now service.spec.now in
     let asked : AreAsked asks file c.deref.result.now =
     subst (λ (read : List ℕ). AreAsked asks file read) (sym c.deref.ensures.value) c.in-Ok.ensures.document in
     holds_asked asks file c.deref.result.now _ asked
-    (service_of_file c.args.service.now.beyond_width fail_on (Some c.deref.result.now) c.deref.result.now
-    (g.N.Network.may_give c.args.network.now c.args.service.now.port) g.N.Connection.ByteSource.never_fails _ _ _
+    (service_of_file service.beyond_width fail_on (Some c.deref.result.now) c.deref.result.now
+    (g.N.Network.may_give network service.port) g.N.Connection.ByteSource.never_fails _ _ _
     (service_ending fail_on c.serve_document.result) (g.O.Write.contents c.args.output.now)
     (g.O.Write.contents c.serve_document.new.output) refl (c.serve_document.ensures fail_on))
 
 pub returns-in-Err : goal.returns-in-Err
 returns-in-Err g c fail_on =
-    of_any (unread_service c.args.service.now.beyond_width fail_on
-    (g.N.Network.may_give c.args.network.now c.args.service.now.port) g.N.Connection.ByteSource.never_fails _ _ _
+    let service = c.args.host.now.service.now in
+    let network = c.args.host.now.network.now in
+    of_any (unread_service service.beyond_width fail_on
+    (g.N.Network.may_give network service.port) g.N.Connection.ByteSource.never_fails _ _ _
     (g.O.Write.contents c.args.output.now) c.in-Err.fault c.in-Err.ensures.err
     (λ e. c.in-Err.ensures.unread (ap Err e)))

@@ -7,5 +7,5 @@ returns-in-Ok g c fail_on = c.serve_kept.ensures fail_on
 
 pub returns-in-Err : goal.returns-in-Err
 returns-in-Err g c fail_on =
-    c.refuse_document.ensures.written c.args.service.now.port fail_on c.args.service.now.wait
-    (keep_view c.args.service.now.keep)
+    c.refuse_document.ensures.written c.args.host.now.service.now.port fail_on c.args.host.now.service.now.wait
+    (keep_view c.args.host.now.service.now.keep)

@@ -7,9 +7,11 @@ use Rattle.pd_cli.proofs.server.serve_kept.Goals as goal
 
 pub returns : goal.returns
 returns g c fail_on =
+    let service = c.args.host.now.service.now in
+    let network = c.args.host.now.network.now in
     kept_service c.args.inquiry.beyond_width fail_on c.args.inquiry.document.now
-    (g.N.Network.may_give c.args.network.now c.args.service.now.port) g.N.Connection.ByteSource.never_fails
-    (ServiceMayFail c.args.service.now.wait g.N.Network.never_fails) (keep_view c.args.service.now.keep ≢ None)
+    (g.N.Network.may_give network service.port) g.N.Connection.ByteSource.never_fails
+    (ServiceMayFail service.wait g.N.Network.never_fails) (keep_view service.keep ≢ None)
     c.serve_session-end.result c.kept_end.result c.end_keeping-is_kept.result
     (g.O.Write.contents c.args.output.now) (g.O.Write.contents c.serve_session-end.new.output)
     c.kept_end.ensures.kept c.kept_end.ensures.unkept (c.serve_session-end.ensures.written fail_on)

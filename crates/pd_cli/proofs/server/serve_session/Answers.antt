@@ -15,10 +15,11 @@ use Rattle.pd_cli.proofs.server.serve_session.Goals as goal
 
 pub returns-clause-written : goal.returns-clause-written
 returns-clause-written g c fail_on =
-    let port = c.args.service.now.port in
-    let G = g.N.Network.may_give c.args.network.now port in
+    let service = c.args.host.now.service.now in
+    let port = service.port in
+    let G = g.N.Network.may_give c.args.host.now.network.now port in
     let remaining : HeardSource g.row.N-Connection.Denot g.row.F-Sink.Denot
-    (ServiceNotices g.row.N.Denot) → Option (List ℕ) =
+    (ServiceNotices g.row.F.Denot g.row.N.Denot) → Option (List ℕ) =
     λ stream. g.N.Connection.ByteSource.remaining stream.source in
     let streams = c.in_ok-streams.streams.items in
     let document = c.args.inquiry.document.now in
@@ -30,7 +31,7 @@ returns-clause-written g c fail_on =
     c.one_document.ensures.single c.one_document.ensures.not_refused c.requires.document given count in
     subst (λ (e : Ending). ServiceLeaves c.args.inquiry.beyond_width fail_on (Some document) G
     g.N.Connection.ByteSource.never_fails
-    ⊥ (ServiceMayFail c.args.service.now.wait g.N.Network.never_fails) (keep_view c.args.service.now.keep ≢ None) e
+    ⊥ (ServiceMayFail service.wait g.N.Network.never_fails) (keep_view service.keep ≢ None) e
     (g.O.Write.contents c.args.output.now)
     (g.O.Write.contents c.judge_accepted.new.output)) (sym (c.service_end.ensures.ending fail_on))
     (service_of_judgement c.args.inquiry.beyond_width fail_on document G (map remaining streams)

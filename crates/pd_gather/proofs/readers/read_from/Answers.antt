@@ -72,8 +72,8 @@ returns-in_err-post_records-clause-refused g c =
     on.row)
     c.in_err-post_records.ensures.refused)
 
-pub outcome-requires : goal.outcome-requires
-outcome-requires g c =
+pub outcome-outcome-requires : goal.outcome-outcome-requires
+outcome-outcome-requires g c =
     elim c.reads-test.branch [
       | else-reads-test w ↦
           let all : c.reads.counter ≡ stream_byte_limit + 1 =
@@ -90,20 +90,20 @@ pub returns-clause-read : goal.returns-clause-read
 returns-clause-read g c =
     let given : GivesRead (document_view c.args.spec.now).names g.R.ByteSource.never_fails
     (g.R.ByteSource.remaining c.args.reader.now) (g.R.ByteSource.remaining c.reads.reader) (posted_row c.reads.seat)
-    c.outcome.result =
+    c.outcome-outcome.result =
     gives_read c.closed_stays.ensures (document_view c.args.spec.now).names g.R.ByteSource.never_fails
     (g.R.ByteSource.remaining c.args.reader.now) (g.R.ByteSource.remaining c.reads.reader) c.reads.counter
-    c.reads.stream (posted_row c.reads.seat) c.outcome.result c.reads.invariant.read c.reads.invariant.posted
-    (record { value = c.outcome.ensures.value; fits = c.outcome.ensures.fits }) in
+    c.reads.stream (posted_row c.reads.seat) c.outcome-outcome.result c.reads.invariant.read c.reads.invariant.posted
+    (record { value = c.outcome-outcome.ensures.value; fits = c.outcome-outcome.ensures.fits }) in
     given.read
 
 pub returns-clause-fits : goal.returns-clause-fits
 returns-clause-fits g c =
     let given : GivesRead (document_view c.args.spec.now).names g.R.ByteSource.never_fails
     (g.R.ByteSource.remaining c.args.reader.now) (g.R.ByteSource.remaining c.reads.reader) (posted_row c.reads.seat)
-    c.outcome.result =
+    c.outcome-outcome.result =
     gives_read c.closed_stays.ensures (document_view c.args.spec.now).names g.R.ByteSource.never_fails
     (g.R.ByteSource.remaining c.args.reader.now) (g.R.ByteSource.remaining c.reads.reader) c.reads.counter
-    c.reads.stream (posted_row c.reads.seat) c.outcome.result c.reads.invariant.read c.reads.invariant.posted
-    (record { value = c.outcome.ensures.value; fits = c.outcome.ensures.fits }) in
+    c.reads.stream (posted_row c.reads.seat) c.outcome-outcome.result c.reads.invariant.read c.reads.invariant.posted
+    (record { value = c.outcome-outcome.ensures.value; fits = c.outcome-outcome.ensures.fits }) in
     given.fits

@@ -9,7 +9,7 @@ returns-in-Ok g c = record {
   part = (
     length c.args.bytes.now,
     subst (λ (bytes : List ℕ). Appends (g.W.Write.contents c.args.self.now.sink)
-        (g.W.Write.contents c.write_part.new.writer) bytes) (sym (take-length c.args.bytes.now))
+        (g.W.Write.contents c.try_write_all.new.writer) bytes) (sym (take-length c.args.bytes.now))
         c.in-Ok.ensures.written,
   );
   whole = λ is. (is, c.in-Ok.ensures.written);

@@ -1,7 +1,7 @@
--- What the loops of `write_all_counted` keep.
+-- What the loops of `try_write_all` keep.
 use Rattle.std.proofs.Common.{◌≤◌, ◌-◌, length, take}
 use Rattle.std.specs.Io.KnownBytes.{Appends}
-use Rattle.pd_report.proofs.output.write_all_counted.Given as goal
+use Rattle.pd_report.proofs.output.try_write_all.Given as goal
 
 abbrev pub invariant-loop-taken : goal.invariant-loop-taken
 invariant-loop-taken g l = record {

@@ -2,7 +2,7 @@
 use Rattle.std.proofs.Common.{◌≡◌, ℕ, ◌-◌, List, ◌++◌, length, take, drop, length-drop, take-add, Some, None, Option, ap, ◌∙◌, arith, append_assoc}
 use Rattle.std.specs.Io.KnownBytes.{Appends}
 use Rattle.std.proofs.lemmas.List.{take_rest}
-use Rattle.pd_peers.proofs.kept_stream.write_part.Goals as goal
+use Rattle.pd_report.proofs.output.try_write_all.Goals as goal
 
 -- bytes after bytes
 appends_on : (a b c : Option (List ℕ)) (xs ys : List ℕ) → Appends a b xs → Appends b c ys → Appends a c (xs ++ ys)
