@@ -1,12 +1,12 @@
 -- The bytes of a document with what is asked say what it says, but for that.
-use Rattle.std.proofs.Common.{◌≡◌, ℕ, ◌+◌, ◌≤◌, ◌<◌, ◌⊎◌, Bool, true, false, List, [], ◌∷◌, length, Option, Some, None, option_map, Ordering, Less, Equal, Greater, refl, sym, ap, subst, ◌∙◌, inl, inr, lt-ltb, le-ltb, arith}
+use Rattle.std.proofs.Common.{◌≡◌, ◌≢◌, ℕ, ◌+◌, ◌≤◌, ◌<◌, ◌⊎◌, Bool, true, false, List, [], ◌∷◌, length, Option, Some, None, option_map, Ordering, Less, Equal, Greater, refl, sym, ap, ◌∙◌, inl, inr, lt-ltb, le-ltb, arith}
 use Rattle.std.proofs.lemmas.Bool.{cases_lt}
 use Rattle.std.specs.Prelude.{Err, if◌then◌else◌}
 use Rattle.std.specs.Ordering.{match_ordering}
 use Rattle.std.specs.Str.{is_utf8}
 use Rattle.json.specs.Lex.{tokens}
 use Rattle.json.specs.Print.{print}
-use Rattle.serde_json.specs.Data.{Data, null, boolean, number, string, array, object, Items, Members, no_members, member, put, depth, items_depth, members_depth}
+use Rattle.serde_json.specs.Data.{Data, null, boolean, number, string, array, object, Members, no_members, member, put, depth, items_depth, members_depth}
 use Rattle.serde_json.specs.Read.{max_depth, read}
 use Rattle.serde_json.proofs.Nesting.{depth-read}
 use Rattle.pd_format.specs.Documents.{Long, outline_of_bytes}
@@ -99,13 +99,13 @@ pub asked_is_read : (asks : Asks) (bytes : List ℕ) (value : Data) → json_val
 asked_is_read asks bytes value is =
     asked_depth asks value (depth-read bytes value (read_if (is_utf8 bytes) (read bytes) value is))
 
-pub changed : (asks : Asks) (bytes asked : List ℕ) → length bytes ≤ document_byte_limit
+pub changed : (asks : Asks) (bytes asked : List ℕ) → asks ≢ nothing_else → length bytes ≤ document_byte_limit
     → json_value asked ≡ asked_json asks bytes → asked ≡ print (tokens asked) → IsAsked asks bytes asked
 unfolding outline_of_bytes
-changed asks bytes asked short is compact = go (cases_lt document_byte_limit (length asked))
+changed asks bytes asked some short is compact = go (cases_lt document_byte_limit (length asked))
   where
     go : (document_byte_limit < length asked) ⊎ (length asked ≤ document_byte_limit) → IsAsked asks bytes asked
-    go (inl long) = is_long (record { is_value = is; is_compact = compact; long = long })
+    go (inl long) = is_long some (record { is_value = is; is_compact = compact; long = long })
     go (inr fits) =
         says (rw (le-ltb document_byte_limit (length asked) fits, le-ltb document_byte_limit (length bytes) short, is)
         refl)
@@ -124,5 +124,5 @@ pub asked_of_longer : (asks : Asks) (read document asked : List ℕ) → documen
     → document_byte_limit < length document → IsAsked asks read asked → IsAsked asks document asked
 asked_of_longer asks read document asked more long (says same) =
     says (same ∙ (asked_long asks read more ∙ sym (asked_long asks document long)))
-asked_of_longer asks read document asked more long (is_long text) =
+asked_of_longer asks read document asked more long (is_long some text) =
     says (long_outline asked text.long ∙ sym (asked_long asks document long))

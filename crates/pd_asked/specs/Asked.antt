@@ -1,5 +1,5 @@
 -- A session document of which something else is asked than what it says.
-use Rattle.std.specs.Prelude.{◌≡◌, ◌<◌, ℕ, ◌+◌, nat_lt, if◌then◌else◌, List, [], ◌∷◌, ◌++◌, length, codes, decimal, Option, Some, None, option_map, Result, Err}
+use Rattle.std.specs.Prelude.{◌≡◌, ◌≢◌, ◌<◌, ℕ, ◌+◌, nat_lt, if◌then◌else◌, List, [], ◌∷◌, ◌++◌, length, codes, decimal, Option, Some, None, option_map, Result, Err}
 use Rattle.json.specs.Lex.{tokens}
 use Rattle.json.specs.Print.{print}
 use Rattle.serde_json.specs.Data.{Data, Items, Members, null, boolean, number, string, array, object, unsigned, no_items, item, no_members, member, put}
@@ -68,8 +68,8 @@ pub record IsLongText (asks : Asks) (bytes text : List ℕ) : Type 0 where
   pub is_compact : text ≡ print (tokens text)
   pub long : document_byte_limit < length text
 
--- The bytes are a document's with what is asked: they say what it says, but for that. Or its text is too long, as they
--- are.
+-- The bytes are a document's with what is asked: they say what it says, but for that. Or something is asked, and the
+-- text of the changed document is too long, as they are.
 pub data IsAsked (asks : Asks) (bytes asked : List ℕ) : Type 0 where
   says : outline_of_bytes asked ≡ asked_outline asks bytes → IsAsked asks bytes asked
-  is_long : IsLongText asks bytes asked → IsAsked asks bytes asked
+  is_long : asks ≢ nothing_else → IsLongText asks bytes asked → IsAsked asks bytes asked

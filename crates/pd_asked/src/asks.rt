@@ -1,7 +1,7 @@
 //! What is asked in place of what the document says.
 ghost use Rattle.pd_asked.specs.Views.{asks_view};
 ghost use Rattle.pd_asked.specs.Asked.{nothing_else};
-ghost use Rattle.std.specs.Prelude.{◌≡◌, true};
+ghost use Rattle.std.specs.Prelude.{◌≡◌, ◌≢◌, false, true};
 
 /// What is asked in place of what the document says.
 #[derive(Drop)]
@@ -15,7 +15,8 @@ pub struct Asks<'a> {
 impl<'a> Asks<'a> {
     /// Whether nothing is asked but what the document says.
     pub fn are_none(&self) -> bool
-        ensures { result ≡ true → asks_view self.now ≡ nothing_else }
+        ensures none { result ≡ true → asks_view self.now ≡ nothing_else }
+        ensures some { result ≡ false → asks_view self.now ≢ nothing_else }
     {
         self.width.is_none() && self.predicates.is_empty()
     }

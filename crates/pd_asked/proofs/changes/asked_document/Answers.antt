@@ -11,7 +11,7 @@ use Rattle.pd_asked.proofs.AskedDocuments.{asked_is_read, changed, long_stays, n
 use Rattle.pd_asked.proofs.changes.asked_document.Goals as goal
 
 pub returns-then-are_none : goal.returns-then-are_none
-returns-then-are_none c = rw (c.are_none.ensures c.if-are_none.true) (says (nothing_asked c.args.bytes.items))
+returns-then-are_none c = rw (c.are_none.ensures.none c.if-are_none.true) (says (nothing_asked c.args.bytes.items))
 
 pub returns-then-len-gt-DOCUMENT_BYTE_LIMIT : goal.returns-then-len-gt-DOCUMENT_BYTE_LIMIT
 returns-then-len-gt-DOCUMENT_BYTE_LIMIT c =
@@ -35,7 +35,7 @@ returns c =
     subst (λ (v : Data). depth v ≤ max_depth) (sym shown) (asked_is_read asks bytes value is) in
     let reads : read c.in_ok-text.text.items ≡ Some (asked_value asks value) =
     c.in_ok-text.ensures.reads_back flat ∙ ap Some shown in
-    changed asks bytes c.in_ok-text.text.items
+    changed asks bytes c.in_ok-text.text.items (c.are_none.ensures.some c.if-are_none.false)
     (omega (arith, c.len.ensures, c.if-len-gt-DOCUMENT_BYTE_LIMIT.false))
     (json_value-some c.in_ok-text.text.items (asked_value asks value) c.in_ok-text.ensures.utf8 reads
     ∙ sym (ap (option_map (asked_value asks)) is)) c.in_ok-text.ensures.compact

@@ -1,5 +1,5 @@
 -- One more predicate.
-use Rattle.std.proofs.Common.{◌≡◌, [], ◌∷◌, length, length-append, arith}
+use Rattle.std.proofs.Common.{[], ◌∷◌, length-append, arith}
 use Rattle.pd_asked.proofs.AskedItems.{one_more}
 use Rattle.pd_asked.proofs.changes.asked_predicates.Goals as goal
 

@@ -1,5 +1,5 @@
 -- The predicates are at their place.
-use Rattle.std.proofs.Common.{◌≡◌, ◌<◌, ◌∙◌, length, map, ap, ap₂, arith}
+use Rattle.std.proofs.Common.{◌<◌, ◌∙◌, length, map, ap, ap₂, arith}
 use Rattle.std.proofs.lemmas.Bool.Decides.{nat_tests}
 use Rattle.std.proofs.lemmas.List.{length-map}
 use Rattle.serde_json.specs.Data.{array, put}
