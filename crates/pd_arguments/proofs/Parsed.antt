@@ -16,7 +16,8 @@ use Rattle.clap.specs.declared.parser.matches.SubCommand.{SubCommand}
 use Rattle.std.specs.Prelude.{IsSomeAnd, ◌≢◌}
 use Rattle.clap.proofs.OnLiterals.{clap_on_literals}
 use Rattle.pd_arguments.specs.Statuses.{Unclear}
-use Rattle.pd_arguments.specs.Arguments.{AreOf, AsksFor, IsErrorOf, IsShownKind, monitor_app, of_fault, of_help}
+use Rattle.pd_arguments.specs.Arguments.{AreOf, AsksFor, HasFault, IsErrorOf, IsShownKind, monitor_app, of_fault, of_help, of_version}
+use Rattle.clap.specs.declared.error.kind.ErrorKind.{ErrorKind}
 use Rattle.clap.specs.declared.error.kind.ErrorKind.TheVariants.{OutOfMemory}
 
 pub monitor_is_simple : is_simple monitor_app ≡ true
@@ -62,11 +63,22 @@ pub program_fault : (app : App) (arguments : List Text) (error : Error) → app 
 program_fault app arguments error is fails =
     subst (λ (a : App). HasKind (fault_of a arguments) error) is (fails (ap is_simple_and_free is ∙ monitor_is_free))
 
+not_memory : (kind : ErrorKind) → IsShownKind kind → ¬ (kind ≡ OutOfMemory)
+not_memory kind (inl help) memory = let both = sym help ∙ memory in cc
+not_memory kind (inr version) memory = let both = sym version ∙ memory in cc
+
 pub error_found : (arguments : List Text) (error : Error) → HasKind (fault_of monitor_app arguments) error
     → IsErrorOf arguments (kind_of error)
-error_found arguments error (inl memory) other = absurd (other memory)
-error_found arguments error (inr among) other =
-    (λ shown. of_help (kind_of error) shown among, λ not_shown. of_fault (kind_of error) not_shown among)
+error_found arguments error (inl memory) = record {
+  help = λ is. absurd (not_memory (kind_of error) (inl is) memory);
+  version = λ is. absurd (not_memory (kind_of error) (inr is) memory);
+  unclear = λ other _. absurd (other memory);
+}
+error_found arguments error (inr among) = record {
+  help = λ is. of_help (subst (HasFault arguments) is among);
+  version = λ is. of_version (subst (HasFault arguments) is among);
+  unclear = λ _ not_shown. of_fault (kind_of error) not_shown among;
+}
 
 -- ---- a subcommand, by its name and its rows
 
@@ -102,4 +114,8 @@ named_by_rows command arguments m rows same found = name_in_rows m ∙ ap (optio
 -- arguments that ask for nothing that can be done
 pub unclear_found : (arguments : List Text) (error : Error) → AsksFor arguments Unclear
     → (kind_of error ≢ OutOfMemory → ¬ IsShownKind (kind_of error)) → IsErrorOf arguments (kind_of error)
-unclear_found arguments error unclear is other = (λ shown. absurd (is other shown), λ _. unclear)
+unclear_found arguments error unclear is = record {
+  help = λ help. absurd (is (λ memory. not_memory (kind_of error) (inl help) memory) (inl help));
+  version = λ version. absurd (is (λ memory. not_memory (kind_of error) (inr version) memory) (inr version));
+  unclear = λ _ _. unclear;
+}

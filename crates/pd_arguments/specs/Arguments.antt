@@ -16,7 +16,7 @@ use Rattle.pd_wish.specs.declared.extent.Extent.{Extent}
 use Rattle.pd_wish.specs.declared.extent.Extent.TheVariants.{Around, From, All}
 use Rattle.pd_wish.specs.declared.kind.Kind.{Kind}
 use Rattle.pd_wish.specs.declared.kind.Kind.TheVariants.{Possibly, Definitely}
-use Rattle.pd_arguments.specs.Statuses.{Request, JudgeInput, JudgeFiles, CheckFiles, ServeStreams, ShowHelp, Unclear}
+use Rattle.pd_arguments.specs.Statuses.{Request, JudgeInput, JudgeFiles, CheckFiles, ServeStreams, ShowHelp, ShowVersion, Unclear}
 
 -- ---- limits
 
@@ -357,7 +357,8 @@ pub data AsksFor (arguments : List Text) : Request → Type 0 where
       → NamesKeep rows keep → NamesAsks rows asks → NamesWorkers rows workers
       → SaysBeyondWidth rows beyond_width → NamesConditions rows fail_on
       → AsksFor arguments (ServeStreams beyond_width fail_on asks document port watchers wait keep)
-  of_help : (kind : ErrorKind) → IsShownKind kind → HasFault arguments kind → AsksFor arguments ShowHelp
+  of_help : HasFault arguments DisplayHelp → AsksFor arguments ShowHelp
+  of_version : HasFault arguments DisplayVersion → AsksFor arguments ShowVersion
   of_fault : (kind : ErrorKind) → ¬ IsShownKind kind → HasFault arguments kind → AsksFor arguments Unclear
   of_missing : (command : Text) (rows : List Row) → TakesStreams command → AreOf command arguments rows
       → LacksSession rows → AsksFor arguments Unclear
@@ -395,11 +396,12 @@ pub record AsksToExplore (arguments : List Text) (beyond_width : Bool) (asks : A
   pub names_workers : NamesWorkers rows workers
   pub says_beyond_width : SaysBeyondWidth rows beyond_width
 
--- A parse that gives no request says so: its error has a text to show, or one that reports what is wrong; or memory ran
--- out.
-abbrev pub IsErrorOf : List Text → ErrorKind → Type 0
-IsErrorOf arguments kind = kind ≢ OutOfMemory → (IsShownKind kind → AsksFor arguments ShowHelp)
-    × (¬ IsShownKind kind → AsksFor arguments Unclear)
+-- A parse that gives no request says why by its error: the help or the version is asked for, or something is wrong; or
+-- memory ran out.
+pub record IsErrorOf (arguments : List Text) (kind : ErrorKind) : Type 0 where
+  pub help : kind ≡ DisplayHelp → AsksFor arguments ShowHelp
+  pub version : kind ≡ DisplayVersion → AsksFor arguments ShowVersion
+  pub unclear : kind ≢ OutOfMemory → ¬ IsShownKind kind → AsksFor arguments Unclear
 
 -- the names of a session's files, or that one is missing
 abbrev pub FindsSession : List Row → Option (Text × List Text) → Type 0

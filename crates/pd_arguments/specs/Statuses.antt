@@ -27,6 +27,8 @@ pub data Request : Type 0 where
       (wait : Option ℕ) (keep : Option (List ℕ)) → Request
   -- to show the help
   ShowHelp : Request
+  -- to say which version of the program this is
+  ShowVersion : Request
   -- the arguments ask for nothing that can be done
   Unclear : Request
 
@@ -287,6 +289,23 @@ HelpLeaves (Failed WriteFailure) old new = ⊤
 HelpLeaves (Failed BundleFailure) old new = ⊥
 HelpLeaves (Failed NetworkFailure) old new = ⊥
 
+-- the line that names the program and its version
+abbrev pub IsVersionLine : List ℕ → Type 0
+IsVersionLine text = text ≡ codes "monitor 1.0.0\n"
+
+-- That line is written, or the output fails: that line or a prefix of it.
+abbrev pub VersionLeaves : Ending → (old new : Option (List ℕ)) → Type 0
+VersionLeaves Success old new = Writes IsVersionLine Whole old new
+VersionLeaves Negative old new = ⊥
+VersionLeaves Alarm old new = ⊥
+VersionLeaves NoPredicate old new = ⊥
+VersionLeaves Misuse old new = ⊥
+VersionLeaves (Failed MemoryFailure) old new = Keeps old new
+VersionLeaves (Failed ReadFailure) old new = ⊥
+VersionLeaves (Failed WriteFailure) old new = WritesUpTo IsVersionLine old new
+VersionLeaves (Failed BundleFailure) old new = ⊥
+VersionLeaves (Failed NetworkFailure) old new = ⊥
+
 -- Arguments that ask for nothing are refused, and nothing is written.
 abbrev pub MisuseLeaves : Ending → (old new : Option (List ℕ)) → Type 0
 MisuseLeaves Success old new = ⊥
@@ -322,6 +341,7 @@ Leaves on input files connections (ServeStreams beyond_width fail_on asks docume
     HoldsAsked asks (files document) (λ d. ServiceLeaves beyond_width fail_on (Some d) (connections port)
     on.connections_are_read (FilesMayFail on) (ServiceMayFail wait on.network_serves) (keep ≢ None) ending old new)
 Leaves on input files connections ShowHelp ending old new = HelpLeaves ending old new
+Leaves on input files connections ShowVersion ending old new = VersionLeaves ending old new
 Leaves on input files connections Unclear ending old new = MisuseLeaves ending old new
 
 -- ---- a run

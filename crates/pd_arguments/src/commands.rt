@@ -3,6 +3,7 @@ ghost use Rattle.clap.specs.Simple.{app_of};
 ghost use Rattle.clap.specs.Walk.{rule_of};
 ghost use Rattle.clap.specs.declared.builder.command.Command.TheViews.{out-Command};
 ghost use Rattle.pd_arguments.specs.Arguments.{AddsCommand, all_rule, ask_rule, beyond_width_rule, check_app, document_app, draw_app, explore_app, fail_on_rule, from_rule, judge_app, judging_app, keep_rule, kind_rule, monitor_app, number_rule, plain_app, port_rule, predicate_rule, report_app, required_rule, serve_app, stream_rule, wait_rule, watchers_rule, width_rule, workers_rule};
+ghost use Rattle.pd_arguments.specs.Statuses.{IsVersionLine};
 ghost use Rattle.std.specs.Prelude.{◌≡◌, IfOk, false};
 
 use clap::builder::ValueParser;
@@ -10,8 +11,15 @@ use clap::{Arg, ArgAction, Command};
 use pd_format::{WIDTH_LIMIT, WORKER_LIMIT};
 use std::alloc::{AllocError, Global};
 
-/// The program's version.
+/// The program's version, as [`version_line`] says it too.
 const VERSION: &str = "1.0.0";
+
+/// The line that names the program and its version, which `--version` writes.
+pub fn version_line() -> &'static str
+    ensures { IsVersionLine result.now }
+{
+    "monitor 1.0.0\n"
+}
 
 /// What the program's help says of it.
 const ABOUT: &str =
@@ -111,7 +119,7 @@ const SERVE_AFTER: &str =
 is written to the standard output once all of them have ended and all watchers were answered. The status is 0 if \
 the session is judged, 1 if it is refused, 2 if the arguments are refused, 3 if the document can't be read, a port \
 can't be bound, a stream can't be accepted or the output can't be written, and 4 if memory runs out.\n\n\
-With --wait the status is 3 if not all streams have connected when so many seconds have passed since the start.\n\n\
+With --wait the status is 3 if not all streams have connected so many seconds after the document was read.\n\n\
 With --keep the status is 3 if something of the session can't be kept, as in a folder that has files already; nothing \
 is ever written over.\n\n\
 With --fail-on the status may be 5, as that of `judge`, whose help says what LIST is.\n\n\

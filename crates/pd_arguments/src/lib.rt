@@ -17,5 +17,6 @@ mod request;
 mod workers;
 
 pub use arguments::parse;
+pub use commands::version_line;
 pub use request::{Exploration, Judgement, Request, Service, SessionNames};
 pub use workers::Workers;

@@ -2,7 +2,7 @@
 ghost use Rattle.clap.specs.Values.{kind_of};
 ghost use Rattle.pd_arguments.specs.Arguments.{IsShownKind};
 ghost use Rattle.pd_cli.specs.Faults.{IsUnreadLine};
-ghost use Rattle.pd_arguments.specs.Statuses.{Ends, HelpLeaves, MisuseLeaves, IsLineOf, MemoryFailure, Failed, WritesUpTo};
+ghost use Rattle.pd_arguments.specs.Statuses.{Ends, HelpLeaves, VersionLeaves, MisuseLeaves, IsLineOf, MemoryFailure, Failed, WritesUpTo};
 ghost use Rattle.std.specs.IoError.{error_kind};
 ghost use Rattle.std.specs.Io.KnownBytes.{Keeps};
 ghost use Rattle.std.specs.Prelude.{◌≡◌, ◌≢◌};
@@ -11,6 +11,8 @@ use super::line::write_line;
 use super::status::{MISUSED, SUCCESS, report_fault};
 use clap::Error;
 use clap::error::ErrorKind;
+use pd_arguments::version_line;
+use pd_report::write_all_counted;
 use pd_sessions::EngineFault;
 use std::io;
 use std::io::{ErrorKind as IoErrorKind, Write};
@@ -32,8 +34,24 @@ fn report_shown<O: Write, E: Write>(text: &Error, output: &mut O, errors: &mut E
     }
 }
 
-/// Writes what the parser has to say, and gives the exit status: help goes to the output, and everything else to the
-/// errors.
+/// Writes the line that names the program and its version, flushes the output, and gives the exit status.
+fn report_version<O: Write, E: Write>(output: &mut O, errors: &mut E) -> u8
+    ensures { Ends (λ ending. VersionLeaves ending (O.contents output.old) (O.contents output.new))
+        result (E.contents errors.old) (E.contents errors.new) }
+{
+    match write_all_counted(version_line().as_bytes(), output) {
+        Ok(()) => {
+            if output.flush().is_err() {
+                return report_fault(&EngineFault::Write, errors);
+            }
+            SUCCESS
+        }
+        Err(_) => report_fault(&EngineFault::Write, errors),
+    }
+}
+
+/// Writes what the parser has to say, and gives the exit status: help and the version go to the output, and everything
+/// else to the errors.
 pub(crate) fn report_parser_error<O: Write, E: Write>(
     error: &Error,
     output: &mut O,
@@ -42,8 +60,11 @@ pub(crate) fn report_parser_error<O: Write, E: Write>(
     ensures memory { kind_of error.now ≡ ErrorKind.OutOfMemory
         → Ends (λ ending. (ending ≡ Failed MemoryFailure) × Keeps (O.contents output.old) (O.contents output.new))
         result (E.contents errors.old) (E.contents errors.new) }
-    ensures shown { IsShownKind (kind_of error.now)
+    ensures help { kind_of error.now ≡ ErrorKind.DisplayHelp
         → Ends (λ ending. HelpLeaves ending (O.contents output.old) (O.contents output.new))
+        result (E.contents errors.old) (E.contents errors.new) }
+    ensures version { kind_of error.now ≡ ErrorKind.DisplayVersion
+        → Ends (λ ending. VersionLeaves ending (O.contents output.old) (O.contents output.new))
         result (E.contents errors.old) (E.contents errors.new) }
     ensures misused { kind_of error.now ≢ ErrorKind.OutOfMemory → ¬ IsShownKind (kind_of error.now)
         → Ends (λ ending. MisuseLeaves ending (O.contents output.old) (O.contents output.new))
@@ -51,6 +72,7 @@ pub(crate) fn report_parser_error<O: Write, E: Write>(
 {
     match error.kind() {
         ErrorKind::OutOfMemory => report_fault(&EngineFault::Memory, errors),
+        ErrorKind::DisplayVersion => report_version(output, errors),
         _ if error.use_stderr() => {
             let _ = write!(errors, "{error}");
             MISUSED

@@ -1,10 +1,8 @@
 -- What is asked of a picture, by what the parser found.
 use Rattle.std.proofs.Common.{◌≡◌, List, ℕ, None, Option, Some, ap, codes, option_map, subst, sym, ◌∙◌, Bor}
-use Rattle.std.specs.Prelude.{MatchOption}
 use Rattle.clap.proofs.WalkLemmas.{first_value-rows}
 use Rattle.clap.specs.Matches.{found_of}
 use Rattle.clap.specs.Walk.{Text, first_of, rows_of}
-use Rattle.pd_wish.specs.declared.extent.Extent.{Extent}
 use Rattle.pd_wish.specs.declared.kind.Kind.{Kind}
 use Rattle.pd_arguments.specs.Arguments.{FindsExtent, NamesKind, kind_text}
 use Rattle.pd_arguments.proofs.Wishes.{mapped, no_kind}

@@ -177,7 +177,11 @@ returns-in-Err g c = record {
         (g.N.Network.may_give c.args.network.now) c.report_parser_error.result (g.O.Write.contents c.args.output.now)
         (g.O.Write.contents c.report_parser_error.new.output) (g.E.Write.contents c.args.errors.now)
         (g.E.Write.contents c.report_parser_error.new.errors) (kind_of c.in-Err.error) c.in-Err.ensures.refused
-        c.report_parser_error.ensures.memory c.report_parser_error.ensures.shown
-        c.report_parser_error.ensures.misused);
+        (record {
+          memory = c.report_parser_error.ensures.memory;
+          help = c.report_parser_error.ensures.help;
+          version = c.report_parser_error.ensures.version;
+          misused = c.report_parser_error.ensures.misused;
+        }));
   };
 }
