@@ -1,6 +1,6 @@
 //! A stream that is kept while it is read.
 ghost use Rattle.pd_peers.specs.Kept.{KeepsOn};
-ghost use Rattle.std.specs.Prelude.{◌≡◌, true};
+ghost use Rattle.std.specs.Prelude.{◌≡◌, IfErr, IfOk, false, true};
 
 use pd_report::try_write_all;
 use std::io;
@@ -30,9 +30,11 @@ impl<W: Write> KeptStream<W> {
     /// Keeps the next bytes that came: all of them, or a prefix of them, and then nothing that comes after them.
     ///
     /// # Errors
-    /// What kept it from writing, the first time.
+    /// What kept it from writing, the first time: as long as there is no error, all that came is written.
     pub fn keep(&mut self, bytes: &[u8]) -> io::Result<()>
-        ensures { KeepsOn self.old.is_whole self.new.is_whole (W.contents self.old.sink) (W.contents self.new.sink)
+        ensures ok { IfOk result (λ _. self.old.is_whole ≡ true → self.new.is_whole ≡ true) }
+        ensures err { IfErr result (λ _. (self.old.is_whole ≡ true) × (self.new.is_whole ≡ false)) }
+        ensures kept { KeepsOn self.old.is_whole self.new.is_whole (W.contents self.old.sink) (W.contents self.new.sink)
             bytes.now }
     {
         if !self.is_whole {

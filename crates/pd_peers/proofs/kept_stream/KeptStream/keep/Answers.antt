@@ -4,8 +4,8 @@ use Rattle.std.proofs.Math.Seq.{take-length}
 use Rattle.std.specs.Io.KnownBytes.{Appends}
 use Rattle.pd_peers.proofs.kept_stream.KeptStream.keep.Goals as goal
 
-pub returns-in-Ok : goal.returns-in-Ok
-returns-in-Ok g c = record {
+pub returns-in-Ok-clause-kept : goal.returns-in-Ok-clause-kept
+returns-in-Ok-clause-kept g c = record {
   part = (
     length c.args.bytes.now,
     subst (λ (bytes : List ℕ). Appends (g.W.Write.contents c.args.self.now.sink)
