@@ -1,4 +1,5 @@
 -- The modules of lemmas of this crate.
 pub mod SessionFindings
 pub mod SessionDrawings
+pub mod StatedCycles
 pub mod WrittenPictures

@@ -26,10 +26,11 @@ use Rattle.pd_draw.specs.declared.drawn.Drawn.{Drawn}
 use Rattle.pd_draw.specs.declared.drawn.Drawn.TheVariants as drawn
 use Rattle.pd_sessions.specs.Computations.{AreWellFormed}
 use Rattle.pd_claims.specs.Sessions.{IsRead}
-use Rattle.pd_claims.specs.Drawings.{DrawsCycle, DrawsFormed, DrawsOf, DrawsTraces, IsAgainst}
+use Rattle.pd_claims.specs.Drawings.{DrawsCycle, DrawsFormed, DrawsOf, DrawsTraces, IsAgainst, NeedsNoPicture}
 use Rattle.pd_sessions.specs.SessionReports.{IsReportOfInputs}
 use Rattle.pd_sessions.proofs.FitTraces.{same_events}
 use Rattle.pd_claims.proofs.SessionFindings.{refusal_found, unread_found}
+use Rattle.pd_claims.proofs.StatedCycles.{formed_unrefused, refused_undrawn}
 
 -- the events of the traces are those that are recorded
 pub events_recorded : (document : Document) (traces : List Read) (recorded : Recorded) (count : ℕ)
@@ -128,6 +129,8 @@ module _ (bytes : List ℕ) (inputs : List (Option (List ℕ))) (never_fails : B
     right = finding_of_session bytes report read.streams document traces draws.messages claimed (finding_view finding)
         is_report (held (drawn.Bad finding) draws) draws.comes.found;
     stands = draws.comes.stands;
+    undrawn = λ same. absurd (formed_unrefused document traces draws.messages claimed (finding_view finding)
+        draws.comes.found same);
   }
   session_drawn drawn.NoPredicate draws report is_report = record {
     streams = read.streams;
@@ -167,14 +170,15 @@ refusal_stands refusal claimed wish finding (of_refused_session good right) = re
 pub refusal_drawn : (bytes : List ℕ) (inputs : List (Option (List ℕ))) (never_fails : Bool) (refusal : Refusal)
     (claimed : Report)
     (wish : Wished) (finding : Finding) → IsReportOfInputs (plain bytes) inputs never_fails (Refused refusal)
-    → IsFoundOfRefused refusal claimed finding → (report : List ℕ) → IsReport report claimed
-    → IsAgainst bytes report inputs never_fails wish finding
-refusal_drawn bytes inputs never_fails refusal claimed wish finding refused found report is_report =
+    → NeedsNoPicture claimed (Refused refusal) → IsFoundOfRefused refusal claimed finding
+    → (report : List ℕ) → IsReport report claimed → IsAgainst bytes report inputs never_fails wish finding
+refusal_drawn bytes inputs never_fails refusal claimed wish finding refused undrawn found report is_report =
     let finds = refusal_found bytes inputs never_fails refusal claimed finding refused found in record {
       streams = finds.streams;
       are_given = finds.are_given;
       right = finds.right report is_report;
       stands = refusal_stands refusal claimed wish finding found;
+      undrawn = refused_undrawn report refusal claimed finding found is_report undrawn;
     }
 
 -- a report that isn't read
@@ -186,4 +190,5 @@ unread_drawn bytes report inputs never_fails wish line none =
       are_given = finds.are_given;
       right = finds.right;
       stands = refl;
+      undrawn = λ same. absurd (cc);
     }

@@ -1,14 +1,14 @@
 -- What is drawn by a document's bytes, a report's bytes and the streams that readers gave.
-use Rattle.std.specs.Prelude.{◌≡◌, ◌⊎◌, ℕ, Bool, true, List, length, Option, Some, Result, Ok, Err}
+use Rattle.std.specs.Prelude.{◌≡◌, ◌≢◌, ◌⊎◌, ℕ, Bool, true, List, length, Option, Some, Result, Ok, Err}
 use Rattle.std.specs.Io.KnownBytes.{Keeps}
 use Rattle.std.specs.List.{AllZip}
 use Rattle.pd_model.specs.Events.{Place}
 use Rattle.pd_model.specs.Messages.{HasMessages, IsMessageList}
 use Rattle.pd_model.specs.Order.{IsWellFormed}
 use Rattle.pd_format.specs.Documents.{Document, IsDocument}
-use Rattle.pd_format.specs.OtherTexts.{Checked, Finding, OfSession, check_text}
+use Rattle.pd_format.specs.OtherTexts.{Checked, Finding, OfRefusal, OfSession, check_text}
 use Rattle.pd_format.specs.Readings.{Trace}
-use Rattle.pd_format.specs.Reports.{IsReport, Refusal, Report}
+use Rattle.pd_format.specs.Reports.{IsReport, NamedPlace, Refusal, Report}
 use Rattle.pd_format.specs.Reports as reports
 use Rattle.pd_format.specs.Sessions.{StreamResult, session}
 use Rattle.pd_judgement.specs.Findings.{IsFinding, IsSessionOf}
@@ -48,6 +48,11 @@ pub record DrawsCycle (document : Document) (traces : List Trace) (claimed : Rep
   pub pairs : List (Place × Place)
   pub are_pairs : IsMessageList (events_of_traces traces) pairs
   pub drawn : IsRefusalDrawn document (events_of_traces traces) pairs refusal extent picture
+
+-- if the report is the one that is due, it isn't the refusal of a causal cycle, of which there is a picture
+abbrev pub NeedsNoPicture : (claimed due : Report) → Type 0
+NeedsNoPicture claimed due =
+    claimed ≡ due → (places : List NamedPlace) → due ≢ reports.Refused (reports.Cycle places)
 
 -- what comes of a session's traces and a report on it
 abbrev pub DrawsTraces : (document : Document) (traces : List Trace) (claimed : Report) (wish : Wished) → Drawn
@@ -94,13 +99,16 @@ pub record IsPictureOfCycle (bytes report : List ℕ) (inputs : List (Option (Li
   pub read : IsReport report claimed
   pub draws : DrawsCycle document traces claimed extent picture
 
--- what a check finds, which stands against a picture
+-- What a check finds, which stands against a picture. It isn't that the session is refused for a causal cycle as the
+-- report says: that cycle is drawn.
 pub record IsAgainst (bytes report : List ℕ) (inputs : List (Option (List ℕ))) (never_fails : Bool)
     (wish : Wished) (finding : Finding) : Type 0 where
   pub streams : List RawStream
   pub are_given : AllZip (IsGivenAs never_fails) inputs streams
   pub right : IsFinding bytes report streams finding
   pub stands : stands_against wish finding ≡ true
+  pub undrawn : finding ≡ OfRefusal true → (places : List NamedPlace)
+      → ¬ IsReport report (reports.Refused (reports.Cycle places))
 
 -- a check finds verdicts on predicates of which none has this name
 pub record LacksPredicate (bytes report : List ℕ) (inputs : List (Option (List ℕ))) (never_fails : Bool)

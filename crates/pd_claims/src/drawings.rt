@@ -1,5 +1,5 @@
 //! Draws a report's evidence.
-ghost use Rattle.pd_claims.specs.Drawings.{Draws, DrawsOf, DrawsTraces, ShowsEnd, WritesPicture};
+ghost use Rattle.pd_claims.specs.Drawings.{Draws, DrawsOf, DrawsTraces, NeedsNoPicture, ShowsEnd, WritesPicture};
 ghost use Rattle.pd_match.specs.Views.{pairs_view};
 ghost use Rattle.pd_model.specs.Messages.{IsMessageList};
 ghost use Rattle.pd_sessions.specs.Computations.{AreWellFormed};
@@ -79,11 +79,13 @@ fn draw_unanswered(
     unanswered: Unanswered,
 ) -> Result<Drawn, Unanswered>
     requires messages { IsMessageList (computation_view traces.now) (pairs_view pairs.now) }
+    requires traces { AreTraces (document_view spec.now).names traces.now }
     requires refused { IsUnanswered (IsTracesReport (document_view spec.now) (traces_view traces.now)) unanswered }
     ensures drawn { IfOk result (DrawsTraces (document_view spec.now) (traces_view traces.now)
         (report_view claimed.now) (wish_view wish.now)) }
     ensures refused { IfErr result (IsUnanswered (IsTracesReport (document_view spec.now)
         (traces_view traces.now))) }
+    ensures undrawn { IfErr result (IsUnanswered (NeedsNoPicture (report_view claimed.now))) }
 {
     match unanswered {
         Unanswered::Refused(refusal) => {
@@ -111,6 +113,7 @@ fn draw_traces<S: RandomSource>(
         (report_view claimed.now) (wish_view wish.now)) }
     ensures refused { IfErr result (IsUnanswered (IsTracesReport (document_view spec.now)
         (traces_view traces.now))) }
+    ensures undrawn { IfErr result (IsUnanswered (NeedsNoPicture (report_view claimed.now))) }
 {
     let matched = messages_of(rt, alloc, spec, traces)?;
     let pairs = matched.pairs(alloc)?;
@@ -143,6 +146,7 @@ fn draw_session<S: RandomSource + Threads + Wait + Sync, R: ByteSource + Send + 
         (map R.remaining streams.items) R.never_fails (wish_view wish.now)) }
     ensures refused { IfErr result (IsUnanswered
         (IsReportOfInputs (plain document.now) (map R.remaining streams.items) R.never_fails)) }
+    ensures undrawn { IfErr result (IsUnanswered (NeedsNoPicture (report_view claimed.now))) }
 {
     let session = read_session(rt, alloc, document, streams)?;
     let drawn = draw_traces(rt, alloc, &session.spec, claimed, &session.traces, wish)?;
@@ -242,7 +246,7 @@ pub fn draw<S: RandomSource + Threads + Wait + Sync, R: ByteSource + Send + Drop
     ensures written { WritesPicture spec.now report.now (map R.remaining streams.items) R.never_fails
         (wish_view wish.now) result (W.contents writer.old) (W.contents writer.new) }
     // What stands against a picture is what a check finds, or that no predicate has the name, or the evidence,
-    // that is asked for.
+    // that is asked for; and never that the session is refused for a causal cycle as the report says.
     ensures shown { IfOk result (ShowsEnd spec.now report.now (map R.remaining streams.items)
         R.never_fails (wish_view wish.now)) }
     ensures err { IfErr result (λ fault. (fault ≡ EngineFault.Memory) ⊎ (fault ≡ EngineFault.Write)) }

@@ -3,7 +3,7 @@ ghost use Rattle.pd_claims.specs.Sessions.{IsRead};
 ghost use Rattle.pd_format.specs.Documents.{plain};
 ghost use Rattle.pd_gather.specs.Views.{traces_view};
 ghost use Rattle.pd_sessions.specs.SessionReports.{IsReportOfInputs};
-ghost use Rattle.pd_sessions.specs.Unanswered.{IsUnanswered};
+ghost use Rattle.pd_sessions.specs.Unanswered.{IsUnanswered, NamesNoCycle};
 ghost use Rattle.pd_spec.specs.Views.{document_view};
 ghost use Rattle.pd_traces.specs.SessionTraces.{AreTraces};
 ghost use Rattle.std.specs.Prelude.{◌≡◌, All, IfErr, IfOk, false, map};
@@ -37,6 +37,7 @@ pub(crate) fn read_session<T: Threads + Wait + Sync, R: ByteSource + Send + Drop
     ensures fit { IfOk result (λ session. AreTraces (document_view session.spec).names session.traces.items) }
     ensures refused { IfErr result (IsUnanswered
         (IsReportOfInputs (plain document.now) (map R.remaining streams.items) R.never_fails)) }
+    ensures no_cycle { IfErr result (IsUnanswered NamesNoCycle) }
 {
     let spec = read_document(alloc, document)?;
     let gathered = read_streams(rt, alloc, &spec, streams)?;

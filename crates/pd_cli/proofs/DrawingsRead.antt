@@ -76,6 +76,7 @@ module _ (read document report : List ℕ) (files lefts : List (Option (List ℕ
             are_given = given_as_files never_fails files lefts is.streams are is.are_given;
             right = same_finding read document report is.streams h.is_against.finding same is.right;
             stands = is.stands;
+            undrawn = is.undrawn;
           };
           is_text = h.is_against.is_text;
         };

@@ -1,9 +1,10 @@
 -- The picture of a session that is refused for a causal cycle.
-use Rattle.std.specs.Prelude.{◌≡◌, ℕ, List, ◌++◌, codes, map}
+use Rattle.std.specs.Prelude.{◌≡◌, ◌<◌, ℕ, All, List, ◌++◌, codes, length, map}
 use Rattle.pd_model.specs.Events.{Computation, Place}
 use Rattle.pd_format.specs.Documents.{Document}
+use Rattle.pd_format.specs.Names.{ProcessNames, name_of_process}
 use Rattle.pd_format.specs.RefusalWords.{named_place}
-use Rattle.pd_format.specs.Reports.{Cycle, NamedPlace, Refusal, place_text, with_commas}
+use Rattle.pd_format.specs.Reports.{Cycle, NamedPlace, Refusal, Refused, Report, place_text, with_commas}
 use Rattle.pd_picture.specs.Cycles.{IsCyclePicture}
 use Rattle.pd_svg.specs.declared.drawing.Drawing.{Drawing}
 use Rattle.pd_wish.specs.declared.extent.Extent.{Extent}
@@ -26,3 +27,15 @@ pub record IsRefusalDrawn (document : Document) (events : Computation) (pairs : 
   pub places : List NamedPlace
   pub is_cycle : refusal ≡ Cycle places
   pub drawn : IsCycleDrawn document events pairs places extent drawing
+
+-- the place is one of a process that is among these
+abbrev pub IsOfProcess : List ProcessNames → NamedPlace → Type 0
+IsOfProcess names place = (p : ℕ) × (p < length names) × (place.name ≡ name_of_process names p)
+
+-- if the refusal is that of a cycle, each of its places is one of a process that is among these
+abbrev pub NamesProcesses : List ProcessNames → Refusal → Type 0
+NamesProcesses names refusal = (places : List NamedPlace) → refusal ≡ Cycle places → All (IsOfProcess names) places
+
+-- the refusal is that of a cycle, and the report states it
+abbrev pub StatesCycle : (claimed : Report) → Refusal → Type 0
+StatesCycle claimed refusal = (places : List NamedPlace) × (refusal ≡ Cycle places) × (claimed ≡ Refused refusal)

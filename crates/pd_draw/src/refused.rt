@@ -1,6 +1,13 @@
 //! The picture of a session that is refused for a causal cycle.
 ghost use Rattle.pd_clock.specs.Orders.{places_view};
-ghost use Rattle.pd_draw.specs.Cycles.{IsCycleDrawn, IsRefusalDrawn, cycle_title};
+ghost use Rattle.pd_draw.specs.Cycles.{
+  IsCycleDrawn,
+  IsOfProcess,
+  IsRefusalDrawn,
+  NamesProcesses,
+  StatesCycle,
+  cycle_title,
+};
 ghost use Rattle.pd_draw.specs.Drawn.{process_names};
 ghost use Rattle.pd_format.specs.RefusalWords.{named_place};
 ghost use Rattle.pd_format.specs.Reports.{place_text, with_commas};
@@ -11,7 +18,7 @@ ghost use Rattle.pd_picture.specs.Cycles.{IsCyclePicture};
 ghost use Rattle.pd_report.specs.Views as views;
 ghost use Rattle.pd_spec.specs.Views.{document_view};
 ghost use Rattle.pd_traces.specs.Views.{computation_view};
-ghost use Rattle.std.specs.Prelude.{◌≡◌, ◌++◌, IfOk, IfSome, OnOk, map, string_bytes, true};
+ghost use Rattle.std.specs.Prelude.{◌≡◌, ◌↔◌, ◌++◌, All, IfOk, IfSome, IsTrue, MatchOption, None, OnOk, map, string_bytes};
 
 use super::drawn::lane_names;
 use pd_check::find_refused;
@@ -27,8 +34,8 @@ use std::alloc::{AllocError, Global};
 
 /// The place of an event by the name of its process, if there is such a process.
 fn place_of(names: &Names, name: &str, number: u64) -> Option<Place>
-    ensures { IfSome result (λ place. named_place names.now (place_view place)
-        ≡ record { name = name.now; number = number }) }
+    ensures { MatchOption result (¬ IsOfProcess names.now (record { name = name.now; number = number }))
+        (λ place. named_place names.now (place_view place) ≡ record { name = name.now; number = number }) }
 {
     match names.find(name) {
         Some(process) => Some(Place { process, number }),
@@ -42,8 +49,9 @@ fn cycle_of(
     names: &Names,
     places: &[(String, u64)],
 ) -> Result<Option<Vec<Place>>, AllocError>
-    ensures { IfOk result (λ found. IfSome found (λ cycle. map (named_place names.now) (places_view cycle.items)
-        ≡ views.named_places_view places.now)) }
+    ensures { IfOk result (λ found. MatchOption found
+        (¬ All (IsOfProcess names.now) (views.named_places_view places.now))
+        (λ cycle. map (named_place names.now) (places_view cycle.items) ≡ views.named_places_view places.now)) }
 {
     let mut cycle = Vec::with_capacity(alloc, places.len())?;
     for (name, number) in places {
@@ -93,7 +101,7 @@ fn cycle_title(alloc: Global, places: &[(String, u64)]) -> Result<String, AllocE
 
 /// Whether the report is this refusal.
 fn is_claimed(claimed: &Report, refusal: &Refusal) -> bool
-    ensures { result ≡ true → views.report_view claimed.now ≡ reports.Refused (views.refusal_view refusal.now) }
+    ensures { IsTrue result ↔ (views.report_view claimed.now ≡ reports.Refused (views.refusal_view refusal.now)) }
 {
     find_refused(claimed, refusal).is_clean()
 }
@@ -147,8 +155,10 @@ fn draw_places(
     extent: Extent,
 ) -> Result<Option<Drawing>, AllocError>
     requires { IsMessageList (computation_view traces.now) (pairs_view pairs.now) }
-    ensures { IfOk result (λ drawn. IfSome drawn (IsCycleDrawn (document_view spec.now) (computation_view traces.now)
-        (pairs_view pairs.now) (views.named_places_view places.now) extent)) }
+    ensures { IfOk result (λ drawn. MatchOption drawn
+        (¬ All (IsOfProcess (document_view spec.now).names) (views.named_places_view places.now))
+        (IsCycleDrawn (document_view spec.now) (computation_view traces.now) (pairs_view pairs.now)
+        (views.named_places_view places.now) extent)) }
 {
     let found = cycle_of(alloc, spec.names(), places)?;
     match found {
@@ -174,11 +184,15 @@ pub fn draw_cycle(
     refusal: &Refusal,
     extent: Extent,
 ) -> Result<Option<Drawing>, AllocError>
-    requires { IsMessageList (computation_view traces.now) (pairs_view pairs.now) }
+    requires messages { IsMessageList (computation_view traces.now) (pairs_view pairs.now) }
+    requires named { NamesProcesses (document_view spec.now).names (views.refusal_view refusal.now) }
     ensures drawn { IfOk result (λ drawn. IfSome drawn (IsRefusalDrawn (document_view spec.now)
         (computation_view traces.now) (pairs_view pairs.now) (views.refusal_view refusal.now) extent)) }
     ensures claimed { IfOk result (λ drawn. IfSome drawn (λ _.
         views.report_view claimed.now ≡ reports.Refused (views.refusal_view refusal.now))) }
+    // There is no picture exactly if the session is refused for something else, or the report says something else.
+    ensures undrawn { IfOk result (λ drawn. drawn ≡ None
+        → ¬ StatesCycle (views.report_view claimed.now) (views.refusal_view refusal.now)) }
 {
     if !is_claimed(claimed, refusal) {
         return Ok(None);

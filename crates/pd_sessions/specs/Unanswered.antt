@@ -1,5 +1,5 @@
 -- Why a session comes to no answers, and which report is given of it.
-use Rattle.std.specs.Prelude.{Option, Some, None, IfSome, Result, Ok, Err}
+use Rattle.std.specs.Prelude.{◌≢◌, List, Option, Some, None, IfSome, Result, Ok, Err}
 use Rattle.pd_format.specs.Reports as reports
 use Rattle.pd_report.specs.Views.{refusal_view, report_view}
 use Rattle.pd_report.specs.declared.report.Report.{Report}
@@ -15,6 +15,10 @@ refused_report Memory = None
 -- if the session is refused, its report is such a one
 abbrev pub IsUnanswered : (reports.Report → Type 0) → Unanswered → Type 0
 IsUnanswered IsRight unanswered = IfSome (refused_report unanswered) IsRight
+
+-- the report isn't the refusal of a causal cycle
+abbrev pub NamesNoCycle : reports.Report → Type 0
+NamesNoCycle report = (places : List reports.NamedPlace) → report ≢ reports.Refused (reports.Cycle places)
 
 -- the report that is given of a session, judged or refused
 abbrev pub given_report : Result Report Unanswered → Option reports.Report

@@ -1,6 +1,6 @@
 //! The computation of a session.
 ghost use Rattle.pd_sessions.specs.Computations.{AreWellFormed};
-ghost use Rattle.pd_sessions.specs.Unanswered.{IsUnanswered};
+ghost use Rattle.pd_sessions.specs.Unanswered.{IsUnanswered, NamesNoCycle};
 ghost use Rattle.pd_traces.specs.SessionTraces.{AreTraces};
 ghost use Rattle.pd_traces.specs.Views.{computation_view};
 ghost use Rattle.pd_gather.specs.Views.{traces_view};
@@ -34,6 +34,7 @@ pub fn messages_of<S: RandomSource>(
     ensures messages { IfOk result (λ matched. IsMessageList (computation_view traces.now) matched) }
     ensures refused { IfErr result (IsUnanswered (IsTracesReport (document_view spec.now)
         (traces_view traces.now))) }
+    ensures no_cycle { IfErr result (IsUnanswered NamesNoCycle) }
 {
     match match_messages(rt, alloc, spec.version(), traces) {
         Ok(matched) => Ok(matched),

@@ -1,6 +1,6 @@
 //! Reads the document of a session.
 ghost use Rattle.pd_sessions.specs.Inquiries.{inquiry_view};
-ghost use Rattle.pd_sessions.specs.Unanswered.{IsUnanswered};
+ghost use Rattle.pd_sessions.specs.Unanswered.{IsUnanswered, NamesNoCycle};
 ghost use Rattle.pd_format.specs.Documents.{IsDocument, IsInquired, inquiry};
 ghost use Rattle.pd_judgement.specs.Judgements.{IsJudgement, RawStream};
 ghost use Rattle.pd_spec.specs.Views.{document_view};
@@ -21,6 +21,7 @@ pub fn read_document(alloc: Global, bytes: &[u8]) -> Result<Spec, Unanswered>
     ensures read { IfOk result (λ spec. IsDocument bytes.now (document_view spec)) }
     ensures refused { IfErr result (IsUnanswered (λ report. (beyond_width : Bool) (streams : List RawStream)
         → IsJudgement (inquiry beyond_width bytes.now) streams report)) }
+    ensures no_cycle { IfErr result (IsUnanswered NamesNoCycle) }
 {
     match Spec::read(alloc, bytes) {
         Ok(spec) => Ok(spec),

@@ -1,5 +1,5 @@
 //! The traces of a session.
-ghost use Rattle.pd_sessions.specs.Unanswered.{IsUnanswered};
+ghost use Rattle.pd_sessions.specs.Unanswered.{IsUnanswered, NamesNoCycle};
 ghost use Rattle.pd_traces.specs.SessionTraces.{AreTraces};
 ghost use Rattle.pd_format.specs.Sessions as sessions;
 ghost use Rattle.pd_gather.specs.Views.{ReadingFits, results_view, traces_view};
@@ -26,6 +26,7 @@ pub fn traces_of(alloc: Global, spec: &Spec, gathered: Gathered) -> Result<Vec<T
     ensures fit { IfOk result (λ traces. AreTraces (document_view spec.now).names traces.items) }
     ensures refused { IfErr result (IsUnanswered (IsReportOfResults (document_view spec.now) gathered.streams
         (results_view gathered.readings.items))) }
+    ensures no_cycle { IfErr result (IsUnanswered NamesNoCycle) }
 {
     match session(alloc, spec, gathered) {
         Ok(traces) => Ok(traces),

@@ -12,4 +12,5 @@ returns-in-Refused-clause-drawn g c =
     g.R.ByteSource.never_fails
     (refusal_view c.in-Refused.refusal) (report_view c.args.claimed.now) (wish_view c.args.wish.now)
     (finding_view c.find_refused.result)
-    (rw c.in-Refused.is at c.in-Err.ensures.refused) c.find_refused.ensures
+    (rw c.in-Refused.is at c.in-Err.ensures.refused) (rw c.in-Refused.is at c.in-Err.ensures.undrawn)
+    c.find_refused.ensures

@@ -7,9 +7,9 @@ use Rattle.pd_gather.specs.Views.{traces_view}
 use Rattle.pd_judgement.specs.Judgements.{IsTracesReport}
 use Rattle.pd_report.specs.Views.{report_view}
 use Rattle.pd_spec.specs.Views.{document_view}
-use Rattle.pd_claims.specs.Drawings.{DrawsTraces}
+use Rattle.pd_claims.specs.Drawings.{DrawsTraces, NeedsNoPicture}
 use Rattle.pd_sessions.specs.SessionReports.{IsReportOfInputs}
-use Rattle.pd_sessions.specs.Unanswered.{IsUnanswered}
+use Rattle.pd_sessions.specs.Unanswered.{IsUnanswered, NamesNoCycle}
 use Rattle.pd_claims.proofs.SessionDrawings.{session_drawn}
 use Rattle.pd_claims.proofs.SessionFindings.{read_report}
 use Rattle.pd_sessions.proofs.SessionReports.{refusal_given}
@@ -28,6 +28,19 @@ returns-in_err-drawn-clause-refused g c =
     c.from_residual-in_err-drawn.ensures.1
     (subst (λ (all : List Trace). IsUnanswered (IsTracesReport document (traces_view all))
     c.in_err-drawn.field-0.0) c.deref.ensures.value c.in_err-drawn.ensures.refused)
+
+pub returns-in_err-session-clause-undrawn : goal.returns-in_err-session-clause-undrawn
+returns-in_err-session-clause-undrawn g c =
+    let claimed = report_view c.args.claimed.now in
+    refusal_given c.from_residual.result c.in_err-session.field-0.0 NamesNoCycle (NeedsNoPicture claimed)
+    (λ report none same. none) c.from_residual.ensures.1 c.in_err-session.ensures.no_cycle
+
+pub returns-in_err-drawn-clause-undrawn : goal.returns-in_err-drawn-clause-undrawn
+returns-in_err-drawn-clause-undrawn g c =
+    let claimed = report_view c.args.claimed.now in
+    refusal_given c.from_residual-in_err-drawn.result c.in_err-drawn.field-0.0 (NeedsNoPicture claimed)
+    (NeedsNoPicture claimed) (λ report none. none) c.from_residual-in_err-drawn.ensures.1
+    c.in_err-drawn.ensures.undrawn
 
 pub returns-clause-drawn : goal.returns-clause-drawn
 returns-clause-drawn g c =

@@ -7,6 +7,7 @@ use Rattle.pd_judgement.specs.Judgements.{IsJudgement, IsReportOfResults, RawStr
 use Rattle.pd_spec.specs.Views.{document_view}
 use Rattle.pd_judgement.proofs.DocumentsAreSingle.{plainly}
 use Rattle.pd_sessions.specs.SessionReports.{IsReportOfInputs}
+use Rattle.pd_sessions.specs.Unanswered.{NamesNoCycle}
 use Rattle.pd_sessions.proofs.SessionReports.{inputs_report, refusal_given, refused_inputs_report}
 use Rattle.pd_claims.proofs.session.read_session.Goals as goal
 
@@ -35,6 +36,16 @@ returns-in_err-traces-clause-refused g c =
     (plainly bytes document c.in_ok-spec.ensures.read)
     c.in_ok-gathered.ensures.given right)
     c.from_residual-in_err-traces.ensures.1 c.in_err-traces.ensures.refused
+
+pub returns-in_err-spec-clause-no_cycle : goal.returns-in_err-spec-clause-no_cycle
+returns-in_err-spec-clause-no_cycle g c =
+    refusal_given c.from_residual.result c.in_err-spec.field-0.0 NamesNoCycle NamesNoCycle (λ report none. none)
+    c.from_residual.ensures.1 c.in_err-spec.ensures.no_cycle
+
+pub returns-in_err-traces-clause-no_cycle : goal.returns-in_err-traces-clause-no_cycle
+returns-in_err-traces-clause-no_cycle g c =
+    refusal_given c.from_residual-in_err-traces.result c.in_err-traces.field-0.0 NamesNoCycle NamesNoCycle
+    (λ report none. none) c.from_residual-in_err-traces.ensures.1 c.in_err-traces.ensures.no_cycle
 
 pub returns-clause-read : goal.returns-clause-read
 returns-clause-read g c = record {

@@ -6,6 +6,7 @@ use Rattle.pd_format.specs.Versions.{version_view}
 use Rattle.pd_spec.specs.Views.{document_view}
 use Rattle.pd_traces.specs.Views.{computation_view}
 use Rattle.pd_report.specs.Views as views
+use Rattle.pd_sessions.proofs.EarlyRefusals.{messages_name_none}
 use Rattle.pd_sessions.proofs.FitTraces.{refused_report}
 use Rattle.pd_sessions.proofs.computations.messages_of.Goals as goal
 
@@ -19,3 +20,8 @@ returns-in_ok-of_messages-in-Err-clause-refused g c =
     refused_report (document_view c.args.spec.now) c.names.result.now (version_view c.version.result)
     c.args.traces.now (match_fault_view c.in-Err.fault) (views.refusal_view c.in_ok-of_messages-in-Err.field-0)
     c.names.ensures c.version.ensures c.in-Err.ensures.fault c.in_ok-of_messages-in-Err.ensures
+
+pub returns-in_ok-of_messages-in-Err-clause-no_cycle : goal.returns-in_ok-of_messages-in-Err-clause-no_cycle
+returns-in_ok-of_messages-in-Err-clause-no_cycle g c =
+    messages_name_none c.names.result.now (match_fault_view c.in-Err.fault)
+    (views.refusal_view c.in_ok-of_messages-in-Err.field-0) c.in_ok-of_messages-in-Err.ensures

@@ -2,6 +2,8 @@
 use Rattle.pd_format.specs.Documents.{inquiry}
 use Rattle.pd_report.specs.Views.{refusal_view}
 use Rattle.pd_sessions.proofs.DocumentRefusals.{refused_judged}
+use Rattle.pd_sessions.proofs.EarlyRefusals.{document_names_none}
+use Rattle.pd_sessions.specs.Refusals.{document_fault_view}
 use Rattle.pd_sessions.proofs.document.read_document.Goals as goal
 
 pub returns-in_ok-of_document-in-Err-clause-refused : goal.returns-in_ok-of_document-in-Err-clause-refused
@@ -9,3 +11,8 @@ returns-in_ok-of_document-in-Err-clause-refused c = λ beyond_width streams.
     refused_judged (inquiry beyond_width c.args.bytes.now) streams c.in-Err.fault
     (refusal_view c.in_ok-of_document-in-Err.field-0)
     c.in-Err.ensures.err c.in_ok-of_document-in-Err.ensures
+
+pub returns-in_ok-of_document-in-Err-clause-no_cycle : goal.returns-in_ok-of_document-in-Err-clause-no_cycle
+returns-in_ok-of_document-in-Err-clause-no_cycle c =
+    document_names_none (document_fault_view c.in-Err.fault) (refusal_view c.in_ok-of_document-in-Err.field-0)
+    c.in_ok-of_document-in-Err.ensures

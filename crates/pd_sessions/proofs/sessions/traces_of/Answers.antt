@@ -10,6 +10,8 @@ use Rattle.pd_gather.specs.declared.fault.SessionFault.{SessionFault}
 use Rattle.pd_gather.specs.declared.fault.SessionFault.TheVariants as faults
 use Rattle.pd_spec.specs.Views.{document_view}
 use Rattle.pd_sessions.specs.Refusals.{NamesStream}
+use Rattle.pd_report.specs.Views.{refusal_view}
+use Rattle.pd_sessions.proofs.EarlyRefusals.{session_names_none}
 use Rattle.pd_sessions.proofs.SessionNumbers.{counted}
 use Rattle.pd_sessions.proofs.sessions.traces_of.Goals as goal
 
@@ -34,3 +36,8 @@ of_streams-requires c =
     subst (λ (names : List ProcessNames). NamesStream names c.in-Err.fault) (sym c.names.ensures)
     (numbers_fit (document_view c.args.spec.now).names c.args.gathered.streams
     (results_view c.args.gathered.readings.items) c.in-Err.fault few c.in-Err.ensures.exact)
+
+pub returns-in_ok-of_streams-in-Err-clause-no_cycle : goal.returns-in_ok-of_streams-in-Err-clause-no_cycle
+returns-in_ok-of_streams-in-Err-clause-no_cycle c =
+    session_names_none c.names.result.now (session_fault_view c.in-Err.fault)
+    (refusal_view c.in_ok-of_streams-in-Err.field-0) c.in_ok-of_streams-in-Err.ensures
