@@ -17,7 +17,8 @@ use std::alloc::AllocError;
 use std::sync::Wait;
 use std::thread::Threads;
 
-/// Both answers, from the avoiding cuts of the level on that is walked.
+/// Both answers, from the avoiding cuts of the level on that is walked. The count is no less than what the split's
+/// holder has come to.
 ///
 /// # Errors
 /// An allocation was refused, or there might be more cuts than a `u64` counts.
@@ -32,7 +33,8 @@ pub fn walk_listed<T: Threads + Wait + Sync, G: Gate + Sync>(
     requires within { last_number split.held.walked.items ≤ total (question_events question.now) }
     requires split { IsSplitTo question.now (last_number split.held.walked.items + 1) split }
     requires held { AreHeld (last_number split.held.walked.items) split.held.most }
-    ensures { IfOk result (AreAnswersTo question.now) }
+    ensures right { IfOk result (AreAnswersTo question.now) }
+    ensures no_fewer { IfOk result (λ answers. split.held.most ≤ answers.held.most) }
 {
     // the laws that the proof uses
     pd_model::levels();
@@ -69,6 +71,7 @@ fn go_up<T: Threads + Wait + Sync, G: Gate + Sync>(
         after.held.walked.items) }
     ensures split { IfOk result (IsSplitTo question.now (k + 1)) }
     ensures two { IfOk result (λ after. 2 ≤ after.held.most) }
+    ensures no_fewer { IfOk result (λ after. split.held.most ≤ after.held.most) }
 {
     let mut split = split;
     let next = next_listed(question, compiled, split.held.at())?;
@@ -92,6 +95,7 @@ pub(crate) fn settle_listed<T: Threads + Wait + Sync, G: Gate + Sync>(
     ensures walked { IfOk result (λ settled. IfOk settled (λ on. on.held.walked.items ≡ split.held.walked.items)) }
     ensures held { IfOk result (λ settled. IfOk settled (λ on. split.held.most ≤ on.held.most)) }
     ensures answered { IfOk result (λ settled. IfErr settled (AreAnswersTo question.now)) }
+    ensures counted { IfOk result (λ settled. IfErr settled (λ answers. answers.held.most ≡ split.held.most)) }
 {
     // the laws that the proof uses
     pd_model::definitely_walk();
@@ -141,7 +145,8 @@ fn answer_no<T: Threads + Wait + Sync, G: Gate + Sync>(
     requires split { IsSplitTo question.now (total (question_events question.now) + 1) split }
     requires held { AreHeld (total (question_events question.now)) split.held.most }
     requires one { 1 ≤ length split.held.walked.items }
-    ensures { IfOk result (AreAnswersTo question.now) }
+    ensures right { IfOk result (AreAnswersTo question.now) }
+    ensures no_fewer { IfOk result (λ answers. split.held.most ≤ answers.held.most) }
 {
     // the laws that the proof uses
     pd_model::levels();

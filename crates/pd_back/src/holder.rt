@@ -34,9 +34,9 @@ impl Holder {
         }
     }
 
-    /// How many levels were held at once at most.
-    pub fn count(&self) -> Count
-        ensures { result.most ≡ self.now.most }
+    /// How many levels were held at once at most. The holder is used up, and its levels are let go of.
+    pub fn count(self) -> Count
+        ensures { result.most ≡ self.most }
     {
         Count::of(self.most)
     }

@@ -72,5 +72,5 @@ pub fn definitely_counted<T: Threads + Wait + Sync, G: Gate + Sync>(
 {
     let crew = Crew::new(rt, workers, gate);
     let answers = answer_one(&crew, alloc, computation, pred, width)?;
-    Ok((answers.definitely, answers.held))
+    Ok(answers.into_definitely())
 }

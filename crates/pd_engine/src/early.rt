@@ -62,7 +62,7 @@ impl Early {
     {
         match &self.possibly {
             Some(answer) => answer,
-            None => &found[self.place].possibly,
+            None => found[self.place].possibly(),
         }
     }
 
@@ -73,7 +73,7 @@ impl Early {
     {
         match &self.definitely {
             Some(answer) => answer,
-            None => &found[self.place].definitely,
+            None => found[self.place].definitely(),
         }
     }
 }

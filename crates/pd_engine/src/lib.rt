@@ -4,7 +4,8 @@
 //! session's traces make a computation (`pd_sessions`), each predicate is answered, and the answers are the report.
 //! What is written is exactly the text that the definitions give, whole, or the call fails. If no level is over the
 //! width, it tells the truth of each predicate; and if that is asked for, it does so of each that is decided without
-//! levels, however wide the session is. Only a refused allocation is reported as out of memory.
+//! levels, however wide the session is. What is reported as out of memory is a refused allocation, or a number that has
+//! no room, which no session within the limits comes to.
 //!
 //! While the streams are read an observer may watch the register of their steps, and write snapshots of it
 //! (`judge_watched`, `write_snapshot`); the report doesn't depend on it.

@@ -36,6 +36,7 @@ pub fn possibly_by_lists<T: Threads + Wait + Sync, G: Gate + Sync>(
     ensures levels { held.new.levels.items ≡ held.old.levels.items }
     ensures walked { IfOk result (λ _. held.new.walked.items ≡ []) }
     ensures beside { held.new.beside ≡ held.old.beside }
+    ensures no_fewer { IfOk result (λ _. held.old.most ≤ held.new.most) }
     ensures most { IfOk result (λ _. held.new.most
         ≤ max held.old.most (length held.old.levels.items + held.old.beside + 2)) }
 {
@@ -59,6 +60,7 @@ fn walk_for_possibly<T: Threads + Wait + Sync, G: Gate + Sync>(
         (test_of computation.now (predicate_view pred.now)) width (possibly_answer_view answer)) }
     ensures levels { held.new.levels.items ≡ held.old.levels.items }
     ensures beside { held.new.beside ≡ held.old.beside }
+    ensures no_fewer { IfOk result (λ _. held.old.most ≤ held.new.most) }
     ensures most { IfOk result (λ _. held.new.most
         ≤ max held.old.most (length held.old.levels.items + held.old.beside + 2)) }
 {

@@ -2,7 +2,7 @@
 ghost use Rattle.pd_back.specs.Ways.{last_number};
 ghost use Rattle.std.specs.Prelude.{◌≡◌, ◌+◌, ◌<◌, ◌⊎◌, ◌↔◌, IsTrue, length};
 
-use super::{Answers, DefinitelyAnswer, PossiblyAnswer};
+use super::PossiblyAnswer;
 use pd_back::Holder;
 
 /// What is kept of a predicate for which Possibly is answered, while Definitely is not.
@@ -14,21 +14,6 @@ pub struct Split {
     pub first: u64,
     /// The levels that are held: some of avoiding cuts are kept, from that one on.
     pub held: Holder,
-}
-
-impl Split {
-    /// Both answers, with the count of the levels that were held.
-    pub fn answered(self, definitely: DefinitelyAnswer) -> Answers
-        ensures possibly { result.possibly ≡ self.possibly }
-        ensures definitely { result.definitely ≡ definitely }
-        ensures held { result.held.most ≡ self.held.most }
-    {
-        Answers {
-            possibly: self.possibly,
-            definitely,
-            held: self.held.count(),
-        }
-    }
 }
 
 /// Whether level `k` is kept: if none is yet, or the last one was a gap before it.

@@ -95,9 +95,9 @@ fn is_known<T: Threads + Wait + Sync>(
     };
     let expands = gate.blocks.load(Ordering::SeqCst) > 0;
     Ok(
-        is_yes(&both.possibly, counts)
+        is_yes(both.possibly(), counts)
             && is_yes(&alone, counts)
-            && matches!(&both.definitely, DefinitelyAnswer::Yes(12))
+            && matches!(both.definitely(), DefinitelyAnswer::Yes(12))
             && expands == (workers > 1),
     )
 }

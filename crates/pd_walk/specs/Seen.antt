@@ -21,10 +21,10 @@ AreNextMarks test width gap level next (Marked split marks) =
 AreNextMarks test width gap level next Open = OneStands test width gap level Open
 AreNextMarks test width gap level next (Answered answers) = OneStands test width gap level (Answered answers)
 
--- This was seen of a predicate at this level, if that was known of it before.
+-- This was seen of a predicate at this level, if that was known of it before: a holder is made for an open one alone.
 abbrev pub IsSeen : CompiledView → ℕ → ℕ → WholeLevel → Stage → Seen → Type 0
 IsSeen test width gap level stage Nothing = OneStands test width gap level stage
-IsSeen test width gap level stage (First next) = OneStands test width gap level next
+IsSeen test width gap level stage (First next) = (stage ≡ Open) × OneStands test width gap level next
 IsSeen test width gap level stage (Next marks) = AreNextMarks test width gap level marks stage
 
 -- the same of the predicate of a task at its level

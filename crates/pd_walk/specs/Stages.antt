@@ -40,6 +40,12 @@ Stands c test width gap level (Marked split marks) =
     × (split.held.walked.items ≡ [])
 Stands c test width gap level (Answered answers) = AreAnswers c test width (2 * gap + 2) answers
 
+-- how many levels its holder has counted, as far as it has one
+abbrev pub counted : Stage → ℕ
+counted Open = 0
+counted (Marked split marks) = split.held.most
+counted (Answered answers) = answers.held.most
+
 -- what is known of one predicate after this level
 abbrev pub OneStands : CompiledView → ℕ → ℕ → WholeLevel → Stage → Type 0
 OneStands test width gap level stage = Stands (events_of test) (meaning_of test) width gap level stage

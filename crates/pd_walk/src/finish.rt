@@ -4,7 +4,7 @@ ghost use Rattle.pd_model.specs.Cuts.{total};
 ghost use Rattle.pd_model.specs.Predicates.{test_of};
 ghost use Rattle.pd_pred.specs.Views.{predicate_view};
 ghost use Rattle.pd_runs.specs.Levels.{IsWholeLevel};
-ghost use Rattle.pd_walk.specs.Stages.{AllAnswered, AreBeside, HasEnded, IsOpenBelow, Stands};
+ghost use Rattle.pd_walk.specs.Stages.{AllAnswered, AreBeside, HasEnded, IsOpenBelow, Stands, counted};
 ghost use Rattle.pd_walk.specs.declared.stage.Stage.TheVariants.{Open};
 ghost use Rattle.std.specs.Prelude.{◌≡◌, ◌+◌, ◌*◌, ◌≤◌, IfOk, length};
 
@@ -14,7 +14,7 @@ use super::walk::TABLE_BYTES;
 use pd_avoiding::{Question, walk_listed};
 use pd_back::{Held, Holder, way_back};
 use pd_level::{Gate, LevelKey};
-use pd_lists::{Answers, DefinitelyAnswer, PossiblyAnswer};
+use pd_lists::{Answers, DefinitelyAnswer, PossiblyAnswer, Split};
 use pd_pred::Pred;
 use pd_runs::Whole;
 use pd_tables::Compiled;
@@ -60,9 +60,10 @@ fn finish<T: Threads + Wait + Sync, G: Gate + Sync, K: LevelKey + Send + Sync>(
         stage }
     requires one { length wholes.now.levels.items ≡ 1 }
     requires most { AreBeside level.now.number wholes.now.most }
-    ensures { IfOk result (AreAnswers setting.now.computation.now.events
+    ensures right { IfOk result (AreAnswers setting.now.computation.now.events
         (test_of setting.now.computation.now (predicate_view pred.now)) setting.now.width
         (2 * setting.now.gap + 2)) }
+    ensures no_fewer { IfOk result (λ answers. counted stage ≤ answers.held.most) }
 {
     let computation = setting.computation;
     computation.limits();
@@ -112,20 +113,20 @@ fn answer_none<T: Threads + Wait + Sync, G: Gate + Sync, K: LevelKey + Send + Sy
     pd_model::avoidance();
     let computation = setting.computation;
     computation.limits();
-    let mut held = Holder::new(setting.alloc);
-    held.stand_on(wholes)?;
+    let mut split = Split {
+        possibly: PossiblyAnswer::No,
+        first: computation.total() + 1,
+        held: Holder::new(setting.alloc),
+    };
+    split.held.stand_on(wholes)?;
     let path = way_back(
         setting.crew,
         setting.alloc,
         computation,
         pred,
-        computation.total() + 1,
+        split.first,
         setting.gap,
-        &mut held,
+        &mut split.held,
     )?;
-    Ok(Answers {
-        possibly: PossiblyAnswer::No,
-        definitely: DefinitelyAnswer::No(path),
-        held: held.count(),
-    })
+    Ok(split.answered(DefinitelyAnswer::No(path)))
 }

@@ -5,11 +5,11 @@ ghost use Rattle.pd_model.specs.Answers.{IsFirstSatisfying, IsPossiblyAnswer};
 ghost use Rattle.pd_model.specs.Cuts.{IsOfLevel};
 ghost use Rattle.pd_model.specs.Walks.{NoneBelow};
 ghost use Rattle.pd_walk.specs.Seen.{IsSeenAt};
-ghost use Rattle.pd_walk.specs.Stages.{IsOpenBelow};
+ghost use Rattle.pd_walk.specs.Stages.{IsOpenBelow, counted};
 ghost use Rattle.pd_walk.specs.declared.seen.Seen.TheVariants.{Next};
 ghost use Rattle.pd_walk.specs.declared.stage.Stage.TheVariants.{Open};
 ghost use Rattle.pd_walk.specs.Tasks.{IsBeforeTask, IsTask, StandsAt, task_events, task_test};
-ghost use Rattle.std.specs.Prelude.{◌≡◌, ◌+◌, ℕ, IfNone, IfOk, IfSome, List, false, true};
+ghost use Rattle.std.specs.Prelude.{◌≡◌, ◌+◌, ◌≤◌, ℕ, IfNone, IfOk, IfSome, List, false, true};
 
 use super::seen::Seen;
 use super::settle::settle;
@@ -182,7 +182,8 @@ fn with_marks<K: LevelKey>(
 ) -> Result<Stage, AllocError>
     requires task { IsTask task.now }
     requires seen { IsSeenAt task.now stage (Next marks) }
-    ensures { IfOk result (StandsAt task.now task.now.level.now) }
+    ensures stands { IfOk result (StandsAt task.now task.now.level.now) }
+    ensures no_fewer { IfOk result (λ after. counted stage ≤ counted after) }
 {
     match stage {
         Stage::Marked { split, marks: _ } => settle(alloc, task, split, marks),
@@ -200,7 +201,8 @@ pub(crate) fn go_on<K: LevelKey>(
 ) -> Result<(), AllocError>
     requires task { IsTask task.now }
     requires seen { IsSeenAt task.now stage.old seen }
-    ensures { IfOk result (λ _. StandsAt task.now task.now.level.now stage.new) }
+    ensures stands { IfOk result (λ _. StandsAt task.now task.now.level.now stage.new) }
+    ensures no_fewer { IfOk result (λ _. counted stage.old ≤ counted stage.new) }
 {
     match seen {
         Seen::Nothing => {}
@@ -224,7 +226,8 @@ pub(crate) fn look<T: Threads + Sync, K: LevelKey + Send + Sync>(
     requires task { IsTask task.now }
     requires before { IsBeforeTask before.now task.now }
     requires stands { StandsAt task.now before.now stage.old }
-    ensures { IfOk result (λ _. StandsAt task.now task.now.level.now stage.new) }
+    ensures stands { IfOk result (λ _. StandsAt task.now task.now.level.now stage.new) }
+    ensures no_fewer { IfOk result (λ _. counted stage.old ≤ counted stage.new) }
 {
     let seen = see(rt, alloc, task, before, stage)?;
     go_on(alloc, task, stage, seen)

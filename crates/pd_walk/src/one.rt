@@ -130,6 +130,6 @@ fn possibly_after(stage: Stage) -> PossiblyAnswer
     match stage {
         Stage::Open => PossiblyAnswer::No,
         Stage::Marked { split, marks: _ } => split.possibly,
-        Stage::Answered(answers) => answers.possibly,
+        Stage::Answered(answers) => answers.into_possibly(),
     }
 }

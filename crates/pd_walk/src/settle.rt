@@ -2,6 +2,7 @@
 ghost use Rattle.pd_back.specs.Counts.{others};
 ghost use Rattle.pd_lists.specs.Splits.{AreKeptBelow, IsSplitBelow};
 ghost use Rattle.pd_marks.specs.Marks.{IsMarking};
+ghost use Rattle.pd_walk.specs.Stages.{counted};
 ghost use Rattle.pd_walk.specs.Tasks.{IsTask, StandsAt, task_events, task_test};
 ghost use Rattle.std.specs.Prelude.{◌≡◌, ◌+◌, ◌≤◌, IfOk, []};
 
@@ -24,7 +25,8 @@ pub(crate) fn settle<K: LevelKey>(
         task.now.level.now.number split }
     requires walked { split.held.walked.items ≡ [] }
     requires marks { IsMarking (task_events task.now) (task_test task.now) task.now.level.now marks }
-    ensures { IfOk result (StandsAt task.now task.now.level.now) }
+    ensures stands { IfOk result (StandsAt task.now task.now.level.now) }
+    ensures no_fewer { IfOk result (λ stage. split.held.most ≤ counted stage) }
 {
     // the laws that the proof uses
     pd_model::definitely_walk();
@@ -55,6 +57,7 @@ fn keep<K: LevelKey>(
     ensures kept { IfOk result (λ split. AreKeptBelow (task_events task.now) (task_test task.now) split.first
         task.now.gap (task.now.level.now.number + 1) split.held.levels.items) }
     ensures few { IfOk result (λ after. after.held.most ≤ task.now.gap + 3) }
+    ensures no_fewer { IfOk result (λ after. split.held.most ≤ after.held.most) }
     ensures walked { IfOk result (λ after. after.held.walked.items ≡ split.held.walked.items) }
     ensures beside { IfOk result (λ after. after.held.beside ≡ split.held.beside) }
     ensures first { IfOk result (λ after. after.first ≡ split.first) }

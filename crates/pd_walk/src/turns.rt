@@ -1,8 +1,9 @@
 //! The predicates' turns in a round, drawn by several threads.
 ghost use Rattle.pd_walk.specs.Rounds.{AllStandAt, IsBeforeRound, IsRound};
+ghost use Rattle.pd_walk.specs.Stages.{counted};
 ghost use Rattle.pd_walk.specs.Turns.{AreDrawn, IsDrawn, IsKnown};
 ghost use Rattle.pd_walk.specs.declared.stage.Stage.TheVariants.{Open};
-ghost use Rattle.std.specs.Prelude.{◌≡◌, ◌<◌, IfOk, length, slice_index_or};
+ghost use Rattle.std.specs.Prelude.{◌≡◌, ◌<◌, ◌≤◌, IfOk, length, slice_index_or};
 
 use super::look::{go_on, look, see};
 use super::round::Round;
@@ -85,7 +86,8 @@ fn end_turn<T: Threads + Sync, K: LevelKey + Send + Sync>(
     requires before { IsBeforeRound before.now round.now }
     requires within { i < length round.now.tests.now }
     requires drawn { IsDrawn round.now before.now i stage.old drawn }
-    ensures { IfOk result (λ _. IsKnown round.now round.now.level.now i stage.new) }
+    ensures known { IfOk result (λ _. IsKnown round.now round.now.level.now i stage.new) }
+    ensures no_fewer { IfOk result (λ _. counted stage.old ≤ counted stage.new) }
 {
     match drawn {
         Some(seen) => {

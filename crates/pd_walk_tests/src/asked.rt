@@ -2,6 +2,7 @@
 use crate::by_terms::are_decided;
 use crate::clause::are_passed;
 use crate::definite::are_answers;
+use crate::held::{THREE_HELD, WALL, WALL_HELD, WALL_STREAMS, are_held};
 use crate::limits::are_same;
 use crate::messages::are_messages;
 use crate::of_two::are_of_two;
@@ -36,6 +37,8 @@ pub(crate) enum Question<'a> {
     Skips,
     /// Whether each limit gives the same answers.
     Limits,
+    /// Whether so many levels are held at once for each predicate, on either way of the walk.
+    Held(&'a [[u64; 2]]),
     /// Whether the answers for Definitely are the known ones.
     Definite,
     /// Whether the terms of each predicate decide what they should.
@@ -89,6 +92,7 @@ pub(crate) fn is_right<K: RandomSource, T: Threads + Wait + Sync>(
         Question::Runs(counts, runs) => are_whole(alloc, &computation, counts, runs).ok(),
         Question::Skips => are_skipped(rt, alloc, &computation, &spec),
         Question::Limits => are_same(rt, alloc, &computation, &spec),
+        Question::Held(held) => are_held(rt, alloc, &computation, &spec, held).ok(),
         Question::Definite => are_answers(rt, alloc, &computation, &spec, again),
         Question::Terms => are_decided(alloc, &computation, &spec),
         Question::Clauses => are_passed(alloc, &computation, &spec),
@@ -106,7 +110,7 @@ struct Row<'a> {
 }
 
 /// The sessions, with what is asked about each.
-const ROWS: [Row<'static>; 16] = [
+const ROWS: [Row<'static>; 18] = [
     Row {
         document: order::DOCUMENT,
         streams: &order::STREAMS,
@@ -166,6 +170,16 @@ const ROWS: [Row<'static>; 16] = [
         document: THREE,
         streams: &THREE_STREAMS,
         question: Question::Limits,
+    },
+    Row {
+        document: THREE,
+        streams: &THREE_STREAMS,
+        question: Question::Held(&THREE_HELD),
+    },
+    Row {
+        document: WALL,
+        streams: &WALL_STREAMS,
+        question: Question::Held(&WALL_HELD),
     },
     Row {
         document: THREE,

@@ -17,6 +17,7 @@
 //! - `seams`: sessions of nine and of sixteen processes, whose cuts have a pair of numbers as their key
 //! - `limits`: the answers, whatever the width of a whole level at which the walk goes on by lists
 //! - `definite`: answers for Definitely, how many levels are held for them, and what is found of evidence
+//! - `held`: how many levels are held at once, exactly
 //! - `through`: observations through a cut
 //! - `by_terms`: both questions by the terms of a predicate
 //! - `of_two`: both questions by the counts of two processes
@@ -30,6 +31,8 @@ mod by_terms;
 mod clause;
 #[cfg(test)]
 mod definite;
+#[cfg(test)]
+mod held;
 #[cfg(test)]
 mod least;
 #[cfg(test)]

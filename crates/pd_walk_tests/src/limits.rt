@@ -103,7 +103,8 @@ fn are_same_answers(
     possibly: &PossiblyAnswer,
     definitely: &DefinitelyAnswer,
 ) -> bool {
-    is_same_possibly(&whole.possibly, possibly) && is_same_definitely(&whole.definitely, definitely)
+    is_same_possibly(whole.possibly(), possibly)
+        && is_same_definitely(whole.definitely(), definitely)
 }
 
 /// Whether each limit gives the same answers under this width, and so does each question alone.
@@ -119,8 +120,8 @@ fn is_same_at_each_limit<T: Threads + Wait + Sync>(
     let mut right = are_same_answers(&whole, &first, &last);
     for limit in LIMITS {
         let listed = answers_of(rt, alloc, computation, pred, width, limit)?;
-        right = right && are_same_answers(&whole, &listed.possibly, &listed.definitely);
-        right = right && listed.held.number() <= 14;
+        right = right && are_same_answers(&whole, listed.possibly(), listed.definitely());
+        right = right && listed.held().number() <= 14;
     }
     Ok(right)
 }

@@ -95,7 +95,7 @@ const THIRD: &str = r#"{"recv":"home","set":{"n":1}}
 "#;
 
 /// A process with one event.
-const ONE: &str = r#"{"set":{"n":1}}
+pub(crate) const ONE: &str = r#"{"set":{"n":1}}
 {"end":true}
 "#;
 

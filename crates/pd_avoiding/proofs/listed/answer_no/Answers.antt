@@ -25,8 +25,8 @@ way_back-requires-clause-kept g c _ _ =
     c.args.question.now.gap (total (question_events c.args.question.now)) c.args.split.held.levels.items
     c.requires.split.kept)
 
-pub returns : goal.returns
-returns g c =
+pub returns-clause-right : goal.returns-clause-right
+returns-clause-right g c =
     let few : length c.args.split.held.levels.items ≤ c.args.question.now.gap =
     few_kept (question_events c.args.question.now) (question_test c.args.question.now) c.args.split.first
     c.args.question.now.gap (total (question_events c.args.question.now) + 1) c.args.split.held.levels.items

@@ -19,6 +19,7 @@ loop-k-init g c =
           c.args.split.held.walked.items) (sym number) c.requires.at;
       split = subst (λ (n : ℕ). IsSplitTo c.args.question.now (n + 1) c.args.split) (sym number) c.requires.split;
       two = λ some. c.requires.held.two (omega (arith, number));
+      no_fewer = omega arith;
     }
 
 pub settle_listed-requires-clause-at : goal.settle_listed-requires-clause-at
@@ -62,6 +63,9 @@ loop-k-preserved g c =
       two = λ _.
           let more : c.in_ok-up.up.held.most ≤ c.in-Ok.on.held.most = rw c.in-Ok.is at c.in_ok-settled.ensures.held in
           omega (arith, c.in_ok-up.ensures.two);
+      no_fewer =
+          let more : c.in_ok-up.up.held.most ≤ c.in-Ok.on.held.most = rw c.in-Ok.is at c.in_ok-settled.ensures.held in
+          omega (arith, c.in_ok-up.ensures.no_fewer, c.loop-k.invariant.no_fewer);
     }
 
 pub answer_no-requires-clause-split : goal.answer_no-requires-clause-split

@@ -11,6 +11,7 @@ invariant-loop-k g l = record {
   at : IsAt (question_events l.question) (question_test l.question) l.k l.split.held.walked.items;
   split : IsSplitTo l.question (l.k + 1) l.split;
   two : 0 < l.k → 2 ≤ l.split.held.most;
+  no_fewer : l.fn.split.held.most ≤ l.split.held.most;
 }
 
 abbrev pub decreases-loop-k : goal.decreases-loop-k

@@ -37,6 +37,7 @@ loop-k-init g c =
       none = λ j cut lt. absurd (omega arith);
       levels = c.walk.ensures.levels;
       beside = c.walk.ensures.beside;
+      no_fewer = omega (arith, c.in_ok-walk.ensures.most);
       most = omega (arith, c.in_ok-walk.ensures.most, ap length only);
     }
 
@@ -129,6 +130,7 @@ loop-k-preserved g c =
           c.loop-k.k c.loop-k.invariant.walked.cuts c.loop-k.invariant.list c.loop-k.invariant.none fails;
       levels = c.go_to.ensures.levels ∙ c.loop-k.invariant.levels;
       beside = c.go_to.ensures.beside ∙ c.loop-k.invariant.beside;
+      no_fewer = omega (arith, c.in_ok-go_to-in-Some-2.ensures.most, c.loop-k.invariant.no_fewer);
       most = omega (
         arith,
         c.in_ok-go_to-in-Some-2.ensures.most,

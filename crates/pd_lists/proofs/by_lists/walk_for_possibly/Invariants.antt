@@ -18,5 +18,6 @@ invariant-loop-k g l = record {
   none : NoneBelow l.computation.events (test_of l.computation (predicate_view l.pred)) l.k;
   levels : l.held.levels.items ≡ l.fn.held.levels.items;
   beside : l.held.beside ≡ l.fn.held.beside;
+  no_fewer : l.fn.held.most ≤ l.held.most;
   most : l.held.most ≤ max l.fn.held.most (length l.fn.held.levels.items + l.fn.held.beside + 2);
 }

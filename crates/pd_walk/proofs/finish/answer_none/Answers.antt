@@ -1,5 +1,10 @@
 -- The answers, if no cut satisfies.
-use Rattle.std.proofs.Common.{ap, length, ◌+◌, ◌∙◌, arith}
+use Rattle.std.proofs.Common.{ap, length, sym, subst, ◌+◌, ◌∙◌, arith}
+use Rattle.pd_lists.specs.Answers.{definitely_answer_view, possibly_answer_view}
+use Rattle.pd_lists.specs.declared.definitely_answer.DefinitelyAnswer.{DefinitelyAnswer}
+use Rattle.pd_lists.specs.declared.possibly_answer.PossiblyAnswer.{PossiblyAnswer}
+use Rattle.pd_lists.proofs.Ending.{no_past}
+use Rattle.pd_model.specs.Answers.{IsDefinitelyAnswer, IsPossiblyAnswer}
 use Rattle.pd_model.specs.Cuts.{total}
 use Rattle.pd_model.specs.Predicates.{test_of}
 use Rattle.pd_pred.specs.Views.{predicate_view}
@@ -22,41 +27,47 @@ way_back-requires-clause-full g c _ _ =
 pub returns : goal.returns
 returns g c =
     record {
-      possibly_right =
-          c.possibly_walk.ensures.none c.args.setting.now.computation.now.events
+      possibly_right = subst (λ (a : PossiblyAnswer). IsPossiblyAnswer c.args.setting.now.computation.now.events
+          (test_of c.args.setting.now.computation.now (predicate_view c.args.pred.now)) c.args.setting.now.width
+          (possibly_answer_view a)) (sym c.answered.ensures.possibly)
+          (c.possibly_walk.ensures.none c.args.setting.now.computation.now.events
           (test_of c.args.setting.now.computation.now (predicate_view c.args.pred.now)) c.args.setting.now.width
           (total c.args.setting.now.computation.now.events + 1) c.requires.opened.narrow c.requires.opened.none
-          (omega arith);
-      definitely_right =
-          c.definitely_walk.ensures.path c.args.setting.now.computation.now.events
+          (omega arith));
+      definitely_right = subst (λ (a : DefinitelyAnswer).
+          IsDefinitelyAnswer c.args.setting.now.computation.now.events
+          (test_of c.args.setting.now.computation.now (predicate_view c.args.pred.now)) c.args.setting.now.width
+          (definitely_answer_view a)) (sym c.answered.ensures.definitely)
+          (c.definitely_walk.ensures.path c.args.setting.now.computation.now.events
           (test_of c.args.setting.now.computation.now (predicate_view c.args.pred.now)) c.args.setting.now.width
           (total c.args.setting.now.computation.now.events + 1)
           (open_narrow c.avoidance.ensures.all c.args.setting.now.computation.now.events c.limits.ensures.acyclic
           (test_of c.args.setting.now.computation.now (predicate_view c.args.pred.now)) c.args.setting.now.width
           (total c.args.setting.now.computation.now.events + 1) c.requires.opened) (omega arith) c.in_ok-path.path.items
-          c.in_ok-path.ensures.path;
+          c.in_ok-path.ensures.path);
       few = omega (
         arith,
-        c.count.ensures,
+        c.answered.ensures.held,
         c.in_ok-path.ensures.most,
         c.in_ok-stand_on.ensures.most,
         c.in_ok-stand_on.ensures.beside,
-        ap length (c.stand_on.ensures.levels ∙ c.new-held.ensures.levels),
-        ap length (c.stand_on.ensures.walked ∙ c.new-held.ensures.walked),
-        ap length c.new-held.ensures.levels,
-        ap length c.new-held.ensures.walked,
-        c.new-held.ensures.most,
+        ap length (c.stand_on.ensures.levels ∙ c.new.ensures.levels),
+        ap length (c.stand_on.ensures.walked ∙ c.new.ensures.walked),
+        ap length c.new.ensures.levels,
+        ap length c.new.ensures.walked,
+        c.new.ensures.most,
         c.requires.one,
         c.requires.most.few,
       );
       some = omega (
         arith,
-        c.count.ensures,
+        c.answered.ensures.held,
         c.in_ok-path.ensures.no_fewer,
         c.in_ok-stand_on.ensures.most,
         c.requires.most.some,
       );
       past_first = λ past.
-          let two = c.requires.most.two past in
-          omega (arith, c.count.ensures, c.in_ok-path.ensures.no_fewer, c.in_ok-stand_on.ensures.most);
+          let two = c.requires.most.two (no_past c.args.setting.now.computation.now.events c.in_ok-path.path
+          c.answered.result.definitely c.answered.ensures.definitely past) in
+          omega (arith, c.answered.ensures.held, c.in_ok-path.ensures.no_fewer, c.in_ok-stand_on.ensures.most);
     }

@@ -92,4 +92,4 @@ loop-i-preserved g c =
     (predicate_view p.now)) c.args.setting.now.width
     (2 * c.args.setting.now.gap + 2) c.in_ok-finish.field-0)
     (c.index-preds-i.is ∙ get_or_default c.args.preds.now c.loop-i.i c.index-preds-i.result pred c.loop-i-test.true)
-    c.in_ok-finish.ensures))
+    c.in_ok-finish.ensures.right))

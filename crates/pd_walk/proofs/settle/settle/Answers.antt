@@ -9,8 +9,8 @@ use Rattle.pd_lists.proofs.Keeping.{few_kept, some_gap, with_held}
 use Rattle.pd_walk.specs.Tasks.{task_events, task_test}
 use Rattle.pd_walk.proofs.settle.settle.Goals as goal
 
-pub returns-in-Some : goal.returns-in-Some
-returns-in-Some g c =
+pub returns-in-Some-clause-stands : goal.returns-in-Some-clause-stands
+returns-in-Some-clause-stands g c =
     let listed : (cuts : List (List ℕ))
     × IsListOf (IsAvoiding (task_events c.args.task.now) (task_test c.args.task.now) c.args.task.now.level.now.number)
     cuts
@@ -59,8 +59,8 @@ returns-in-Some g c =
     c.number.result (sym listed.2) c.number.ensures c.in-Some.ensures.ends) c.answered.ensures.possibly
     c.answered.ensures.definitely c.answered.ensures.held
 
-pub returns-in_ok-split-in-None : goal.returns-in_ok-split-in-None
-returns-in_ok-split-in-None g c =
+pub returns-in_ok-split-in-None-clause-stands : goal.returns-in_ok-split-in-None-clause-stands
+returns-in_ok-split-in-None-clause-stands g c =
     let listed : (cuts : List (List ℕ))
     × IsListOf (IsAvoiding (task_events c.args.task.now) (task_test c.args.task.now) c.args.task.now.level.now.number)
     cuts

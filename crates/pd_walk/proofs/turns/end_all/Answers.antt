@@ -22,7 +22,7 @@ end_turn-requires-clause-drawn g c _ _ =
 pub loop-i-preserved : goal.loop-i-preserved
 loop-i-preserved g c =
     one_ended c.args.round.now c.args.before.now c.loop-i.i c.loop-i.drawn c.loop-i.stages.items c.replace.new.dest
-    c.end_turn.new.stage c.loop-i-test.true c.loop-i.invariant c.in_ok-end_turn.ensures
+    c.end_turn.new.stage c.loop-i-test.true c.loop-i.invariant c.in_ok-end_turn.ensures.known
 
 pub returns : goal.returns
 returns g c =

@@ -32,7 +32,7 @@ loop-i-preserved g c =
     c.args.round.now.level.now c.loop-i.stages.items c.loop-i.i c.look.new.stage
     c.loop-i-test.true c.loop-i.invariant
     (stands_of c.args.round.now c.loop-i.i c.task_of-task.result c.task_of-task.ensures c.look.new.stage
-    c.in_ok-look.ensures)
+    c.in_ok-look.ensures.stands)
 
 pub returns : goal.returns
 returns g c =
