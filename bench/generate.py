@@ -27,6 +27,15 @@ leaders   16 processes of 10,000 events each, of which one in fifty is a send; 1
           whether any two lead at once, by an `or` of 120 pairs, and each other one the same of a number that nobody has
 followers the same streams, and 16 predicates that all ask of a number that nobody has
 pairs     2 processes of 10,000 events each and no messages; a sum of both that has no such value
+boxes     8 processes of 10,000 events each, of which one in fifty is a send; an `and` of a comparison of each process
+          that an observation avoids, one that each passes through, and an `or` that each passes through
+grid      the same of 4 processes and 5,000 events, of which two have two sums: an observation avoids the one, and each
+          passes through the other
+products  8 processes of 10,000 events each, of which one in fifty is a send; an `and` of 9 `or`s and of a comparison
+          that nothing satisfies, so that it has 512 terms; and the same of one `or` of 160 comparisons
+path      the streams of `messages`, and a comparison that no cut satisfies, so that the path of an observation is printed
+narrow    8 processes of 9 local events each and no messages; few cuts of each level avoid, and a width of 1,000, so that
+          whole levels with millions of cuts are left to the lists of those that do
 ors       6 processes in 8 rounds of 6 local events; an `or` of 64 equalities of three terms, or of as many as another
           number says, which no cut satisfies
 hub       8 processes in 700 rounds, in each of which seven send to the first and are answered; a comparison of two
@@ -339,16 +348,63 @@ def pairs():
     bundle(head, [stream(name, ({"n": rng.randrange(10)} for _ in range(size(10000, 500)))) for name in names])
 
 
-def talkers(line_of):
+def turned(lists, name, part):
+    """Sets the variable of this name to 1 in each list, once that part of its events has happened, for good."""
+    for events in lists:
+        events[int(len(events) * part)].setdefault("set", {})[name] = 1
+    return lists
+
+
+def talk_bundle(variables, predicates, lists):
+    names = [f"p{k}" for k in range(len(lists))]
+    head = document([(name, variables) for name in names], predicates, 256)
+    bundle(head, [[json.dumps({"process": name}), *map(json.dumps, events), json.dumps({"end": True})]
+                  for name, events in zip(names, lists)])
+
+
+def boxes():
+    lists = rare_talk(8, size(10000, 300), lambda rng: {"x": rng.randrange(2)}, 3)
+    turned(turned(lists, "late", 0.75), "last", 0.9)
+    talk_bundle(["x", "late", "last"], [("some", " and ".join(f"p{k}.x == 1" for k in range(8))),
+                                        ("all", " and ".join(f"p{k}.late == 1" for k in range(8))),
+                                        ("any", " or ".join(f"p{k}.last == 1" for k in range(8)))], lists)
+
+
+def grid():
+    lists = turned(rare_talk(4, size(5000, 500), lambda rng: {"n": rng.randrange(10)}, 4), "late", 0.75)
+    talk_bundle(["n", "late"], [("some", "p0.n + p2.n == 3"), ("all", "p0.late + p2.late > 1")], lists)
+
+
+def products():
+    """Each `or` holds at some counts, and the last comparison at none."""
+    lists = rare_talk(8, size(10000, 300), lambda rng: {"n": rng.randrange(20)}, 5)
+    ors = [f"(p{k % 8}.n == {k} or p{(k + 3) % 8}.n == {k + 10})" for k in range(9)]
+    either = " or ".join(f"p{k % 8}.n == {k // 8}" for k in range(160))
+    talk_bundle(["n"], [("never", " and ".join([*ors, "p7.n == 99"])), ("no", f"({either}) and p7.n == 99")], lists)
+
+
+def narrow():
+    """In each avoiding cut no process is more than one event ahead of the next one."""
+    names = [f"p{k}" for k in range(8)]
+    wide = [f"p{k}.n - p{(k + 1) % 8}.n > 1" for k in range(8)]
+    head = document([(name, ["n"]) for name in names], [("apart", " or ".join(wide))], 1000)
+    bundle(head, [stream(name, ({"n": i} for i in range(1, size(10, 6)))) for name in names])
+
+
+def talkers(line_of, predicate=("start", "p0.x == 0")):
     """Eight talking processes, each event written by `line_of`; a walk for the predicate ends at the empty cut."""
     names = [f"p{k}" for k in range(8)]
-    head = document([(name, ["x"]) for name in names], [("start", "p0.x == 0")], 4096)
+    head = document([(name, ["x"]) for name in names], [predicate], 4096)
     ends = [(json.dumps({"process": name}), json.dumps({"end": True})) for name in names]
     bundle(head, [[join, *map(line_of, events), end] for (join, end), events in zip(ends, talk(8, size(10000, 300)))])
 
 
 def messages():
     talkers(json.dumps)
+
+
+def path():
+    talkers(json.dumps, ("never", "p0.x == -1"))
 
 
 def locals_alone():
@@ -358,4 +414,5 @@ def locals_alone():
 {"lattice": lattice, "several": several, "terms": terms, "streams": streams, "messages": messages,
  "locals": locals_alone, "avoiding": avoiding, "sums": open_sums, "heavy": heavy_sums, "marked": marked_sums,
  "many": many_sums, "uneven": uneven_sums, "wide": wide, "lists": listed_sums, "leaders": leaders,
- "followers": followers, "pairs": pairs, "ors": ors, "hub": hub, "ring": ring, "everyone": everyone}[sys.argv[1]]()
+ "followers": followers, "pairs": pairs, "boxes": boxes, "grid": grid, "products": products, "path": path,
+ "narrow": narrow, "ors": ors, "hub": hub, "ring": ring, "everyone": everyone}[sys.argv[1]]()

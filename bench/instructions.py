@@ -21,8 +21,8 @@ import tempfile
 FOLDER = os.path.dirname(os.path.abspath(__file__))
 STORED = os.path.join(FOLDER, "instructions.json")
 LOADS = ("lattice", "terms", "avoiding", "sums", "marked", "heavy", "many", "lists", "streams", "messages",
-         "several", "leaders", "pairs", "wide 8", "wide 16", "hub", "ring")
-BEYOND_WIDTH = ("leaders", "pairs")  # judged from files, with that option
+         "several", "leaders", "pairs", "boxes", "grid", "products", "path", "wide 8", "wide 16", "hub", "ring")
+BEYOND_WIDTH = ("leaders", "pairs", "boxes", "grid", "products", "path")  # judged from files, with that option
 MARGIN = 0.05  # which part of the stored count a load may take more
 SHARE = 0.002  # functions with a smaller part of a load's instructions aren't stored
 POSITION = re.compile(r"(fn|cfn)=\((\d+)\)(?: (.*))?")
@@ -48,10 +48,10 @@ def functions_of(lines):
     return counts
 
 
-def generate(name, folder):
+def generate(name, folder, size="--small"):
     """Writes a load, and gives the arguments with which it is judged and the file that is its input."""
     place = os.path.join(folder, name)
-    words = [sys.executable, os.path.join(FOLDER, "generate.py"), *name.split(), "--small"]
+    words = [sys.executable, os.path.join(FOLDER, "generate.py"), *name.split(), *size.split()]
     if name in BEYOND_WIDTH:
         subprocess.run([*words, f"--files={place}"], check=True)
         streams = sorted(file for file in os.listdir(place) if file.endswith(".stream"))
