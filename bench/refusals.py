@@ -1,5 +1,6 @@
 """What refuses an allocation, a read or a write of a program, or makes its allocations slow: a library that is loaded
-before the C library's own, and counts. With it a server listens on an address of its own."""
+before the C library's own, and counts. It counts the threads too that are started, and the most bytes that the program
+has had from its allocator at once. With it a server listens on an address of its own."""
 import ipaddress
 import os
 import subprocess
@@ -9,10 +10,14 @@ import sys
 FIRST_ADDRESS = 0x7f800000
 
 SHIM = f"#define FIRST_ADDRESS {FIRST_ADDRESS:#x}u" + r"""
+#define _GNU_SOURCE
 #include <arpa/inet.h>
+#include <dlfcn.h>
 #include <errno.h>
 #include <fcntl.h>
+#include <malloc.h>
 #include <netinet/in.h>
+#include <pthread.h>
 #include <stdlib.h>
 #include <string.h>
 #include <sys/mman.h>
@@ -24,8 +29,9 @@ void *__libc_malloc(size_t);
 void *__libc_calloc(size_t, size_t);
 void *__libc_realloc(void *, size_t);
 void *__libc_memalign(size_t, size_t);
+void __libc_free(void *);
 
-static long *asked, refused;
+static long *asked, refused, held;
 static const char *kind = "allocation";
 
 /* The count stands in a file that is mapped, since a program with threads may end without its destructors. */
@@ -48,6 +54,24 @@ static void be_slow(const char *what) {
 static int is_refused(const char *what) {
     be_slow(what);
     return asked && !strcmp(kind, what) && __atomic_add_fetch(asked, 1, __ATOMIC_SEQ_CST) == refused;
+}
+
+/* Notes this many bytes more or less, and the most that there were so far. */
+static void hold(long bytes) {
+    if (!asked || strcmp(kind, "bytes")) return;
+    long now = __atomic_add_fetch(&held, bytes, __ATOMIC_SEQ_CST), most = __atomic_load_n(asked, __ATOMIC_SEQ_CST);
+    while (now > most && !__atomic_compare_exchange_n(asked, &most, now, 0, __ATOMIC_SEQ_CST, __ATOMIC_SEQ_CST));
+}
+
+static void *holding(void *place) {
+    hold(malloc_usable_size(place));
+    return place;
+}
+
+int pthread_create(pthread_t *thread, const pthread_attr_t *attributes, void *(*start)(void *), void *given) {
+    int (*create)(pthread_t *, const pthread_attr_t *, void *(*)(void *), void *) = dlsym(RTLD_NEXT, "pthread_create");
+    if (is_refused("thread")) return EAGAIN;
+    return create(thread, attributes, start, given);
 }
 
 ssize_t read(int file, void *to, size_t size) {
@@ -77,27 +101,35 @@ int bind(int file, const struct sockaddr *address, socklen_t size) {
 
 void *malloc(size_t size) {
     if (is_refused("allocation")) { errno = ENOMEM; return 0; }
-    return __libc_malloc(size);
+    return holding(__libc_malloc(size));
 }
 
 void *calloc(size_t count, size_t size) {
     if (is_refused("allocation")) { errno = ENOMEM; return 0; }
-    return __libc_calloc(count, size);
+    return holding(__libc_calloc(count, size));
 }
 
 void *realloc(void *old, size_t size) {
     if (is_refused("allocation")) { errno = ENOMEM; return 0; }
-    return __libc_realloc(old, size);
+    long before = malloc_usable_size(old);
+    void *given = __libc_realloc(old, size);
+    hold((long)malloc_usable_size(given) - (given || !size ? before : 0));
+    return given;
+}
+
+void free(void *place) {
+    hold(-(long)malloc_usable_size(place));
+    __libc_free(place);
 }
 
 void *aligned_alloc(size_t alignment, size_t size) {
     if (is_refused("allocation")) { errno = ENOMEM; return 0; }
-    return __libc_memalign(alignment, size);
+    return holding(__libc_memalign(alignment, size));
 }
 
 int posix_memalign(void **given, size_t alignment, size_t size) {
     if (is_refused("allocation")) return ENOMEM;
-    *given = __libc_memalign(alignment, size);
+    *given = holding(__libc_memalign(alignment, size));
     return *given ? 0 : ENOMEM;
 }
 """
@@ -126,6 +158,6 @@ def address_of(process):
 
 
 def asked_for(folder):
-    """How many calls of its kind the last run made."""
+    """How many calls of its kind the last run made, or the most bytes that it had."""
     with open(os.path.join(folder, "asked"), "rb") as counted:
         return int.from_bytes(counted.read(8), sys.byteorder)
