@@ -1,4 +1,5 @@
 //! The computation of a session, and what workers are asked about it.
+use crate::gates::is_passed_first;
 use crate::levels::are_levels;
 use crate::workers::are_known;
 use pd_clock::Computation;
@@ -10,6 +11,7 @@ use std::alloc::Global;
 use std::random::RandomSource;
 use std::sync::Wait;
 use std::thread::Threads;
+use std::time::Clock;
 
 /// What is asked about a session.
 #[derive(Clone, Copy)]
@@ -18,11 +20,13 @@ pub(crate) enum Question<'a> {
     Levels(&'a [u64]),
     /// Whether this many workers give the known answers, and all of several expand blocks.
     Workers(&'a [u64]),
+    /// Whether a gate is passed before its block is expanded.
+    Gates,
 }
 
 /// Whether the session answers the question as it should. Nothing if memory was refused before. If it was refused in a
 /// call that is made again, `again` is set.
-pub(crate) fn is_right<K: RandomSource, T: Threads + Wait + Sync, G: Gate + Sync>(
+pub(crate) fn is_right<K: RandomSource, T: Threads + Wait + Clock + Sync, G: Gate + Sync>(
     rt: &T,
     keys: &K,
     gate: &G,
@@ -55,5 +59,6 @@ pub(crate) fn is_right<K: RandomSource, T: Threads + Wait + Sync, G: Gate + Sync
             are_levels(rt, alloc, &computation, &aside.pred, workers, gate, again).ok()
         }
         Question::Workers(workers) => are_known(rt, alloc, &computation, &spec, workers),
+        Question::Gates => is_passed_first(rt, alloc, &computation).ok(),
     }
 }

@@ -163,7 +163,7 @@ fn are_next<T: Threads + Wait + Sync, G: Gate + Sync>(
 }
 
 /// The next level, which has no more cuts than the width.
-fn level_after(
+pub(crate) fn level_after(
     alloc: Global,
     computation: &Computation<'_>,
     level: &Level,

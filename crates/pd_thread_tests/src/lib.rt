@@ -6,6 +6,7 @@
 //! `bench/refuse_calls.py` refuses them in turn.
 //!
 //! - `asked`: the computation of a session, and what workers are asked about it
+//! - `gates`: when a gate is passed
 //! - `levels`: the next level by several workers, beside the one that a single thread finds
 //! - `workers`: the answers, whatever the number of workers
 //! - `claims`: the numbers that seats draw, alone and in three threads
@@ -16,6 +17,8 @@
 mod asked;
 #[cfg(test)]
 mod claims;
+#[cfg(test)]
+mod gates;
 #[cfg(test)]
 mod levels;
 #[cfg(test)]
