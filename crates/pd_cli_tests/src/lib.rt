@@ -6,7 +6,7 @@
 //! - `networks`: a network that is made up
 //! - `runs`: runs of the program on these
 //! - `outputs`: outputs and errors that take a byte a call, have no more room, or can't be flushed
-//! - `servers`: streams and watchers that can't be accepted
+//! - `servers`: streams and watchers that can't be accepted, and sessions that are kept
 //! - `arguments`: arguments that can't be had
 #![tactic(auto)]
 

@@ -4,10 +4,12 @@ use super::runs::{FAILED, MISUSED, REFUSED, SUCCESS, run_to};
 use super::sinks::{AMPLE, FULL, Limits, SHORT, SLOW, UNFLUSHED};
 use super::small::{OF_A, OF_B, REPORT};
 use std::alloc::{AllocError, Global};
+use std::io::Eprint;
 use std::random::RandomSource;
 use std::sync::Wait;
 use std::test::Fail;
 use std::thread::Threads;
+use std::time::Clock;
 
 /// What the help of `check` says.
 const CHECK_HELP: &str =
@@ -48,7 +50,7 @@ fn is_text(text: &[u8], begin: &str, is_whole: bool) -> bool {
 
 /// Whether a run that leaves this text leaves it a byte a call too, and reports an output that can't be flushed or has
 /// no room.
-fn is_left<T: RandomSource + Threads + Wait + Sync>(
+fn is_left<T: RandomSource + Threads + Wait + Clock + Eprint + Sync>(
     threads: &T,
     alloc: Global,
     words: &[&str],
@@ -71,7 +73,7 @@ fn is_left<T: RandomSource + Threads + Wait + Sync>(
 }
 
 /// What is run, with its status and its output: how it begins, or all of it.
-const OUTPUTS: [(&str, &[&str], u8, &str, bool); 11] = [
+const OUTPUTS: [(&str, &[&str], u8, &str, bool); 14] = [
     ("a bundle", &[], SUCCESS, REPORT, true),
     ("help", &["--help"], SUCCESS, "Judges predicates", false),
     (
@@ -116,6 +118,27 @@ const OUTPUTS: [(&str, &[&str], u8, &str, bool); 11] = [
         SUCCESS,
         "<svg xmlns=",
         false,
+    ),
+    (
+        "a picture of a cycle",
+        &["draw", "cyclic", "cycle", "cyclic-a", "cyclic-b"],
+        SUCCESS,
+        "<svg xmlns=",
+        false,
+    ),
+    (
+        "a page",
+        &["explore", "spec", "a", "b"],
+        SUCCESS,
+        "<!doctype html>",
+        false,
+    ),
+    (
+        "garbage that is explored",
+        &["explore", "garbage", "a", "b"],
+        REFUSED,
+        "refused spec json\n",
+        true,
     ),
     (
         "a server",

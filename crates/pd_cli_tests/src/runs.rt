@@ -3,10 +3,13 @@ use super::networks::Scripted;
 use super::sinks::{Limits, Sink};
 use super::small::{BUNDLE, Files};
 use pd_cli::run;
+use pd_progress::{Cleared, Screen, ShownFile, ShownFiles};
 use std::alloc::{AllocError, Global};
+use std::io::Eprint;
 use std::random::RandomSource;
 use std::sync::Wait;
 use std::thread::Threads;
+use std::time::Clock;
 
 /// The session is judged, and nothing that is found is bad.
 pub(crate) const SUCCESS: u8 = 0;
@@ -40,8 +43,9 @@ impl Ran {
     }
 }
 
-/// A run on these words, with the bundle on the input, an output and errors.
-pub(crate) fn run_to<T: RandomSource + Threads + Wait + Sync>(
+/// A run on these words, with the bundle on the input, an output and errors, all of which it is handed as `main` hands
+/// them on, without a terminal.
+pub(crate) fn run_to<T: RandomSource + Threads + Wait + Clock + Eprint + Sync>(
     threads: &T,
     alloc: Global,
     network: &Scripted,
@@ -56,17 +60,17 @@ pub(crate) fn run_to<T: RandomSource + Threads + Wait + Sync>(
     }
     let mut output = Sink::new(alloc, output);
     let mut errors = Sink::new(alloc, errors);
-    let input = BUNDLE.as_bytes();
+    let screen = Screen::new(threads, false);
     let status = run(
         threads,
-        &Files,
+        &ShownFiles::new(&Files, &screen),
         network,
         alloc,
         arguments,
-        input,
+        ShownFile::new(BUNDLE.as_bytes(), 0, &screen),
         false,
-        &mut output,
-        &mut errors,
+        &mut Cleared::new(&mut output, &screen),
+        &mut Cleared::new(&mut errors, &screen),
     );
     Ok(Ran {
         status,

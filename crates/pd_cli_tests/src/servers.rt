@@ -1,4 +1,4 @@
-//! Streams and watchers that can't be accepted, and watchers that take nothing.
+//! Streams and watchers that can't be accepted, watchers that take nothing, and files that can't be flushed or named.
 use super::networks::Scripted;
 use super::runs::{FAILED, REFUSED, SUCCESS, run_to};
 use super::sinks::AMPLE;
@@ -84,6 +84,27 @@ fn servers_end_by_their_connections(rt: HostRuntime) -> Result<(), Fail> {
             let ran = run_to(&rt, rt.alloc(), &network, words, AMPLE, AMPLE)?;
             assert!(rt; ran.is(status, text.as_bytes(), line.as_bytes()), "{name}");
         }
+    }
+    Ok(())
+}
+
+/// Folders in which a session is kept, with the status, the report, and what is written on standard error.
+const KEPT: [(&str, u8, &str, &str); 3] = [
+    ("kept", SUCCESS, REPORT, ""),
+    ("unflushed", FAILED, "", "monitor: write\n"),
+    ("unnamed", FAILED, REPORT, "monitor: write\n"),
+];
+
+#[test]
+fn a_session_is_kept_if_its_files_can_be_flushed_and_named(rt: HostRuntime) -> Result<(), Fail> {
+    for (folder, status, text, line) in KEPT {
+        let network = Scripted::new(&[OF_A, OF_B], false);
+        let words = ["serve", "spec", "--port", "1", "--keep", folder];
+        let ran = run_to(&rt, rt.alloc(), &network, &words, AMPLE, AMPLE)?;
+        assert!(rt;
+            ran.is(status, text.as_bytes(), line.as_bytes()),
+            "{folder}"
+        );
     }
     Ok(())
 }

@@ -3,6 +3,7 @@ use pd_cli::FileSource;
 use pd_sessions::EngineFault;
 use std::alloc::Global;
 use std::io;
+use std::io::{Error, ErrorKind, Write};
 
 /// The session as a bundle.
 pub(crate) const BUNDLE: &str =
@@ -32,6 +33,40 @@ pub(crate) const REPORT: &str =
 const WRONG_CUT: &str =
     "session 2 processes 4 events 0 messages\nboth possibly yes 2,2\nboth definitely no b,b,a,a\n";
 
+/// A document whose streams have a causal cycle.
+const CYCLIC: &str = "{\"processes\":[{\"name\":\"a\",\"vars\":{}},{\"name\":\"b\",\"vars\":{}}],\
+\"predicates\":[{\"name\":\"sure\",\"text\":\"true\"}]}";
+
+/// The stream of its first process, which receives before it sends.
+const CYCLIC_A: &str = "{\"process\":\"a\"}\n{\"recv\":\"k\"}\n{\"send\":\"m\"}\n{\"end\":true}\n";
+
+/// The stream of its second process, which does so too.
+const CYCLIC_B: &str = "{\"process\":\"b\"}\n{\"recv\":\"m\"}\n{\"send\":\"k\"}\n{\"end\":true}\n";
+
+/// Its report.
+const CYCLE: &str = "refused cycle a#1,b#1\n";
+
+/// A file that is written, of which nothing is left.
+#[derive(Drop)]
+pub(crate) struct Kept {
+    /// Whether it can be flushed.
+    flushes: bool,
+}
+
+impl Write for Kept {
+    fn write(&mut self, bytes: &[u8]) -> io::Result<usize> {
+        Ok(bytes.len())
+    }
+
+    fn flush(&mut self) -> io::Result<()> {
+        if self.flushes {
+            Ok(())
+        } else {
+            Err(Error::from(ErrorKind::StorageFull))
+        }
+    }
+}
+
 /// The files, by their names.
 #[derive(Drop)]
 pub(crate) struct Files;
@@ -41,7 +76,7 @@ impl FileSource for Files {
 
     type File = &'static [u8];
 
-    type Sink = io::Sink;
+    type Sink = Kept;
 
     ghost bytes_of = { λ _ _. None };
 
@@ -55,19 +90,30 @@ impl FileSource for Files {
             "report" => Ok(REPORT.as_bytes()),
             "wrong" => Ok(WRONG_CUT.as_bytes()),
             "garbage" => Ok(b"x\n"),
+            "cyclic" => Ok(CYCLIC.as_bytes()),
+            "cyclic-a" => Ok(CYCLIC_A.as_bytes()),
+            "cyclic-b" => Ok(CYCLIC_B.as_bytes()),
+            "cycle" => Ok(CYCLE.as_bytes()),
             _ => Err(EngineFault::Read),
         }
     }
 
-    fn create(&self, _name: &str) -> io::Result<io::Sink> {
-        Err(io::Error::from(io::ErrorKind::Unsupported))
+    /// Those of a folder whose name begins so can't be flushed.
+    fn create(&self, name: &str) -> io::Result<Kept> {
+        Ok(Kept {
+            flushes: !name.as_bytes().starts_with(b"unflushed"),
+        })
     }
 
     fn make_folder(&self, _alloc: Global, _name: &str) -> io::Result<()> {
-        Err(io::Error::from(io::ErrorKind::Unsupported))
+        Ok(())
     }
 
-    fn rename(&self, _name: &str, _other: &str) -> io::Result<()> {
-        Err(io::Error::from(io::ErrorKind::Unsupported))
+    /// Those of another folder can't be given another name.
+    fn rename(&self, name: &str, _other: &str) -> io::Result<()> {
+        if name.as_bytes().starts_with(b"unnamed") {
+            return Err(Error::from(ErrorKind::PermissionDenied));
+        }
+        Ok(())
     }
 }
