@@ -111,6 +111,7 @@ class Server(contextlib.ExitStack):
         words += ["--beyond-width"] if beyond else []
         words += ["--fail-on", fail_on] if fail_on else []
         words += asked
+        self.began = time.monotonic()
         self.process = self.enter_context(subprocess.Popen(
             [program, "serve", "session.json", *words], cwd=folder, stdout=subprocess.PIPE, stderr=subprocess.PIPE,
             restore_signals=room is None, preexec_fn=limited(room) if room else None))
@@ -128,6 +129,13 @@ class Server(contextlib.ExitStack):
         except subprocess.TimeoutExpired:
             raise Differs(ENDLESS) from None
         return self.process.returncode, output, errors
+
+    def wait(self):
+        """Waits until it has ended."""
+        try:
+            self.process.wait(SECONDS)
+        except subprocess.TimeoutExpired:
+            raise Differs(ENDLESS) from None
 
 
 def send(connection, stream):
@@ -207,11 +215,36 @@ def slow(server):
         send(sender, stream)
 
 
+def late(server):
+    """One stream is sent, and the other one a second and a half later."""
+    send(server.connect(), OF_A)
+    time.sleep(1.5)
+    send(server.connect(), OF_B)
+
+
+def lasts(act, seconds):
+    """Clients of a server that takes no fewer seconds than these."""
+    def wait(server):
+        act(server)
+        server.wait()
+        if time.monotonic() - server.began < seconds:
+            raise Differs(f"it has ended before {seconds} seconds are over")
+    return wait
+
+
+def long_stream(server):
+    """Two streams connect, of which the first one is long."""
+    senders = [server.connect(), server.connect()]
+    for sender, stream in zip(senders, (OF_PADDED, OF_B)):
+        send(sender, stream)
+
+
 def kept_files(folder):
-    """What each file of a folder has; nothing, if there is no such folder."""
+    """What each file of a folder has; nothing, if there is no such folder. One that gets another name meanwhile may be
+    left out."""
     found = {}
     for name in os.listdir(folder) if os.path.isdir(folder) else []:
-        with open(os.path.join(folder, name), "rb") as file:
+        with contextlib.suppress(FileNotFoundError), open(os.path.join(folder, name), "rb") as file:
             found[name] = file.read()
     return found
 
@@ -220,7 +253,7 @@ def keeps(act, *wanted):
     """Clients of a server whose session is kept, and then what the folder has to have: one of these."""
     def keep(server):
         act(server)
-        server.process.wait(SECONDS)
+        server.wait()
         found = kept_files(os.path.join(server.folder, "kept"))
         if found not in wanted:
             differ("what is kept", repr(wanted[0]).encode(), repr(found).encode())
@@ -230,7 +263,10 @@ def keeps(act, *wanted):
 def comes_between(server):
     """Two streams connect, and a file of the name of one of them is there before they are sent."""
     senders = [server.connect(), server.connect()]
+    until = time.monotonic() + SECONDS
     while not os.path.exists(os.path.join(server.folder, "kept", "1.stream")):
+        if time.monotonic() > until:
+            raise Differs("there is no file of the first stream")
         time.sleep(0.01)
     with open(os.path.join(server.folder, "kept", "a.stream"), "wb") as file:
         file.write(b"x")
@@ -335,6 +371,16 @@ END = b'{"end":true}\n'
 LONG = b'{"process":"a"}\n' + b'{"set":{"x":0}}\n' * 30 + END
 OF_LONG = (b"session 2 processes 32 events 0 messages\nboth possibly no\n"
            b"both definitely no b,b" + b",a" * 30 + b"\n")
+# A document of a process whose name is long, its streams, and a report that is longer than each of them.
+NAMED = (b'{"processes":[{"name":"' + b"a" * 32 + b'","vars":{}},{"name":"b","vars":{}}],'
+         b'"predicates":[{"name":"p","text":"false"}]}')
+OF_NAMED = [b'{"process":"' + b"a" * 32 + b'"}\n' + b"{}\n" * 30 + END, b'{"process":"b"}\n' + END]
+REPORT_NAMED = (b"session 2 processes 30 events 0 messages\np possibly no\n"
+                b"p definitely no " + b",".join([b"a" * 32] * 30) + b"\n")
+# A stream of which far more comes at once than one read takes.
+OF_PADDED = b'{"process":"a"}\n' + (b'{"set":{"x":0}}'.ljust(65_000) + b"\n") * 48 + END
+REPORT_PADDED = (b"session 2 processes 50 events 0 messages\nboth possibly no\n"
+                 b"both definitely no b,b" + b",a" * 48 + b"\n")
 # What is told of it at once, and at the end.
 STOPPED = (b"serve: kept/a.stream can't be written: File too large (os error 27). What comes of that stream from\n"
            b"  here on isn't kept; the session is judged all the same.\n")
@@ -352,6 +398,8 @@ def kept():
     yield "kept", keeps(clients([OF_B, OF_A]), files), options, (0, REPORT, b"")
     empty = {**options, "before": {"kept": None}}
     yield "kept, in an empty folder", keeps(clients([OF_B, OF_A]), files), empty, (0, REPORT, b"")
+    files = {**document, "a.stream": OF_PADDED, "b.stream": OF_B, "report": REPORT_PADDED}
+    yield "kept, and a stream is long", keeps(long_stream, files), options, (0, REPORT_PADDED, b"")
     files = {**document, "a.stream": OF_A, "report": b"refused stream 2 line 1 taken\n"}
     either = ({**files, name: OF_A} for name in ("2.stream", "1.stream"))
     yield "kept, one stream twice", keeps(clients([OF_A, OF_A]), *either), options, (1, files["report"], b"")
@@ -374,13 +422,18 @@ def kept():
     refused = {**options, "document": b"{"}
     yield "kept, and the document is refused", keeps(nobody, {}), refused, (1, b"refused spec json\n", b"")
     files = {**document, "1.stream": b"", "2.stream": b""}
-    late = {"asked": ["--keep", "kept", "--wait", "2"]}
-    yield "kept, and one of two comes in time", keeps(senders([OF_A]), files), late, (3, b"", NO_NETWORK)
+    waiting = {"asked": ["--keep", "kept", "--wait", "2"]}
+    yield "kept, and one of two comes in time", keeps(senders([OF_A]), files), waiting, (3, b"", NO_NETWORK)
     files = {**document, "a.stream": LONG[:300], "b.stream": OF_B, "report": OF_LONG}
     full = (3, OF_LONG, b"monitor: write\n")
     yield "kept, and there is no room", keeps(clients([LONG, OF_B]), files), {**options, "room": 300}, full
     explained = {"asked": ["--keep", "kept", "--explain"], "room": 300}
     yield "kept, and there is no room, explained", keeps(full_meanwhile, files), explained, (3, OF_LONG, UNKEPT)
+    files = {"session.json": NAMED, "a" * 32 + ".stream": OF_NAMED[0], "b.stream": OF_NAMED[1],
+             "report": REPORT_NAMED[:300]}
+    unkept_report = {**options, "room": 300, "document": NAMED}
+    yield "kept, and there is no room for the report", keeps(clients(OF_NAMED), files), unkept_report, (
+        3, REPORT_NAMED, b"monitor: write\n")
     files = {**document, "a.stream": b"x", "1.stream": OF_A, "b.stream": OF_B, "report": REPORT}
     yield "kept, and a process has a file already", keeps(comes_between, files), options, (0, REPORT, b"")
     files = {**document, "a.stream": OF_A[:OF_A.index(b"\n") + 1], "b.stream": OF_B[:OF_B.index(b"\n") + 1]}
@@ -465,10 +518,12 @@ def cases():
     yield "the port is taken, and there is no document", nobody, options, (3, b"", b"monitor: read\n")
     yield from kept()
     yield from at_once()
-    late = (3, b"", NO_NETWORK)
-    yield "nobody comes in a second", nobody, {"asked": ["--wait", "1"]}, late
-    yield "one of two comes in time", senders([OF_A]), {"asked": ["--wait", "2"], "watchers": 1}, late
+    missed = (3, b"", NO_NETWORK)
+    yield "nobody comes in a second", lasts(nobody, 1), {"asked": ["--wait", "1"]}, missed
+    options = {"asked": ["--wait", "2"], "watchers": 1}
+    yield "one of two comes in time", lasts(senders([OF_A]), 2), options, missed
     yield "two come in time", clients([OF_A, OF_B], 1), {"asked": ["--wait", "60"], "watchers": 1}, (0, REPORT, b"")
+    yield "two come in time, the second one late", late, {"asked": ["--wait", "60"]}, (0, REPORT, b"")
     yield "two come in time, and send later", slow, {"asked": ["--wait", "2"]}, (0, REPORT, b"")
     yield "another address of this machine", other_addresses, {"watchers": 1}, (0, REPORT, b"")
 
