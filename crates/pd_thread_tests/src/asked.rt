@@ -62,3 +62,15 @@ pub(crate) fn is_right<K: RandomSource, T: Threads + Wait + Clock + Sync, G: Gat
         Question::Gates => is_passed_first(rt, alloc, &computation).ok(),
     }
 }
+
+/// Whether the session answers the question as it should, if no memory is refused.
+pub(crate) fn is_right_with_memory<T: RandomSource + Threads + Wait + Clock + Sync, G: Gate + Sync>(
+    rt: &T,
+    gate: &G,
+    alloc: Global,
+    document: &str,
+    streams: &[[&str; 2]],
+    question: Question<'_>,
+) -> bool {
+    is_right(rt, rt, gate, alloc, document, streams, question, &mut false) == Some(true)
+}

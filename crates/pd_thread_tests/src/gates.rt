@@ -2,7 +2,7 @@
 ghost use Rattle.pd_model.specs.Cuts.{IsConsistent};
 ghost use Rattle.std.specs.Prelude.{All, IfOk};
 
-use crate::asked::{Question, is_right};
+use crate::asked::{Question, is_right_with_memory};
 use crate::levels::level_after;
 use pd_clock::Computation;
 use pd_expand::next_level;
@@ -106,16 +106,5 @@ pub(crate) fn is_passed_first<T: Threads + Wait + Clock + Sync>(
 #[test]
 fn a_gate_is_passed_before_its_block_is_expanded(rt: HostRuntime) {
     let alloc = rt.alloc();
-    assert!(rt;
-        is_right(
-            &rt,
-            &rt,
-            &NoGate,
-            alloc,
-            THREE,
-            &THREE_STREAMS,
-            Question::Gates,
-            &mut false
-        ) == Some(true)
-    );
+    assert!(rt; is_right_with_memory(&rt, &NoGate, alloc, THREE, &THREE_STREAMS, Question::Gates));
 }

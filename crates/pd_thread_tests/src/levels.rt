@@ -2,7 +2,7 @@
 ghost use Rattle.pd_model.specs.Cuts.{IsConsistent};
 ghost use Rattle.std.specs.Prelude.{All, IfOk};
 
-use crate::asked::{Question, is_right};
+use crate::asked::{Question, is_right, is_right_with_memory};
 use pd_clock::Computation;
 use pd_expand::{marks, next_level};
 use pd_level::{Gate, Level, LevelFault, NoGate};
@@ -242,18 +242,7 @@ pub(crate) fn are_levels<T: Threads + Wait + Sync, G: Gate + Sync>(
 fn levels_are_the_same_by_any_number_of_workers(rt: HostRuntime) {
     let alloc = rt.alloc();
     let question = Question::Levels(&[1, 2, 16]);
-    assert!(rt;
-        is_right(
-            &rt,
-            &rt,
-            &NoGate,
-            alloc,
-            THREE,
-            &THREE_STREAMS,
-            question,
-            &mut false
-        ) == Some(true)
-    );
+    assert!(rt; is_right_with_memory(&rt, &NoGate, alloc, THREE, &THREE_STREAMS, question));
 }
 
 /// A block is expanded while another one waits.
@@ -265,18 +254,7 @@ fn two_workers_meet(rt: HostRuntime) {
         ran_out: AtomicBool::new(false),
     };
     let question = Question::Levels(&[2]);
-    assert!(rt;
-        is_right(
-            &rt,
-            &rt,
-            &gate,
-            alloc,
-            THREE,
-            &THREE_STREAMS,
-            question,
-            &mut false
-        ) == Some(true)
-    );
+    assert!(rt; is_right_with_memory(&rt, &gate, alloc, THREE, &THREE_STREAMS, question));
     assert!(rt; gate.passed.load(Ordering::SeqCst));
     assert!(rt; !gate.ran_out.load(Ordering::SeqCst));
 }

@@ -1,5 +1,5 @@
 //! The answers for each predicate, whatever the number of workers: several share a level that has enough cuts.
-use crate::asked::{Question, is_right};
+use crate::asked::{Question, is_right_with_memory};
 use pd_clock::Computation;
 use pd_expand::Crew;
 use pd_level::{Gate, NoGate};
@@ -129,16 +129,5 @@ pub(crate) fn are_known<T: Threads + Wait + Sync>(
 fn answers_are_the_same_by_any_number_of_workers(rt: HostRuntime) {
     let alloc = rt.alloc();
     let question = Question::Workers(&[1, 2, 3, 16]);
-    assert!(rt;
-        is_right(
-            &rt,
-            &rt,
-            &NoGate,
-            alloc,
-            SIX,
-            &SIX_STREAMS,
-            question,
-            &mut false
-        ) == Some(true)
-    );
+    assert!(rt; is_right_with_memory(&rt, &NoGate, alloc, SIX, &SIX_STREAMS, question));
 }
