@@ -7,13 +7,13 @@ use Rattle.std.specs.Cmp.Lexicographic.{slice_cmp}
 use Rattle.std.proofs.lemmas.List.Elements.{All-cons, All-nil}
 use Rattle.serde_json.specs.Data.{Data, null, boolean, number, string, array, object, Items, no_items, item, Members, no_members, member}
 use Rattle.serde_json.specs.Find.{get_member, as_str, as_object, as_array}
-use Rattle.pd_format.specs.Documents.{Outline, DocumentFault, Long, pair_of, each, field, named_object, objects, outline_of_fields, outline_of, outline_fault, checked_outline, outline_of_json, outline_of_bytes, names_of_outline, has_twice}
+use Rattle.pd_format.specs.Documents.{Outline, DocumentFault, Long, pair_of, each, field, named_object, objects, outline_of_fields, outline_of, outline_fault, checked_outline, outline_of_json, Inquiry, outline_of_inquiry, inquiry_json, names_of_outline, has_twice}
 use Rattle.pd_format.specs.Laws.{AreClear}
 use Rattle.pd_format.specs.Lists.{unless}
 use Rattle.pd_format.specs.Names.{ProcessNames}
-use Rattle.pd_format.specs.Records.{json_value, keys, has_only}
+use Rattle.pd_format.specs.Records.{keys, has_only}
 use Rattle.pd_format.proofs.DistinctNames.{clear_names, names_differ, processes_once}
-use Rattle.pd_format.proofs.OrderedKeys.{Holds, holds_map, holds_then, holds_if, IsOrdered, AreOrdered, HasOrderedKeys, ordered_json, keys_differ}
+use Rattle.pd_format.proofs.OrderedKeys.{Holds, holds_map, holds_then, holds_if, IsOrdered, AreOrdered, HasOrderedKeys, ordered_inquiry, keys_differ}
 
 -- ---- the parts of a value whose keys ascend
 
@@ -139,15 +139,15 @@ clear_if : (b : Bool) (fault : DocumentFault) (r : Result Outline DocumentFault)
 clear_if true fault r h = tt
 clear_if false fault r h = h
 
-clear_bytes : (bytes : List ℕ) → HoldsOk (outline_of_bytes bytes)
-unfolding outline_of_bytes
-clear_bytes bytes =
-    clear_if _ Long (outline_of_json (json_value bytes)) (clear_json (json_value bytes) (ordered_json bytes))
+clear_inquiry : (inquiry : Inquiry) → HoldsOk (outline_of_inquiry inquiry)
+unfolding outline_of_inquiry
+clear_inquiry inquiry =
+    clear_if _ Long (outline_of_json (inquiry_json inquiry)) (clear_json (inquiry_json inquiry) (ordered_inquiry inquiry))
 
 -- an outline that is read has no fault
-pub sound_is_faultless : (bytes : List ℕ) (outline : Outline) → outline_of_bytes bytes ≡ Ok outline
+pub sound_is_faultless : (inquiry : Inquiry) (outline : Outline) → outline_of_inquiry inquiry ≡ Ok outline
     → outline_fault outline ≡ None
-sound_is_faultless bytes outline e = (subst HoldsOk e (clear_bytes bytes)).faultless
+sound_is_faultless inquiry outline e = (subst HoldsOk e (clear_inquiry inquiry)).faultless
 
 -- ---- its names
 
@@ -169,10 +169,10 @@ vars_differ (process ∷ processes) h =
     All-cons HasDifferentVars (record { name = process.0; vars = keys process.1 }) _ (keys_differ process.1 h.0)
     (vars_differ processes h.1)
 
-pub clear_document : (bytes : List ℕ) (outline : Outline) → outline_of_bytes bytes ≡ Ok outline
+pub clear_document : (inquiry : Inquiry) (outline : Outline) → outline_of_inquiry inquiry ≡ Ok outline
     → AreClear (names_of_outline outline)
-clear_document bytes outline e =
-    let clear : IsClearOutline outline = subst HoldsOk e (clear_bytes bytes) in
+clear_document inquiry outline e =
+    let clear : IsClearOutline outline = subst HoldsOk e (clear_inquiry inquiry) in
     clear_names (names_of_outline outline) (record {
       processes =
           names_differ (names_of_outline outline) (ap has_twice (written_names outline.processes)

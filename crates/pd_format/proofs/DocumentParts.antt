@@ -5,7 +5,7 @@ use Rattle.std.specs.List.{list_all, AllByRecursion, AllZip}
 use Rattle.std.proofs.lemmas.Bool.{leb-true, and_parts}
 use Rattle.std.proofs.lemmas.List.{length-map}
 use Rattle.serde_json.specs.Data.{Members}
-use Rattle.pd_format.specs.Documents.{Document, NamedPredicate, IsNamedPredicate, IsDocument, is_within, process_names, predicate_names, names_of_outline}
+use Rattle.pd_format.specs.Documents.{Document, Inquiry, NamedPredicate, IsNamedPredicate, IsDocument, is_within, process_names, predicate_names, names_of_outline}
 use Rattle.pd_format.specs.Limits.{process_limit, predicate_limit}
 use Rattle.pd_format.specs.Names.{ProcessNames, is_name, name_of_process}
 use Rattle.pd_format.specs.Records.{keys}
@@ -54,10 +54,10 @@ all_asked names (one ∷ written) (predicate ∷ predicates) zipped e =
     let rest = all_asked names written predicates zipped.1 parts.1 in
     (ap suc rest.0, (subst IsName (sym zipped.0.0) parts.0, rest.1))
 
-pub lawful_parts : (bytes : List ℕ) (document : Document) → IsDocument bytes document → HasLawfulParts document
-lawful_parts bytes document is =
+pub lawful_parts : (inquiry : Inquiry) (document : Document) → IsDocument inquiry document → HasLawfulParts document
+lawful_parts inquiry document is =
     let clear : IsFaultless is.outline =
-    faultless is.outline (sound_is_faultless bytes is.outline is.sound) in
+    faultless is.outline (sound_is_faultless inquiry is.outline is.sound) in
     let processes = within 1 process_limit (length is.outline.processes) clear.processes in
     let predicates = within 1 predicate_limit (length is.outline.predicates) clear.predicates in
     let names = and_parts (list_all is_name (process_names is.outline)

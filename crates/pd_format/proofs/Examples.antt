@@ -12,7 +12,7 @@ use Rattle.pd_format.specs.Names.{ProcessNames}
 use Rattle.pd_format.specs.Records.{RecordFault, Json, Shape, Join, UnknownProcess, UnknownVar, Value, MessageId, LineRecord, Joins, Happens, Ends, record_of}
 use Rattle.pd_format.specs.Readings.{Ended, Open, reading, result_of, Unended}
 use Rattle.pd_format.specs.Documents as documents
-use Rattle.pd_format.specs.Documents.{DocumentFault, Outline, outline_of_bytes, names_of_outline, width_of}
+use Rattle.pd_format.specs.Documents.{DocumentFault, Options, Outline, inquiry_of, names_of_outline, outline_of_inquiry, plain, width_of}
 use Rattle.pd_format.specs.Sessions.{session, Taken, Absent, bytes_of, Piece, AtEnd, Broken}
 use Rattle.pd_format.specs.Reports.{Possibly, Definitely, Judged, Refused, Cycle, report_text}
 use Rattle.pd_format.specs.OtherTexts.{snapshot_text, check_text, NotRead}
@@ -23,7 +23,7 @@ names = record { name = codes "a"; vars = codes "x" ∷ [] } ∷ record { name =
 
 -- what computing a line's value opens
 unfoldable pub on_lines : ⊤
-unfolding serde_json_on_literals record_of is_utf8 chars outline_of_bytes digits
+unfolding serde_json_on_literals record_of is_utf8 chars outline_of_inquiry digits
 on_lines = tt
 
 -- ---- lines
@@ -135,55 +135,74 @@ abbrev pub with_outline : {A : Type 0} → (Outline → A) → Result Outline Do
 with_outline f (Ok outline) = Some (f outline)
 with_outline f (Err fault) = None
 
-pub names_of_example : with_outline names_of_outline (outline_of_bytes example_document) ≡ Some names
+pub names_of_example : with_outline names_of_outline (outline_of_inquiry (plain example_document)) ≡ Some names
 unfolding on_lines
 names_of_example = refl
 
-pub predicates_of_example : with_outline (λ (o : Outline). o.predicates) (outline_of_bytes example_document)
+pub predicates_of_example : with_outline (λ (o : Outline). o.predicates) (outline_of_inquiry (plain example_document))
     ≡ Some ((codes "both", codes "a.x == 1 and b.y == 1") ∷ [])
 unfolding on_lines
 predicates_of_example = refl
 
-pub width_of_example : with_outline (λ (o : Outline). width_of o.width) (outline_of_bytes example_document) ≡ Some 4096
+pub width_of_example : with_outline (λ (o : Outline). width_of o.width) (outline_of_inquiry (plain example_document)) ≡ Some 4096
 unfolding on_lines
 width_of_example = refl
 
-pub empty_document : outline_of_bytes [] ≡ Err documents.Json
+-- what is asked stands in place of what the document says
+abbrev asked : Options
+asked = record { width = Some 7; predicates = codes "a.x == 2" ∷ []; beyond_width = false }
+
+pub width_asked : with_outline (λ (o : Outline). width_of o.width) (outline_of_inquiry (inquiry_of asked example_document))
+    ≡ Some 7
+unfolding on_lines
+width_asked = refl
+
+pub predicates_asked : with_outline (λ (o : Outline). o.predicates) (outline_of_inquiry (inquiry_of asked example_document))
+    ≡ Some ((codes "ask1", codes "a.x == 2") ∷ [])
+unfolding on_lines
+predicates_asked = refl
+
+pub empty_document : outline_of_inquiry (plain []) ≡ Err documents.Json
 unfolding on_lines
 empty_document = refl
 
-pub no_processes : outline_of_bytes (codes "{\"processes\":[],\"predicates\":[],\"width\":0}") ≡ Err documents.Processes
+pub no_processes : outline_of_inquiry (plain (codes
+    "{\"processes\":[],\"predicates\":[],\"width\":0}")) ≡ Err documents.Processes
 unfolding on_lines
 no_processes = refl
 
-pub named_and : outline_of_bytes (codes "{\"processes\":[{\"name\":\"and\",\"vars\":{}}],\"predicates\":[]}")
+pub named_and : outline_of_inquiry (plain (codes
+    "{\"processes\":[{\"name\":\"and\",\"vars\":{}}],\"predicates\":[]}"))
     ≡ Err documents.Name
 unfolding on_lines
 named_and = refl
 
-pub two_of_a : outline_of_bytes (codes
-    "{\"processes\":[{\"name\":\"a\",\"vars\":{}},{\"name\":\"a\",\"vars\":{}}],\"predicates\":[]}")
+pub two_of_a : outline_of_inquiry (plain (codes
+    "{\"processes\":[{\"name\":\"a\",\"vars\":{}},{\"name\":\"a\",\"vars\":{}}],\"predicates\":[]}"))
     ≡ Err documents.NameTwice
 unfolding on_lines
 two_of_a = refl
 
-pub text_var : outline_of_bytes (codes "{\"processes\":[{\"name\":\"a\",\"vars\":{\"x\":\"1\"}}],\"predicates\":[]}")
+pub text_var : outline_of_inquiry (plain (codes
+    "{\"processes\":[{\"name\":\"a\",\"vars\":{\"x\":\"1\"}}],\"predicates\":[]}"))
     ≡ Err documents.Vars
 unfolding on_lines
 text_var = refl
 
-pub no_predicates : outline_of_bytes (codes "{\"processes\":[{\"name\":\"a\",\"vars\":{}}],\"predicates\":[]}")
+pub no_predicates : outline_of_inquiry (plain (codes
+    "{\"processes\":[{\"name\":\"a\",\"vars\":{}}],\"predicates\":[]}"))
     ≡ Err documents.Predicates
 unfolding on_lines
 no_predicates = refl
 
-pub width_zero : outline_of_bytes (codes
-    "{\"processes\":[{\"name\":\"a\",\"vars\":{}}],\"predicates\":[{\"name\":\"p\",\"text\":\"\"}],\"width\":0}")
+pub width_zero : outline_of_inquiry (plain (codes
+    "{\"processes\":[{\"name\":\"a\",\"vars\":{}}],\"predicates\":[{\"name\":\"p\",\"text\":\"\"}],\"width\":0}"))
     ≡ Err documents.Width
 unfolding on_lines
 width_zero = refl
 
-pub extra_field : outline_of_bytes (codes "{\"processes\":[],\"predicates\":[],\"extra\":0}") ≡ Err documents.Shape
+pub extra_field : outline_of_inquiry (plain (codes
+    "{\"processes\":[],\"predicates\":[],\"extra\":0}")) ≡ Err documents.Shape
 unfolding on_lines
 extra_field = refl
 

@@ -1,5 +1,5 @@
 -- The keys of each object of a JSON value ascend, so no two of them are one.
-use Rattle.std.proofs.Common.{◌≡◌, ◌≢◌, ℕ, List, Bool, true, false, Option, Some, None, Ordering, Less, Equal, Greater, nat_cmp, refl, ◌∙◌, ap, All, arith}
+use Rattle.std.proofs.Common.{◌≡◌, ◌≢◌, ℕ, ◌+◌, List, [], ◌∷◌, Bool, true, false, Option, Some, None, Ordering, Less, Equal, Greater, nat_cmp, refl, ◌∙◌, ap, All, arith}
 use Rattle.std.specs.Prelude.{⊤, AllPairs, option_map, option_and_then, if◌then◌else◌}
 use Rattle.std.specs.Ordering.{match_ordering, ordering_reverse}
 use Rattle.std.specs.Str.{is_utf8}
@@ -11,6 +11,7 @@ use Rattle.json.specs.Json as json
 use Rattle.json.specs.Lex.{tokens}
 use Rattle.serde_json.specs.Data.{Data, null, boolean, number, string, array, object, Items, no_items, item, Members, no_members, member, put}
 use Rattle.serde_json.specs.Read.{number_of, of_json, of_items, of_members, max_depth, read}
+use Rattle.pd_format.specs.Documents.{Inquiry, Options, inquiry_json, with_options, with_predicates, with_width, asked_predicates}
 use Rattle.pd_format.specs.Records.{keys, json_value}
 
 -- ---- what an option holds
@@ -134,8 +135,39 @@ ordered_read text = go (option_and_then (λ p. json.if_last p.0 p.1) (json.value
     go : (o : Option json.Json) → Holds IsOrdered (option_and_then of_json o)
     go o = holds_then Anything IsOrdered of_json (λ j h. ordered_of_json j) o (anything o)
 
-pub ordered_json : (bytes : List ℕ) → Holds IsOrdered (json_value bytes)
+ordered_json : (bytes : List ℕ) → Holds IsOrdered (json_value bytes)
 ordered_json bytes = holds_if IsOrdered (is_utf8 bytes) (read bytes) (ordered_read bytes)
+
+-- ---- a document that options change
+
+ordered_predicates : (n : ℕ) (texts : List (List ℕ)) → AreOrdered (asked_predicates n texts)
+ordered_predicates n [] = tt
+ordered_predicates n (text ∷ texts) = ((tt, (refl, tt), (tt, tt, tt)), ordered_predicates (n + 1) texts)
+
+ordered_with_width : (width : Option ℕ) (fields : Members) → HasOrderedKeys fields
+    → HasOrderedKeys (with_width width fields)
+ordered_with_width None fields h = h
+ordered_with_width (Some n) fields h = ordered_put _ _ fields tt h
+
+ordered_with_predicates : (texts : List (List ℕ)) (fields : Members) → HasOrderedKeys fields
+    → HasOrderedKeys (with_predicates texts fields)
+ordered_with_predicates [] fields h = h
+ordered_with_predicates (text ∷ texts) fields h = ordered_put _ _ fields (ordered_predicates 1 (text ∷ texts)) h
+
+ordered_with_options : (options : Options) (value : Data) → IsOrdered value → IsOrdered (with_options options value)
+ordered_with_options options null h = tt
+ordered_with_options options (boolean b) h = tt
+ordered_with_options options (number n) h = tt
+ordered_with_options options (string text) h = tt
+ordered_with_options options (array items) h = h
+ordered_with_options options (object fields) h =
+    ordered_with_predicates options.predicates (with_width options.width fields)
+    (ordered_with_width options.width fields h)
+
+pub ordered_inquiry : (inquiry : Inquiry) → Holds IsOrdered (inquiry_json inquiry)
+ordered_inquiry inquiry =
+    holds_map IsOrdered IsOrdered (with_options inquiry.options) (ordered_with_options inquiry.options)
+    (json_value inquiry.bytes) (ordered_json inquiry.bytes)
 
 -- ---- keys that differ
 

@@ -1,7 +1,7 @@
 -- The session document.
-use Rattle.std.specs.Prelude.{◌≡◌, ℕ, ◌+◌, Bool, true, false, not, ◌&&◌, ◌||◌, nat_eq, nat_le, nat_lt, if◌then◌else◌, List, [], ◌∷◌, ◌++◌, length, map, codes, ℤ, pos, negsuc, Option, Some, None, is_some, option_map, option_and_then, unwrap_or, Result, Ok, Err}
+use Rattle.std.specs.Prelude.{◌≡◌, ℕ, ◌+◌, Bool, true, false, not, ◌&&◌, ◌||◌, nat_eq, nat_le, nat_lt, if◌then◌else◌, List, [], ◌∷◌, ◌++◌, length, map, codes, decimal, ℤ, pos, negsuc, Option, Some, None, is_some, option_map, option_and_then, unwrap_or, Result, Ok, Err}
 use Rattle.std.specs.List.{list_all, AllZip, AllByRecursion}
-use Rattle.serde_json.specs.Data.{Data, Items, no_items, item, Members}
+use Rattle.serde_json.specs.Data.{Data, null, boolean, number, string, array, object, unsigned, Items, no_items, item, Members, no_members, member, put}
 use Rattle.serde_json.specs.Find.{get_member, as_str, as_object, as_array}
 use Rattle.pd_model.specs.Messages.{Version, One, Two}
 use Rattle.pd_model.specs.Predicates.{Predicate}
@@ -125,10 +125,73 @@ abbrev pub outline_of_json : Option Data → Result Outline DocumentFault
 outline_of_json None = Err Json
 outline_of_json (Some value) = checked_outline (outline_of value)
 
--- the outline of a document's bytes, or the first fault but for those in predicates and that of its version
-unfoldable pub outline_of_bytes : List ℕ → Result Outline DocumentFault
-outline_of_bytes bytes =
-    if nat_lt document_byte_limit (length bytes) then Err Long else outline_of_json (json_value bytes)
+-- ---- options
+
+-- What is asked of a session beside its document: a width and texts of predicates in place of those that the document
+-- has, and whether a predicate that is decided without levels is answered whatever the width.
+pub record Options : Type 0 where
+  pub width : Option ℕ
+  pub predicates : List (List ℕ)
+  pub beyond_width : Bool
+
+-- nothing is asked beside the document
+abbrev pub no_options : Options
+no_options = record { width = None; predicates = []; beyond_width = false }
+
+-- the predicate of this number with this text, as a document has it
+abbrev pub asked_predicate : ℕ → List ℕ → Data
+asked_predicate n text =
+    object (member (codes "name") (string (codes "ask" ++ decimal n)) (member (codes "text") (string text) no_members))
+
+-- the predicates with these texts, numbered from this number on
+abbrev pub asked_predicates : ℕ → List (List ℕ) → Items
+asked_predicates n [] = no_items
+asked_predicates n (text ∷ texts) = item (asked_predicate n text) (asked_predicates (n + 1) texts)
+
+-- the fields of a document with this width, if one is asked for
+abbrev pub with_width : Option ℕ → Members → Members
+with_width None fields = fields
+with_width (Some n) fields = put (codes "width") (number (unsigned n)) fields
+
+-- the fields of a document with these predicates in place of its own, if some are asked for
+abbrev pub with_predicates : List (List ℕ) → Members → Members
+with_predicates [] fields = fields
+with_predicates (text ∷ texts) fields =
+    put (codes "predicates") (array (asked_predicates 1 (text ∷ texts))) fields
+
+abbrev pub fields_with_options : Options → Members → Members
+fields_with_options options fields = with_predicates options.predicates (with_width options.width fields)
+
+-- a document's value with what is asked in place of what it has; a value that is no object stays as it is
+abbrev pub with_options : Options → Data → Data
+with_options options null = null
+with_options options (boolean b) = boolean b
+with_options options (number n) = number n
+with_options options (string text) = string text
+with_options options (array items) = array items
+with_options options (object fields) = object (fields_with_options options fields)
+
+-- a document's bytes, and what is asked beside it
+pub record Inquiry : Type 0 where
+  pub bytes : List ℕ
+  pub options : Options
+
+abbrev pub inquiry_of : Options → List ℕ → Inquiry
+inquiry_of options bytes = record { bytes = bytes; options = options }
+
+-- a document's bytes alone
+abbrev pub plain : List ℕ → Inquiry
+plain bytes = inquiry_of no_options bytes
+
+-- the value of a document's bytes, changed by what is asked
+abbrev pub inquiry_json : Inquiry → Option Data
+inquiry_json inquiry = option_map (with_options inquiry.options) (json_value inquiry.bytes)
+
+-- The outline of a document with what is asked, or the first fault but for those in predicates and that of its version.
+-- Whether the document is too long is decided by its own bytes, whatever is asked.
+unfoldable pub outline_of_inquiry : Inquiry → Result Outline DocumentFault
+outline_of_inquiry inquiry =
+    if nat_lt document_byte_limit (length inquiry.bytes) then Err Long else outline_of_json (inquiry_json inquiry)
 
 -- ---- the document
 
@@ -176,15 +239,15 @@ abbrev pub IsNamedPredicate : List ProcessNames → List ℕ × List ℕ → Nam
 IsNamedPredicate names written predicate = (predicate.name ≡ written.0)
     × IsPredicate names written.1 predicate.predicate
 
--- the bytes are this document
-pub record IsDocument (bytes : List ℕ) (document : Document) : Type 0 where
+-- the document of the inquiry's bytes, with what is asked, is this one
+pub record IsDocument (inquiry : Inquiry) (document : Document) : Type 0 where
   pub outline : Outline
-  pub sound : outline_of_bytes bytes ≡ Ok outline
+  pub sound : outline_of_inquiry inquiry ≡ Ok outline
   pub names : document.names ≡ names_of_outline outline
   pub initial : document.initial ≡ initial_of outline
   pub width : document.width ≡ width_of outline.width
   pub version : version_of outline.version ≡ Some document.version
-  pub beyond_width : document.beyond_width ≡ false
+  pub beyond_width : document.beyond_width ≡ inquiry.options.beyond_width
   pub predicates : AllZip (IsNamedPredicate (names_of_outline outline)) outline.predicates document.predicates
 
 -- a text, by the names of the outline, is a predicate
@@ -192,9 +255,9 @@ abbrev pub IsSpelled : Outline → List ℕ × List ℕ → Type 0
 IsSpelled outline written = (predicate : Predicate) × IsPredicate (names_of_outline outline) written.1 predicate
 
 -- a predicate of a sound outline is refused, and those before it aren't
-pub record HasRefusedPredicate (bytes : List ℕ) (number : ℕ) (fault : PredicateFault) (at : ℕ) : Type 0 where
+pub record HasRefusedPredicate (inquiry : Inquiry) (number : ℕ) (fault : PredicateFault) (at : ℕ) : Type 0 where
   pub outline : Outline
-  pub sound : outline_of_bytes bytes ≡ Ok outline
+  pub sound : outline_of_inquiry inquiry ≡ Ok outline
   pub before : List (List ℕ × List ℕ)
   pub refused : List ℕ × List ℕ
   pub after : List (List ℕ × List ℕ)
@@ -204,40 +267,14 @@ pub record HasRefusedPredicate (bytes : List ℕ) (number : ℕ) (fault : Predic
   pub none_before : AllByRecursion (IsSpelled outline) before
 
 -- no predicate of a sound outline is refused, and its field says no version
-pub record HasOtherVersion (bytes : List ℕ) : Type 0 where
+pub record HasOtherVersion (inquiry : Inquiry) : Type 0 where
   pub outline : Outline
-  pub sound : outline_of_bytes bytes ≡ Ok outline
+  pub sound : outline_of_inquiry inquiry ≡ Ok outline
   pub spelled : AllByRecursion (IsSpelled outline) outline.predicates
   pub none : version_of outline.version ≡ None
 
--- the bytes are refused with this fault
-abbrev pub IsRefusedDocument : List ℕ → DocumentFault → Type 0
-IsRefusedDocument bytes (InPredicate number fault at) = HasRefusedPredicate bytes number fault at
-IsRefusedDocument bytes OtherVersion = HasOtherVersion bytes
-IsRefusedDocument bytes fault = outline_of_bytes bytes ≡ Err fault
-
--- ---- what is asked beside the document
-
--- a document's bytes, and what is asked of its session beside them
-pub record Inquiry : Type 0 where
-  pub bytes : List ℕ
-  -- that predicates are answered whatever the width, as far as they are decided without levels
-  pub beyond_width : Bool
-
-abbrev pub inquiry : (beyond_width : Bool) → (bytes : List ℕ) → Inquiry
-inquiry beyond_width bytes = record { bytes = bytes; beyond_width = beyond_width }
-
--- a document's bytes alone
-abbrev pub plain : List ℕ → Inquiry
-plain bytes = inquiry false bytes
-
--- the document, changed by what is asked beside it
-abbrev pub changed : (beyond_width : Bool) → Document → Document
-changed false document = document
-changed true document = record document { beyond_width = true }
-
--- the inquiry is this document: that of its bytes, changed by what is asked beside them
-pub record IsInquired (inquiry : Inquiry) (document : Document) : Type 0 where
-  pub said : Document
-  pub read : IsDocument inquiry.bytes said
-  pub is_changed : document ≡ changed inquiry.beyond_width said
+-- the inquiry is refused with this fault of its document
+abbrev pub IsRefusedDocument : Inquiry → DocumentFault → Type 0
+IsRefusedDocument inquiry (InPredicate n fault at) = HasRefusedPredicate inquiry n fault at
+IsRefusedDocument inquiry OtherVersion = HasOtherVersion inquiry
+IsRefusedDocument inquiry fault = outline_of_inquiry inquiry ≡ Err fault
