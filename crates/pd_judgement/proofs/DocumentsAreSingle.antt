@@ -1,10 +1,10 @@
--- Bytes are one document, or are refused with one fault, and never both.
+-- An inquiry is of one document, or is refused with one fault, and never both.
 use Rattle.std.proofs.Common.{◌≡◌, ℕ, ◌+◌, List, [], ◌∷◌, ◌++◌, length, refl, sym, ◌∙◌, ap, subst}
 use Rattle.std.specs.Prelude.{Option, Some, None, Ok, Err}
 use Rattle.std.specs.List.{AllZip, AllByRecursion}
 use Rattle.pd_model.specs.Messages.{Version}
 use Rattle.pd_model.specs.Predicates.{Predicate}
-use Rattle.pd_format.specs.Documents.{Outline, Document, NamedPredicate, DocumentFault, Long, Json, Shape, Processes, Name, NameTwice, Vars, Predicates, Width, OtherVersion, InPredicate, IsNamedPredicate, IsDocument, IsSpelled, HasRefusedPredicate, HasOtherVersion, IsRefusedDocument, Inquiry, IsInquired, changed, plain, outline_of_bytes, names_of_outline, initial_of, width_of, version_of}
+use Rattle.pd_format.specs.Documents.{Outline, Document, NamedPredicate, DocumentFault, Long, Json, Shape, Processes, Name, NameTwice, Vars, Predicates, Width, OtherVersion, InPredicate, IsNamedPredicate, IsDocument, IsSpelled, HasRefusedPredicate, HasOtherVersion, IsRefusedDocument, Inquiry, outline_of_inquiry, names_of_outline, initial_of, width_of, version_of}
 use Rattle.pd_format.specs.Laws.{AreClear}
 use Rattle.pd_format.specs.Names.{ProcessNames}
 use Rattle.pd_format.specs.PredicateTexts.{PredicateFault, IsPredicate, IsRefusedPredicate}
@@ -14,8 +14,8 @@ use Rattle.pd_format.proofs.DocumentNames.{clear_document}
 abbrev Written : Type 0
 Written = List ℕ × List ℕ
 
-same_outline : (bytes : List ℕ) (a b : Outline) → outline_of_bytes bytes ≡ Ok a → outline_of_bytes bytes ≡ Ok b → a ≡ b
-same_outline bytes a b e f = cc
+same_outline : (inquiry : Inquiry) (a b : Outline) → outline_of_inquiry inquiry ≡ Ok a → outline_of_inquiry inquiry ≡ Ok b → a ≡ b
+same_outline inquiry a b e f = cc
 
 -- ---- one document
 
@@ -39,9 +39,9 @@ one_each names clear (w ∷ written) (x ∷ a) (y ∷ b) p q =
     let rest : a ≡ b = one_each names clear written a b p.1 q.1 in
     λ i. first i ∷ rest i
 
-pub one_document_lem : (bytes : List ℕ) (a b : Document) → IsDocument bytes a → IsDocument bytes b → a ≡ b
-one_document_lem bytes a b p q =
-    let same : q.outline ≡ p.outline = same_outline bytes q.outline p.outline q.sound p.sound in
+pub one_document_lem : (inquiry : Inquiry) (a b : Document) → IsDocument inquiry a → IsDocument inquiry b → a ≡ b
+one_document_lem inquiry a b p q =
+    let same : q.outline ≡ p.outline = same_outline inquiry q.outline p.outline q.sound p.sound in
     let names : a.names ≡ b.names = p.names ∙ (ap names_of_outline (sym same) ∙ sym q.names) in
     let initial : a.initial ≡ b.initial = p.initial ∙ (ap initial_of (sym same) ∙ sym q.initial) in
     let width : a.width ≡ b.width = p.width ∙ (ap (λ (o : Outline). width_of o.width) (sym same) ∙ sym q.width) in
@@ -49,7 +49,7 @@ one_document_lem bytes a b p q =
     subst (λ (o : Outline). AllZip (IsNamedPredicate (names_of_outline o)) o.predicates b.predicates) same
     q.predicates in
     let predicates : a.predicates ≡ b.predicates =
-    one_each (names_of_outline p.outline) (clear_document bytes p.outline p.sound) p.outline.predicates a.predicates
+    one_each (names_of_outline p.outline) (clear_document inquiry p.outline p.sound) p.outline.predicates a.predicates
     b.predicates p.predicates moved in
     let version : a.version ≡ b.version =
     same_version (version_of p.outline.version) a.version b.version p.version
@@ -67,16 +67,6 @@ one_document_lem bytes a b p q =
     same_version : (said : Option Version) (v w : Version) → said ≡ Some v → said ≡ Some w → v ≡ w
     same_version said v w e f = cc
 
--- an inquiry is one document
-pub one_inquired : (inquiry : Inquiry) (a b : Document) → IsInquired inquiry a → IsInquired inquiry b → a ≡ b
-one_inquired inquiry a b p q =
-    p.is_changed ∙ (ap (changed inquiry.beyond_width) (one_document_lem inquiry.bytes p.said q.said p.read q.read)
-    ∙ sym q.is_changed)
-
--- a document of bytes alone
-pub plainly : (bytes : List ℕ) (document : Document) → IsDocument bytes document → IsInquired (plain bytes) document
-plainly bytes document is = record { said = document; read = is; is_changed = refl }
-
 -- ---- a document isn't refused
 
 -- what stands beside an element in the midst of a list
@@ -88,40 +78,40 @@ partner R (z ∷ before) x after [] h = absurd h
 partner R (z ∷ before) x after (y ∷ ys) h = partner R before x after ys h.1
 
 -- a refusal of the outline, one of a predicate, or one of the version
-data Refusing (bytes : List ℕ) (fault : DocumentFault) : Type 0 where
-  of_outline : outline_of_bytes bytes ≡ Err fault → Refusing bytes fault
+data Refusing (inquiry : Inquiry) (fault : DocumentFault) : Type 0 where
+  of_outline : outline_of_inquiry inquiry ≡ Err fault → Refusing inquiry fault
   of_predicate : (number : ℕ) (inner : PredicateFault) (at : ℕ) → fault ≡ InPredicate number inner at
-      → HasRefusedPredicate bytes number inner at → Refusing bytes fault
-  of_version : fault ≡ OtherVersion → HasOtherVersion bytes → Refusing bytes fault
+      → HasRefusedPredicate inquiry number inner at → Refusing inquiry fault
+  of_version : fault ≡ OtherVersion → HasOtherVersion inquiry → Refusing inquiry fault
 
-refusing : (bytes : List ℕ) (fault : DocumentFault) → IsRefusedDocument bytes fault → Refusing bytes fault
-refusing bytes Long h = of_outline h
-refusing bytes Json h = of_outline h
-refusing bytes Shape h = of_outline h
-refusing bytes Processes h = of_outline h
-refusing bytes Name h = of_outline h
-refusing bytes NameTwice h = of_outline h
-refusing bytes Vars h = of_outline h
-refusing bytes Predicates h = of_outline h
-refusing bytes Width h = of_outline h
-refusing bytes OtherVersion h = of_version refl h
-refusing bytes (InPredicate number inner at) h = of_predicate number inner at refl h
+refusing : (inquiry : Inquiry) (fault : DocumentFault) → IsRefusedDocument inquiry fault → Refusing inquiry fault
+refusing inquiry Long h = of_outline h
+refusing inquiry Json h = of_outline h
+refusing inquiry Shape h = of_outline h
+refusing inquiry Processes h = of_outline h
+refusing inquiry Name h = of_outline h
+refusing inquiry NameTwice h = of_outline h
+refusing inquiry Vars h = of_outline h
+refusing inquiry Predicates h = of_outline h
+refusing inquiry Width h = of_outline h
+refusing inquiry OtherVersion h = of_version refl h
+refusing inquiry (InPredicate number inner at) h = of_predicate number inner at refl h
 
-not_both : (bytes : List ℕ) (outline : Outline) (fault : DocumentFault) → outline_of_bytes bytes ≡ Ok outline
-    → outline_of_bytes bytes ≡ Err fault → ⊥
-not_both bytes outline fault e f = cc
+not_both : (inquiry : Inquiry) (outline : Outline) (fault : DocumentFault) → outline_of_inquiry inquiry ≡ Ok outline
+    → outline_of_inquiry inquiry ≡ Err fault → ⊥
+not_both inquiry outline fault e f = cc
 
-pub document_not_refused_lem : (bytes : List ℕ) (document : Document) (fault : DocumentFault)
-    → IsDocument bytes document → IsRefusedDocument bytes fault → ⊥
-document_not_refused_lem bytes document fault p refused = go (refusing bytes fault refused)
+pub document_not_refused_lem : (inquiry : Inquiry) (document : Document) (fault : DocumentFault)
+    → IsDocument inquiry document → IsRefusedDocument inquiry fault → ⊥
+document_not_refused_lem inquiry document fault p refused = go (refusing inquiry fault refused)
   where
     none : (version : Option Version) → version ≡ Some document.version → version ≡ None → ⊥
     none version e f = cc
 
-    go : Refusing bytes fault → ⊥
-    go (of_outline e) = not_both bytes p.outline fault p.sound e
+    go : Refusing inquiry fault → ⊥
+    go (of_outline e) = not_both inquiry p.outline fault p.sound e
     go (of_predicate number inner at e r) =
-        let same : p.outline ≡ r.outline = same_outline bytes p.outline r.outline p.sound r.sound in
+        let same : p.outline ≡ r.outline = same_outline inquiry p.outline r.outline p.sound r.sound in
         let moved : AllZip (IsNamedPredicate (names_of_outline r.outline)) r.outline.predicates document.predicates =
         subst (λ (o : Outline). AllZip (IsNamedPredicate (names_of_outline o)) o.predicates document.predicates)
         same p.predicates in
@@ -134,7 +124,7 @@ document_not_refused_lem bytes document fault p refused = go (refusing bytes fau
         in
         predicate_not_refused_lem (names_of_outline r.outline) r.refused.1 found.0.predicate inner at found.1.1 r.stands
     go (of_version e v) =
-        let same : p.outline ≡ v.outline = same_outline bytes p.outline v.outline p.sound v.sound in
+        let same : p.outline ≡ v.outline = same_outline inquiry p.outline v.outline p.sound v.sound in
         none (version_of v.outline.version) (ap (λ (o : Outline). version_of o.version) (sym same) ∙ p.version) v.none
 
 -- ---- one fault
@@ -167,9 +157,9 @@ record Refuses (outline : Outline) (number : ℕ) (fault : PredicateFault) (at :
   stands : IsRefusedPredicate (names_of_outline outline) refused.1 fault at
   none_before : AllByRecursion (IsSome (names_of_outline outline)) before
 
-refuses : (bytes : List ℕ) (number : ℕ) (fault : PredicateFault) (at : ℕ)
-    (r : HasRefusedPredicate bytes number fault at) → Refuses r.outline number fault at
-refuses bytes number fault at r =
+refuses : (inquiry : Inquiry) (number : ℕ) (fault : PredicateFault) (at : ℕ)
+    (r : HasRefusedPredicate inquiry number fault at) → Refuses r.outline number fault at
+refuses inquiry number fault at r =
     record {
       before = r.before;
       refused = r.refused;
@@ -206,10 +196,10 @@ in_midst P [] x after h = h.0
 in_midst P (z ∷ before) x after h = in_midst P before x after h.1
 
 -- no predicate is refused where each is spelled
-spelled_not_refused : (bytes : List ℕ) (number : ℕ) (fault : PredicateFault) (at : ℕ)
-    → HasRefusedPredicate bytes number fault at → HasOtherVersion bytes → ⊥
-spelled_not_refused bytes number fault at r v =
-    let same : v.outline ≡ r.outline = same_outline bytes v.outline r.outline v.sound r.sound in
+spelled_not_refused : (inquiry : Inquiry) (number : ℕ) (fault : PredicateFault) (at : ℕ)
+    → HasRefusedPredicate inquiry number fault at → HasOtherVersion inquiry → ⊥
+spelled_not_refused inquiry number fault at r v =
+    let same : v.outline ≡ r.outline = same_outline inquiry v.outline r.outline v.sound r.sound in
     let moved : AllByRecursion (IsSpelled r.outline) r.outline.predicates =
     subst (λ (o : Outline). AllByRecursion (IsSpelled o) o.predicates) same v.spelled in
     let parts : AllByRecursion (IsSpelled r.outline) (r.before ++ r.refused ∷ r.after) =
@@ -217,22 +207,22 @@ spelled_not_refused bytes number fault at r v =
     not_some (names_of_outline r.outline) r.refused fault at r.stands
     (in_midst (IsSpelled r.outline) r.before r.refused r.after parts)
 
-pub one_document_fault_lem : (bytes : List ℕ) (f g : DocumentFault) → IsRefusedDocument bytes f
-    → IsRefusedDocument bytes g → f ≡ g
-one_document_fault_lem bytes f g p q = go (refusing bytes f p) (refusing bytes g q)
+pub one_document_fault_lem : (inquiry : Inquiry) (f g : DocumentFault) → IsRefusedDocument inquiry f
+    → IsRefusedDocument inquiry g → f ≡ g
+one_document_fault_lem inquiry f g p q = go (refusing inquiry f p) (refusing inquiry g q)
   where
-    go : Refusing bytes f → Refusing bytes g → f ≡ g
+    go : Refusing inquiry f → Refusing inquiry g → f ≡ g
     go (of_outline e) (of_outline e') = cc
-    go (of_outline e) (of_predicate number inner at k r) = absurd (not_both bytes r.outline f r.sound e)
-    go (of_outline e) (of_version k v) = absurd (not_both bytes v.outline f v.sound e)
-    go (of_version k v) (of_outline e) = absurd (not_both bytes v.outline g v.sound e)
+    go (of_outline e) (of_predicate number inner at k r) = absurd (not_both inquiry r.outline f r.sound e)
+    go (of_outline e) (of_version k v) = absurd (not_both inquiry v.outline f v.sound e)
+    go (of_version k v) (of_outline e) = absurd (not_both inquiry v.outline g v.sound e)
     go (of_version k v) (of_version l w) = k ∙ sym l
-    go (of_version k v) (of_predicate number inner at l r) = absurd (spelled_not_refused bytes number inner at r v)
-    go (of_predicate number inner at k r) (of_version l v) = absurd (spelled_not_refused bytes number inner at r v)
-    go (of_predicate number inner at k r) (of_outline e) = absurd (not_both bytes r.outline g r.sound e)
+    go (of_version k v) (of_predicate number inner at l r) = absurd (spelled_not_refused inquiry number inner at r v)
+    go (of_predicate number inner at k r) (of_version l v) = absurd (spelled_not_refused inquiry number inner at r v)
+    go (of_predicate number inner at k r) (of_outline e) = absurd (not_both inquiry r.outline g r.sound e)
     go (of_predicate number inner at k r) (of_predicate number' inner' at' k' r') =
-        let same : r.outline ≡ r'.outline = same_outline bytes r.outline r'.outline r.sound r'.sound in
+        let same : r.outline ≡ r'.outline = same_outline inquiry r.outline r'.outline r.sound r'.sound in
         let moved : Refuses r'.outline number inner at =
-        subst (λ (o : Outline). Refuses o number inner at) same (refuses bytes number inner at r) in
-        k ∙ (one_refuses r'.outline number number' inner inner' at at' moved (refuses bytes number' inner' at' r')
+        subst (λ (o : Outline). Refuses o number inner at) same (refuses inquiry number inner at r) in
+        k ∙ (one_refuses r'.outline number number' inner inner' at at' moved (refuses inquiry number' inner' at' r')
         ∙ sym k')

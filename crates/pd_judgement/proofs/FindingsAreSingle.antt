@@ -8,14 +8,14 @@ use Rattle.pd_model.specs.Order.{IsWellFormed}
 use Rattle.pd_model.specs.Predicates.{test_of}
 use Rattle.pd_format.specs.Names.{ProcessNames}
 use Rattle.pd_format.specs.Readings.{Trace}
-use Rattle.pd_format.specs.Documents.{Document, NamedPredicate, plain}
+use Rattle.pd_format.specs.Documents.{Document, NamedPredicate, Inquiry}
 use Rattle.pd_format.specs.Sessions.{SessionFault, StreamResult, session}
 use Rattle.pd_format.specs.Reports.{Possibly, Definitely, Answer, Refusal, Report, Judged, Refused, IsReport}
 use Rattle.pd_judgement.specs.Judgements.{RawStream, AreResultsOf, events_of_traces, recorded_of, IsTracesReport, of_messages, of_cycle, of_answers, IsReportOfSession, IsReportOfResults, IsJudgement, of_refused, of_read}
 use Rattle.pd_format.specs.OtherTexts.{by_test, Checked, NotRead, OfRefusal, OfSession, possibly_verdict, definitely_verdict}
 use Rattle.pd_format.proofs.OneReport.{one_report_of_bytes, stops_at_one_line_lem}
 use Rattle.pd_judgement.specs.Findings.{IsGoodCut, IsGoodPath, IsChecked, IsCheckedFor, IsAnswersFinding, of_other_names, of_verdicts, IsSessionOf, AreCounts, of_unread, of_refused_session, of_refusal, of_session, OneFinding}
-use Rattle.pd_judgement.proofs.DocumentsAreSingle.{one_document_lem, plainly, document_not_refused_lem}
+use Rattle.pd_judgement.proofs.DocumentsAreSingle.{one_document_lem, document_not_refused_lem}
 use Rattle.pd_judgement.proofs.ReceivedSends.{one_count}
 use Rattle.pd_judgement.proofs.ReportsAreSingle.{one_judgement, not_lawful, not_cycle, same_results_report}
 use Rattle.pd_judgement.proofs.StreamResults.{one_list_of_results_lem}
@@ -77,12 +77,12 @@ one_answers_finding document traces answers a b (of_verdicts verdicts same each)
 
 -- ---- sessions
 
--- bytes and streams hold one session
-one_session : (bytes : List ℕ) (streams : List RawStream) (d e : Document) (t u : List Trace)
-    (m n : ℕ) → IsSessionOf bytes streams d t m → IsSessionOf bytes streams e u n → (e ≡ d) × (u ≡ t)
+-- inquiry and streams hold one session
+one_session : (inquiry : Inquiry) (streams : List RawStream) (d e : Document) (t u : List Trace)
+    (m n : ℕ) → IsSessionOf inquiry streams d t m → IsSessionOf inquiry streams e u n → (e ≡ d) × (u ≡ t)
     × (n ≡ m)
-one_session bytes streams d e t u m n p q =
-    let document : e ≡ d = one_document_lem bytes e d q.read p.read in
+one_session inquiry streams d e t u m n p q =
+    let document : e ≡ d = one_document_lem inquiry e d q.read p.read in
     let are : AreResultsOf d.names streams q.results =
     subst (λ (x : Document). AreResultsOf x.names streams q.results) document q.are_results in
     let results : q.results ≡ p.results =
@@ -109,15 +109,15 @@ well_formed_not_refused document traces report refusal well (of_cycle cycle lawf
 well_formed_not_refused document traces report refusal well (of_answers messages answers well' is each) e = cc
 
 -- a well-formed session isn't refused
-session_not_refused : (bytes : List ℕ) (streams : List RawStream) (refusal : Refusal) (document : Document)
-    (traces : List Trace) (messages : ℕ) → IsJudgement (plain bytes) streams (Refused refusal)
-    → IsSessionOf bytes streams document traces messages → ⊥
-session_not_refused bytes streams refusal document traces messages (of_refused fault refused reported) held =
-    document_not_refused_lem bytes document fault held.read refused
-session_not_refused bytes streams refusal document traces messages (of_read other others is are r) held =
+session_not_refused : (inquiry : Inquiry) (streams : List RawStream) (refusal : Refusal) (document : Document)
+    (traces : List Trace) (messages : ℕ) → IsJudgement inquiry streams (Refused refusal)
+    → IsSessionOf inquiry streams document traces messages → ⊥
+session_not_refused inquiry streams refusal document traces messages (of_refused fault refused reported) held =
+    document_not_refused_lem inquiry document fault held.read refused
+session_not_refused inquiry streams refusal document traces messages (of_read other others is are r) held =
     let moved : IsReportOfResults document (length streams) held.results (Refused refusal) =
-    same_results_report (plain bytes) streams document other held.results others (Refused refusal)
-    (plainly bytes document held.read) is
+    same_results_report inquiry streams document other held.results others (Refused refusal)
+    held.read is
     held.are_results are r in
     let report : IsTracesReport document traces (Refused refusal) =
     subst (λ s. IsReportOfSession document s (Refused refusal)) held.joined moved in
@@ -126,23 +126,23 @@ session_not_refused bytes streams refusal document traces messages (of_read othe
 -- ---- findings
 
 -- a refused session has one finding
-one_refused_finding : (bytes report : List ℕ) (streams : List RawStream) (claimed claimed' : Report)
+one_refused_finding : (inquiry : Inquiry) (report : List ℕ) (streams : List RawStream) (claimed claimed' : Report)
     (refusal refusal' : Refusal) (good good' : Bool)
-    → IsReport report claimed → IsReport report claimed' → IsJudgement (plain bytes) streams (Refused refusal)
-    → IsJudgement (plain bytes) streams (Refused refusal') → IsTrue good ↔ (claimed ≡ Refused refusal) → IsTrue good'
+    → IsReport report claimed → IsReport report claimed' → IsJudgement inquiry streams (Refused refusal)
+    → IsJudgement inquiry streams (Refused refusal') → IsTrue good ↔ (claimed ≡ Refused refusal) → IsTrue good'
     ↔ (claimed' ≡ Refused refusal')
     → OfRefusal good ≡ OfRefusal good'
-one_refused_finding bytes report streams claimed claimed' refusal refusal' good good' is is' judged judged' right
+one_refused_finding inquiry report streams claimed claimed' refusal refusal' good good' is is' judged judged' right
     right' =
     let reported : claimed' ≡ claimed = one_report_of_bytes report claimed' claimed is' is in
     let judgement : Refused refusal' ≡ Refused refusal =
-    one_judgement (plain bytes) streams (Refused refusal') (Refused refusal) judged' judged in
+    one_judgement inquiry streams (Refused refusal') (Refused refusal) judged' judged in
     let moved : IsTrue good' ↔ (claimed ≡ Refused refusal) =
     subst (λ (both : Report × Report). IsTrue good' ↔ (both.0 ≡ both.1)) (λ i. (reported i, judgement i)) right' in
     ap (λ b. OfRefusal b) (same_test good good' right moved)
 
 -- a finding on a report of answers, of a well-formed session
-record Judging (bytes report : List ℕ) (streams : List RawStream) (good : Bool) (found : Option (List Checked)) :
+record Judging (inquiry : Inquiry) (report : List ℕ) (streams : List RawStream) (good : Bool) (found : Option (List Checked)) :
     Type 0 where
   processes : ℕ
   events : ℕ
@@ -152,14 +152,14 @@ record Judging (bytes report : List ℕ) (streams : List RawStream) (good : Bool
   traces : List Trace
   messages : ℕ
   is : IsReport report (Judged processes events matched answers)
-  held : IsSessionOf bytes streams document traces messages
+  held : IsSessionOf inquiry streams document traces messages
   right : IsTrue good ↔ AreCounts document traces messages processes events matched
   finds : IsAnswersFinding document traces answers found
 
-one_session_finding : (bytes report : List ℕ) (streams : List RawStream) (good good' : Bool)
-    (found found' : Option (List Checked)) → Judging bytes report streams good found
-    → Judging bytes report streams good' found' → OfSession good found ≡ OfSession good' found'
-one_session_finding bytes report streams good good' found found' p q =
+one_session_finding : (inquiry : Inquiry) (report : List ℕ) (streams : List RawStream) (good good' : Bool)
+    (found found' : Option (List Checked)) → Judging inquiry report streams good found
+    → Judging inquiry report streams good' found' → OfSession good found ≡ OfSession good' found'
+one_session_finding inquiry report streams good good' found found' p q =
     let reported : Judged q.processes q.events q.matched q.answers ≡ Judged p.processes p.events p.matched p.answers =
     one_report_of_bytes report (Judged q.processes q.events q.matched q.answers)
     (Judged p.processes p.events p.matched p.answers) q.is p.is in
@@ -167,7 +167,7 @@ one_session_finding bytes report streams good good' found found' p q =
     let events : q.events ≡ p.events = cc in
     let matched : q.matched ≡ p.matched = cc in
     let answers : q.answers ≡ p.answers = cc in
-    let same = one_session bytes streams p.document q.document p.traces q.traces p.messages q.messages p.held q.held in
+    let same = one_session inquiry streams p.document q.document p.traces q.traces p.messages q.messages p.held q.held in
     let right : IsTrue good' ↔ AreCounts p.document p.traces p.messages p.processes p.events p.matched =
     subst (λ (x : Document × List Trace × ℕ × ℕ × ℕ × ℕ). IsTrue good'
     ↔ AreCounts x.0 x.1 x.2 x.3 x.4 x.5) (λ i. (same.0 i, same.1 i, same.2 i, processes i, events i, matched i))
@@ -187,49 +187,49 @@ not_judged bytes refusal processes events matched answers h k =
     one_report_of_bytes bytes (Refused refusal) (Judged processes events matched answers) h k in cc
 
 pub one_finding_lem : OneFinding
-one_finding_lem bytes report streams a b (of_unread line h) (of_unread other k) =
+one_finding_lem inquiry report streams a b (of_unread line h) (of_unread other k) =
     ap (λ n. NotRead n) (stops_at_one_line_lem report line other h k)
-one_finding_lem bytes report streams a b (of_unread line h) (of_refused_session claimed refusal good is judged right) =
+one_finding_lem inquiry report streams a b (of_unread line h) (of_refused_session claimed refusal good is judged right) =
     absurd (h.no_report claimed is)
-one_finding_lem bytes report streams a b (of_unread line h) (of_refusal refusal document traces messages is held) =
+one_finding_lem inquiry report streams a b (of_unread line h) (of_refusal refusal document traces messages is held) =
     absurd (h.no_report (Refused refusal) is)
-one_finding_lem bytes report streams a b (of_unread line h)
+one_finding_lem inquiry report streams a b (of_unread line h)
     (of_session processes events matched answers document traces messages good found is held right finds) =
     absurd (h.no_report (Judged processes events matched answers) is)
-one_finding_lem bytes report streams a b (of_refused_session claimed refusal good is judged right) (of_unread line h) =
+one_finding_lem inquiry report streams a b (of_refused_session claimed refusal good is judged right) (of_unread line h) =
     absurd (h.no_report claimed is)
-one_finding_lem bytes report streams a b (of_refused_session claimed refusal good is judged right)
+one_finding_lem inquiry report streams a b (of_refused_session claimed refusal good is judged right)
     (of_refused_session claimed' refusal' good' is' judged' right') =
-    one_refused_finding bytes report streams claimed claimed' refusal refusal' good good' is is' judged judged' right
+    one_refused_finding inquiry report streams claimed claimed' refusal refusal' good good' is is' judged judged' right
     right'
-one_finding_lem bytes report streams a b (of_refused_session claimed refusal good is judged right)
+one_finding_lem inquiry report streams a b (of_refused_session claimed refusal good is judged right)
     (of_refusal refusal' document traces messages is' held) =
-    absurd (session_not_refused bytes streams refusal document traces messages judged held)
-one_finding_lem bytes report streams a b (of_refused_session claimed refusal good is judged right)
+    absurd (session_not_refused inquiry streams refusal document traces messages judged held)
+one_finding_lem inquiry report streams a b (of_refused_session claimed refusal good is judged right)
     (of_session processes events matched answers document traces messages good' found is' held right' finds) =
-    absurd (session_not_refused bytes streams refusal document traces messages judged held)
-one_finding_lem bytes report streams a b (of_refusal refusal document traces messages is held) (of_unread line h) =
+    absurd (session_not_refused inquiry streams refusal document traces messages judged held)
+one_finding_lem inquiry report streams a b (of_refusal refusal document traces messages is held) (of_unread line h) =
     absurd (h.no_report (Refused refusal) is)
-one_finding_lem bytes report streams a b (of_refusal refusal document traces messages is held)
+one_finding_lem inquiry report streams a b (of_refusal refusal document traces messages is held)
     (of_refused_session claimed refusal' good is' judged right) =
-    absurd (session_not_refused bytes streams refusal' document traces messages judged held)
-one_finding_lem bytes report streams a b (of_refusal refusal document traces messages is held)
+    absurd (session_not_refused inquiry streams refusal' document traces messages judged held)
+one_finding_lem inquiry report streams a b (of_refusal refusal document traces messages is held)
     (of_refusal refusal' document' traces' messages' is' held') = refl
-one_finding_lem bytes report streams a b (of_refusal refusal document traces messages is held)
+one_finding_lem inquiry report streams a b (of_refusal refusal document traces messages is held)
     (of_session processes events matched answers document' traces' messages' good found is' held' right finds) =
     absurd (not_judged report refusal processes events matched answers is is')
-one_finding_lem bytes report streams a b (of_session processes events matched answers document traces messages good
+one_finding_lem inquiry report streams a b (of_session processes events matched answers document traces messages good
     found is held right finds) (of_unread line h) = absurd (h.no_report (Judged processes events matched answers) is)
-one_finding_lem bytes report streams a b (of_session processes events matched answers document traces messages good
+one_finding_lem inquiry report streams a b (of_session processes events matched answers document traces messages good
     found is held right finds) (of_refused_session claimed refusal good' is' judged right') =
-    absurd (session_not_refused bytes streams refusal document traces messages judged held)
-one_finding_lem bytes report streams a b (of_session processes events matched answers document traces messages good
+    absurd (session_not_refused inquiry streams refusal document traces messages judged held)
+one_finding_lem inquiry report streams a b (of_session processes events matched answers document traces messages good
     found is held right finds) (of_refusal refusal document' traces' messages' is' held') =
     absurd (not_judged report refusal processes events matched answers is' is)
-one_finding_lem bytes report streams a b (of_session processes events matched answers document traces messages good
+one_finding_lem inquiry report streams a b (of_session processes events matched answers document traces messages good
     found is held right finds) (of_session processes' events' matched' answers' document' traces' messages' good' found'
     is' held' right' finds') =
-    one_session_finding bytes report streams good good' found found'
+    one_session_finding inquiry report streams good good' found found'
     (record {
       processes = processes;
       events = events;

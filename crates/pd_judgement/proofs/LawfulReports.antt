@@ -1,12 +1,12 @@
 -- What is the report of anything is lawful, so it is read from its text.
 use Rattle.std.proofs.Common.{◌≡◌, ℕ, suc, ◌+◌, ◌*◌, ◌<◌, ◌≤◌, List, [], ◌∷◌, length, map, refl, sym, ap, subst, ◌∙◌, length-append, arith, Some, Ok, Err}
-use Rattle.std.specs.Prelude.{Bool, true, false, Result, IsTrue}
+use Rattle.std.specs.Prelude.{Result, IsTrue}
 use Rattle.std.specs.List.{AllByRecursion}
 use Rattle.pd_model.specs.Events.{Place, first_of}
 use Rattle.pd_model.specs.Cuts.{total}
 use Rattle.pd_model.proofs.PrintedPlaces.{AreShort, cycle_events}
 use Rattle.pd_format.specs.Bundles.{parts_of}
-use Rattle.pd_format.specs.Documents.{Document, DocumentFault, Inquiry, IsInquired, IsRefusedDocument, HasRefusedPredicate, changed, plain}
+use Rattle.pd_format.specs.Documents.{Document, DocumentFault, Inquiry, IsRefusedDocument, HasRefusedPredicate, plain}
 use Rattle.pd_format.specs.Documents as documents
 use Rattle.pd_format.specs.Limits.{process_limit, predicate_limit, predicate_byte_limit, event_limit, stream_count_limit}
 use Rattle.pd_format.specs.Lists.{is_one_of}
@@ -33,11 +33,11 @@ use Rattle.pd_judgement.proofs.StreamResults.{as_many_results}
 
 -- ---- documents
 
-predicate_is_lawful : (bytes : List ℕ) (number at : ℕ) (fault : PredicateFault)
-    → HasRefusedPredicate bytes number fault at
+predicate_is_lawful : (inquiry : Inquiry) (number at : ℕ) (fault : PredicateFault)
+    → HasRefusedPredicate inquiry number fault at
     → RefusalIsLawful (document_refusal (documents.InPredicate number fault at))
-predicate_is_lawful bytes number at fault refused =
-    let clear = faultless refused.outline (sound_is_faultless bytes refused.outline refused.sound) in
+predicate_is_lawful inquiry number at fault refused =
+    let clear = faultless refused.outline (sound_is_faultless inquiry refused.outline refused.sound) in
     let few : length refused.outline.predicates ≤ predicate_limit =
     (within 1 predicate_limit (length refused.outline.predicates) clear.predicates).1 in
     let l : length refused.outline.predicates ≡ length refused.before + suc (length refused.after) =
@@ -54,20 +54,20 @@ predicate_is_lawful bytes number at fault refused =
     word predicates.UnknownName = refl
     word predicates.Depth = refl
 
-document_is_lawful : (bytes : List ℕ) (fault : DocumentFault) → IsRefusedDocument bytes fault
+document_is_lawful : (inquiry : Inquiry) (fault : DocumentFault) → IsRefusedDocument inquiry fault
     → RefusalIsLawful (document_refusal fault)
-document_is_lawful bytes documents.Long refused = refl
-document_is_lawful bytes documents.Json refused = refl
-document_is_lawful bytes documents.Shape refused = refl
-document_is_lawful bytes documents.Processes refused = refl
-document_is_lawful bytes documents.Name refused = refl
-document_is_lawful bytes documents.NameTwice refused = refl
-document_is_lawful bytes documents.Vars refused = refl
-document_is_lawful bytes documents.Predicates refused = refl
-document_is_lawful bytes documents.Width refused = refl
-document_is_lawful bytes documents.OtherVersion refused = refl
-document_is_lawful bytes (documents.InPredicate number fault at) refused =
-    predicate_is_lawful bytes number at fault refused
+document_is_lawful inquiry documents.Long refused = refl
+document_is_lawful inquiry documents.Json refused = refl
+document_is_lawful inquiry documents.Shape refused = refl
+document_is_lawful inquiry documents.Processes refused = refl
+document_is_lawful inquiry documents.Name refused = refl
+document_is_lawful inquiry documents.NameTwice refused = refl
+document_is_lawful inquiry documents.Vars refused = refl
+document_is_lawful inquiry documents.Predicates refused = refl
+document_is_lawful inquiry documents.Width refused = refl
+document_is_lawful inquiry documents.OtherVersion refused = refl
+document_is_lawful inquiry (documents.InPredicate number fault at) refused =
+    predicate_is_lawful inquiry number at fault refused
 
 -- ---- sessions
 
@@ -189,28 +189,11 @@ results_report_is_lawful document streams results report parts are r =
         events_length [] = refl
         events_length (x ∷ t) = ap suc (events_length t)
 
-changed_parts : (beyond_width : Bool) (document : Document) → HasLawfulParts document
-    → HasLawfulParts (changed beyond_width document)
-changed_parts false document parts = parts
-changed_parts true document parts = record {
-  some_process = parts.some_process;
-  few_processes = parts.few_processes;
-  named = parts.named;
-  some_predicate = parts.some_predicate;
-  few_predicates = parts.few_predicates;
-  asked = parts.asked;
-}
-
-inquired_parts : (inquiry : Inquiry) (document : Document) → IsInquired inquiry document → HasLawfulParts document
-inquired_parts inquiry document is =
-    subst HasLawfulParts (sym is.is_changed)
-    (changed_parts inquiry.beyond_width is.said (lawful_parts inquiry.bytes is.said is.read))
-
 pub judgement_is_lawful : JudgementIsLawful
 judgement_is_lawful inquiry streams report (of_refused fault refused reported) =
-    subst IsLawful (sym reported) (document_is_lawful inquiry.bytes fault refused)
+    subst IsLawful (sym reported) (document_is_lawful inquiry fault refused)
 judgement_is_lawful inquiry streams report (of_read document results is are r) =
-    results_report_is_lawful document streams results report (inquired_parts inquiry document is) are r
+    results_report_is_lawful document streams results report (lawful_parts inquiry document is) are r
 
 pub report_is_lawful_lem : ReportIsLawful
 report_is_lawful_lem bytes report = go (parts_of bytes)

@@ -10,13 +10,13 @@ use Rattle.pd_model.specs.Predicates.{Recorded}
 use Rattle.pd_model.proofs.OneAnswer.{one_fault}
 use Rattle.pd_model.proofs.Stuck.{one_cycle}
 use Rattle.pd_format.specs.Readings.{Trace}
-use Rattle.pd_format.specs.Documents.{Document, NamedPredicate, Inquiry, IsInquired, plain}
+use Rattle.pd_format.specs.Documents.{Document, NamedPredicate, Inquiry, IsDocument, plain}
 use Rattle.pd_format.specs.Sessions.{SessionFault, StreamResult, session}
 use Rattle.pd_format.specs.Reports.{Answer, Refusal, Report, Judged, Refused, Cycle}
 use Rattle.pd_format.specs.Bundles.{parts_of}
 use Rattle.pd_judgement.specs.Judgements.{events_of_traces, recorded_of, printed_possibly, printed_definitely, IsAnswered, IsTracesReport, of_messages, of_cycle, of_answers, IsReportOfSession, IsReportOfResults, RawStream, AreResultsOf, IsJudgement, of_refused, of_read, ended_streams, IsReportOfParts, IsReportOfBundle}
 use Rattle.pd_format.specs.RefusalWords.{document_refusal, match_refusal, named_place}
-use Rattle.pd_judgement.proofs.DocumentsAreSingle.{one_inquired, document_not_refused_lem, one_document_fault_lem}
+use Rattle.pd_judgement.proofs.DocumentsAreSingle.{one_document_lem, document_not_refused_lem, one_document_fault_lem}
 use Rattle.pd_judgement.proofs.Answered.{one_possibly, one_definitely}
 use Rattle.pd_judgement.proofs.ReceivedSends.{one_count}
 use Rattle.pd_judgement.proofs.StreamResults.{one_list_of_results_lem}
@@ -94,12 +94,12 @@ one_report_of_outcomes_lem document streams outcomes a b = go (session document.
 
 -- a report by one reading of the document and the streams is the report by any
 pub same_results_report : (inquiry : Inquiry) (streams : List RawStream) (document other : Document)
-    (results others : List StreamResult) (report : Report) → IsInquired inquiry document → IsInquired inquiry other
+    (results others : List StreamResult) (report : Report) → IsDocument inquiry document → IsDocument inquiry other
     → AreResultsOf document.names streams results → AreResultsOf other.names streams others
     → IsReportOfResults other (length streams) others report
     → IsReportOfResults document (length streams) results report
 same_results_report inquiry streams document other results others report is is' are are' r =
-    let same : other ≡ document = one_inquired inquiry other document is' is in
+    let same : other ≡ document = one_document_lem inquiry other document is' is in
     let moved : AreResultsOf document.names streams others =
     subst (λ (d : Document). AreResultsOf d.names streams others) same are' in
     subst (λ (x : List StreamResult). IsReportOfResults document (length streams) x report)
@@ -109,11 +109,11 @@ same_results_report inquiry streams document other results others report is is' 
 pub one_judgement : (inquiry : Inquiry) (streams : List RawStream) (a b : Report) → IsJudgement inquiry streams a
     → IsJudgement inquiry streams b → a ≡ b
 one_judgement inquiry streams a b (of_refused f p e) (of_refused g q e') =
-    e ∙ (ap (λ fault. Refused (document_refusal fault)) (one_document_fault_lem inquiry.bytes f g p q) ∙ sym e')
+    e ∙ (ap (λ fault. Refused (document_refusal fault)) (one_document_fault_lem inquiry f g p q) ∙ sym e')
 one_judgement inquiry streams a b (of_refused f p e) (of_read document results q are r) =
-    absurd (document_not_refused_lem inquiry.bytes q.said f q.read p)
+    absurd (document_not_refused_lem inquiry document f q p)
 one_judgement inquiry streams a b (of_read document results p are r) (of_refused g q e) =
-    absurd (document_not_refused_lem inquiry.bytes p.said g p.read q)
+    absurd (document_not_refused_lem inquiry document g p q)
 one_judgement inquiry streams a b (of_read document results p are r) (of_read other others q are' s) =
     one_report_of_outcomes_lem document (length streams) results a b r
     (same_results_report inquiry streams document other results others b p q are are' s)

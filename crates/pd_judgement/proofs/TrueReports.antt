@@ -1,9 +1,9 @@
 -- The report of a document's bytes and of streams is true.
-use Rattle.std.proofs.Common.{◌≡◌, true, List, length, refl, sym, ap, ◌∙◌, Ok, subst}
+use Rattle.std.proofs.Common.{◌≡◌, true, List, length, refl, sym, ◌∙◌, Ok, subst}
 use Rattle.std.specs.Prelude.{Result, Err}
 use Rattle.pd_model.specs.Order.{IsWellFormed}
 use Rattle.pd_format.specs.Readings.{Trace}
-use Rattle.pd_format.specs.Documents.{Document, Inquiry, IsInquired, changed}
+use Rattle.pd_format.specs.Documents.{Document, Inquiry, IsDocument}
 use Rattle.pd_format.specs.Sessions.{SessionFault, StreamResult, session}
 use Rattle.pd_format.specs.Reports.{Report}
 use Rattle.pd_judgement.specs.Judgements.{RawStream, events_of_traces, AreResultsOf, IsTracesReport, of_messages, of_cycle, of_answers, IsReportOfSession, IsJudgement, of_refused, of_read}
@@ -14,11 +14,11 @@ use Rattle.pd_judgement.proofs.ReportsAreSingle.{same_results_report, not_cycle,
 
 -- the report of a session's judgement
 of_judgement : (inquiry : Inquiry) (streams : List RawStream) (document : Document) (results : List StreamResult)
-    (traces : List Trace) (report : Report) → IsInquired inquiry document → AreResultsOf document.names streams results
+    (traces : List Trace) (report : Report) → IsDocument inquiry document → AreResultsOf document.names streams results
     → session document.names (length streams) results ≡ Ok traces → IsJudgement inquiry streams report
     → IsTracesReport document traces report
 of_judgement inquiry streams document results traces report is are joined (of_refused fault refused reported) =
-    absurd (document_not_refused_lem inquiry.bytes is.said fault is.read refused)
+    absurd (document_not_refused_lem inquiry document fault is refused)
 of_judgement inquiry streams document results traces report is are joined (of_read read others is' are' r) =
     subst (λ s. IsReportOfSession document s report) joined
     (same_results_report inquiry streams document read results others report is is' are are' r)
@@ -31,10 +31,9 @@ of_session inquiry streams document traces report holds right =
     of_judgement inquiry streams document holds.results traces report holds.read holds.are_results holds.joined right
 
 -- what is asked beside a document's bytes is asked of the document
-asked_of : (inquiry : Inquiry) (document : Document) → inquiry.beyond_width ≡ true → IsInquired inquiry document
+asked_of : (inquiry : Inquiry) (document : Document) → inquiry.options.beyond_width ≡ true → IsDocument inquiry document
     → document.beyond_width ≡ true
-asked_of inquiry document asked is =
-    ap (λ (d : Document). d.beyond_width) (is.is_changed ∙ ap (λ b. changed b is.said) asked)
+asked_of inquiry document asked is = is.beyond_width ∙ asked
 
 traces_judged : (document : Document) (traces : List Trace) (report : Report)
     → IsWellFormed document.version (events_of_traces traces) → IsTracesReport document traces report

@@ -9,7 +9,7 @@ use Rattle.pd_model.specs.Answers.{IsAvoidingObservation}
 use Rattle.pd_model.specs.Predicates.{test_of}
 use Rattle.pd_format.specs.Names.{ProcessNames, name_of_process}
 use Rattle.pd_format.specs.Readings.{Trace}
-use Rattle.pd_format.specs.Documents.{Document, NamedPredicate, IsDocument, plain}
+use Rattle.pd_format.specs.Documents.{Document, NamedPredicate, Inquiry, IsDocument}
 use Rattle.pd_format.specs.Sessions.{StreamResult, session}
 use Rattle.pd_format.specs.Reports.{Possibly, Definitely, Answer, Refusal, Report, Judged, Refused, IsReport, IsNoReport, spaced}
 use Rattle.pd_judgement.specs.Judgements.{RawStream, AreResultsOf, events_of_traces, recorded_of, IsJudgement}
@@ -62,10 +62,10 @@ pub data IsAnswersFinding (document : Document) (traces : List Trace) (answers :
       → AllZip (IsCheckedFor document traces) (zip document.predicates answers) verdicts
       → IsAnswersFinding document traces answers (Some verdicts)
 
--- a document's bytes and the streams hold a well-formed session
-pub record IsSessionOf (bytes : List ℕ) (streams : List RawStream) (document : Document) (traces : List Trace)
+-- a document, with what is asked, and the streams hold a well-formed session
+pub record IsSessionOf (inquiry : Inquiry) (streams : List RawStream) (document : Document) (traces : List Trace)
     (messages : ℕ) : Type 0 where
-  pub read : IsDocument bytes document
+  pub read : IsDocument inquiry document
   pub results : List StreamResult
   pub are_results : AreResultsOf document.names streams results
   pub joined : session document.names (length streams) results ≡ Ok traces
@@ -77,22 +77,22 @@ abbrev pub AreCounts : Document → List Trace → (messages processes events ma
 AreCounts document traces messages processes events matched = (processes ≡ length document.names)
     × (events ≡ total (events_of_traces traces)) × (matched ≡ messages)
 
--- What a check of a report's bytes finds, if the document's bytes and the streams are these: the report isn't read;
--- the session is refused, and the report is that refusal or not; the session is well formed, and the report is a
--- refusal; or the report's counts and answers are judged.
-pub data IsFinding (bytes report : List ℕ) (streams : List RawStream) : Finding → Type 0 where
-  of_unread : (line : ℕ) → IsNoReport report line → IsFinding bytes report streams (NotRead line)
+-- What a check of a report's bytes finds, if the document, with what is asked, and the streams are these: the report
+-- isn't read; the session is refused, and the report is that refusal or not; the session is well formed, and the report
+-- is a refusal; or the report's counts and answers are judged.
+pub data IsFinding (inquiry : Inquiry) (report : List ℕ) (streams : List RawStream) : Finding → Type 0 where
+  of_unread : (line : ℕ) → IsNoReport report line → IsFinding inquiry report streams (NotRead line)
   of_refused_session : (claimed : Report) (refusal : Refusal) (good : Bool) → IsReport report claimed
-      → IsJudgement (plain bytes) streams (Refused refusal) → (IsTrue good ↔ (claimed ≡ Refused refusal))
-      → IsFinding bytes report streams (OfRefusal good)
+      → IsJudgement inquiry streams (Refused refusal) → (IsTrue good ↔ (claimed ≡ Refused refusal))
+      → IsFinding inquiry report streams (OfRefusal good)
   of_refusal : (refusal : Refusal) (document : Document) (traces : List Trace) (messages : ℕ)
-      → IsReport report (Refused refusal) → IsSessionOf bytes streams document traces messages
-      → IsFinding bytes report streams (OfRefusal false)
+      → IsReport report (Refused refusal) → IsSessionOf inquiry streams document traces messages
+      → IsFinding inquiry report streams (OfRefusal false)
   of_session : (processes events matched : ℕ) (answers : List Answer) (document : Document) (traces : List Trace)
       (messages : ℕ) (good : Bool) (found : Option (List Checked))
-      → IsReport report (Judged processes events matched answers) → IsSessionOf bytes streams document traces messages
+      → IsReport report (Judged processes events matched answers) → IsSessionOf inquiry streams document traces messages
       → (IsTrue good ↔ AreCounts document traces messages processes events matched)
-      → IsAnswersFinding document traces answers found → IsFinding bytes report streams (OfSession good found)
+      → IsAnswersFinding document traces answers found → IsFinding inquiry report streams (OfSession good found)
 
 -- ---- a finding with nothing bad
 
@@ -132,5 +132,5 @@ CleanIsClean = (finding : Finding) → IsTrue (is_clean finding) ↔ IsClean fin
 
 -- a check finds one thing
 abbrev pub OneFinding : Type 0
-OneFinding = (bytes report : List ℕ) (streams : List RawStream) (a b : Finding) → IsFinding bytes report streams a
-    → IsFinding bytes report streams b → a ≡ b
+OneFinding = (inquiry : Inquiry) (report : List ℕ) (streams : List RawStream) (a b : Finding) → IsFinding inquiry report streams a
+    → IsFinding inquiry report streams b → a ≡ b

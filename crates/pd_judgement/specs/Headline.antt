@@ -12,7 +12,7 @@ use Rattle.pd_model.specs.Predicates.{Predicate, Recorded, test_of}
 use Rattle.pd_model.specs.Decided.{DecidesDefinitely, DecidesPossibly}
 use Rattle.pd_format.specs.Names.{ProcessNames, name_of_process}
 use Rattle.pd_format.specs.Readings.{Trace}
-use Rattle.pd_format.specs.Documents.{Document, NamedPredicate, Inquiry, IsInquired}
+use Rattle.pd_format.specs.Documents.{Document, NamedPredicate, Inquiry, IsDocument}
 use Rattle.pd_format.specs.Sessions.{StreamResult, session}
 use Rattle.pd_format.specs.Reports.{Possibly, Definitely, Answer, Report, Judged, Refused}
 use Rattle.pd_judgement.specs.Judgements.{RawStream, events_of_traces, recorded_of, IsTracesReport, AreResultsOf, IsJudgement}
@@ -143,7 +143,7 @@ ReportsAgree =
 -- traces.
 pub record HoldsSession (inquiry : Inquiry) (streams : List RawStream) (document : Document) (traces : List Trace) :
     Type 0 where
-  pub read : IsInquired inquiry document
+  pub read : IsDocument inquiry document
   pub results : List StreamResult
   pub are_results : AreResultsOf document.names streams results
   pub joined : session document.names (length streams) results ≡ Ok traces
@@ -158,7 +158,7 @@ pub record IsTrueReport (inquiry : Inquiry) (streams : List RawStream) (report :
   pub headline : (document : Document) (traces : List Trace) → HoldsSession inquiry streams document traces
       → IsWellFormed document.version (events_of_traces traces) → IsNarrow (events_of_traces traces) document.width
       → TellsTruth document traces report
-  pub headline_beyond_width : inquiry.beyond_width ≡ true → (document : Document) (traces : List Trace)
+  pub headline_beyond_width : inquiry.options.beyond_width ≡ true → (document : Document) (traces : List Trace)
       → HoldsSession inquiry streams document traces → IsWellFormed document.version (events_of_traces traces)
       → TellsDecided document traces report
 

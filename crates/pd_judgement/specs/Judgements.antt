@@ -10,7 +10,7 @@ use Rattle.pd_model.specs.Answers.{PossiblyAnswer, PossiblyYes, PossiblyNo, Poss
 use Rattle.pd_model.specs.Decided.{DecidesDefinitely, DecidesPossibly}
 use Rattle.pd_format.specs.Names.{ProcessNames, name_of_process}
 use Rattle.pd_format.specs.Readings.{Ending, Ended, Trace, result_of, reading}
-use Rattle.pd_format.specs.Documents.{Document, NamedPredicate, DocumentFault, Inquiry, IsInquired, IsRefusedDocument, plain}
+use Rattle.pd_format.specs.Documents.{Document, NamedPredicate, DocumentFault, Inquiry, IsDocument, IsRefusedDocument, plain}
 use Rattle.pd_format.specs.Sessions.{SessionFault, StreamResult, session}
 use Rattle.pd_format.specs.Reports.{Possibly, Definitely, Answer, Report, Judged, Refused}
 use Rattle.pd_format.specs.Reports as reports
@@ -110,9 +110,9 @@ AreResultsOf names streams results = AllZip (IsResultOf names) streams results
 
 -- the report of a document's bytes, with what is asked beside them, and of what the streams reported
 pub data IsJudgement (inquiry : Inquiry) (streams : List RawStream) (report : Report) : Type 0 where
-  of_refused : (fault : DocumentFault) → IsRefusedDocument inquiry.bytes fault
+  of_refused : (fault : DocumentFault) → IsRefusedDocument inquiry fault
       → report ≡ Refused (document_refusal fault) → IsJudgement inquiry streams report
-  of_read : (document : Document) (results : List StreamResult) → IsInquired inquiry document
+  of_read : (document : Document) (results : List StreamResult) → IsDocument inquiry document
       → AreResultsOf document.names streams results → IsReportOfResults document (length streams) results report
       → IsJudgement inquiry streams report
 

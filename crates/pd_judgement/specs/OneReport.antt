@@ -1,23 +1,23 @@
--- What is one: the document of bytes, the fault that they are refused with, and the report of a bundle.
+-- What is one: the document of an inquiry, the fault that it is refused with, and the report of a bundle.
 use Rattle.std.specs.Prelude.{◌≡◌, ℕ, List}
-use Rattle.pd_format.specs.Documents.{Document, DocumentFault, IsDocument, IsRefusedDocument}
+use Rattle.pd_format.specs.Documents.{Document, DocumentFault, Inquiry, IsDocument, IsRefusedDocument}
 use Rattle.pd_format.specs.Sessions.{StreamResult}
 use Rattle.pd_format.specs.Reports.{Answer, Refusal, Report, Judged, Refused}
 use Rattle.pd_judgement.specs.Judgements.{IsReportOfResults, IsReportOfBundle}
 
--- bytes are one document
+-- an inquiry is of one document
 abbrev pub OneDocument : Type 0
-OneDocument = (bytes : List ℕ) (a b : Document) → IsDocument bytes a → IsDocument bytes b → a ≡ b
+OneDocument = (inquiry : Inquiry) (a b : Document) → IsDocument inquiry a → IsDocument inquiry b → a ≡ b
 
--- no bytes are a document and refused
+-- no inquiry is of a document and refused
 abbrev pub DocumentNotRefused : Type 0
-DocumentNotRefused = (bytes : List ℕ) (document : Document) (fault : DocumentFault) → IsDocument bytes document
-    → IsRefusedDocument bytes fault → ⊥
+DocumentNotRefused = (inquiry : Inquiry) (document : Document) (fault : DocumentFault) → IsDocument inquiry document
+    → IsRefusedDocument inquiry fault → ⊥
 
--- bytes are refused with one fault
+-- an inquiry is refused with one fault
 abbrev pub OneDocumentFault : Type 0
-OneDocumentFault = (bytes : List ℕ) (f g : DocumentFault) → IsRefusedDocument bytes f → IsRefusedDocument bytes g
-    → f ≡ g
+OneDocumentFault = (inquiry : Inquiry) (f g : DocumentFault) → IsRefusedDocument inquiry f
+    → IsRefusedDocument inquiry g → f ≡ g
 
 -- a document and the outcomes of its streams have one report
 abbrev pub OneReportOfResults : Type 0

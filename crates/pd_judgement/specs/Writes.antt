@@ -99,10 +99,10 @@ pub record IsTextOfBundle (input : Option (List ℕ)) (IsSaid : Report → Type 
 abbrev pub IsTooLong : Option (List ℕ) → Type 0
 IsTooLong input = IfSome input (λ bundle. bundle_byte_limit < length bundle)
 
--- The text of what a check finds by a document's bytes, a report's bytes and the streams of readers with this left, of
--- which no read ever fails, if that is said. It has nothing bad in it exactly if that is said, if anything is said of
--- it.
-pub record IsFindingTextOf (document report : List ℕ) (inputs : List (Option (List ℕ))) (never_fails : Bool)
+-- The text of what a check finds by a document with what is asked, a report's bytes and the streams of readers with this
+-- left, of which no read ever fails, if that is said. It has nothing bad in it exactly if that is said, if anything is
+-- said of it.
+pub record IsFindingTextOf (document : Inquiry) (report : List ℕ) (inputs : List (Option (List ℕ))) (never_fails : Bool)
     (good : Option Bool) (text : List ℕ) : Type 0 where
   pub streams : List RawStream
   pub are_given : AllZip (IsGivenAs never_fails) inputs streams
@@ -132,7 +132,7 @@ pub record WritesTrueTexts (inquiry : Inquiry) (document : Document) (traces : L
     (old new : Option (List ℕ)) : Type 0 where
   pub within_width : IsNarrow (events_of_traces traces) document.width
       → Writes (IsTrueText document traces) Whole old new
-  pub beyond_width : inquiry.beyond_width ≡ true → Writes (IsDecidedText document traces) Whole old new
+  pub beyond_width : inquiry.options.beyond_width ≡ true → Writes (IsDecidedText document traces) Whole old new
 
 -- If a document and streams hold a well-formed session, it is judged, and what is written is true.
 abbrev pub WritesTruth : (inquiry : Inquiry) (streams : List RawStream) (IsJudged : Type 0)
