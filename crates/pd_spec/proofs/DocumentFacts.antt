@@ -1,9 +1,11 @@
--- The bytes of a document, from what the steps of the reader say.
-use Rattle.std.proofs.Common.{◌≡◌, ℕ, ◌<◌, ◌≤◌, List, Option, None, Some, Ok, Err, length, refl, ap, ◌∙◌}
+-- The document of an inquiry, from what the steps of the reader say.
+use Rattle.std.proofs.Common.{◌≡◌, ℕ, ◌<◌, ◌≤◌, List, Option, None, Some, Ok, Err, length, option_map, refl, sym, ap, ◌∙◌}
 use Rattle.std.specs.Prelude.{MatchOption}
 use Rattle.std.proofs.lemmas.Bool.{lt-ltb, le-ltb}
 use Rattle.serde_json.specs.Data.{Data}
-use Rattle.pd_format.specs.Documents.{Outline, Document, IsDocument, HasRefusedPredicate, outline_of, outline_fault, outline_of_bytes, outline_of_json, checked_outline, names_of_outline}
+use Rattle.serde_json.specs.View.{view}
+use Rattle.serde_json.specs.declared.value.Value.{Value}
+use Rattle.pd_format.specs.Documents.{Outline, Document, Inquiry, IsDocument, HasRefusedPredicate, Options, inquiry_json, inquiry_of, outline_of, outline_fault, outline_of_inquiry, outline_of_json, checked_outline, names_of_outline, with_options}
 use Rattle.pd_format.specs.Limits.{document_byte_limit}
 use Rattle.pd_format.specs.Documents as faults
 use Rattle.pd_format.specs.Lists.{unless}
@@ -17,71 +19,88 @@ use Rattle.pd_spec.specs.Views.{IsFaultOf}
 use Rattle.pd_spec.specs.declared.fault.SpecFault.{SpecFault}
 use Rattle.pd_spec.specs.declared.fault.SpecFault.TheVariants as kinds
 
-pub long_bytes : (bytes : List ℕ) → document_byte_limit < length bytes → outline_of_bytes bytes ≡ Err faults.Long
-unfolding outline_of_bytes
-long_bytes bytes long = rw (lt-ltb document_byte_limit (length bytes) long) refl
+-- ---- the value of its bytes
 
-short_bytes : (bytes : List ℕ) → length bytes ≤ document_byte_limit
-    → outline_of_bytes bytes ≡ outline_of_json (json_value bytes)
-unfolding outline_of_bytes
-short_bytes bytes short = rw (le-ltb document_byte_limit (length bytes) short) refl
+pub no_value : (options : Options) (bytes : List ℕ) (found : Option Value) → option_map view found ≡ json_value bytes
+    → found ≡ None → inquiry_json (inquiry_of options bytes) ≡ None
+no_value options bytes found read none =
+    ap (option_map (with_options options)) (sym read ∙ ap (option_map view) none)
 
-pub no_json : (bytes : List ℕ) → length bytes ≤ document_byte_limit → json_value bytes ≡ None
-    → outline_of_bytes bytes ≡ Err faults.Json
-no_json bytes short none = short_bytes bytes short ∙ ap outline_of_json none
+-- the value that was read, after it was changed
+pub changed_value : (options : Options) (bytes : List ℕ) (found : Option Value) (value : Value) (changed : Data)
+    → option_map view found ≡ json_value bytes → found ≡ Some value → changed ≡ with_options options (view value)
+    → inquiry_json (inquiry_of options bytes) ≡ Some changed
+changed_value options bytes found value changed read is same =
+    ap (option_map (with_options options)) (sym read ∙ ap (option_map view) is) ∙ ap Some (sym same)
 
-pub no_shape : (bytes : List ℕ) (value : Data) → length bytes ≤ document_byte_limit → json_value bytes ≡ Some value
-    → outline_of value ≡ None → outline_of_bytes bytes ≡ Err faults.Shape
-no_shape bytes value short is none = short_bytes bytes short ∙ (ap outline_of_json is ∙ ap checked_outline none)
+-- ---- its outline
 
-with_shape : (bytes : List ℕ) (value : Data) (outline : Outline) → length bytes ≤ document_byte_limit
-    → json_value bytes ≡ Some value → outline_of value ≡ Some outline
-    → outline_of_bytes bytes ≡ unless (outline_fault outline) outline
-with_shape bytes value outline short is shape =
-    short_bytes bytes short ∙ (ap outline_of_json is ∙ ap checked_outline shape)
+pub long_bytes : (inquiry : Inquiry) → document_byte_limit < length inquiry.bytes
+    → outline_of_inquiry inquiry ≡ Err faults.Long
+unfolding outline_of_inquiry
+long_bytes inquiry long = rw (lt-ltb document_byte_limit (length inquiry.bytes) long) refl
 
-pub sound_bytes : (bytes : List ℕ) (value : Data) (outline : Outline) → length bytes ≤ document_byte_limit
-    → json_value bytes ≡ Some value → outline_of value ≡ Some outline → outline_fault outline ≡ None
-    → outline_of_bytes bytes ≡ Ok outline
-sound_bytes bytes value outline short is shape none = with_shape bytes value outline short is shape
+short_bytes : (inquiry : Inquiry) → length inquiry.bytes ≤ document_byte_limit
+    → outline_of_inquiry inquiry ≡ outline_of_json (inquiry_json inquiry)
+unfolding outline_of_inquiry
+short_bytes inquiry short = rw (le-ltb document_byte_limit (length inquiry.bytes) short) refl
+
+pub no_json : (inquiry : Inquiry) → length inquiry.bytes ≤ document_byte_limit → inquiry_json inquiry ≡ None
+    → outline_of_inquiry inquiry ≡ Err faults.Json
+no_json inquiry short none = short_bytes inquiry short ∙ ap outline_of_json none
+
+pub no_shape : (inquiry : Inquiry) (value : Data) → length inquiry.bytes ≤ document_byte_limit
+    → inquiry_json inquiry ≡ Some value → outline_of value ≡ None → outline_of_inquiry inquiry ≡ Err faults.Shape
+no_shape inquiry value short is none = short_bytes inquiry short ∙ (ap outline_of_json is ∙ ap checked_outline none)
+
+with_shape : (inquiry : Inquiry) (value : Data) (outline : Outline) → length inquiry.bytes ≤ document_byte_limit
+    → inquiry_json inquiry ≡ Some value → outline_of value ≡ Some outline
+    → outline_of_inquiry inquiry ≡ unless (outline_fault outline) outline
+with_shape inquiry value outline short is shape =
+    short_bytes inquiry short ∙ (ap outline_of_json is ∙ ap checked_outline shape)
+
+pub sound_bytes : (inquiry : Inquiry) (value : Data) (outline : Outline) → length inquiry.bytes ≤ document_byte_limit
+    → inquiry_json inquiry ≡ Some value → outline_of value ≡ Some outline → outline_fault outline ≡ None
+    → outline_of_inquiry inquiry ≡ Ok outline
+sound_bytes inquiry value outline short is shape none = with_shape inquiry value outline short is shape
     ∙ ap (λ fault. unless fault outline) none
 
-refused_with : (bytes : List ℕ) (outline : Outline) (fault : faults.DocumentFault)
-    → outline_of_bytes bytes ≡ unless (outline_fault outline) outline → outline_fault outline ≡ Some fault
-    → outline_of_bytes bytes ≡ Err fault
-refused_with bytes outline fault e reported = e ∙ ap (λ o. unless o outline) reported
+refused_with : (inquiry : Inquiry) (outline : Outline) (fault : faults.DocumentFault)
+    → outline_of_inquiry inquiry ≡ unless (outline_fault outline) outline → outline_fault outline ≡ Some fault
+    → outline_of_inquiry inquiry ≡ Err fault
+refused_with inquiry outline fault e reported = e ∙ ap (λ o. unless o outline) reported
 
-fault_found : (bytes : List ℕ) (outline : Outline) (fault : SpecFault)
-    → outline_of_bytes bytes ≡ unless (outline_fault outline) outline → IsFaultFound fault (outline_fault outline)
-    → IsFaultOf bytes fault
-fault_found bytes outline kinds.Long e reported = refused_with bytes outline faults.Long e reported
-fault_found bytes outline kinds.Json e reported = refused_with bytes outline faults.Json e reported
-fault_found bytes outline kinds.Shape e reported = refused_with bytes outline faults.Shape e reported
-fault_found bytes outline kinds.Processes e reported = refused_with bytes outline faults.Processes e reported
-fault_found bytes outline kinds.Name e reported = refused_with bytes outline faults.Name e reported
-fault_found bytes outline kinds.NameTwice e reported = refused_with bytes outline faults.NameTwice e reported
-fault_found bytes outline kinds.Vars e reported = refused_with bytes outline faults.Vars e reported
-fault_found bytes outline kinds.Predicates e reported = refused_with bytes outline faults.Predicates e reported
-fault_found bytes outline kinds.Width e reported = refused_with bytes outline faults.Width e reported
-fault_found bytes outline (kinds.Predicate number error) e reported = cc
-fault_found bytes outline kinds.Version e reported = cc
-fault_found bytes outline kinds.Memory e reported = tt
+fault_found : (inquiry : Inquiry) (outline : Outline) (fault : SpecFault)
+    → outline_of_inquiry inquiry ≡ unless (outline_fault outline) outline → IsFaultFound fault (outline_fault outline)
+    → IsFaultOf inquiry fault
+fault_found inquiry outline kinds.Long e reported = refused_with inquiry outline faults.Long e reported
+fault_found inquiry outline kinds.Json e reported = refused_with inquiry outline faults.Json e reported
+fault_found inquiry outline kinds.Shape e reported = refused_with inquiry outline faults.Shape e reported
+fault_found inquiry outline kinds.Processes e reported = refused_with inquiry outline faults.Processes e reported
+fault_found inquiry outline kinds.Name e reported = refused_with inquiry outline faults.Name e reported
+fault_found inquiry outline kinds.NameTwice e reported = refused_with inquiry outline faults.NameTwice e reported
+fault_found inquiry outline kinds.Vars e reported = refused_with inquiry outline faults.Vars e reported
+fault_found inquiry outline kinds.Predicates e reported = refused_with inquiry outline faults.Predicates e reported
+fault_found inquiry outline kinds.Width e reported = refused_with inquiry outline faults.Width e reported
+fault_found inquiry outline (kinds.Predicate number error) e reported = cc
+fault_found inquiry outline kinds.Version e reported = cc
+fault_found inquiry outline kinds.Memory e reported = tt
 
-pub outline_fault_reported : (bytes : List ℕ) (value : Data) (outline : Outline) (fault : SpecFault)
-    → length bytes ≤ document_byte_limit → json_value bytes ≡ Some value → outline_of value ≡ Some outline
-    → IsFaultFound fault (outline_fault outline) → IsFaultOf bytes fault
-outline_fault_reported bytes value outline fault short is shape reported =
-    fault_found bytes outline fault (with_shape bytes value outline short is shape) reported
+pub outline_fault_reported : (inquiry : Inquiry) (value : Data) (outline : Outline) (fault : SpecFault)
+    → length inquiry.bytes ≤ document_byte_limit → inquiry_json inquiry ≡ Some value → outline_of value ≡ Some outline
+    → IsFaultFound fault (outline_fault outline) → IsFaultOf inquiry fault
+outline_fault_reported inquiry value outline fault short is shape reported =
+    fault_found inquiry outline fault (with_shape inquiry value outline short is shape) reported
 
-predicate_fault : (bytes : List ℕ) (outline : Outline) (fault : SpecFault) → outline_of_bytes bytes ≡ Ok outline
-    → IsFaultAmong (names_of_outline outline) outline.predicates fault → IsFaultOf bytes fault
-predicate_fault bytes outline kinds.Memory sound reported = tt
-predicate_fault bytes outline (kinds.Predicate number error) sound reported =
+predicate_fault : (inquiry : Inquiry) (outline : Outline) (fault : SpecFault) → outline_of_inquiry inquiry ≡ Ok outline
+    → IsFaultAmong (names_of_outline outline) outline.predicates fault → IsFaultOf inquiry fault
+predicate_fault inquiry outline kinds.Memory sound reported = tt
+predicate_fault inquiry outline (kinds.Predicate number error) sound reported =
     go (predicate_fault_view error.kind) reported
   where
     go : (o : Option PredicateFault) → MatchOption o ⊥ (λ fault.
         IsRefusedAmong (names_of_outline outline) outline.predicates number fault error.at)
-        → MatchOption o ⊥ (λ fault. HasRefusedPredicate bytes number fault error.at)
+        → MatchOption o ⊥ (λ fault. HasRefusedPredicate inquiry number fault error.at)
     go None h = h
     go (Some fault) h =
         record {
@@ -95,20 +114,21 @@ predicate_fault bytes outline (kinds.Predicate number error) sound reported =
           stands = h.stands;
           none_before = h.none_before;
         }
-predicate_fault bytes outline _ sound reported = absurd reported
+predicate_fault inquiry outline _ sound reported = absurd reported
 
-pub late_fault : (bytes : List ℕ) (outline : Outline) (fault : SpecFault) → outline_of_bytes bytes ≡ Ok outline
-    → IsLateFault outline fault → IsFaultOf bytes fault
-late_fault bytes outline kinds.Version sound reported =
+pub late_fault : (inquiry : Inquiry) (outline : Outline) (fault : SpecFault) → outline_of_inquiry inquiry ≡ Ok outline
+    → IsLateFault outline fault → IsFaultOf inquiry fault
+late_fault inquiry outline kinds.Version sound reported =
     record { outline = outline; sound = sound; spelled = reported.0; none = reported.1 }
-late_fault bytes outline kinds.Memory sound reported = tt
-late_fault bytes outline (kinds.Predicate number error) sound reported =
-    predicate_fault bytes outline (kinds.Predicate number error) sound reported
-late_fault bytes outline _ sound reported = absurd reported
+late_fault inquiry outline kinds.Memory sound reported = tt
+late_fault inquiry outline (kinds.Predicate number error) sound reported =
+    predicate_fault inquiry outline (kinds.Predicate number error) sound reported
+late_fault inquiry outline _ sound reported = absurd reported
 
-pub document_of_bytes : (bytes : List ℕ) (outline : Outline) (document : Document) → outline_of_bytes bytes ≡ Ok outline
-    → IsDocumentOf outline document → IsDocument bytes document
-document_of_bytes bytes outline document sound is =
+pub document_of_inquiry : (inquiry : Inquiry) (outline : Outline) (document : Document)
+    → outline_of_inquiry inquiry ≡ Ok outline → IsDocumentOf outline inquiry.options.beyond_width document
+    → IsDocument inquiry document
+document_of_inquiry inquiry outline document sound is =
     record {
       outline = outline;
       sound = sound;

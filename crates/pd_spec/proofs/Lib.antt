@@ -1,4 +1,6 @@
 -- The modules of lemmas of this crate.
+pub mod AskedItems
+pub mod Depths
 pub mod Mapped
 pub mod MemberViews
 pub mod Distinct

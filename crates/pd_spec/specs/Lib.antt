@@ -4,4 +4,5 @@ pub mod Faults
 pub mod Named
 pub mod Predicates
 pub mod Sound
+pub mod Texts
 pub mod Views

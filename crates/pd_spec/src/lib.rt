@@ -6,11 +6,18 @@
 //! applies. Only out of memory is reported without a claim about the bytes. A `Spec` keeps the bounds of its parts as a
 //! ghost field, on which callers rely.
 //!
+//! `Options` say what is asked beside the document: another width, other predicates, and answers beyond the width.
+//! `Spec::read_with_options` puts them into the JSON value that was read, and `document_text` gives the text of the
+//! changed document, for a server that keeps its session as files.
+//!
 //! - `spec`: the document, and its reader
+//! - `options`: what is asked beside the document
+//! - `changes`: a document's JSON value with what is asked
+//! - `texts`: the text of a document with what is asked
 //! - `version`: the version of a document, and its reader
 //! - `named`: a predicate with its name
 //! - `fault`: why bytes are no document
-//! - `json`: the JSON value of bytes, for readers of other formats too
+//! - `json_bytes`: the JSON value of bytes, for readers of other formats too
 //! - `fields`: the fields of a JSON object, for readers of other formats too
 //! - `outline`: the parts of a document, borrowed from the JSON value
 //! - `checks`: the faults of an outline, in their order
@@ -19,21 +26,26 @@
 //! - `predicates`: the predicates, parsed one after another
 #![tactic(auto)]
 
+mod changes;
 mod checks;
 mod fault;
 mod fields;
-mod json;
+mod json_bytes;
 mod named;
+mod options;
 mod outline;
 mod parts;
 mod predicates;
 mod spec;
+mod texts;
 mod twice;
 mod version;
 
 pub use fault::SpecFault;
 pub use fields::{are_whole, has_only, value_at};
-pub use json::json_value;
+pub use json_bytes::json_value;
 pub use named::NamedPred;
+pub use options::Options;
 pub use pd_format::Version;
 pub use spec::Spec;
+pub use texts::document_text;

@@ -1,10 +1,13 @@
 //! The session document.
-ghost use Rattle.std.specs.Prelude.{◌≡◌, ◌<◌, Some, length, map, option_map, slice_get, string_bytes};
+ghost use Rattle.std.specs.Prelude.{◌≡◌, ◌<◌, ◌≤◌, Some, false, true, length, map, option_map, slice_get, string_bytes};
 ghost use Rattle.serde_json.specs.View.{view};
 ghost use Rattle.pd_format.specs.Documents.{width_of};
+ghost use Rattle.pd_format.specs.Limits.{document_byte_limit};
 ghost use Rattle.pd_spec.specs.Sound.{IsSound};
 
-use super::json::json_value;
+use super::changes::with_options;
+use super::json_bytes::json_value;
+use super::options::Options;
 use super::outline::Outline;
 use super::predicates::parse_all;
 use super::version::version_of;
@@ -30,6 +33,13 @@ pub struct Spec {
         (map (λ predicate. string_bytes predicate.name) predicates.items) width },
 }
 
+fn is_long(bytes: &[u8]) -> bool
+    ensures yes { result ≡ true → document_byte_limit < length bytes.now }
+    ensures no { result ≡ false → length bytes.now ≤ document_byte_limit }
+{
+    bytes.len() > DOCUMENT_BYTE_LIMIT
+}
+
 fn width_of(width: Option<&Value>) -> u64
     ensures { result ≡ width_of (option_map (λ value. view value.now) width.entry) }
 {
@@ -49,42 +59,66 @@ fn value_in(row: &[i64], v: usize) -> i64
 
 impl Spec {
     ghost use Rattle.std.specs.Prelude.{Err, IfOk, IfErr, None, [], slice_index_or};
-    ghost use Rattle.pd_format.specs.Documents.{IsDocument, changed, outline_fault};
-    ghost use Rattle.pd_format.specs.Limits.{document_byte_limit};
+    ghost use Rattle.pd_format.specs.Documents.{IsDocument, inquiry_of, outline_fault, plain};
     ghost use Rattle.pd_format.specs.Names.{vars_of};
     ghost use Rattle.pd_spec.specs.DocumentParts.{IsDocumentOf};
     ghost use Rattle.pd_spec.specs.Named.{named_view};
     ghost use Rattle.pd_spec.specs.Outlines.{outline_view};
     ghost use Rattle.pd_spec.specs.Predicates.{IsLateFault};
     ghost use Rattle.pd_format.specs.Versions.{version_view};
-    ghost use Rattle.pd_spec.specs.Views.{document_view, IsFaultOf};
+    ghost use Rattle.pd_spec.specs.Views.{document_view, options_view, IsFaultOf};
 
     /// The document that these bytes are.
     ///
     /// # Errors
     /// The first fault of the document, or out of memory.
     pub fn read(alloc: Global, bytes: &[u8]) -> Result<Spec, SpecFault>
-        ensures ok { IfOk result (λ spec. IsDocument bytes.now (document_view spec)) }
-        ensures err { IfErr result (λ fault. IsFaultOf bytes.now fault) }
+        ensures ok { IfOk result (λ spec. IsDocument (plain bytes.now) (document_view spec)) }
+        ensures err { IfErr result (λ fault. IsFaultOf (plain bytes.now) fault) }
         // Bytes that are too many are refused as such, and never as out of memory.
         ensures long { document_byte_limit < length bytes.now → result ≡ Err SpecFault.Long }
     {
-        if bytes.len() > DOCUMENT_BYTE_LIMIT {
+        let none = Options::none(alloc);
+        Spec::read_with_options(alloc, bytes, &none)
+    }
+
+    /// The document that these bytes are, with what is asked in place of what it has.
+    ///
+    /// # Errors
+    /// The first fault of the document, or out of memory. Whether it is too long is decided by its own bytes, whatever
+    /// is asked.
+    pub fn read_with_options(
+        alloc: Global,
+        bytes: &[u8],
+        options: &Options<'_>,
+    ) -> Result<Spec, SpecFault>
+        ensures ok { IfOk result (λ spec. IsDocument (inquiry_of (options_view options.now) bytes.now)
+            (document_view spec)) }
+        ensures err { IfErr result (λ fault. IsFaultOf (inquiry_of (options_view options.now) bytes.now) fault) }
+        // Bytes that are too many are refused as such, and never as out of memory.
+        ensures long { document_byte_limit < length bytes.now → result ≡ Err SpecFault.Long }
+    {
+        if is_long(bytes) {
             return Err(SpecFault::Long);
         }
         let Some(value) = json_value(alloc, bytes)? else {
             return Err(SpecFault::Json);
         };
-        let Some(outline) = Outline::read(alloc, &value)? else {
+        let changed = with_options(alloc, value, options)?;
+        let Some(outline) = Outline::read(alloc, &changed)? else {
             return Err(SpecFault::Shape);
         };
         outline.check(alloc)?;
-        Spec::of_outline(alloc, &outline)
+        Spec::of_outline(alloc, &outline, options.beyond_width)
     }
 
-    fn of_outline(alloc: Global, outline: &Outline<'_>) -> Result<Spec, SpecFault>
+    fn of_outline(
+        alloc: Global,
+        outline: &Outline<'_>,
+        beyond_width: bool,
+    ) -> Result<Spec, SpecFault>
         requires { outline_fault (outline_view outline.now) ≡ None }
-        ensures ok { IfOk result (λ spec. IsDocumentOf (outline_view outline.now) (document_view spec)) }
+        ensures ok { IfOk result (λ spec. IsDocumentOf (outline_view outline.now) beyond_width (document_view spec)) }
         ensures err { IfErr result (λ fault. IsLateFault (outline_view outline.now) fault) }
     {
         let names = outline.names(alloc)?;
@@ -99,21 +133,8 @@ impl Spec {
             predicates,
             width: width_of(outline.width),
             version,
-            beyond_width: false,
+            beyond_width,
         })
-    }
-
-    /// The document, of which predicates are answered whatever the width where they are decided without levels, if that
-    /// is asked for.
-    pub fn changed(self, beyond_width: bool) -> Spec
-        ensures { document_view result ≡ changed beyond_width (document_view self) }
-    {
-        if !beyond_width {
-            return self;
-        }
-        let mut spec = self;
-        spec.beyond_width = true;
-        spec
     }
 
     /// The processes and their variables.

@@ -1,16 +1,18 @@
--- The refusal of the bytes is that of the inquiry.
-use Rattle.std.proofs.Common.{Bool, List}
+-- The refusal of a document is the report of any streams.
 use Rattle.pd_format.specs.Documents.{inquiry}
-use Rattle.pd_format.specs.Reports.{Report}
-use Rattle.pd_judgement.specs.Judgements.{IsJudgement, RawStream}
-use Rattle.pd_sessions.specs.Inquiries.{inquiry_view}
-use Rattle.pd_sessions.proofs.SessionReports.{refusal_given}
-use Rattle.pd_sessions.proofs.document.read_inquiry.Goals as goal
+use Rattle.pd_report.specs.Views.{refusal_view}
+use Rattle.pd_sessions.proofs.DocumentRefusals.{refused_judged}
+use Rattle.pd_sessions.proofs.EarlyRefusals.{document_names_none}
+use Rattle.pd_sessions.specs.Refusals.{document_fault_view}
+use Rattle.pd_sessions.proofs.document.read_document.Goals as goal
 
-pub returns-in_err-spec-clause-refused : goal.returns-in_err-spec-clause-refused
-returns-in_err-spec-clause-refused c =
-    refusal_given c.from_residual.result c.in_err-spec.field-0.0
-    (λ (report : Report). (beyond_width : Bool) (streams : List RawStream)
-    → IsJudgement (inquiry beyond_width c.args.inquiry.document.now) streams report)
-    (λ (report : Report). (streams : List RawStream) → IsJudgement (inquiry_view c.args.inquiry) streams report)
-    (λ report any. any c.args.inquiry.beyond_width) c.from_residual.ensures.1 c.in_err-spec.ensures.refused
+pub returns-in_ok-of_document-in-Err-clause-refused : goal.returns-in_ok-of_document-in-Err-clause-refused
+returns-in_ok-of_document-in-Err-clause-refused c = λ beyond_width streams.
+    refused_judged (inquiry beyond_width c.args.bytes.now) streams c.in-Err.fault
+    (refusal_view c.in_ok-of_document-in-Err.field-0)
+    c.in-Err.ensures.err c.in_ok-of_document-in-Err.ensures
+
+pub returns-in_ok-of_document-in-Err-clause-no_cycle : goal.returns-in_ok-of_document-in-Err-clause-no_cycle
+returns-in_ok-of_document-in-Err-clause-no_cycle c =
+    document_names_none (document_fault_view c.in-Err.fault) (refusal_view c.in_ok-of_document-in-Err.field-0)
+    c.in_ok-of_document-in-Err.ensures

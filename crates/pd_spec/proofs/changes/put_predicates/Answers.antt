@@ -6,8 +6,8 @@ use Rattle.serde_json.specs.Data.{array, put}
 use Rattle.serde_json.specs.View.{members_view}
 use Rattle.serde_json.specs.declared.value.Value.{Array}
 use Rattle.serde_json.proofs.Views.{members_view-insert_entry, view-Array}
-use Rattle.pd_asked.proofs.AskedItems.{some_asked}
-use Rattle.pd_asked.proofs.changes.put_predicates.Goals as goal
+use Rattle.pd_spec.proofs.AskedItems.{some_asked}
+use Rattle.pd_spec.proofs.changes.put_predicates.Goals as goal
 
 pub returns-in_ok-insert : goal.returns-in_ok-insert
 returns-in_ok-insert c =

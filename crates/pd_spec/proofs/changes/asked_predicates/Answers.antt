@@ -1,7 +1,7 @@
 -- One more predicate.
 use Rattle.std.proofs.Common.{[], ◌∷◌, length-append, arith}
-use Rattle.pd_asked.proofs.AskedItems.{one_more}
-use Rattle.pd_asked.proofs.changes.asked_predicates.Goals as goal
+use Rattle.pd_spec.proofs.AskedItems.{one_more}
+use Rattle.pd_spec.proofs.changes.asked_predicates.Goals as goal
 
 pub loop-text-preserved : goal.loop-text-preserved
 loop-text-preserved c =

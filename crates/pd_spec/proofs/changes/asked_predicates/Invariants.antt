@@ -1,8 +1,8 @@
 -- The predicates so far.
 use Rattle.std.proofs.Common.{◌≡◌, length, map, take}
-use Rattle.pd_asked.specs.Asked.{asked_predicates}
+use Rattle.pd_format.specs.Documents.{asked_predicates}
 use Rattle.serde_json.specs.View.{items_view}
-use Rattle.pd_asked.proofs.changes.asked_predicates.Given as goal
+use Rattle.pd_spec.proofs.changes.asked_predicates.Given as goal
 
 abbrev pub invariant-loop-text : goal.invariant-loop-text
 invariant-loop-text l = record {

@@ -1,13 +1,11 @@
-//! The bytes of the document with what is asked.
-ghost use Rattle.pd_asked.specs.Views.{asks_view};
-ghost use Rattle.pd_asked.specs.Asked.{IsAsked, asked_fields, asked_predicate, asked_predicates, asked_value, with_predicates, with_width};
+//! A document's JSON value with what is asked in place of what it has.
+ghost use Rattle.std.specs.Prelude.{◌≡◌, ◌++◌, IfOk, OnOk, codes, decimal, map, string_bytes};
 ghost use Rattle.serde_json.specs.View.{items_view, members_view, view};
-ghost use Rattle.std.specs.Prelude.{◌≡◌, ◌++◌, ◌<◌, IfOk, OnOk, codes, decimal, length, map, string_bytes};
+ghost use Rattle.pd_format.specs.Documents.{asked_predicate, asked_predicates, fields_with_options, with_options, with_predicates, with_width};
+ghost use Rattle.pd_spec.specs.Views.{options_view};
 
-use super::asks::Asks;
+use super::options::Options;
 use itoa::Buffer;
-use pd_format::DOCUMENT_BYTE_LIMIT;
-use pd_spec::json_value;
 use serde_json::{Map, Value};
 use std::alloc::{AllocError, Global};
 
@@ -20,7 +18,7 @@ fn asked_name(alloc: Global, number: u64) -> Result<String, AllocError>
     Ok(name)
 }
 
-/// The predicate of this number, with this text, as a document has it.
+/// The predicate of this number with this text, as a document has it.
 fn asked_predicate(alloc: Global, number: u64, text: &str) -> Result<Value, AllocError>
     ensures { IfOk result (λ value. view value ≡ asked_predicate number text.now) }
 {
@@ -79,48 +77,33 @@ fn put_predicates(
 }
 
 /// The fields of a document with what is asked.
-fn asked_fields(
+fn fields_with_options(
     alloc: Global,
     fields: Map<String, Value>,
-    asks: &Asks<'_>,
+    options: &Options<'_>,
 ) -> Result<Map<String, Value>, AllocError>
-    ensures { IfOk result (λ asked. members_view asked.entries
-        ≡ asked_fields (asks_view asks.now) (members_view fields.entries)) }
+    ensures { IfOk result (λ changed. members_view changed.entries
+        ≡ fields_with_options (options_view options.now) (members_view fields.entries)) }
 {
-    let mut asked = fields;
-    put_width(alloc, &mut asked, asks.width)?;
-    put_predicates(alloc, &mut asked, &asks.predicates)?;
-    Ok(asked)
+    let mut changed = fields;
+    put_width(alloc, &mut changed, options.width)?;
+    put_predicates(alloc, &mut changed, &options.predicates)?;
+    Ok(changed)
 }
 
-/// A document's value with what is asked. What is no object stays as it is.
-fn asked_value(alloc: Global, value: Value, asks: &Asks<'_>) -> Result<Value, AllocError>
-    ensures { IfOk result (λ asked. view asked ≡ asked_value (asks_view asks.now) (view value)) }
-{
-    match value {
-        Value::Object(fields) => Ok(Value::Object(asked_fields(alloc, fields, asks)?)),
-        other => Ok(other),
-    }
-}
-
-/// The bytes of a document that says what this one says, but for what is asked. Where nothing is asked, and where the
-/// bytes are too many or no JSON, they stay as they are.
+/// A document's value with what is asked in place of what it has. A value that is no object stays as it is.
 ///
 /// # Errors
-/// An allocation was refused.
-pub fn asked_document(alloc: Global, bytes: Vec<u8>, asks: &Asks<'_>) -> Result<Vec<u8>, AllocError>
-    ensures { IfOk result (λ asked. IsAsked (asks_view asks.now) bytes.items asked.items) }
+/// Out of memory.
+pub(crate) fn with_options(
+    alloc: Global,
+    value: Value,
+    options: &Options<'_>,
+) -> Result<Value, AllocError>
+    ensures { IfOk result (λ changed. view changed ≡ with_options (options_view options.now) (view value)) }
 {
-    if asks.are_none() {
-        return Ok(bytes);
+    match value {
+        Value::Object(fields) => Ok(Value::Object(fields_with_options(alloc, fields, options)?)),
+        other => Ok(other),
     }
-    if bytes.len() > DOCUMENT_BYTE_LIMIT {
-        return Ok(bytes);
-    }
-    let Some(value) = json_value(alloc, &bytes)? else {
-        return Ok(bytes);
-    };
-    let asked = asked_value(alloc, value, asks)?;
-    let text = asked.to_vec(alloc)?;
-    Ok(text)
 }
