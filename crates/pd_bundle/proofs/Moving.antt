@@ -7,7 +7,7 @@ use Rattle.std.proofs.lemmas.List.{drop-drop, drop-take, take-take, take_all}
 use Rattle.std.proofs.KnownBytes.{Consumes-nil, Consumes-trans}
 use Rattle.pd_format.specs.Bundles.{onto_part, parts_of, whole_lines}
 use Rattle.pd_format.specs.Limits.{bundle_byte_limit}
-use Rattle.pd_judgement.specs.Writes.{IsTooLong, IsWholeInput}
+use Rattle.pd_judgement.specs.Writes.{IsTooLong, Source}
 use Rattle.pd_bundle.specs.Cutting.{IsCut, line_marks, parts_from}
 use Rattle.pd_bundle.specs.Moves.{Fills, Moves}
 use Rattle.pd_bundle.specs.Steps.{Goes, HasCut, State, holds, steps_left}
@@ -20,24 +20,28 @@ use Rattle.pd_bundle.proofs.Cuts.{onto_none, onto_none_from, onto_twice}
 
 -- ---- reads
 
-pub fresh : (input : Option (List ℕ)) (state : State) → state.cutter ≡ Held 0 → state.buffer ≡ [] → state.count ≡ 0
+pub fresh : (input : Source) (state : State) → state.cutter ≡ Held 0 → state.buffer ≡ [] → state.count ≡ 0
     → state.ended ≡ false → HasCut input input [] [] state
 fresh input state cutter buffer count open' = record {
   seen = [];
-  consumed = Consumes-nil input;
+  consumed = Consumes-nil input.bytes;
   counted = sym count;
   at_end = λ ended. let no = sym open' ∙ ended in absurd (cc);
+  same_fate = λ more. refl;
+  no_failure = λ ended. let no = sym open' ∙ ended in absurd (cc);
   parts = λ rest over. rw (cutter, buffer) (sym (onto_none (whole_lines rest)));
 }
 
-pub fills_step : (input before after : Option (List ℕ)) (closed : List (List ℕ)) (part : List ℕ) (old new : State)
+pub fills_step : (input before after : Source) (closed : List (List ℕ)) (part : List ℕ) (old new : State)
     → HasCut input before closed part old → old.buffer ≡ [] → old.ended ≡ false → Fills before after old new
     → HasCut input after closed part new
 fills_step input before after closed part old new cut empty open' fills = record {
   seen = cut.seen ++ new.buffer;
-  consumed = Consumes-trans input before after cut.seen new.buffer cut.consumed fills.consumed;
+  consumed = Consumes-trans input.bytes before.bytes after.bytes cut.seen new.buffer cut.consumed fills.consumed;
   counted = length-append cut.seen new.buffer ∙ ap (λ n. n + length new.buffer) cut.counted ∙ sym fills.counted;
   at_end = λ ended. (fills.at_end ended).0;
+  same_fate = λ more. fills.same_fate more ∙ cut.same_fate open';
+  no_failure = λ ended failing. fills.no_failure ended (cut.same_fate open' ∙ failing);
   parts = λ rest over.
       ap parts_of (append_assoc cut.seen new.buffer rest)
       ∙ cut.parts (new.buffer ++ rest) (λ ended. let no = sym open' ∙ ended in absurd (cc))
@@ -52,14 +56,14 @@ too_long (Some all) (Some rest) seen n count consumed counted long =
     let sum : length all ≡ length seen + length rest = ap length consumed ∙ length-append seen rest in
     omega (arith, sum, counted, long)
 
-pub long_input : (input before : Option (List ℕ)) (closed : List (List ℕ)) (part : List ℕ) (old : State)
-    → HasCut input before closed part old
-    → IfSome before (λ rest. bundle_byte_limit < old.count + length rest) → IsTooLong input
+pub long_input : (input before : Source) (closed : List (List ℕ)) (part : List ℕ) (old : State)
+    → HasCut input before closed part old → IfSome before.bytes (λ rest. bundle_byte_limit < old.count + length rest)
+    → IsTooLong input
 long_input input before closed part old cut long =
-    too_long input before cut.seen bundle_byte_limit old.count cut.consumed cut.counted long
+    too_long input.bytes before.bytes cut.seen bundle_byte_limit old.count cut.consumed cut.counted long
 
 whole_input : (input left : Option (List ℕ)) (seen : List ℕ) → Consumes input left seen → IsAtEnd left
-    → IsWholeInput input seen
+    → IfSome input (λ all. seen ≡ all)
 whole_input None left seen consumed ends = tt
 whole_input (Some all) None seen consumed ends = absurd consumed
 whole_input (Some all) (Some rest) seen consumed ends =
@@ -67,13 +71,15 @@ whole_input (Some all) (Some rest) seen consumed ends =
 
 -- ---- steps
 
-pub moves_step : (next : Next) (input left : Option (List ℕ)) (closed : List (List ℕ)) (part : List ℕ)
-    (old new : State) → HasCut input left closed part old → Moves old new next → Goes next input left closed part new
+pub moves_step : (next : Next) (input left : Source) (closed : List (List ℕ)) (part : List ℕ) (old new : State)
+    → HasCut input left closed part old → Moves old new next → Goes next input left closed part new
 moves_step Bytes input left closed part old new cut moves = record {
   seen = cut.seen;
   consumed = cut.consumed;
   counted = cut.counted ∙ sym moves.same_count;
   at_end = λ ended. cut.at_end (sym moves.same_ended ∙ ended);
+  same_fate = λ more. cut.same_fate (sym moves.same_ended ∙ more);
+  no_failure = λ ended. cut.no_failure (sym moves.same_ended ∙ ended);
   parts = λ rest over.
       let over' = λ (ended : old.ended ≡ true). over (moves.same_ended ∙ ended) in
       cut.parts rest over' ∙ ap (λ parts. closed ++ onto_part part parts) (moves.parts rest over')
@@ -84,6 +90,8 @@ moves_step PartEnd input left closed part old new cut moves = record {
   consumed = cut.consumed;
   counted = cut.counted ∙ sym moves.same_count;
   at_end = λ ended. cut.at_end (sym moves.same_ended ∙ ended);
+  same_fate = λ more. cut.same_fate (sym moves.same_ended ∙ more);
+  no_failure = λ ended. cut.no_failure (sym moves.same_ended ∙ ended);
   parts = λ rest over.
       let over' = λ (ended : old.ended ≡ true). over (moves.same_ended ∙ ended) in
       let later = parts_from new.cutter (new.buffer ++ rest) in
@@ -96,7 +104,10 @@ moves_step End input left closed part old new cut moves =
     let ended = moves.at_end refl in
     record {
       bundle = cut.seen;
-      is_given = whole_input input left cut.seen cut.consumed (cut.at_end ended.0);
+      is_given = record {
+        all = whole_input input.bytes left.bytes cut.seen cut.consumed (cut.at_end ended.0);
+        ends = cut.no_failure ended.0;
+      };
       fits = subst (λ n. n ≤ bundle_byte_limit) (moves.same_count ∙ sym cut.counted) moves.fits;
       are_parts =
           ap parts_of (sym (append-nil cut.seen)) ∙ cut.parts [] (λ _. refl)

@@ -1,10 +1,9 @@
 -- Parts that are read step by step.
-use Rattle.std.proofs.Common.{◌≡◌, ℕ, ◌<◌, List, [], ◌∷◌, ◌++◌, length, length-append, refl, sym, subst, append-nil, append_assoc, arith, Option}
+use Rattle.std.proofs.Common.{◌≡◌, ℕ, ◌<◌, List, [], ◌∷◌, ◌++◌, length, length-append, refl, sym, subst, append-nil, append_assoc, arith}
 use Rattle.std.proofs.Common.{inl, inr, Ok, Err}
 use Rattle.std.specs.Prelude.{◌⊎◌, IsErrAnd, Result}
 use Rattle.pd_bundle.specs.declared.fault.BundleFault.{BundleFault}
-use Rattle.pd_bundle.specs.declared.fault.BundleFault.TheVariants.{Long}
-use Rattle.pd_judgement.specs.Writes.{IsTooLong}
+use Rattle.pd_judgement.specs.Writes.{Source}
 use Rattle.pd_bundle.specs.PartsRead.{AtStep, HasReadPart}
 use Rattle.pd_bundle.specs.Steps.{AreParts, Goes, HasCut, State, Steps, begins_part, steps_left, turns_left}
 use Rattle.pd_bundle.specs.declared.next.Next.{Next}
@@ -21,14 +20,15 @@ turns_fall PartEnd Bytes old new more less = omega (arith, less (λ e. absurd (c
 turns_fall PartEnd PartEnd old new more less = omega (arith, less (λ e. absurd (cc)))
 
 -- a fault that is handed on
-pub same_fault : {A B : Type 0} (result : Result A BundleFault) (fault : BundleFault)
-    → IsErrAnd result (λ e. e ≡ fault) → result ≡ Err Long → ◌≡◌ {A = Result B BundleFault} (Err fault) (Err Long)
-same_fault (Ok x) fault is e = absurd is
-same_fault (Err f) fault is e = cc
+pub same_fault : {A B : Type 0} (result : Result A BundleFault) (fault reported : BundleFault)
+    → IsErrAnd result (λ e. e ≡ fault) → result ≡ Err reported
+    → ◌≡◌ {A = Result B BundleFault} (Err fault) (Err reported)
+same_fault (Ok x) fault reported is e = absurd is
+same_fault (Err f) fault reported is e = cc
 
 -- ---- one part
 
-pub part_begins : (P : List ℕ → Type 0) (begin left : Option (List ℕ)) (first state : State) (next : Next) → P []
+pub part_begins : (P : List ℕ → Type 0) (begin left : Source) (first state : State) (next : Next) → P []
     → Steps begin left first state next → AtStep P begin left first state next
 part_begins P begin left first state next none steps = record {
   part = [];
@@ -36,10 +36,9 @@ part_begins P begin left first state next none steps = record {
   goes = λ input closed cut. steps input closed [] cut;
 }
 
-pub part_grows : (P Q : List ℕ → Type 0) (begin before after : Option (List ℕ)) (first old new : State)
-    (next later : Next) → next ≡ Bytes → AtStep P begin before first old next
-    → ((part : List ℕ) → P part → Q (part ++ old.given)) → Steps before after old new later
-    → AtStep Q begin after first new later
+pub part_grows : (P Q : List ℕ → Type 0) (begin before after : Source) (first old new : State) (next later : Next)
+    → next ≡ Bytes → AtStep P begin before first old next → ((part : List ℕ) → P part → Q (part ++ old.given))
+    → Steps before after old new later → AtStep Q begin after first new later
 part_grows P Q begin before after first old new next later is at grows steps =
     let here : AtStep P begin before first old Bytes = rw is at at in
     record {
@@ -48,20 +47,20 @@ part_grows P Q begin before after first old new next later is at grows steps =
       goes = λ input closed cut. steps input closed (here.part ++ old.given) (here.goes input closed cut);
     }
 
-pub part_long : (P : List ℕ → Type 0) (begin left : Option (List ℕ)) (first state : State) (next : Next)
-    → next ≡ Bytes → AtStep P begin left first state next
-    → ((input : Option (List ℕ)) (closed : List (List ℕ)) (part : List ℕ) → HasCut input left closed part state
-    → IsTooLong input) → (input : Option (List ℕ)) (closed : List (List ℕ)) → HasCut input begin closed [] first
-    → IsTooLong input
-part_long P begin left first state next is at long input closed cut =
+-- what a step's fault says of each source that came to the step
+pub part_fault : (Says : Source → Type 0) (P : List ℕ → Type 0) (begin left : Source) (first state : State)
+    (next : Next) → next ≡ Bytes → AtStep P begin left first state next
+    → ((input : Source) (closed : List (List ℕ)) (part : List ℕ) → HasCut input left closed part state → Says input)
+    → (input : Source) (closed : List (List ℕ)) → HasCut input begin closed [] first → Says input
+part_fault Says P begin left first state next is at fault input closed cut =
     let here : AtStep P begin left first state Bytes = rw is at at in
-    long input closed (here.part ++ state.given) (here.goes input closed cut)
+    fault input closed (here.part ++ state.given) (here.goes input closed cut)
 
 no_end : (Bytes ≡ PartEnd) ⊎ (Bytes ≡ End) → ⊥
 no_end (inl e) = cc
 no_end (inr e) = cc
 
-pub part_read : (P Q : List ℕ → Type 0) (begin left : Option (List ℕ)) (first state : State) (next : Next)
+pub part_read : (P Q : List ℕ → Type 0) (begin left : Source) (first state : State) (next : Next)
     → (next ≡ PartEnd) ⊎ (next ≡ End) → AtStep P begin left first state next → ((part : List ℕ) → P part → Q part)
     → HasReadPart Q begin left first state (begins_part next)
 part_read P Q begin left first state PartEnd ends at f =
@@ -73,29 +72,28 @@ part_read P Q begin left first state Bytes ends at f = absurd (no_end ends)
 -- ---- parts that are skipped
 
 -- how it goes on after some parts more
-pub record Skips (begin left : Option (List ℕ)) (first state : State) (next : Next) (input : Option (List ℕ))
+pub record Skips (begin left : Source) (first state : State) (next : Next) (input : Source)
     (closed : List (List ℕ)) : Type 0 where
   pub parts : List (List ℕ)
   pub part : List ℕ
   pub goes : Goes next input left (closed ++ parts) part state
 
 -- the same of all that came before
-abbrev pub HasSkipped : (begin left : Option (List ℕ)) → (first state : State) → Next → Type 0
+abbrev pub HasSkipped : (begin left : Source) → (first state : State) → Next → Type 0
 HasSkipped begin left first state next =
-    (input : Option (List ℕ)) (closed : List (List ℕ)) → HasCut input begin closed [] first
+    (input : Source) (closed : List (List ℕ)) → HasCut input begin closed [] first
     → Skips begin left first state next input closed
 
-pub skip_begins : (begin left : Option (List ℕ)) (first state : State) (next : Next)
-    → Steps begin left first state next → HasSkipped begin left first state next
+pub skip_begins : (begin left : Source) (first state : State) (next : Next) → Steps begin left first state next
+    → HasSkipped begin left first state next
 skip_begins begin left first state next steps = λ input closed cut. record {
   parts = [];
   part = [];
   goes = subst (λ all. Goes next input left all [] state) (sym (append-nil closed)) (steps input closed [] cut);
 }
 
-pub skip_goes : (begin before after : Option (List ℕ)) (first old new : State) (next later : Next)
-    → (next ≡ End → ⊥) → HasSkipped begin before first old next → Steps before after old new later
-    → HasSkipped begin after first new later
+pub skip_goes : (begin before after : Source) (first old new : State) (next later : Next) → (next ≡ End → ⊥)
+    → HasSkipped begin before first old next → Steps before after old new later → HasSkipped begin after first new later
 skip_goes begin before after first old new End later more has steps = absurd (more refl)
 skip_goes begin before after first old new Bytes later more has steps = λ input closed cut.
     let here = has input closed cut in
@@ -115,11 +113,11 @@ skip_goes begin before after first old new PartEnd later more has steps = λ inp
     }
 
 -- the parts that were skipped, of which there is one
-abbrev pub HasRest : Option (List ℕ) → List (List ℕ) → Type 0
+abbrev pub HasRest : Source → List (List ℕ) → Type 0
 HasRest input closed = (parts : List (List ℕ)) × (0 < length parts) × AreParts input (closed ++ parts)
 
-pub skip_ends : (begin left : Option (List ℕ)) (first state : State) (next : Next) → next ≡ End
-    → HasSkipped begin left first state next → (input : Option (List ℕ)) (closed : List (List ℕ))
+pub skip_ends : (begin left : Source) (first state : State) (next : Next) → next ≡ End
+    → HasSkipped begin left first state next → (input : Source) (closed : List (List ℕ))
     → HasCut input begin closed [] first → HasRest input closed
 skip_ends begin left first state next is has input closed cut =
     let here = has input closed cut in
@@ -131,13 +129,12 @@ skip_ends begin left first state next is has input closed cut =
       subst (AreParts input) (append_assoc closed here.parts (here.part ∷ [])) all,
     )
 
-pub skip_long : (begin left : Option (List ℕ)) (first state : State) (next : Next) → (next ≡ End → ⊥)
+pub skip_fault : (Says : Source → Type 0) (begin left : Source) (first state : State) (next : Next) → (next ≡ End → ⊥)
     → HasSkipped begin left first state next
-    → ((input : Option (List ℕ)) (closed : List (List ℕ)) (part : List ℕ) → HasCut input left closed part state
-    → IsTooLong input) → (input : Option (List ℕ)) (closed : List (List ℕ)) → HasCut input begin closed [] first
-    → IsTooLong input
-skip_long begin left first state End more has long input closed cut = absurd (more refl)
-skip_long begin left first state Bytes more has long input closed cut =
-    let here = has input closed cut in long input (closed ++ here.parts) (here.part ++ state.given) here.goes
-skip_long begin left first state PartEnd more has long input closed cut =
-    let here = has input closed cut in long input ((closed ++ here.parts) ++ here.part ∷ []) [] here.goes
+    → ((input : Source) (closed : List (List ℕ)) (part : List ℕ) → HasCut input left closed part state → Says input)
+    → (input : Source) (closed : List (List ℕ)) → HasCut input begin closed [] first → Says input
+skip_fault Says begin left first state End more has fault input closed cut = absurd (more refl)
+skip_fault Says begin left first state Bytes more has fault input closed cut =
+    let here = has input closed cut in fault input (closed ++ here.parts) (here.part ++ state.given) here.goes
+skip_fault Says begin left first state PartEnd more has fault input closed cut =
+    let here = has input closed cut in fault input ((closed ++ here.parts) ++ here.part ∷ []) [] here.goes

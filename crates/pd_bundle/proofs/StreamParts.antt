@@ -1,5 +1,5 @@
 -- Streams that are read one after another.
-use Rattle.std.proofs.Common.{◌≡◌, ℕ, suc, ◌+◌, ◌<◌, ◌≤◌, Bool, true, false, List, [], ◌∷◌, ◌++◌, length, length-append, refl, sym, ap, ◌∙◌, subst, append-nil, append_assoc, arith, Option, Err}
+use Rattle.std.proofs.Common.{◌≡◌, ℕ, suc, ◌+◌, ◌<◌, ◌≤◌, Bool, true, false, List, [], ◌∷◌, ◌++◌, length, length-append, refl, sym, ap, ◌∙◌, subst, append-nil, append_assoc, arith, Err}
 use Rattle.std.specs.Prelude.{nat_lt, IfOk, Ok, Result, Some}
 use Rattle.pd_events.specs.Reads.{ReaderState, Reads}
 use Rattle.pd_traces.specs.Views.{trace_view}
@@ -15,20 +15,21 @@ use Rattle.pd_format.specs.Limits.{stream_count_limit}
 use Rattle.pd_format.specs.Names.{ProcessNames}
 use Rattle.pd_format.specs.Sessions.{StreamResult, TooManyStreams, session}
 use Rattle.pd_judgement.specs.Judgements.{AreResultsOf, ended_streams}
+use Rattle.pd_judgement.specs.Writes.{Source}
 use Rattle.pd_judgement.proofs.StreamResults.{ended_have_results, ended_streams_ended}
 use Rattle.pd_bundle.specs.PartsRead.{HasReadPart, HasReadStreams, IsResultOfPart}
 use Rattle.pd_bundle.specs.Steps.{AreParts, HasCut, HasParts, State}
 use Rattle.pd_bundle.proofs.PartSteps.{HasRest}
 
 -- the results are those of the parts so far
-pub record HasStreams (names : List ProcessNames) (begin left : Option (List ℕ)) (first state : State)
+pub record HasStreams (names : List ProcessNames) (begin left : Source) (first state : State)
     (began begins : Bool) (results : List StreamResult) : Type 0 where
   pub streams : List (List ℕ)
   pub are_results : AreResultsOf names (ended_streams streams) results
-  pub goes : (input : Option (List ℕ)) (closed : List (List ℕ)) → HasParts began input begin closed first
+  pub goes : (input : Source) (closed : List (List ℕ)) → HasParts began input begin closed first
       → HasParts begins input left (closed ++ streams) state
 
-pub no_streams : (names : List ProcessNames) (begin : Option (List ℕ)) (first : State) (began : Bool)
+pub no_streams : (names : List ProcessNames) (begin : Source) (first : State) (began : Bool)
     → HasStreams names begin begin first first began began []
 no_streams names begin first began = record {
   streams = [];
@@ -45,7 +46,7 @@ one_more names (s ∷ streams) [] part result are is = absurd are
 one_more names (s ∷ streams) (r ∷ results) part result are is =
     (are.0, one_more names streams results part result are.1 is)
 
-pub next_stream : (names : List ProcessNames) (begin before after : Option (List ℕ)) (first old new : State)
+pub next_stream : (names : List ProcessNames) (begin before after : Source) (first old new : State)
     (began begins others : Bool) (results : List StreamResult) (result : StreamResult) → begins ≡ true
     → HasStreams names begin before first old began begins results
     → HasReadPart (IsResultOfPart names result) before after old new others
@@ -70,8 +71,8 @@ results_long names (s ∷ streams) (r ∷ results) are = ap suc (results_long na
 long_streams : (streams : List (List ℕ)) → length (ended_streams streams) ≡ length streams
 long_streams streams = length-map streams _
 
-pub all_streams : (names : List ProcessNames) (begin left : Option (List ℕ)) (first state : State)
-    (began begins : Bool) (results : List StreamResult) (count : ℕ) → begins ≡ false → count ≡ length results
+pub all_streams : (names : List ProcessNames) (begin left : Source) (first state : State) (began begins : Bool)
+    (results : List StreamResult) (count : ℕ) → begins ≡ false → count ≡ length results
     → HasStreams names begin left first state began begins results
     → HasReadStreams names begin first began count results
 all_streams names begin left first state began begins results count is long has = λ input closed h. record {
@@ -94,11 +95,10 @@ too_many names count results over = go (nat_lt stream_count_limit count) refl
     go false e = absurd (grind (arith, nat_tests, e, over))
 
 -- more streams than there may be were read, and the others skipped
-pub too_many_streams : (names : List ProcessNames) (begin left : Option (List ℕ)) (first state : State)
-    (began begins : Bool) (results : List StreamResult) (count : ℕ) → begins ≡ true
-    → stream_count_limit ≤ length results → stream_count_limit < count
-    → HasStreams names begin left first state began begins results
-    → ((input : Option (List ℕ)) (closed : List (List ℕ)) → HasCut input left closed [] state → HasRest input closed)
+pub too_many_streams : (names : List ProcessNames) (begin left : Source) (first state : State) (began begins : Bool)
+    (results : List StreamResult) (count : ℕ) → begins ≡ true → stream_count_limit ≤ length results
+    → stream_count_limit < count → HasStreams names begin left first state began begins results
+    → ((input : Source) (closed : List (List ℕ)) → HasCut input left closed [] state → HasRest input closed)
     → HasReadStreams names begin first began count []
 too_many_streams names begin left first state began begins results count is many over has skip = λ input closed h.
     let here : HasParts true input left (closed ++ has.streams) state =

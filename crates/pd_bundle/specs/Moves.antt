@@ -1,19 +1,22 @@
 -- What one read and one cut do to a bundle that is read.
-use Rattle.std.specs.Prelude.{◌≡◌, ◌<◌, ◌≤◌, ◌+◌, ℕ, true, false, List, [], ◌∷◌, ◌++◌, Option, length}
+use Rattle.std.specs.Prelude.{◌≡◌, ◌≢◌, ◌<◌, ◌≤◌, ◌+◌, ℕ, true, false, List, [], ◌∷◌, ◌++◌, Some, length}
 use Rattle.std.specs.Io.KnownBytes.{Consumes, IsAtEnd}
 use Rattle.pd_format.specs.Limits.{bundle_byte_limit}
+use Rattle.pd_judgement.specs.Writes.{Source}
 use Rattle.pd_bundle.specs.Cutting.{parts_from}
 use Rattle.pd_bundle.specs.Steps.{State, parts_after_step, steps_left}
 use Rattle.pd_bundle.specs.declared.next.Next.{Next}
 use Rattle.pd_bundle.specs.declared.next.Next.TheVariants.{End}
 
--- the buffer has what a read took off a reader with this left: nothing only at its end
-pub record Fills (before after : Option (List ℕ)) (old new : State) : Type 0 where
-  pub consumed : Consumes before after new.buffer
+-- the buffer has what a read took off a source with this left: nothing only at its end
+pub record Fills (before after : Source) (old new : State) : Type 0 where
+  pub consumed : Consumes before.bytes after.bytes new.buffer
   pub counted : new.count ≡ old.count + length new.buffer
   pub fits : new.count ≤ bundle_byte_limit
   pub same_cutter : new.cutter ≡ old.cutter
-  pub at_end : new.ended ≡ true → IsAtEnd after × (new.buffer ≡ [])
+  pub at_end : new.ended ≡ true → IsAtEnd after.bytes × (new.buffer ≡ [])
+  pub same_fate : new.ended ≡ false → after.fails ≡ before.fails
+  pub no_failure : new.ended ≡ true → before.fails ≢ Some true
   pub some : new.ended ≡ false → 0 < length new.buffer
 
 -- the parts from here on are those of what the step gave and of what is left

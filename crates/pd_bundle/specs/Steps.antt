@@ -1,9 +1,9 @@
 -- A bundle while it is read, step by step.
-use Rattle.std.specs.Prelude.{◌≡◌, ◌≤◌, ◌+◌, ◌-◌, ◌*◌, ℕ, zero, suc, Bool, true, false, List, [], ◌∷◌, ◌++◌, Option, length}
+use Rattle.std.specs.Prelude.{◌≡◌, ◌≢◌, ◌≤◌, ◌+◌, ◌-◌, ◌*◌, ℕ, zero, suc, Bool, true, false, List, [], ◌∷◌, ◌++◌, Some, length}
 use Rattle.std.specs.Io.KnownBytes.{Consumes, IsAtEnd}
 use Rattle.pd_format.specs.Bundles.{onto_part, parts_of}
 use Rattle.pd_format.specs.Limits.{bundle_byte_limit}
-use Rattle.pd_judgement.specs.Writes.{IsWholeInput}
+use Rattle.pd_judgement.specs.Writes.{IsWholeInput, Source}
 use Rattle.pd_bundle.specs.Cutting.{parts_from}
 use Rattle.pd_bundle.specs.declared.cutter.Cutter.{Cutter}
 use Rattle.pd_bundle.specs.declared.cutter.Cutter.TheVariants.{Held, Inside}
@@ -29,37 +29,39 @@ holds Inside = 0
 abbrev pub steps_left : State → ℕ
 steps_left state = 2 * (bundle_byte_limit - state.count + length state.buffer) + holds state.cutter
 
--- A reader of this input, with this much of it left, gave bytes that are these parts, then the bytes so far of the part
--- that goes on, and then what comes next.
-pub record HasCut (input left : Option (List ℕ)) (closed : List (List ℕ)) (part : List ℕ) (state : State) : Type 0 where
+-- A source with this left, and this afterwards, gave bytes that are these parts, then the bytes so far of the part that
+-- goes on, and then what comes next. Whether a read of it fails is known as before, or the source gave its end.
+pub record HasCut (input left : Source) (closed : List (List ℕ)) (part : List ℕ) (state : State) : Type 0 where
   pub seen : List ℕ
-  pub consumed : Consumes input left seen
+  pub consumed : Consumes input.bytes left.bytes seen
   pub counted : length seen ≡ state.count
-  pub at_end : state.ended ≡ true → IsAtEnd left
+  pub at_end : state.ended ≡ true → IsAtEnd left.bytes
+  pub same_fate : state.ended ≡ false → left.fails ≡ input.fails
+  pub no_failure : state.ended ≡ true → input.fails ≢ Some true
   pub parts : (rest : List ℕ) → (state.ended ≡ true → rest ≡ []) → parts_of (seen ++ rest)
       ≡ closed ++ onto_part part (parts_from state.cutter (state.buffer ++ rest))
 
--- the parts of all that a reader had left, which is within the limit
-pub record AreParts (input : Option (List ℕ)) (parts : List (List ℕ)) : Type 0 where
+-- the parts of all that a source had left, which is within the limit
+pub record AreParts (input : Source) (parts : List (List ℕ)) : Type 0 where
   pub bundle : List ℕ
   pub is_given : IsWholeInput input bundle
   pub fits : length bundle ≤ bundle_byte_limit
   pub are_parts : parts_of bundle ≡ parts
 
 -- how it goes on after a step
-abbrev pub Goes : Next → (input left : Option (List ℕ)) → List (List ℕ) → List ℕ → State → Type 0
+abbrev pub Goes : Next → (input left : Source) → List (List ℕ) → List ℕ → State → Type 0
 Goes Bytes input left closed part state = HasCut input left closed (part ++ state.given) state
 Goes PartEnd input left closed part state = HasCut input left (closed ++ part ∷ []) [] state
 Goes End input left closed part state = AreParts input (closed ++ part ∷ [])
 
 -- what a step does to what was cut
-abbrev pub Steps : (before after : Option (List ℕ)) → State → State → Next → Type 0
+abbrev pub Steps : (before after : Source) → State → State → Next → Type 0
 Steps before after old new next =
-    (input : Option (List ℕ)) (closed : List (List ℕ)) (part : List ℕ) → HasCut input before closed part old
+    (input : Source) (closed : List (List ℕ)) (part : List ℕ) → HasCut input before closed part old
     → Goes next input after closed part new
 
 -- these are the parts so far, and another part begins; or these are all
-abbrev pub HasParts : Bool → (input left : Option (List ℕ)) → List (List ℕ) → State → Type 0
+abbrev pub HasParts : Bool → (input left : Source) → List (List ℕ) → State → Type 0
 HasParts true input left parts state = HasCut input left parts [] state
 HasParts false input left parts state = AreParts input parts
 

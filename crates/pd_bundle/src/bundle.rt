@@ -5,7 +5,7 @@ ghost use Rattle.pd_bundle.specs.Steps.{HasCut, Steps, steps_left};
 ghost use Rattle.pd_bundle.specs.declared.fault.BundleFault.TheVariants as faults;
 ghost use Rattle.pd_bundle.specs.declared.next.Next.TheVariants as nexts;
 ghost use Rattle.pd_format.specs.Limits.{bundle_byte_limit};
-ghost use Rattle.pd_judgement.specs.Writes.{IsTooLong};
+ghost use Rattle.pd_judgement.specs.Writes.{FailsAfter, IsBrokenOff, IsTooLong, Source};
 ghost use Rattle.std.specs.Prelude.{◌≡◌, ◌<◌, ◌≤◌, ◌+◌, ◌-◌, ◌++◌, Err, IfOk, IfSome, List, ℕ, Option, [], OnOk, drop, false, length, take, true};
 
 use super::cutter::{Cutter, Cutting, marks};
@@ -64,7 +64,7 @@ impl Bundle {
     /// # Errors
     /// If memory runs out.
     pub fn new(alloc: Global) -> Result<Bundle, AllocError>
-        ensures fresh { IfOk result (λ bundle. (input : Option (List ℕ)) → HasCut input input [] [] bundle) }
+        ensures fresh { IfOk result (λ bundle. (input : Source) → HasCut input input [] [] bundle) }
         ensures open { IfOk result (λ bundle. bundle.ended ≡ false) }
     {
         Ok(Bundle {
@@ -93,11 +93,11 @@ impl Bundle {
     fn fill<R: ByteSource>(&mut self, reader: &mut R) -> Result<(), BundleFault>
         requires empty { self.old.buffer ≡ [] }
         requires open { R.has_ended reader.old ≡ false }
-        ensures fills { OnOk result (Fills (R.remaining reader.old) (R.remaining reader.new) self.old self.new) }
+        ensures fills { OnOk result (Fills (R.left reader.old) (R.left reader.new) self.old self.new) }
         ensures open { OnOk result (self.new.ended ≡ false → R.has_ended reader.new ≡ false) }
-        ensures long { result ≡ Err faults.Long → IfSome (R.remaining reader.old) (λ rest.
+        ensures long { result ≡ Err faults.Long → IfSome (R.left reader.old).bytes (λ rest.
             bundle_byte_limit < self.old.count + length rest) }
-        ensures sure { R.never_fails ≡ true → result ≡ Err faults.Read → ⊥ }
+        ensures cause { result ≡ Err faults.Read → FailsAfter (R.left reader.old) (λ rest. rest ≡ []) }
         ensures roomy { result ≡ Err faults.Memory → ⊥ }
     {
         let room = BUNDLE_BYTE_LIMIT - self.count;
@@ -179,12 +179,13 @@ impl Bundle {
     /// `Long` if the bundle has over 67,108,864 bytes, and `Read` if the read fails. The bundle isn't used again then.
     pub fn next<R: ByteSource>(&mut self, reader: &mut R) -> Result<Next, BundleFault>
         requires ready { self.old.ended ≡ false → R.has_ended reader.old ≡ false }
-        ensures steps { IfOk result (Steps (R.remaining reader.old) (R.remaining reader.new) self.old self.new) }
+        ensures steps { IfOk result (Steps (R.left reader.old) (R.left reader.new) self.old self.new) }
         ensures less { IfOk result (λ next. (next ≡ nexts.End → ⊥) → steps_left self.new < steps_left self.old) }
         ensures ready { OnOk result (self.new.ended ≡ false → R.has_ended reader.new ≡ false) }
-        ensures long { result ≡ Err faults.Long → (input : Option (List ℕ)) (closed : List (List ℕ)) (part : List ℕ) →
-            HasCut input (R.remaining reader.old) closed part self.old → IsTooLong input }
-        ensures sure { R.never_fails ≡ true → result ≡ Err faults.Read → ⊥ }
+        ensures long { result ≡ Err faults.Long → (input : Source) (closed : List (List ℕ)) (part : List ℕ) →
+            HasCut input (R.left reader.old) closed part self.old → IsTooLong input }
+        ensures cause { result ≡ Err faults.Read → (input : Source) (closed : List (List ℕ)) (part : List ℕ) →
+            HasCut input (R.left reader.old) closed part self.old → IsBrokenOff input }
         ensures roomy { result ≡ Err faults.Memory → ⊥ }
     {
         if self.start < self.end {

@@ -7,7 +7,7 @@ ghost use Rattle.pd_events.specs.Views.{result_view};
 ghost use Rattle.pd_format.specs.Names.{ProcessNames};
 ghost use Rattle.pd_format.specs.Readings.{Open};
 ghost use Rattle.pd_gather.specs.Views.{ReadingFits, results_view};
-ghost use Rattle.pd_judgement.specs.Writes.{IsTooLong};
+ghost use Rattle.pd_judgement.specs.Writes.{IsBrokenOff, IsTooLong, Source};
 ghost use Rattle.pd_spec.specs.Views.{document_view};
 ghost use Rattle.std.specs.Prelude.{◌≡◌, ◌<◌, ◌++◌, All, Err, IfOk, List, ℕ, OnOk, Option, [], false, length, true};
 
@@ -61,12 +61,13 @@ pub fn read_document_part<R: ByteSource>(
     bundle: &mut Bundle,
 ) -> Result<(Vec<u8>, bool), BundleFault>
     requires ready { bundle.old.ended ≡ false → R.has_ended reader.old ≡ false }
-    ensures part { IfOk result (λ given. HasReadPart (IsKept given.0.items) (R.remaining reader.old)
-        (R.remaining reader.new) bundle.old bundle.new given.1) }
+    ensures part { IfOk result (λ given. HasReadPart (IsKept given.0.items) (R.left reader.old)
+        (R.left reader.new) bundle.old bundle.new given.1) }
     ensures ready { OnOk result (bundle.new.ended ≡ false → R.has_ended reader.new ≡ false) }
-    ensures long { result ≡ Err faults.Long → (input : Option (List ℕ)) (closed : List (List ℕ)) →
-        HasCut input (R.remaining reader.old) closed [] bundle.old → IsTooLong input }
-    ensures sure { R.never_fails ≡ true → result ≡ Err faults.Read → ⊥ }
+    ensures long { result ≡ Err faults.Long → (input : Source) (closed : List (List ℕ)) →
+        HasCut input (R.left reader.old) closed [] bundle.old → IsTooLong input }
+    ensures cause { result ≡ Err faults.Read → (input : Source) (closed : List (List ℕ)) →
+        HasCut input (R.left reader.old) closed [] bundle.old → IsBrokenOff input }
 {
     let mut document = Vec::new(alloc);
     let mut next = bundle.next(reader)?;
@@ -89,12 +90,13 @@ fn read_stream_part<R: ByteSource>(
 ) -> Result<(Result<Trace, StreamFault>, bool), BundleFault>
     requires ready { bundle.old.ended ≡ false → R.has_ended reader.old ≡ false }
     ensures part { IfOk result (λ given. HasReadPart (IsResultOfPart (document_view spec.now).names
-        (result_view given.0)) (R.remaining reader.old) (R.remaining reader.new) bundle.old bundle.new given.1) }
+        (result_view given.0)) (R.left reader.old) (R.left reader.new) bundle.old bundle.new given.1) }
     ensures fits { IfOk result (λ given. ReadingFits (document_view spec.now).names given.0) }
     ensures ready { OnOk result (bundle.new.ended ≡ false → R.has_ended reader.new ≡ false) }
-    ensures long { result ≡ Err faults.Long → (input : Option (List ℕ)) (closed : List (List ℕ)) →
-        HasCut input (R.remaining reader.old) closed [] bundle.old → IsTooLong input }
-    ensures sure { R.never_fails ≡ true → result ≡ Err faults.Read → ⊥ }
+    ensures long { result ≡ Err faults.Long → (input : Source) (closed : List (List ℕ)) →
+        HasCut input (R.left reader.old) closed [] bundle.old → IsTooLong input }
+    ensures cause { result ≡ Err faults.Read → (input : Source) (closed : List (List ℕ)) →
+        HasCut input (R.left reader.old) closed [] bundle.old → IsBrokenOff input }
 {
     let mut stream = TraceReader::new(alloc, spec);
     let mut next = bundle.next(reader)?;
@@ -112,12 +114,13 @@ fn read_stream_part<R: ByteSource>(
 /// As `Bundle::next`.
 pub fn skip_parts<R: ByteSource>(reader: &mut R, bundle: &mut Bundle) -> Result<(), BundleFault>
     requires ready { bundle.old.ended ≡ false → R.has_ended reader.old ≡ false }
-    ensures parts { OnOk result ((input : Option (List ℕ)) (closed : List (List ℕ)) →
-        HasCut input (R.remaining reader.old) closed [] bundle.old → (parts : List (List ℕ)) × (0 < length parts)
+    ensures parts { OnOk result ((input : Source) (closed : List (List ℕ)) →
+        HasCut input (R.left reader.old) closed [] bundle.old → (parts : List (List ℕ)) × (0 < length parts)
         × AreParts input (closed ++ parts)) }
-    ensures long { result ≡ Err faults.Long → (input : Option (List ℕ)) (closed : List (List ℕ)) →
-        HasCut input (R.remaining reader.old) closed [] bundle.old → IsTooLong input }
-    ensures sure { R.never_fails ≡ true → result ≡ Err faults.Read → ⊥ }
+    ensures long { result ≡ Err faults.Long → (input : Source) (closed : List (List ℕ)) →
+        HasCut input (R.left reader.old) closed [] bundle.old → IsTooLong input }
+    ensures cause { result ≡ Err faults.Read → (input : Source) (closed : List (List ℕ)) →
+        HasCut input (R.left reader.old) closed [] bundle.old → IsBrokenOff input }
     ensures roomy { result ≡ Err faults.Memory → ⊥ }
 {
     let mut next = bundle.next(reader)?;
@@ -139,12 +142,13 @@ pub fn read_stream_parts<R: ByteSource>(
     begins: bool,
 ) -> Result<Gathered, BundleFault>
     requires ready { bundle.old.ended ≡ false → R.has_ended reader.old ≡ false }
-    ensures read { IfOk result (λ gathered. HasReadStreams (document_view spec.now).names (R.remaining reader.old)
+    ensures read { IfOk result (λ gathered. HasReadStreams (document_view spec.now).names (R.left reader.old)
         bundle.old begins gathered.streams (results_view gathered.readings.items)) }
     ensures fit { IfOk result (λ gathered. All (ReadingFits (document_view spec.now).names) gathered.readings.items) }
-    ensures long { result ≡ Err faults.Long → (input : Option (List ℕ)) (closed : List (List ℕ)) →
-        HasParts begins input (R.remaining reader.old) closed bundle.old → IsTooLong input }
-    ensures sure { R.never_fails ≡ true → result ≡ Err faults.Read → ⊥ }
+    ensures long { result ≡ Err faults.Long → (input : Source) (closed : List (List ℕ)) →
+        HasParts begins input (R.left reader.old) closed bundle.old → IsTooLong input }
+    ensures cause { result ≡ Err faults.Read → (input : Source) (closed : List (List ℕ)) →
+        HasParts begins input (R.left reader.old) closed bundle.old → IsBrokenOff input }
 {
     let mut readings = Vec::new(alloc);
     let mut begins = begins;

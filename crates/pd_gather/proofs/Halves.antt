@@ -1,7 +1,7 @@
 -- What two halves of streams leave and give, put together.
 use mathlib.Core.List.{IsPrefix}
-use Rattle.std.proofs.Common.{◌≡◌, ℕ, Bool, List, [], ◌∷◌, ◌++◌, length, map, IfOk, refl, sym, ◌∙◌, ap, subst, length-append, arith}
-use Rattle.std.specs.Prelude.{IsOk, Option, Result, Ok, Err, Vec}
+use Rattle.std.proofs.Common.{◌≡◌, List, [], ◌∷◌, ◌++◌, length, map, IfOk, refl, sym, ◌∙◌, ap, subst, length-append, arith}
+use Rattle.std.specs.Prelude.{IsOk, Result, Ok, Err, Vec}
 use Rattle.std.specs.Global.{Global}
 use Rattle.std.specs.List.{AllZip}
 use Rattle.std.specs.declared.alloc.AllocError.{AllocError}
@@ -13,6 +13,7 @@ use Rattle.pd_format.specs.Names.{ProcessNames}
 use Rattle.pd_register.specs.Seats.{IsSeatOf, posted_row, seen_history, stream_of}
 use Rattle.pd_register.specs.declared.register.Register.{Register}
 use Rattle.pd_register.specs.declared.seat.Seat.{Seat}
+use Rattle.pd_judgement.specs.Writes.{Source}
 use Rattle.pd_gather.specs.Gathering.{AreSameSeats, HasGathered, KeepsSeen, LeavesSeats}
 use Rattle.pd_gather.specs.ReadStreams.{LeavesRow}
 use Rattle.pd_gather.specs.Views.{ReadingFits, results_view}
@@ -30,55 +31,53 @@ same_halves register first last new others p q = record {
   own = All-append (λ s. IsSeatOf register s) new others p.own q.own;
 }
 
-gathered_halves : (names : List ProcessNames) (never_fails : Bool) (inputs more : List (Option (List ℕ)))
+gathered_halves : (names : List ProcessNames) (inputs more : List Source)
     (readings others all : List (Result Trace StreamFault)) (seats further : List Seat)
-    → HasGathered names never_fails inputs readings seats → HasGathered names never_fails more others further
-    → all ≡ readings ++ others → HasGathered names never_fails (inputs ++ more) all (seats ++ further)
-gathered_halves names never_fails inputs more readings others all seats further p q e =
-    subst (λ (given : List (Result Trace StreamFault)). HasGathered names never_fails (inputs ++ more) given
+    → HasGathered names inputs readings seats → HasGathered names more others further → all ≡ readings ++ others
+    → HasGathered names (inputs ++ more) all (seats ++ further)
+gathered_halves names inputs more readings others all seats further p q e =
+    subst (λ (given : List (Result Trace StreamFault)). HasGathered names (inputs ++ more) given
     (seats ++ further)) (sym e)
     (record {
       read = rw (map-append posted_row seats further, map-append _ readings others)
-          (both_read names never_fails inputs more (results_view readings) (results_view others)
+          (both_read names inputs more (results_view readings) (results_view others)
           (map posted_row seats) (map posted_row further) p.read q.read);
       fit = All-append (ReadingFits names) readings others p.fit q.fit;
     })
 
-abbrev pub Gathers : List ProcessNames → Bool → List (Option (List ℕ)) → Readings → List Seat → Type 0
-Gathers names never_fails inputs given seats =
-    IfOk given (λ readings. HasGathered names never_fails inputs readings.items seats)
+abbrev pub Gathers : List ProcessNames → List Source → Readings → List Seat → Type 0
+Gathers names inputs given seats =
+    IfOk given (λ readings. HasGathered names inputs readings.items seats)
 
-pub both_gathered : (names : List ProcessNames) (never_fails : Bool) (inputs more : List (Option (List ℕ)))
-    (first last all : Readings) (seats further : List Seat)
-    → Gathers names never_fails inputs first seats → Gathers names never_fails more last further
+pub both_gathered : (names : List ProcessNames) (inputs more : List Source) (first last all : Readings)
+    (seats further : List Seat) → Gathers names inputs first seats → Gathers names more last further
     → IfOk all (λ readings. IfOk first (λ f. IfOk last (λ l. readings.items ≡ f.items ++ l.items)))
-    → (IsOk all → IsOk first × IsOk last) → Gathers names never_fails (inputs ++ more) all (seats ++ further)
-both_gathered names never_fails inputs more first last (Err error) seats further p q joined both = tt
-both_gathered names never_fails inputs more (Err error) last (Ok all) seats further p q joined both =
+    → (IsOk all → IsOk first × IsOk last) → Gathers names (inputs ++ more) all (seats ++ further)
+both_gathered names inputs more first last (Err error) seats further p q joined both = tt
+both_gathered names inputs more (Err error) last (Ok all) seats further p q joined both =
     let no = (both refl).0 in cc
-both_gathered names never_fails inputs more (Ok f) (Err error) (Ok all) seats further p q joined both =
+both_gathered names inputs more (Ok f) (Err error) (Ok all) seats further p q joined both =
     let no = (both refl).1 in cc
-both_gathered names never_fails inputs more (Ok f) (Ok l) (Ok all) seats further p q joined both =
-    gathered_halves names never_fails inputs more f.items l.items all.items seats further p q joined
+both_gathered names inputs more (Ok f) (Ok l) (Ok all) seats further p q joined both =
+    gathered_halves names inputs more f.items l.items all.items seats further p q joined
 
 -- no stream
-pub none_gathered : {R : Type 0} (names : List ProcessNames) (never_fails : Bool) (remaining : R → Option (List ℕ))
-    (readers : List R) (readings : List (Result Trace StreamFault)) (seats : List Seat) → length readers ≡ 0
-    → length seats ≡ 0 → readings ≡ [] → HasGathered names never_fails (map remaining readers) readings seats
-none_gathered names never_fails remaining [] readings [] p q e =
-    subst (λ (given : List (Result Trace StreamFault)). HasGathered names never_fails [] given []) (sym e)
-    (record { read = none_read names never_fails; fit = All-nil (ReadingFits names) })
-none_gathered names never_fails remaining [] readings (y ∷ ys) p q e = absurd (omega (arith, q))
-none_gathered names never_fails remaining (x ∷ xs) readings seats p q e = absurd (omega (arith, p))
+pub none_gathered : {R : Type 0} (names : List ProcessNames) (left : R → Source) (readers : List R)
+    (readings : List (Result Trace StreamFault)) (seats : List Seat) → length readers ≡ 0 → length seats ≡ 0
+    → readings ≡ [] → HasGathered names (map left readers) readings seats
+none_gathered names left [] readings [] p q e =
+    subst (λ (given : List (Result Trace StreamFault)). HasGathered names [] given []) (sym e)
+    (record { read = none_read names; fit = All-nil (ReadingFits names) })
+none_gathered names left [] readings (y ∷ ys) p q e = absurd (omega (arith, q))
+none_gathered names left (x ∷ xs) readings seats p q e = absurd (omega (arith, p))
 
 -- the halves are those of all readers
-pub of_all_readers : {R : Type 0} (names : List ProcessNames) (never_fails : Bool) (remaining : R → Option (List ℕ))
-    (first last readers : List R) (given : Readings) (seats : List Seat) → first ++ last ≡ readers
-    → Gathers names never_fails (map remaining first ++ map remaining last) given seats
-    → Gathers names never_fails (map remaining readers) given seats
-of_all_readers names never_fails remaining first last readers given seats e p =
-    subst (λ (inputs : List (Option (List ℕ))). Gathers names never_fails inputs given seats)
-    (sym (map-append remaining first last) ∙ ap (map remaining) e) p
+pub of_all_readers : {R : Type 0} (names : List ProcessNames) (left : R → Source) (first last readers : List R)
+    (given : Readings) (seats : List Seat) → first ++ last ≡ readers
+    → Gathers names (map left first ++ map left last) given seats → Gathers names (map left readers) given seats
+of_all_readers names left first last readers given seats e p =
+    subst (λ (inputs : List Source). Gathers names inputs given seats)
+    (sym (map-append left first last) ∙ ap (map left) e) p
 
 -- ---- what is left, in every case
 
@@ -94,30 +93,27 @@ pub none_seen : (seats : List Seat) → KeepsSeen seats seats
 none_seen [] = record { grows = tt }
 none_seen (seat ∷ seats) = record { grows = (seen_still (seen_history seat), (none_seen seats).grows) }
 
-left_halves : (names : List ProcessNames) (never_fails : Bool) (inputs more : List (Option (List ℕ)))
-    (seats further : List Seat) → LeavesSeats names never_fails inputs seats
-    → LeavesSeats names never_fails more further → LeavesSeats names never_fails (inputs ++ more) (seats ++ further)
-left_halves names never_fails inputs more seats further p q = record {
-  rows = subst (AllZip (LeavesRow names never_fails) (inputs ++ more)) (sym (map-append posted_row seats further))
-      (zipped_both (LeavesRow names never_fails) inputs more (map posted_row seats) (map posted_row further) p.rows
+left_halves : (names : List ProcessNames) (inputs more : List Source) (seats further : List Seat)
+    → LeavesSeats names inputs seats → LeavesSeats names more further
+    → LeavesSeats names (inputs ++ more) (seats ++ further)
+left_halves names inputs more seats further p q = record {
+  rows = subst (AllZip (LeavesRow names) (inputs ++ more)) (sym (map-append posted_row seats further))
+      (zipped_both (LeavesRow names) inputs more (map posted_row seats) (map posted_row further) p.rows
       q.rows);
 }
 
 -- the halves are those of all readers
-pub left_of_all : {R : Type 0} (names : List ProcessNames) (never_fails : Bool) (remaining : R → Option (List ℕ))
-    (first last readers : List R) (seats further : List Seat) → first ++ last ≡ readers
-    → LeavesSeats names never_fails (map remaining first) seats
-    → LeavesSeats names never_fails (map remaining last) further
-    → LeavesSeats names never_fails (map remaining readers) (seats ++ further)
-left_of_all names never_fails remaining first last readers seats further e p q =
-    subst (λ (inputs : List (Option (List ℕ))). LeavesSeats names never_fails inputs (seats ++ further))
-    (sym (map-append remaining first last) ∙ ap (map remaining) e)
-    (left_halves names never_fails (map remaining first) (map remaining last) seats further p q)
+pub left_of_all : {R : Type 0} (names : List ProcessNames) (left : R → Source) (first last readers : List R)
+    (seats further : List Seat) → first ++ last ≡ readers → LeavesSeats names (map left first) seats
+    → LeavesSeats names (map left last) further → LeavesSeats names (map left readers) (seats ++ further)
+left_of_all names left first last readers seats further e p q =
+    subst (λ (inputs : List Source). LeavesSeats names inputs (seats ++ further))
+    (sym (map-append left first last) ∙ ap (map left) e)
+    (left_halves names (map left first) (map left last) seats further p q)
 
 -- no stream
-pub none_left : {R : Type 0} (names : List ProcessNames) (never_fails : Bool) (remaining : R → Option (List ℕ))
-    (readers : List R) (seats : List Seat) → length readers ≡ 0 → length seats ≡ 0
-    → LeavesSeats names never_fails (map remaining readers) seats
-none_left names never_fails remaining [] [] p q = record { rows = tt }
-none_left names never_fails remaining [] (y ∷ ys) p q = absurd (omega (arith, q))
-none_left names never_fails remaining (x ∷ xs) seats p q = absurd (omega (arith, p))
+pub none_left : {R : Type 0} (names : List ProcessNames) (left : R → Source) (readers : List R) (seats : List Seat)
+    → length readers ≡ 0 → length seats ≡ 0 → LeavesSeats names (map left readers) seats
+none_left names left [] [] p q = record { rows = tt }
+none_left names left [] (y ∷ ys) p q = absurd (omega (arith, q))
+none_left names left (x ∷ xs) seats p q = absurd (omega (arith, p))

@@ -7,4 +7,5 @@ pub mod PrefixesRead
 pub mod RowSteps
 pub mod SeatLists
 pub mod SessionStreams
+pub mod Sources
 pub mod Turns

@@ -1,6 +1,6 @@
 -- What some threads that read streams begin with, and what they leave and give.
 use mathlib.Core.List.{IsPrefix}
-use Rattle.std.specs.Prelude.{◌≡◌, ℕ, Bool, false, List, All, Option, Result, length, map}
+use Rattle.std.specs.Prelude.{◌≡◌, Bool, false, List, All, Result, length, map}
 use Rattle.std.specs.List.{AllZip}
 use Rattle.pd_traces.specs.declared.event.Trace.{Trace}
 use Rattle.pd_events.specs.declared.fault.StreamFault.{StreamFault}
@@ -9,6 +9,7 @@ use Rattle.pd_format.specs.Names.{ProcessNames}
 use Rattle.pd_register.specs.Seats.{IsSeatOf, posted_row, seen_history, stream_of}
 use Rattle.pd_register.specs.declared.register.Register.{Register}
 use Rattle.pd_register.specs.declared.seat.Seat.{Seat}
+use Rattle.pd_judgement.specs.Writes.{Source}
 use Rattle.pd_gather.specs.ReadStreams.{AreReadOf, LeavesRow}
 use Rattle.pd_gather.specs.Views.{ReadingFits, results_view}
 
@@ -30,13 +31,12 @@ pub record AreSameSeats (register : Register) (old new : List Seat) : Type 0 whe
 pub record KeepsSeen (old new : List Seat) : Type 0 where
   pub grows : AllZip (λ o n. IsPrefix (seen_history o) (seen_history n)) old new
 
--- each seat has the row that the reading of its reader left, whole or in part
-pub record LeavesSeats (names : List ProcessNames) (never_fails : Bool) (inputs : List (Option (List ℕ)))
-    (seats : List Seat) : Type 0 where
-  pub rows : AllZip (LeavesRow names never_fails) inputs (map posted_row seats)
+-- each seat has the row that the reading of its source left, whole or in part
+pub record LeavesSeats (names : List ProcessNames) (inputs : List Source) (seats : List Seat) : Type 0 where
+  pub rows : AllZip (LeavesRow names) inputs (map posted_row seats)
 
--- the readings are those of what the readers gave, and the seats' rows are theirs
-pub record HasGathered (names : List ProcessNames) (never_fails : Bool) (inputs : List (Option (List ℕ)))
+-- the readings are those of what the sources gave, and the seats' rows are theirs
+pub record HasGathered (names : List ProcessNames) (inputs : List Source)
     (readings : List (Result Trace StreamFault)) (seats : List Seat) : Type 0 where
-  pub read : AreReadOf names never_fails inputs (results_view readings) (map posted_row seats)
+  pub read : AreReadOf names inputs (results_view readings) (map posted_row seats)
   pub fit : All (ReadingFits names) readings

@@ -1,3 +1,4 @@
+pub mod Sources
 pub mod Views
 pub mod Taken
 pub mod Rows

@@ -37,11 +37,10 @@ fn read_one<T: Wait, R: ByteSource>(
     requires open { R.has_ended reader.old ≡ false }
     ensures seat { IsSeatOf register.now seat.new × (stream_of seat.new ≡ stream_of seat.old) }
     ensures seen { KeepsSeen (seat.old ∷ []) (seat.new ∷ []) }
-    ensures read { IfOk result (λ readings. AreReadOf (document_view spec.now).names R.never_fails
-        (R.remaining reader.old ∷ []) (results_view readings.items) (posted_row seat.new ∷ [])) }
+    ensures read { IfOk result (λ readings. AreReadOf (document_view spec.now).names
+        (R.left reader.old ∷ []) (results_view readings.items) (posted_row seat.new ∷ [])) }
     ensures fit { IfOk result (λ readings. All (ReadingFits (document_view spec.now).names) readings.items) }
-    ensures left { LeavesSeats (document_view spec.now).names R.never_fails (R.remaining reader.old ∷ [])
-        (seat.new ∷ []) }
+    ensures left { LeavesSeats (document_view spec.now).names (R.left reader.old ∷ []) (seat.new ∷ []) }
 {
     let given = read_from(rt, alloc, spec, reader, register, seat)?;
     let mut readings = Vec::with_capacity(alloc, 1)?;
@@ -73,9 +72,9 @@ pub(super) fn read_halves<T: Threads + Wait + Sync, R: ByteSource + Send>(
     requires ready { AreReady R.has_ended register.now readers.old seats.old }
     ensures same { AreSameSeats register.now seats.old seats.new }
     ensures seen { KeepsSeen seats.old seats.new }
-    ensures gathered { IfOk result (λ readings. HasGathered (document_view spec.now).names R.never_fails
-        (map R.remaining readers.old) readings.items seats.new) }
-    ensures left { LeavesSeats (document_view spec.now).names R.never_fails (map R.remaining readers.old) seats.new }
+    ensures gathered { IfOk result (λ readings. HasGathered (document_view spec.now).names
+        (map R.left readers.old) readings.items seats.new) }
+    ensures left { LeavesSeats (document_view spec.now).names (map R.left readers.old) seats.new }
 {
     if readers.len() == 0 {
         return Ok(Vec::new(*alloc));
@@ -91,20 +90,20 @@ pub(super) fn read_halves<T: Threads + Wait + Sync, R: ByteSource + Send>(
         &mut || -> Readings
             requires { IsSync T.row × AreReady R.has_ended register.now first_readers.now first_seats.now }
             ensures { AreSameSeats register.entry.now first_seats.entry.now first_seats.exit.now
-                × IfOk result (λ readings. HasGathered (document_view spec.entry.now).names R.never_fails
-                (map R.remaining first_readers.entry.now) readings.items first_seats.exit.now)
+                × IfOk result (λ readings. HasGathered (document_view spec.entry.now).names
+                (map R.left first_readers.entry.now) readings.items first_seats.exit.now)
                 × KeepsSeen first_seats.entry.now first_seats.exit.now
-                × LeavesSeats (document_view spec.entry.now).names R.never_fails
-                (map R.remaining first_readers.entry.now) first_seats.exit.now }
+                × LeavesSeats (document_view spec.entry.now).names
+                (map R.left first_readers.entry.now) first_seats.exit.now }
         { read_halves(rt, alloc, spec, register, first_readers, first_seats) },
         &mut || -> Readings
             requires { IsSync T.row × AreReady R.has_ended register.now last_readers.now last_seats.now }
             ensures { AreSameSeats register.entry.now last_seats.entry.now last_seats.exit.now
-                × IfOk result (λ readings. HasGathered (document_view spec.entry.now).names R.never_fails
-                (map R.remaining last_readers.entry.now) readings.items last_seats.exit.now)
+                × IfOk result (λ readings. HasGathered (document_view spec.entry.now).names
+                (map R.left last_readers.entry.now) readings.items last_seats.exit.now)
                 × KeepsSeen last_seats.entry.now last_seats.exit.now
-                × LeavesSeats (document_view spec.entry.now).names R.never_fails
-                (map R.remaining last_readers.entry.now) last_seats.exit.now }
+                × LeavesSeats (document_view spec.entry.now).names
+                (map R.left last_readers.entry.now) last_seats.exit.now }
         { read_halves(rt, alloc, spec, register, last_readers, last_seats) },
     );
     both_halves(first, last)
@@ -132,10 +131,10 @@ pub fn gather<T: Threads + Wait + Sync, R: ByteSource + Send + Drop>(
     ensures seats { AreSeats register.now seats.new }
     ensures seen { KeepsSeen seats.old seats.new }
     ensures streams { IfOk result (λ gathered. gathered.streams ≡ vec_len readers) }
-    ensures read { IfOk result (λ gathered. AreReadOf (document_view spec.now).names R.never_fails
-        (map R.remaining readers.items) (results_view gathered.readings.items) (map posted_row seats.new)) }
+    ensures read { IfOk result (λ gathered. AreReadOf (document_view spec.now).names
+        (map R.left readers.items) (results_view gathered.readings.items) (map posted_row seats.new)) }
     ensures fit { IfOk result (λ gathered. All (ReadingFits (document_view spec.now).names) gathered.readings.items) }
-    ensures left { LeavesSeats (document_view spec.now).names R.never_fails (map R.remaining readers.items) seats.new }
+    ensures left { LeavesSeats (document_view spec.now).names (map R.left readers.items) seats.new }
 {
     let mut readers = readers;
     let streams = readers.len() as u64;

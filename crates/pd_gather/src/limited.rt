@@ -1,6 +1,7 @@
 //! Reads a source up to a limit.
-ghost use Rattle.std.specs.Prelude.{◌≡◌, ◌+◌, ◌≤◌, ◌<◌, ◌++◌, true, false, List, ℕ, Err, length, take, IfOk, IfSome, IsOkUnless, OnErr, vec_len};
+ghost use Rattle.std.specs.Prelude.{◌≡◌, ◌≢◌, ◌+◌, ◌≤◌, ◌<◌, ◌++◌, true, false, List, [], ℕ, Some, Err, length, take, IfOk, IfSome, IsOkUnless, OnErr, vec_len};
 ghost use Rattle.pd_format.specs.Limits.{report_byte_limit};
+ghost use Rattle.pd_judgement.specs.Writes.{FailsAfter};
 ghost use Rattle.pd_gather.specs.declared.read_fault.ReadFault.{ReadFault};
 ghost use Rattle.std.specs.Io.KnownBytes.{Consumes, IsAtEnd};
 
@@ -22,10 +23,12 @@ fn read_piece<R: ByteSource>(
     ensures within { IfOk result (λ count. count ≤ length piece.new) }
     ensures len { IfOk result (λ count. vec_len bytes.new ≡ vec_len bytes.old + count) }
     ensures more { IfOk result (λ count. (given : List ℕ) × (bytes.new.items ≡ bytes.old.items ++ given)
-        × Consumes (R.remaining reader.old) (R.remaining reader.new) given) }
-    ensures end { IfOk result (λ count. count ≡ 0 → 0 < length piece.new → IsAtEnd (R.remaining reader.new)) }
+        × Consumes (R.left reader.old).bytes (R.left reader.new).bytes given) }
+    ensures end { IfOk result (λ count. count ≡ 0 → 0 < length piece.new → IsAtEnd (R.left reader.new).bytes
+        × ((R.left reader.old).fails ≢ Some true)) }
+    ensures same { IfOk result (λ count. (count ≡ 0 → ⊥) → (R.left reader.new).fails ≡ (R.left reader.old).fails) }
     ensures open { IfOk result (λ count. (count ≡ 0 → ⊥) → R.has_ended reader.new ≡ false) }
-    ensures sure { R.never_fails ≡ true → (result ≡ Err ReadFault.Read → ⊥) }
+    ensures cause { result ≡ Err ReadFault.Read → FailsAfter (R.left reader.old) (λ bytes. bytes ≡ []) }
 {
     let count = reader.read_next(piece).map_err(|_| ReadFault::Read)?;
     bytes.extend_from_slice(&piece[..count])?;
@@ -45,7 +48,8 @@ fn new_limited_piece(alloc: Global, most: usize) -> Result<Vec<u8>, AllocError>
 /// after the source's end.
 ///
 /// # Errors
-/// `Read` if a read fails, of whatever kind, and `Memory`. The bytes read until then are dropped.
+/// `Read` if a read fails, of whatever kind, and `Memory`. The bytes read until then are dropped; they are no more than
+/// the limit.
 pub fn read_bytes<R: ByteSource + Drop>(
     alloc: Global,
     mut reader: R,
@@ -54,9 +58,10 @@ pub fn read_bytes<R: ByteSource + Drop>(
     requires open { R.has_ended reader ≡ false }
     requires few { limit ≤ report_byte_limit }
     ensures within { IfOk result (λ bytes. vec_len bytes ≤ limit + 1) }
-    ensures prefix { IfOk result (λ bytes. IfSome (R.remaining reader) (λ input.
+    ensures prefix { IfOk result (λ bytes. IfSome (R.left reader).bytes (λ input.
         bytes.items ≡ take (limit + 1) input)) }
-    ensures sure { R.never_fails ≡ true → (result ≡ Err ReadFault.Read → ⊥) }
+    ensures end { IfOk result (λ bytes. vec_len bytes ≤ limit → (R.left reader).fails ≢ Some true) }
+    ensures cause { result ≡ Err ReadFault.Read → FailsAfter (R.left reader) (λ bytes. length bytes ≤ limit) }
 {
     let most = limit + 1;
     let mut piece = new_limited_piece(alloc, most)?;

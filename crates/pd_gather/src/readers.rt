@@ -8,9 +8,10 @@ ghost use Rattle.pd_gather.specs.ReadSoFar.{HasRead, ReadsOn, input_of_read};
 ghost use Rattle.pd_gather.specs.ReadStreams.{IsReadFrom, IsReadInPart, IsReadOf, read_byte_limit};
 ghost use Rattle.pd_gather.specs.Rows.{row_of_reading};
 ghost use Rattle.pd_gather.specs.Views.{ReadingFits, input_view};
+ghost use Rattle.pd_judgement.specs.Writes.{Source};
 ghost use Rattle.pd_register.specs.Seats.{IsSameSeat, IsSeatOf, posted_row, seen_history};
 ghost use Rattle.pd_spec.specs.Views.{document_view};
-ghost use Rattle.std.specs.Prelude.{◌≡◌, ◌<◌, ◌≤◌, ◌+◌, ℕ, false, List, Option, IfOk, OnErr, OnOk, length, vec_len};
+ghost use Rattle.std.specs.Prelude.{◌≡◌, ◌<◌, ◌≤◌, ◌+◌, ℕ, false, List, IfOk, OnErr, OnOk, length, vec_len};
 
 use super::Input;
 use super::byte_source::ByteSource;
@@ -62,15 +63,15 @@ fn read_once<R: ByteSource>(
     requires room { 0 < length piece.old }
     requires limit { length piece.old ≤ read_byte_limit }
     requires open { stream.old.reading.stop ≡ NothingMore }
-    ensures read { OnOk result ((names : List ProcessNames) (input : Option (List ℕ)) (reads : ℕ) →
-        HasRead names R.never_fails input (R.remaining reader.old) reads stream.old →
-        ReadsOn names R.never_fails input (R.remaining reader.new) (reads + 1) stream.old stream.new) }
-    ensures more { OnOk result ((names : List ProcessNames) (input : Option (List ℕ)) (reads : ℕ) →
-        HasRead names R.never_fails input (R.remaining reader.old) reads stream.old →
+    ensures read { OnOk result ((names : List ProcessNames) (input : Source) (reads : ℕ) →
+        HasRead names input (R.left reader.old) reads stream.old →
+        ReadsOn names input (R.left reader.new) (reads + 1) stream.old stream.new) }
+    ensures more { OnOk result ((names : List ProcessNames) (input : Source) (reads : ℕ) →
+        HasRead names input (R.left reader.old) reads stream.old →
         stream.new.reading.stop ≡ NothingMore → R.has_ended reader.new ≡ false) }
-    ensures refused { OnErr result ((names : List ProcessNames) (input : Option (List ℕ)) (reads : ℕ) →
-        HasRead names R.never_fails input (R.remaining reader.old) reads stream.old →
-        IsReadInPart names R.never_fails input (R.remaining reader.new) (row_of_reading stream.old.reading)) }
+    ensures refused { OnErr result ((names : List ProcessNames) (input : Source) (reads : ℕ) →
+        HasRead names input (R.left reader.old) reads stream.old →
+        IsReadInPart names input (R.left reader.new) (row_of_reading stream.old.reading)) }
 {
     let input = input_of(reader.read_next(piece), piece);
     take_input(stream, input)
@@ -95,11 +96,11 @@ pub(super) fn read_from<T: Wait, R: ByteSource>(
     requires open { R.has_ended reader.old ≡ false }
     ensures seat { IsSameSeat register.now seat.old seat.new }
     ensures seen { IsPrefix (seen_history seat.old) (seen_history seat.new) }
-    ensures read { IfOk result (λ given. IsReadFrom (document_view spec.now).names R.never_fails
-        (R.remaining reader.old) (R.remaining reader.new) (result_view given) (posted_row seat.new)) }
+    ensures read { IfOk result (λ given. IsReadFrom (document_view spec.now).names
+        (R.left reader.old) (R.left reader.new) (result_view given) (posted_row seat.new)) }
     ensures fits { IfOk result (ReadingFits (document_view spec.now).names) }
-    ensures refused { OnErr result (IsReadInPart (document_view spec.now).names R.never_fails
-        (R.remaining reader.old) (R.remaining reader.new) (posted_row seat.new)) }
+    ensures refused { OnErr result (IsReadInPart (document_view spec.now).names
+        (R.left reader.old) (R.left reader.new) (posted_row seat.new)) }
 {
     pd_format::closed_stays();
     pd_format::readings_go_on();
@@ -140,11 +141,11 @@ pub fn read_stream<T: Wait, R: ByteSource + Drop>(
     requires open { R.has_ended reader ≡ false }
     ensures seat { IsSameSeat register.now seat.old seat.new }
     ensures seen { IsPrefix (seen_history seat.old) (seen_history seat.new) }
-    ensures read { IfOk result (λ given. IsReadOf (document_view spec.now).names R.never_fails (R.remaining reader)
+    ensures read { IfOk result (λ given. IsReadOf (document_view spec.now).names (R.left reader)
         (result_view given) (posted_row seat.new)) }
     ensures fits { IfOk result (ReadingFits (document_view spec.now).names) }
-    ensures refused { OnErr result ((left : Option (List ℕ)) × IsReadInPart (document_view spec.now).names
-        R.never_fails (R.remaining reader) left (posted_row seat.new)) }
+    ensures refused { OnErr result ((left : Source) × IsReadInPart (document_view spec.now).names
+        (R.left reader) left (posted_row seat.new)) }
 {
     read_from(rt, alloc, spec, &mut reader, register, seat)
 }

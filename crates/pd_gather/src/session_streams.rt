@@ -32,7 +32,7 @@ pub fn read_streams<T: Threads + Wait + Sync, R: ByteSource + Send + Drop>(
 ) -> Result<Gathered, GatherFault>
     requires open { All (λ r. R.has_ended r ≡ false) readers.items }
     ensures given { IfOk result (λ gathered. (streams : List RawStream)
-        × AllZip (IsGivenAs R.never_fails) (map R.remaining readers.items) streams
+        × AllZip IsGivenAs (map R.left readers.items) streams
         × ComesTo (document_view spec.now).names streams gathered.streams (results_view gathered.readings.items)) }
     ensures fit { IfOk result (λ gathered. All (ReadingFits (document_view spec.now).names) gathered.readings.items) }
 {
@@ -57,7 +57,7 @@ pub fn read_streams_watched<
 ) -> Result<Gathered, GatherFault>
     requires open { All (λ r. R.has_ended r ≡ false) readers.items }
     ensures given { IfOk result (λ gathered. (streams : List RawStream)
-        × AllZip (IsGivenAs R.never_fails) (map R.remaining readers.items) streams
+        × AllZip IsGivenAs (map R.left readers.items) streams
         × ComesTo (document_view spec.now).names streams gathered.streams (results_view gathered.readings.items)) }
     ensures fit { IfOk result (λ gathered. All (ReadingFits (document_view spec.now).names) gathered.readings.items) }
 {

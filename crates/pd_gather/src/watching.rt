@@ -36,9 +36,9 @@ fn read_beside<T: Threads + Wait + Sync, R: ByteSource + Send, O: Observer + Syn
     requires watcher { IsWatcherOf register.now watcher.old }
     ensures same { AreSameSeats register.now seats.old seats.new }
     ensures seen { KeepsSeen seats.old seats.new }
-    ensures gathered { IfOk result (λ readings. HasGathered (document_view spec.now).names R.never_fails
-        (map R.remaining readers.old) readings.items seats.new) }
-    ensures left { LeavesSeats (document_view spec.now).names R.never_fails (map R.remaining readers.old) seats.new }
+    ensures gathered { IfOk result (λ readings. HasGathered (document_view spec.now).names
+        (map R.left readers.old) readings.items seats.new) }
+    ensures left { LeavesSeats (document_view spec.now).names (map R.left readers.old) seats.new }
     ensures watcher { IsWatcherOf register.now watcher.new }
     ensures later { IsPrefix (watched_history watcher.old) (watched_history watcher.new) }
 {
@@ -52,11 +52,10 @@ fn read_beside<T: Threads + Wait + Sync, R: ByteSource + Send, O: Observer + Syn
         &mut || -> Readings
             requires { IsSync T.row × AreReady R.has_ended register.now readers.now seats.now }
             ensures { AreSameSeats register.entry.now seats.entry.now seats.exit.now
-                × IfOk result (λ readings. HasGathered (document_view spec.entry.now).names R.never_fails
-                (map R.remaining readers.entry.now) readings.items seats.exit.now)
+                × IfOk result (λ readings. HasGathered (document_view spec.entry.now).names
+                (map R.left readers.entry.now) readings.items seats.exit.now)
                 × KeepsSeen seats.entry.now seats.exit.now
-                × LeavesSeats (document_view spec.entry.now).names R.never_fails
-                (map R.remaining readers.entry.now) seats.exit.now }
+                × LeavesSeats (document_view spec.entry.now).names (map R.left readers.entry.now) seats.exit.now }
         { read_halves(rt, alloc, spec, register, readers, seats) },
     );
     readings
@@ -87,10 +86,10 @@ pub fn gather_watched<T: Threads + Wait + Sync, R: ByteSource + Send + Drop, O: 
     ensures seats { AreSeats register.now seats.new }
     ensures seen { KeepsSeen seats.old seats.new }
     ensures streams { IfOk result (λ gathered. gathered.streams ≡ vec_len readers) }
-    ensures read { IfOk result (λ gathered. AreReadOf (document_view spec.now).names R.never_fails
-        (map R.remaining readers.items) (results_view gathered.readings.items) (map posted_row seats.new)) }
+    ensures read { IfOk result (λ gathered. AreReadOf (document_view spec.now).names
+        (map R.left readers.items) (results_view gathered.readings.items) (map posted_row seats.new)) }
     ensures fit { IfOk result (λ gathered. All (ReadingFits (document_view spec.now).names) gathered.readings.items) }
-    ensures left { LeavesSeats (document_view spec.now).names R.never_fails (map R.remaining readers.items) seats.new }
+    ensures left { LeavesSeats (document_view spec.now).names (map R.left readers.items) seats.new }
     ensures watcher { IsWatcherOf register.now watcher.new }
     ensures later { IsPrefix (watched_history watcher.old) (watched_history watcher.new) }
 {
@@ -120,10 +119,10 @@ pub(super) fn gather_by<T: Threads + Wait + Sync, R: ByteSource + Send + Drop, O
     ensures seats { AreSeats register.now seats.new }
     ensures seen { KeepsSeen seats.old seats.new }
     ensures streams { IfOk result (λ gathered. gathered.streams ≡ vec_len readers) }
-    ensures read { IfOk result (λ gathered. AreReadOf (document_view spec.now).names R.never_fails
-        (map R.remaining readers.items) (results_view gathered.readings.items) (map posted_row seats.new)) }
+    ensures read { IfOk result (λ gathered. AreReadOf (document_view spec.now).names
+        (map R.left readers.items) (results_view gathered.readings.items) (map posted_row seats.new)) }
     ensures fit { IfOk result (λ gathered. All (ReadingFits (document_view spec.now).names) gathered.readings.items) }
-    ensures left { LeavesSeats (document_view spec.now).names R.never_fails (map R.remaining readers.items) seats.new }
+    ensures left { LeavesSeats (document_view spec.now).names (map R.left readers.items) seats.new }
     ensures watcher { IsWatcherOf register.now watcher.new }
 {
     match observer {

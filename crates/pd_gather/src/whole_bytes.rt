@@ -21,13 +21,12 @@ impl<'a> WholeBytes<'a> {
 }
 
 impl<'a> ByteSource for WholeBytes<'a> {
-    ghost use Rattle.std.specs.Prelude.{true, false, Some};
+    ghost use Rattle.std.specs.Prelude.{false};
+    ghost use Rattle.pd_judgement.specs.Writes.{whole_source};
 
-    ghost remaining = { λ s. Some s.rest.now };
+    ghost left = { λ s. whole_source s.rest.now };
 
     ghost has_ended = { λ _. false };
-
-    ghost never_fails = { true };
 
     fn read_next(&mut self, piece: &mut [u8]) -> io::Result<usize> {
         self.rest.read(piece)

@@ -13,7 +13,7 @@ use Rattle.pd_format.specs.Readings.{Ending, Open, Ended, Failed, Stop, NothingM
 use Rattle.pd_format.specs.Sessions.{StreamResult}
 use Rattle.pd_judgement.specs.Judgements.{RawStream, ended_streams, IsResultOf, AreResultsOf}
 use Rattle.pd_judgement.specs.StreamResults.{HasStopped, EndedHaveResults, OneListOfResults}
-use Rattle.pd_judgement.specs.Writes.{IsGivenBy}
+use Rattle.pd_judgement.specs.Writes.{IsGivenAs, Source}
 use Rattle.pd_judgement.proofs.Zipped.{one_zipped}
 
 -- ---- one stream
@@ -127,11 +127,11 @@ ended_streams_ended (first ∷ later) =
     All-cons HasStopped (record { ending = Ended; bytes = first }) (ended_streams later) (λ e. cc)
     (ended_streams_ended later)
 
--- what readers gave has ended
-pub given_ended : (inputs : List (Option (List ℕ))) (streams : List RawStream) → AllZip IsGivenBy inputs streams
+-- what sources gave has ended
+pub given_ended : (inputs : List Source) (streams : List RawStream) → AllZip IsGivenAs inputs streams
     → All HasStopped streams
 given_ended [] [] given = All-nil HasStopped
 given_ended [] (s ∷ streams) given = absurd given
 given_ended (x ∷ inputs) [] given = absurd given
 given_ended (x ∷ inputs) (s ∷ streams) given =
-    All-cons HasStopped s streams given.0.stopped (given_ended inputs streams given.1)
+    All-cons HasStopped s streams given.0.given_by.stopped (given_ended inputs streams given.1)

@@ -6,7 +6,7 @@ use Rattle.pd_format.specs.Documents.{Inquiry, plain}
 use Rattle.pd_format.specs.Reports.{Report, report_text}
 use Rattle.pd_judgement.specs.Judgements.{RawStream, IsJudgement, ended_streams}
 use Rattle.pd_judgement.specs.Headline.{is_judged}
-use Rattle.pd_judgement.specs.Writes.{Writes, Whole, IsReportTextOf, IsTextOfBundle, IsTextOfStreams, WritesTruth, WritesTruthOfBundle}
+use Rattle.pd_judgement.specs.Writes.{Source, Writes, Whole, IsReportTextOf, IsTextOfBundle, IsTextOfStreams, WritesTruth, WritesTruthOfBundle}
 use Rattle.pd_judgement.proofs.TrueReports.{judgement_is_true_lem}
 
 -- ---- what is owed
@@ -36,7 +36,7 @@ weaker_said document streams P Q text go h = record {
 }
 
 -- so is that of a bundle
-pub weaker_said_of_bundle : (input : Option (List ℕ)) (P Q : Report → Type 0) (text : List ℕ)
+pub weaker_said_of_bundle : (input : Source) (P Q : Report → Type 0) (text : List ℕ)
     → ((report : Report) → P report → Q report) → IsTextOfBundle input P text → IsTextOfBundle input Q text
 weaker_said_of_bundle input P Q text go h = record {
   bundle = h.bundle;
@@ -49,10 +49,10 @@ weaker_said_of_bundle input P Q text go h = record {
 }
 
 -- and that of readers of streams
-pub weaker_said_of_streams : (document : Inquiry) (inputs : List (Option (List ℕ))) (never_fails : Bool)
-    (P Q : Report → Type 0) (text : List ℕ) → ((report : Report) → P report → Q report)
-    → IsTextOfStreams document inputs never_fails P text → IsTextOfStreams document inputs never_fails Q text
-weaker_said_of_streams document inputs never_fails P Q text go h = record {
+pub weaker_said_of_streams : (document : Inquiry) (inputs : List Source) (P Q : Report → Type 0) (text : List ℕ)
+    → ((report : Report) → P report → Q report) → IsTextOfStreams document inputs P text
+    → IsTextOfStreams document inputs Q text
+weaker_said_of_streams document inputs P Q text go h = record {
   streams = h.streams;
   are_given = h.are_given;
   is_report_text = weaker_said document h.streams P Q text go h.is_report_text;
@@ -89,7 +89,7 @@ truth_of_text document streams IsSaid IsTold old new tell written = λ read trac
 )
 
 -- so is that of a bundle
-pub truth_of_bundle_text : (input : Option (List ℕ)) (IsSaid : Report → Type 0) (IsTold : Type 0)
+pub truth_of_bundle_text : (input : Source) (IsSaid : Report → Type 0) (IsTold : Type 0)
     (old new : Option (List ℕ)) → ((report : Report) → IsSaid report → is_judged report ≡ true → IsTold)
     → Writes (IsTextOfBundle input IsSaid) Whole old new → WritesTruthOfBundle input IsTold old new
 truth_of_bundle_text input IsSaid IsTold old new tell written = record {

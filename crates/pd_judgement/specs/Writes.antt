@@ -1,14 +1,14 @@
 -- What a call leaves written of the one text that it owes: all of it, a part of it, or nothing; and which text that is.
-use Rattle.std.specs.Prelude.{◌≡◌, ◌≢◌, ◌<◌, ◌≤◌, ◌↔◌, ⊤, ℕ, Bool, true, false, IsTrue, List, ◌∷◌, ◌++◌, length, take, Option, IfSome}
+use Rattle.std.specs.Prelude.{◌≡◌, ◌≢◌, ◌<◌, ◌≤◌, ◌↔◌, ⊤, ℕ, Bool, true, false, IsTrue, List, ◌∷◌, ◌++◌, length, take, Option, Some, IfSome}
 use Rattle.std.specs.List.{AllZip}
 use Rattle.std.specs.Io.KnownBytes.{Appends, Keeps}
 use Rattle.pd_model.specs.Order.{IsWellFormed}
 use Rattle.pd_format.specs.Documents.{Document, Inquiry, plain}
 use Rattle.pd_format.specs.Bundles.{parts_of}
 use Rattle.pd_format.specs.Limits.{bundle_byte_limit}
-use Rattle.pd_judgement.specs.Judgements.{RawStream, IsJudgement, ended_stream, ended_streams, events_of_traces}
+use Rattle.pd_judgement.specs.Judgements.{RawStream, IsJudgement, ended_streams, events_of_traces}
 use Rattle.pd_format.specs.OtherTexts.{Finding, check_text}
-use Rattle.pd_format.specs.Readings.{Trace, Open, Ended}
+use Rattle.pd_format.specs.Readings.{Trace, Open, Ended, Failed}
 use Rattle.pd_format.specs.Reports.{Report, report_text}
 use Rattle.pd_judgement.specs.Findings.{IsFinding, IsClean}
 use Rattle.pd_judgement.specs.Headline.{HoldsSession, IsNarrow, IsTrueReport, TellsDecided, TellsTruth, is_judged}
@@ -34,6 +34,19 @@ Writes IsOwed Silent old new = Keeps old new
 
 -- ---- what readers give
 
+-- What is known of what a reader has left: its bytes, and whether a read of it fails once it has given them.
+pub record Source : Type 0 where
+  pub bytes : Option (List ℕ)
+  pub fails : Option Bool
+
+-- a reader that has these bytes left, and of which no read fails
+abbrev pub whole_source : List ℕ → Source
+whole_source bytes = record { bytes = Some bytes; fails = Some false }
+
+-- of the reader it is known that it has these bytes left, and that no read of it fails
+abbrev pub IsKnownAs : Source → List ℕ → Type 0
+IsKnownAs source bytes = source ≡ whole_source bytes
+
 -- A reader gave all bytes that it had left, to its end; or a prefix of them, and then a read failed, or the reading
 -- stopped at the stream's end line or its fault.
 pub record IsGivenBy (input : Option (List ℕ)) (given : RawStream) : Type 0 where
@@ -41,15 +54,24 @@ pub record IsGivenBy (input : Option (List ℕ)) (given : RawStream) : Type 0 wh
   pub prefix : IfSome input (λ bytes. (rest : List ℕ) × (bytes ≡ given.bytes ++ rest))
   pub whole : given.ending ≡ Ended → IfSome input (λ bytes. given.bytes ≡ bytes)
 
--- The same of a reader of which it is said whether no read of it ever fails. If none does, and it is known what it had
--- left, then all of that is what it gave, to its end.
-pub record IsGivenAs (never_fails : Bool) (input : Option (List ℕ)) (given : RawStream) : Type 0 where
-  pub given_by : IsGivenBy input given
-  pub sure : never_fails ≡ true → IfSome input (λ bytes. given ≡ ended_stream bytes)
+-- The same of a source. If it is known whether a read of it fails, that is how what it gave ended: with its end, or
+-- with a failed read after all bytes that it had left, as far as they are known.
+pub record IsGivenAs (source : Source) (given : RawStream) : Type 0 where
+  pub given_by : IsGivenBy source.bytes given
+  pub ends : source.fails ≡ Some false → given.ending ≡ Ended
+  pub fails : source.fails ≡ Some true → given.ending ≡ Failed
+  pub fails_after : source.fails ≡ Some true → IfSome source.bytes (λ bytes. given.bytes ≡ bytes)
 
--- the bytes that a reader gave to its end: all that it had left, if that is known
-abbrev pub IsWholeInput : Option (List ℕ) → List ℕ → Type 0
-IsWholeInput input bytes = IfSome input (λ left. bytes ≡ left)
+-- A read failed of a source that had this left: no read of it is known not to fail, and if one is known to, this holds of
+-- all bytes that were left, as far as they are known.
+pub record FailsAfter (source : Source) (IsAll : List ℕ → Type 0) : Type 0 where
+  pub may : source.fails ≢ Some false
+  pub all : source.fails ≡ Some true → IfSome source.bytes IsAll
+
+-- The bytes that a source gave to its end: all that it had left, if that is known, and no read of it was known to fail.
+pub record IsWholeInput (source : Source) (bytes : List ℕ) : Type 0 where
+  pub all : IfSome source.bytes (λ left. bytes ≡ left)
+  pub ends : source.fails ≢ Some true
 
 -- ---- what is said of a report
 
@@ -77,16 +99,15 @@ pub record IsReportTextOf (document : Inquiry) (streams : List RawStream) (IsSai
   pub said : IsSaid report
   pub is_text : text ≡ report_text report
 
--- The same of readers of streams with this left, of which no read ever fails, if that is said: of the streams that they
--- gave.
-pub record IsTextOfStreams (document : Inquiry) (inputs : List (Option (List ℕ))) (never_fails : Bool)
-    (IsSaid : Report → Type 0) (text : List ℕ) : Type 0 where
+-- the same of sources of streams: of the streams that they gave
+pub record IsTextOfStreams (document : Inquiry) (inputs : List Source) (IsSaid : Report → Type 0)
+    (text : List ℕ) : Type 0 where
   pub streams : List RawStream
-  pub are_given : AllZip (IsGivenAs never_fails) inputs streams
+  pub are_given : AllZip IsGivenAs inputs streams
   pub is_report_text : IsReportTextOf document streams IsSaid text
 
--- The same of a reader of a bundle with this left: of the parts of the bundle that it gave, which isn't too long.
-pub record IsTextOfBundle (input : Option (List ℕ)) (IsSaid : Report → Type 0) (text : List ℕ) : Type 0 where
+-- the same of a source of a bundle: of the parts of the bundle that it gave, which isn't too long
+pub record IsTextOfBundle (input : Source) (IsSaid : Report → Type 0) (text : List ℕ) : Type 0 where
   pub bundle : List ℕ
   pub is_given : IsWholeInput input bundle
   pub fits : length bundle ≤ bundle_byte_limit
@@ -95,17 +116,20 @@ pub record IsTextOfBundle (input : Option (List ℕ)) (IsSaid : Report → Type 
   pub parts : parts_of bundle ≡ document ∷ streams
   pub is_report_text : IsReportTextOf (plain document) (ended_streams streams) IsSaid text
 
--- the bundle that a reader with this left has is too long
-abbrev pub IsTooLong : Option (List ℕ) → Type 0
-IsTooLong input = IfSome input (λ bundle. bundle_byte_limit < length bundle)
+-- the bundle that a source has is too long
+abbrev pub IsTooLong : Source → Type 0
+IsTooLong input = IfSome input.bytes (λ bundle. bundle_byte_limit < length bundle)
 
--- The text of what a check finds by a document with what is asked, a report's bytes and the streams of readers with this
--- left, of which no read ever fails, if that is said. It has nothing bad in it exactly if that is said, if anything is
--- said of it.
-pub record IsFindingTextOf (document : Inquiry) (report : List ℕ) (inputs : List (Option (List ℕ))) (never_fails : Bool)
-    (good : Option Bool) (text : List ℕ) : Type 0 where
+-- a read failed of a source of a bundle, which isn't too long if one is known to fail
+abbrev pub IsBrokenOff : Source → Type 0
+IsBrokenOff input = FailsAfter input (λ bundle. length bundle ≤ bundle_byte_limit)
+
+-- The text of what a check finds by a document with what is asked, a report's bytes and the streams that these sources
+-- gave. It has nothing bad in it exactly if that is said, if anything is said of it.
+pub record IsFindingTextOf (document : Inquiry) (report : List ℕ) (inputs : List Source) (good : Option Bool)
+    (text : List ℕ) : Type 0 where
   pub streams : List RawStream
-  pub are_given : AllZip (IsGivenAs never_fails) inputs streams
+  pub are_given : AllZip IsGivenAs inputs streams
   pub finding : Finding
   pub right : IsFinding document report streams finding
   pub clean : IfSome good (λ good. IsTrue good ↔ IsClean finding)
@@ -142,8 +166,8 @@ WritesTruth inquiry streams IsJudged old new =
     → IsWellFormed document.version (events_of_traces traces)
     → IsJudged × WritesTrueTexts inquiry document traces old new
 
--- the same of the parts of the bundle that a reader with this left gave
-pub record WritesTruthOfBundle (input : Option (List ℕ)) (IsJudged : Type 0) (old new : Option (List ℕ)) : Type 0 where
+-- the same of the parts of the bundle that a source gave
+pub record WritesTruthOfBundle (input : Source) (IsJudged : Type 0) (old new : Option (List ℕ)) : Type 0 where
   pub bundle : List ℕ
   pub is_given : IsWholeInput input bundle
   pub document : List ℕ

@@ -6,7 +6,7 @@ use Rattle.pd_bundle.proofs.parts.read_document_part.Given as goal
 
 abbrev pub invariant-steps : goal.invariant-steps
 invariant-steps g l = record {
-  at : AtStep (IsKept l.document.items) (g.R.ByteSource.remaining l.fn.reader) (g.R.ByteSource.remaining l.reader)
+  at : AtStep (IsKept l.document.items) (g.R.ByteSource.left l.fn.reader) (g.R.ByteSource.left l.reader)
       l.fn.bundle l.bundle l.next;
   ready : l.bundle.ended ≡ false → g.R.ByteSource.has_ended l.reader ≡ false;
 }

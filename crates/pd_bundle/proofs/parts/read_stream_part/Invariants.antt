@@ -9,8 +9,8 @@ use Rattle.pd_bundle.proofs.parts.read_stream_part.Given as goal
 
 abbrev pub invariant-steps : goal.invariant-steps
 invariant-steps g l = record {
-  at : AtStep (Reads l.stream (document_view l.spec).names Open) (g.R.ByteSource.remaining l.fn.reader)
-      (g.R.ByteSource.remaining l.reader) l.fn.bundle l.bundle l.next;
+  at : AtStep (Reads l.stream (document_view l.spec).names Open) (g.R.ByteSource.left l.fn.reader)
+      (g.R.ByteSource.left l.reader) l.fn.bundle l.bundle l.next;
   ready : l.bundle.ended ≡ false → g.R.ByteSource.has_ended l.reader ≡ false;
 }
 

@@ -20,8 +20,8 @@ streams-preserved g c =
     let few : length c.push.new.self.items ≤ stream_count_limit = search rules in
     record {
       has = rw (c.in_ok-push.ensures.items, map_push)
-          (next_stream names (g.R.ByteSource.remaining c.args.reader.now) (g.R.ByteSource.remaining c.streams.reader)
-          (g.R.ByteSource.remaining c.read_stream_part.new.reader) c.args.bundle.now c.streams.bundle
+          (next_stream names (g.R.ByteSource.left c.args.reader.now) (g.R.ByteSource.left c.streams.reader)
+          (g.R.ByteSource.left c.read_stream_part.new.reader) c.args.bundle.now c.streams.bundle
           c.read_stream_part.new.bundle c.args.begins c.streams.begins c.in_ok-reading.others
           (results_view c.streams.readings.items) (result_view c.in_ok-reading.reading) c.streams-test.true
           c.streams.invariant.has c.in_ok-reading.ensures.part);
@@ -45,7 +45,7 @@ returns-then-begins-clause-read g c =
       | else-streams-test w ↦ absurd (grind (arith, w.streams-test.false, c.if-begins.true))
     ] in
     rw c.new.ensures.items
-    (too_many_streams names (g.R.ByteSource.remaining c.args.reader.now) (g.R.ByteSource.remaining c.streams.reader)
+    (too_many_streams names (g.R.ByteSource.left c.args.reader.now) (g.R.ByteSource.left c.streams.reader)
     c.args.bundle.now c.streams.bundle c.args.begins c.streams.begins (results_view readings)
     (stream_count_limit + 1) c.if-begins.true
     (omega (arith, many, length-map readings result_view)) (omega arith) c.streams.invariant.has
@@ -57,6 +57,6 @@ returns-clause-read g c =
     let readings = c.streams.readings.items in
     let long : c.len-2.result ≡ length (results_view readings) =
     omega (arith, c.len-2.ensures, c.streams.readings.ok.0, length-map readings result_view) in
-    all_streams names (g.R.ByteSource.remaining c.args.reader.now) (g.R.ByteSource.remaining c.streams.reader)
+    all_streams names (g.R.ByteSource.left c.args.reader.now) (g.R.ByteSource.left c.streams.reader)
     c.args.bundle.now c.streams.bundle c.args.begins c.streams.begins (results_view readings) c.len-2.result
     c.if-begins.false long c.streams.invariant.has

@@ -8,8 +8,8 @@ use Rattle.pd_bundle.proofs.parts.read_stream_parts.Given as goal
 
 abbrev pub invariant-streams : goal.invariant-streams
 invariant-streams g l = record {
-  has : HasStreams (document_view l.spec).names (g.R.ByteSource.remaining l.fn.reader)
-      (g.R.ByteSource.remaining l.reader) l.fn.bundle l.bundle l.fn.begins l.begins (results_view l.readings.items);
+  has : HasStreams (document_view l.spec).names (g.R.ByteSource.left l.fn.reader)
+      (g.R.ByteSource.left l.reader) l.fn.bundle l.bundle l.fn.begins l.begins (results_view l.readings.items);
   fit : All (ReadingFits (document_view l.spec).names) l.readings.items;
   few : length l.readings.items ≤ stream_count_limit;
   ready : l.bundle.ended ≡ false → g.R.ByteSource.has_ended l.reader ≡ false;

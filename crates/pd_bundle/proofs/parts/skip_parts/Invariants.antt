@@ -6,7 +6,7 @@ use Rattle.pd_bundle.proofs.parts.skip_parts.Given as goal
 
 abbrev pub invariant-steps : goal.invariant-steps
 invariant-steps g l = record {
-  has : HasSkipped (g.R.ByteSource.remaining l.fn.reader) (g.R.ByteSource.remaining l.reader) l.fn.bundle l.bundle
+  has : HasSkipped (g.R.ByteSource.left l.fn.reader) (g.R.ByteSource.left l.reader) l.fn.bundle l.bundle
       l.next;
   ready : l.bundle.ended ≡ false → g.R.ByteSource.has_ended l.reader ≡ false;
 }

@@ -7,7 +7,7 @@ use Rattle.pd_gather.proofs.gathering.+fn-read_halves-join_mut+arg2+fn-read_halv
 
 pub returns-then-readers-eq0-clause-gathered : goal.returns-then-readers-eq0-clause-gathered
 returns-then-readers-eq0-clause-gathered g t c =
-    none_gathered (document_view c.args.spec.now).names g.R.ByteSource.never_fails g.R.ByteSource.remaining
+    none_gathered (document_view c.args.spec.now).names g.R.ByteSource.left
     c.args.readers.now c.new.result.items c.args.seats.now c.if-readers-eq0.true
     (sym c.requires.ready.one_each ∙ c.if-readers-eq0.true) c.new.ensures.items
 
@@ -24,17 +24,16 @@ returns-clause-same g t c =
 pub returns-clause-gathered : goal.returns-clause-gathered
 returns-clause-gathered g t c =
     let names = (document_view c.args.spec.now).names in
-    let never_fails = g.R.ByteSource.never_fails in
-    let remaining = g.R.ByteSource.remaining in
+    let left = g.R.ByteSource.left in
     let readers = c.split_at_mut-first_readers.result in
-    let first : Gathers names never_fails (map remaining readers.0.now) c.join_mut-first.result.0
+    let first : Gathers names (map left readers.0.now) c.join_mut-first.result.0
     c.first_seats-1.given.0 = search rules in
-    let last : Gathers names never_fails (map remaining readers.1.now) c.join_mut-first.result.1
+    let last : Gathers names (map left readers.1.now) c.join_mut-first.result.1
     c.last_seats-1.given.0 = search rules in
     let whole : readers.0.now ++ readers.1.now ≡ c.args.readers.now = search rules in
-    of_all_readers names never_fails remaining readers.0.now readers.1.now c.args.readers.now c.both_halves.result _
+    of_all_readers names left readers.0.now readers.1.now c.args.readers.now c.both_halves.result _
     whole
-    (both_gathered names never_fails (map remaining readers.0.now) (map remaining readers.1.now)
+    (both_gathered names (map left readers.0.now) (map left readers.1.now)
     c.join_mut-first.result.0 c.join_mut-first.result.1 c.both_halves.result c.first_seats-1.given.0
     c.last_seats-1.given.0 first last c.both_halves.ensures.ok c.both_halves.ensures.both)
 
@@ -43,7 +42,7 @@ returns-then-readers-eq0-clause-seen g t c = none_seen c.args.seats.now
 
 pub returns-then-readers-eq0-clause-left : goal.returns-then-readers-eq0-clause-left
 returns-then-readers-eq0-clause-left g t c =
-    none_left (document_view c.args.spec.now).names g.R.ByteSource.never_fails g.R.ByteSource.remaining
+    none_left (document_view c.args.spec.now).names g.R.ByteSource.left
     c.args.readers.now c.args.seats.now c.if-readers-eq0.true
     (sym c.requires.ready.one_each ∙ c.if-readers-eq0.true)
 
@@ -59,11 +58,10 @@ returns-clause-seen g t c =
 pub returns-clause-left : goal.returns-clause-left
 returns-clause-left g t c =
     let names = (document_view c.args.spec.now).names in
-    let never_fails = g.R.ByteSource.never_fails in
-    let remaining = g.R.ByteSource.remaining in
+    let left = g.R.ByteSource.left in
     let readers = c.split_at_mut-first_readers.result in
-    let first : LeavesSeats names never_fails (map remaining readers.0.now) c.first_seats-1.given.0 = search rules in
-    let last : LeavesSeats names never_fails (map remaining readers.1.now) c.last_seats-1.given.0 = search rules in
+    let first : LeavesSeats names (map left readers.0.now) c.first_seats-1.given.0 = search rules in
+    let last : LeavesSeats names (map left readers.1.now) c.last_seats-1.given.0 = search rules in
     let whole : readers.0.now ++ readers.1.now ≡ c.args.readers.now = search rules in
-    left_of_all names never_fails remaining readers.0.now readers.1.now c.args.readers.now c.first_seats-1.given.0
+    left_of_all names left readers.0.now readers.1.now c.args.readers.now c.first_seats-1.given.0
     c.last_seats-1.given.0 whole first last

@@ -14,16 +14,16 @@ use Rattle.pd_gather.proofs.gathering.read_one.Goals as goal
 pub returns-clause-read : goal.returns-clause-read
 returns-clause-read g c =
     let names = (document_view c.args.spec.now).names in
-    let input = g.R.ByteSource.remaining c.args.reader.now in
+    let input = g.R.ByteSource.left c.args.reader.now in
     let row = posted_row c.read_from.new.seat in
-    subst (λ (given : List (Result Trace StreamFault)). AreReadOf names g.R.ByteSource.never_fails (input ∷ [])
+    subst (λ (given : List (Result Trace StreamFault)). AreReadOf names (input ∷ [])
     (results_view given) (row ∷ [])) (sym (rw c.in_ok-readings.ensures.items at c.in_ok-push.ensures.items))
-    (one_stream names g.R.ByteSource.never_fails input (result_view c.in_ok-given.given) row
-    (g.R.ByteSource.remaining c.read_from.new.reader, c.in_ok-given.ensures.read))
+    (one_stream names input (result_view c.in_ok-given.given) row
+    (g.R.ByteSource.left c.read_from.new.reader, c.in_ok-given.ensures.read))
 
 pub returns-in_err-given-clause-left : goal.returns-in_err-given-clause-left
 returns-in_err-given-clause-left g c = record {
-  rows = (inr (g.R.ByteSource.remaining c.read_from.new.reader, c.in_err-given.ensures.refused), tt);
+  rows = (inr (g.R.ByteSource.left c.read_from.new.reader, c.in_err-given.ensures.refused), tt);
 }
 
 pub returns-in_err-readings-clause-left : goal.returns-in_err-readings-clause-left
@@ -31,7 +31,7 @@ returns-in_err-readings-clause-left g c = record {
   rows = (
     inl (
       result_view c.in_ok-given.given,
-      (g.R.ByteSource.remaining c.read_from.new.reader, c.in_ok-given.ensures.read),
+      (g.R.ByteSource.left c.read_from.new.reader, c.in_ok-given.ensures.read),
     ),
     tt,
   );
@@ -42,7 +42,7 @@ returns-in_err-push-clause-left g c = record {
   rows = (
     inl (
       result_view c.in_ok-given.given,
-      (g.R.ByteSource.remaining c.read_from.new.reader, c.in_ok-given.ensures.read),
+      (g.R.ByteSource.left c.read_from.new.reader, c.in_ok-given.ensures.read),
     ),
     tt,
   );
@@ -53,7 +53,7 @@ returns-clause-left g c = record {
   rows = (
     inl (
       result_view c.in_ok-given.given,
-      (g.R.ByteSource.remaining c.read_from.new.reader, c.in_ok-given.ensures.read),
+      (g.R.ByteSource.left c.read_from.new.reader, c.in_ok-given.ensures.read),
     ),
     tt,
   );

@@ -1,5 +1,5 @@
 -- At first nothing was read.
-use Rattle.std.proofs.Common.{arith}
+use Rattle.std.proofs.Common.{refl, arith}
 use Rattle.pd_gather.proofs.PrefixesRead.{nothing_read}
 use Rattle.pd_gather.proofs.limited.read_bytes.Goals as goal
 
@@ -7,6 +7,7 @@ pub reads-init : goal.reads-init
 reads-init g c = record {
   room = c.in_ok-piece.ensures (omega arith);
   within = omega arith;
-  read = rw c.new-bytes.ensures.items (nothing_read (g.R.ByteSource.remaining c.args.reader));
+  read = rw c.new-bytes.ensures.items (nothing_read (g.R.ByteSource.left c.args.reader).bytes);
+  same = refl;
   more = c.requires.open;
 }

@@ -17,6 +17,6 @@ invariant-reads g l = record {
   seat : IsSameSeat l.register l.fn.seat l.seat;
   seen : IsPrefix (seen_history l.fn.seat) (seen_history l.seat);
   posted : posted_row l.seat ≡ row_of_reading l.stream.reading;
-  read : HasRead (document_view l.spec).names g.R.ByteSource.never_fails (g.R.ByteSource.remaining l.fn.reader)
-      (g.R.ByteSource.remaining l.reader) l.counter l.stream;
+  read : HasRead (document_view l.spec).names (g.R.ByteSource.left l.fn.reader)
+      (g.R.ByteSource.left l.reader) l.counter l.stream;
 }

@@ -20,19 +20,19 @@ returns-clause-read g c =
     omega (arith, c.read_next.auto.piece, c.requires.limit) in
     on_ok_weaker c.take_input.result
     (λ (takes : Takes c.args.stream.now c.take_input.new.reader (input_view c.input_of-input.result)).
-    one_read g.R.ByteSource.never_fails c.read_next.result c.read_next.new.piece
-    (g.R.ByteSource.remaining c.args.reader.now) (g.R.ByteSource.remaining c.read_next.new.self)
+    one_read c.read_next.result c.read_next.new.piece
+    (g.R.ByteSource.left c.args.reader.now) (g.R.ByteSource.left c.read_next.new.self)
     c.args.stream.now c.take_input.new.reader room limit
     (bound c.read_next.result c.read_next.new.piece c.read_next.ensures.bound) c.read_next.ensures.bytes
-    c.read_next.ensures.sure (rw c.input_of-input.ensures at takes) c.requires.open)
+    c.read_next.ensures.fate (rw c.input_of-input.ensures at takes) c.requires.open)
     c.take_input.ensures.takes
 
 pub returns-clause-more : goal.returns-clause-more
 returns-clause-more g c =
     on_ok_weaker c.take_input.result
     (λ (takes : Takes c.args.stream.now c.take_input.new.reader (input_view c.input_of-input.result)).
-    asked_again g.R.ByteSource.never_fails c.read_next.result c.read_next.new.piece
-    (g.R.ByteSource.remaining c.args.reader.now) c.args.stream.now c.take_input.new.reader
+    asked_again c.read_next.result c.read_next.new.piece
+    (g.R.ByteSource.left c.args.reader.now) c.args.stream.now c.take_input.new.reader
     (g.R.ByteSource.has_ended c.read_next.new.self ≡ false) c.read_next.ensures.open
     (rw c.input_of-input.ensures at takes) c.requires.open)
     c.take_input.ensures.takes
@@ -43,7 +43,7 @@ returns-clause-refused g c =
     let limit : length c.read_next.new.piece ≤ read_byte_limit =
     omega (arith, c.read_next.auto.piece, c.requires.limit) in
     on_err _ c.take_input.result
-    (one_in_part g.R.ByteSource.never_fails c.read_next.result c.read_next.new.piece
-    (g.R.ByteSource.remaining c.args.reader.now) (g.R.ByteSource.remaining c.read_next.new.self) c.args.stream.now
+    (one_in_part c.read_next.result c.read_next.new.piece
+    (g.R.ByteSource.left c.args.reader.now) (g.R.ByteSource.left c.read_next.new.self) c.args.stream.now
     room limit (bound c.read_next.result c.read_next.new.piece c.read_next.ensures.bound) c.read_next.ensures.bytes
-    c.read_next.ensures.sure c.requires.open)
+    c.read_next.ensures.fate c.requires.open)

@@ -11,13 +11,13 @@ use Rattle.pd_gather.proofs.session_streams.read_streams_watched.Goals as goal
 
 pub returns-in-Some-clause-given : goal.returns-in-Some-clause-given
 returns-in-Some-clause-given g c =
-    let inputs = map g.R.ByteSource.remaining c.args.readers.items in
+    let inputs = map g.R.ByteSource.left c.args.readers.items in
     let unread = c.in-Some.unread in
     let over : stream_count_limit < unread.streams = search rules in
     let long : length c.args.readers.items ≡ unread.streams = search rules in
-    unread_comes (document_view c.args.spec.now).names g.R.ByteSource.never_fails inputs unread.streams
+    unread_comes (document_view c.args.spec.now).names inputs unread.streams
     (results_view unread.readings.items) over
-    (length-map c.args.readers.items g.R.ByteSource.remaining ∙ long)
+    (length-map c.args.readers.items g.R.ByteSource.left ∙ long)
 
 pub close-requires-clause-seats : goal.close-requires-clause-seats
 close-requires-clause-seats g c =
@@ -29,9 +29,9 @@ close-requires-clause-seats g c =
 
 pub returns-clause-given : goal.returns-clause-given
 returns-clause-given g c =
-    let inputs = map g.R.ByteSource.remaining c.args.readers.items in
+    let inputs = map g.R.ByteSource.left c.args.readers.items in
     let gathered = c.in_ok-gathered.gathered in
     let long : gathered.streams ≡ length c.args.readers.items = search rules in
-    read_comes (document_view c.args.spec.now).names g.R.ByteSource.never_fails inputs gathered.streams
+    read_comes (document_view c.args.spec.now).names inputs gathered.streams
     (results_view gathered.readings.items) (map posted_row c.gather_by.new.seats) c.in_ok-gathered.ensures.read
-    (long ∙ sym (length-map c.args.readers.items g.R.ByteSource.remaining))
+    (long ∙ sym (length-map c.args.readers.items g.R.ByteSource.left))
