@@ -1,10 +1,11 @@
 -- A run that the parser's error ends does what its arguments ask for.
-use Rattle.std.proofs.Common.{◌≡◌, ◌≢◌, ℕ, List, Option, refl, inl, inr}
+use Rattle.std.proofs.Common.{◌≡◌, ◌≢◌, ℕ, Bool, List, Option, refl, inl, inr}
 use Rattle.std.specs.Io.KnownBytes.{Keeps}
 use Rattle.clap.specs.Walk.{Text}
 use Rattle.clap.specs.declared.error.kind.ErrorKind.{ErrorKind}
 use Rattle.clap.specs.declared.error.kind.ErrorKind.TheVariants as kind
-use Rattle.pd_arguments.specs.Statuses.{Failed, MemoryFailure, Ends, EndsAsAsked, HelpLeaves, MisuseLeaves, Reliance, ShowHelp, ShowVersion, Unclear, VersionLeaves}
+use Rattle.pd_arguments.specs.Statuses.{Failed, MemoryFailure, Ends, EndsAsAsked, HelpLeaves, MisuseLeaves, File, ShowHelp, ShowVersion, Unclear, VersionLeaves}
+use Rattle.pd_judgement.specs.Writes.{Source}
 use Rattle.pd_arguments.specs.Arguments.{AsksFor, IsErrorOf, IsShownKind}
 
 data KindCase (k : ErrorKind) : Type 0 where
@@ -42,14 +43,14 @@ pub record EndsByKind (k : ErrorKind) (status : ℕ) (old new errors_old errors_
       → Ends (λ ending. MisuseLeaves ending old new) status errors_old errors_new
 
 -- from an end by the kind of the error, one by what is asked for
-as_asked : (arguments : List Text) (on : Reliance) (input : Option (List ℕ)) (files : List ℕ → Option (List ℕ))
-    (connections : ℕ → Option (List ℕ) → Type 0) (status : ℕ) (old new errors_old errors_new : Option (List ℕ))
+as_asked : (arguments : List Text) (input : Source) (files : List ℕ → File)
+    (connections : ℕ → Source → Type 0) (network_serves : Bool) (status : ℕ) (old new errors_old errors_new : Option (List ℕ))
     (k : ErrorKind) → KindCase k → IsErrorOf arguments k → EndsByKind k status old new errors_old errors_new
-    → EndsAsAsked (AsksFor arguments) on input files connections status old new errors_old errors_new
-as_asked arguments on input files connections status old new errors_old errors_new k (memory is) is_error ends =
+    → EndsAsAsked (AsksFor arguments) input files connections network_serves status old new errors_old errors_new
+as_asked arguments input files connections network_serves status old new errors_old errors_new k (memory is) is_error ends =
     let h = ends.memory is in
     record { ending = h.ending; is_status = h.is_status; output = inl h.output; errors = h.errors }
-as_asked arguments on input files connections status old new errors_old errors_new k (help is) is_error ends =
+as_asked arguments input files connections network_serves status old new errors_old errors_new k (help is) is_error ends =
     let h = ends.help is in
     record {
       ending = h.ending;
@@ -57,7 +58,7 @@ as_asked arguments on input files connections status old new errors_old errors_n
       output = inr (ShowHelp, is_error.help is, h.output);
       errors = h.errors;
     }
-as_asked arguments on input files connections status old new errors_old errors_new k (version is) is_error ends =
+as_asked arguments input files connections network_serves status old new errors_old errors_new k (version is) is_error ends =
     let h = ends.version is in
     record {
       ending = h.ending;
@@ -65,7 +66,7 @@ as_asked arguments on input files connections status old new errors_old errors_n
       output = inr (ShowVersion, is_error.version is, h.output);
       errors = h.errors;
     }
-as_asked arguments on input files connections status old new errors_old errors_new k (other is_not un) is_error ends =
+as_asked arguments input files connections network_serves status old new errors_old errors_new k (other is_not un) is_error ends =
     let h = ends.misused is_not un in
     record {
       ending = h.ending;
@@ -74,10 +75,10 @@ as_asked arguments on input files connections status old new errors_old errors_n
       errors = h.errors;
     }
 
-pub error_as_asked : (arguments : List Text) (on : Reliance) (input : Option (List ℕ))
-    (files : List ℕ → Option (List ℕ)) (connections : ℕ → Option (List ℕ) → Type 0) (status : ℕ)
+pub error_as_asked : (arguments : List Text) (input : Source) (files : List ℕ → File)
+    (connections : ℕ → Source → Type 0) (network_serves : Bool) (status : ℕ)
     (old new errors_old errors_new : Option (List ℕ)) (k : ErrorKind) → IsErrorOf arguments k
     → EndsByKind k status old new errors_old errors_new
-    → EndsAsAsked (AsksFor arguments) on input files connections status old new errors_old errors_new
-error_as_asked arguments on input files connections status old new errors_old errors_new k =
-    as_asked arguments on input files connections status old new errors_old errors_new k (case_of k)
+    → EndsAsAsked (AsksFor arguments) input files connections network_serves status old new errors_old errors_new
+error_as_asked arguments input files connections network_serves status old new errors_old errors_new k =
+    as_asked arguments input files connections network_serves status old new errors_old errors_new k (case_of k)

@@ -8,7 +8,7 @@ use Rattle.clap.specs.declared.builder.command.Command.{Command}
 use Rattle.clap.specs.declared.builder.value_parser.ValueParser.TheVariants.{Unsigned}
 use Rattle.clap.specs.declared.error.kind.ErrorKind.{ErrorKind}
 use Rattle.clap.specs.declared.error.kind.ErrorKind.TheVariants.{DisplayHelp, DisplayVersion, OutOfMemory}
-use Rattle.pd_asked.specs.Asked.{Asks}
+use Rattle.pd_format.specs.Documents.{Options}
 use Rattle.pd_format.specs.Limits.{width_limit, worker_limit}
 use Rattle.pd_fail_on.specs.Conditions.{AreLawful, Condition, list_text}
 use Rattle.pd_wish.specs.Wishes.{Wished}
@@ -244,10 +244,10 @@ abbrev pub NamesPredicates : Option (List Text) → (texts : List Text) → Type
 NamesPredicates None texts = texts ≡ []
 NamesPredicates (Some found) texts = texts ≡ found
 
--- what is asked for in place of what the document says
-pub record NamesAsks (rows : List Row) (asks : Asks) : Type 0 where
-  pub names_width : NamesWidth rows asks.width
-  pub names_predicates : NamesPredicates (all_of (codes "TEXT") rows) asks.predicates
+-- what is asked beside the document, but for whether what is decided whatever the width is
+pub record NamesOptions (rows : List Row) (options : Options) : Type 0 where
+  pub names_width : NamesWidth rows options.width
+  pub names_predicates : NamesPredicates (all_of (codes "TEXT") rows) options.predicates
 
 -- the conditions of a list, or none if there is no list
 abbrev pub AreConditions : Option Text → List Condition → Type 0
@@ -343,20 +343,21 @@ pub data AsksFor (arguments : List Text) : Request → Type 0 where
       → ¬ ((rows : List Row) × AreOf (codes "draw") arguments rows)
       → ¬ ((rows : List Row) × AreOf (codes "serve") arguments rows)
       → ¬ ((rows : List Row) × AreOf (codes "explore") arguments rows) → AsksFor arguments JudgeInput
-  of_judge : (rows : List Row) (document : Text) (streams : List Text) (workers : ℕ) (beyond_width : Bool)
-      (fail_on : List Condition) (asks : Asks) → AreTaken arguments → AreOf (codes "judge") arguments rows
-      → NamesSession rows document streams → NamesAsks rows asks → NamesWorkers rows workers
-      → SaysBeyondWidth rows beyond_width → NamesConditions rows fail_on
-      → AsksFor arguments (JudgeFiles beyond_width fail_on asks document streams)
-  of_check : (rows : List Row) (document report : Text) (streams : List Text) (asks : Asks) → AreTaken arguments
-      → AreOf (codes "check") arguments rows → NamesSession rows document streams → NamesAsks rows asks
-      → NamesReport rows report → AsksFor arguments (CheckFiles asks document report streams)
+  of_judge : (rows : List Row) (document : Text) (streams : List Text) (workers : ℕ) (options : Options)
+      (fail_on : List Condition) → AreTaken arguments → AreOf (codes "judge") arguments rows
+      → NamesSession rows document streams → NamesOptions rows options → SaysBeyondWidth rows options.beyond_width
+      → NamesWorkers rows workers → NamesConditions rows fail_on
+      → AsksFor arguments (JudgeFiles options fail_on document streams)
+  of_check : (rows : List Row) (document report : Text) (streams : List Text) (options : Options)
+      → AreTaken arguments → AreOf (codes "check") arguments rows → NamesSession rows document streams
+      → NamesOptions rows options → options.beyond_width ≡ false → NamesReport rows report
+      → AsksFor arguments (CheckFiles options document report streams)
   of_serve : (rows : List Row) (document : Text) (port watchers workers : ℕ) (wait : Option ℕ) (keep : Option Text)
-      (beyond_width : Bool) (fail_on : List Condition) (asks : Asks) → AreTaken arguments
-      → AreOf (codes "serve") arguments rows → NamesService rows document port watchers → NamesWait rows wait
-      → NamesKeep rows keep → NamesAsks rows asks → NamesWorkers rows workers
-      → SaysBeyondWidth rows beyond_width → NamesConditions rows fail_on
-      → AsksFor arguments (ServeStreams beyond_width fail_on asks document port watchers wait keep)
+      (options : Options) (fail_on : List Condition) → AreTaken arguments → AreOf (codes "serve") arguments rows
+      → NamesService rows document port watchers → NamesWait rows wait → NamesKeep rows keep
+      → NamesOptions rows options → SaysBeyondWidth rows options.beyond_width → NamesWorkers rows workers
+      → NamesConditions rows fail_on
+      → AsksFor arguments (ServeStreams options fail_on document port watchers wait keep)
   of_help : HasFault arguments DisplayHelp → AsksFor arguments ShowHelp
   of_version : HasFault arguments DisplayVersion → AsksFor arguments ShowVersion
   of_fault : (kind : ErrorKind) → ¬ IsShownKind kind → HasFault arguments kind → AsksFor arguments Unclear
@@ -373,28 +374,29 @@ pub data AsksFor (arguments : List Text) : Request → Type 0 where
   of_no_wish : (rows : List Row) → AreOf (codes "draw") arguments rows → LacksWish rows → AsksFor arguments Unclear
 
 -- The arguments ask for this picture of a session in files of these names.
-pub record AsksToDraw (arguments : List Text) (asks : Asks) (document report : Text) (streams : List Text)
+pub record AsksToDraw (arguments : List Text) (options : Options) (document report : Text) (streams : List Text)
     (wish : Wished) : Type 0 where
   pub rows : List Row
   pub are_taken : AreTaken arguments
   pub are_of : AreOf (codes "draw") arguments rows
   pub names_session : NamesSession rows document streams
-  pub names_asks : NamesAsks rows asks
+  pub names_options : NamesOptions rows options
+  pub within_width : options.beyond_width ≡ false
   pub names_report : NamesReport rows report
   pub names_wish : NamesWish rows wish
 
--- The arguments ask for the page of a session in files of these names, and of what is decided whatever the width, if
--- that is asked for. How many workers there are changes nothing of it.
-pub record AsksToExplore (arguments : List Text) (beyond_width : Bool) (asks : Asks) (document : Text)
-    (streams : List Text) : Type 0 where
+-- The arguments ask for the page of a session in files of these names, with what is asked beside the document. How many
+-- workers there are changes nothing of it.
+pub record AsksToExplore (arguments : List Text) (options : Options) (document : Text) (streams : List Text) :
+    Type 0 where
   pub rows : List Row
   pub are_taken : AreTaken arguments
   pub are_of : AreOf (codes "explore") arguments rows
   pub names_session : NamesSession rows document streams
-  pub names_asks : NamesAsks rows asks
+  pub names_options : NamesOptions rows options
+  pub says_beyond_width : SaysBeyondWidth rows options.beyond_width
   pub workers : ℕ
   pub names_workers : NamesWorkers rows workers
-  pub says_beyond_width : SaysBeyondWidth rows beyond_width
 
 -- A parse that gives no request says why by its error: the help or the version is asked for, or something is wrong; or
 -- memory ran out.

@@ -1,29 +1,28 @@
 -- How a run of the program ends: its exit status, and what that says of what it leaves on its output and on its errors.
-use Rattle.std.specs.Prelude.{◌≡◌, ◌≢◌, ◌<◌, ◌≤◌, ◌⊎◌, ⊤, ℕ, true, false, Bool, All, List, [], codes, length, map, Option, Some, None, IfSome}
+use Rattle.std.specs.Prelude.{◌≡◌, ◌≢◌, ◌<◌, ◌≤◌, ◌⊎◌, ⊤, ℕ, true, false, Bool, All, List, [], ◌∷◌, codes, length, map, Option, Some, None, IfSome}
 use Rattle.std.specs.Io.KnownBytes.{Keeps}
-use Rattle.pd_format.specs.Documents.{Document, DocumentFault, IsDocument, IsRefusedDocument, Inquiry, inquiry}
-use Rattle.pd_format.specs.Limits.{report_byte_limit}
+use Rattle.pd_format.specs.Documents.{Document, DocumentFault, IsDocument, IsRefusedDocument, Inquiry, Options, inquiry_of}
+use Rattle.pd_format.specs.Limits.{document_byte_limit, report_byte_limit}
 use Rattle.pd_format.specs.Reports.{Report}
-use Rattle.pd_asked.specs.Asked.{Asks, IsAsked}
 use Rattle.pd_fail_on.specs.Conditions as conditions
 use Rattle.pd_fail_on.specs.Conditions.{Condition, Conclusion, conclusion}
-use Rattle.pd_judgement.specs.Writes.{Writes, Whole, Partial, IsAnyReport, IsJudged, IsRefused, IsWholeInput, IsTextOfBundle, IsTextOfStreams, IsTooLong, IsFindingTextOf}
+use Rattle.pd_judgement.specs.Writes.{Source, Writes, Whole, Partial, IsAnyReport, IsBrokenOff, IsJudged, IsRefused, IsWholeInput, IsTextOfBundle, IsTextOfStreams, IsTooLong, IsFindingTextOf}
 
 -- ---- what a run is asked for
 
 pub data Request : Type 0 where
   -- to judge the bundle on the input
   JudgeInput : Request
-  -- to judge a session document and streams of events, each in a file of this name, and what is decided whatever the
-  -- width beyond it, if that is asked for; and to fail on these answers
-  JudgeFiles : (beyond_width : Bool) (fail_on : List Condition) (asks : Asks) (document : List ℕ)
-      (streams : List (List ℕ)) → Request
-  -- to check a report by a session document and streams of events, each in a file of this name
-  CheckFiles : (asks : Asks) (document report : List ℕ) (streams : List (List ℕ)) → Request
+  -- to judge a session document, with what is asked beside it, and streams of events, each in a file of this name; and
+  -- to fail on these answers
+  JudgeFiles : (options : Options) (fail_on : List Condition) (document : List ℕ) (streams : List (List ℕ)) → Request
+  -- to check a report by a session document, with what is asked beside it, and streams of events, each in a file of
+  -- this name
+  CheckFiles : (options : Options) (document report : List ℕ) (streams : List (List ℕ)) → Request
   -- to judge a session document, in the file of this name, and streams of events that come by connections to this port,
   -- in the same way; to show meanwhile how far they are read to this many watchers; to wait no longer than this many
   -- seconds for the connections, and to keep the session in the folder of this name, if that is asked for
-  ServeStreams : (beyond_width : Bool) (fail_on : List Condition) (asks : Asks) (document : List ℕ) (port watchers : ℕ)
+  ServeStreams : (options : Options) (fail_on : List Condition) (document : List ℕ) (port watchers : ℕ)
       (wait : Option ℕ) (keep : Option (List ℕ)) → Request
   -- to show the help
   ShowHelp : Request
@@ -32,37 +31,30 @@ pub data Request : Type 0 where
   -- the arguments ask for nothing that can be done
   Unclear : Request
 
--- ---- what a run relies on
+-- ---- files
 
--- which of the calls that a run makes never fail
-pub record Reliance : Type 0 where
-  -- no read of the input
-  pub input_is_read : Bool
-  -- no opening of a file
-  pub files_open : Bool
-  -- no read of a file that is open
-  pub files_are_read : Bool
-  -- no binding of a port, and no accepting of a connection
-  pub network_serves : Bool
-  -- no read of a connection
-  pub connections_are_read : Bool
+-- What is known of a file: what its reader has left once it is open, and whether it can surely be opened.
+pub record File : Type 0 where
+  pub source : Source
+  pub opens : Bool
 
-abbrev pub reliance : (input_is_read files_open files_are_read network_serves connections_are_read : Bool) → Reliance
-reliance input_is_read files_open files_are_read network_serves connections_are_read = record {
-  input_is_read = input_is_read;
-  files_open = files_open;
-  files_are_read = files_are_read;
-  network_serves = network_serves;
-  connections_are_read = connections_are_read;
-}
+abbrev pub sources_of : List File → List Source
+sources_of files = map (λ (file : File). file.source) files
 
--- there may be a file that can't be opened or read
-abbrev pub FilesMayFail : Reliance → Type 0
-FilesMayFail on = on.files_open ≡ true → on.files_are_read ≡ true → ⊥
+-- Some of these files may be such that it can't be opened, or a read of one of those may fail.
+abbrev pub MayBeUnread : (opened read : List File) → Type 0
+MayBeUnread opened read =
+    All (λ (file : File). file.opens ≡ true) opened → All (λ (file : File). file.source.fails ≡ Some false) read → ⊥
 
--- the report in a file with these bytes is too long, if they are known
-abbrev pub IsLongReport : Option (List ℕ) → Type 0
-IsLongReport report = IfSome report (λ bytes. report_byte_limit < length bytes)
+-- the report of this source is too long, if its bytes are known
+abbrev pub IsLongReport : Source → Type 0
+IsLongReport report = IfSome report.bytes (λ bytes. report_byte_limit < length bytes)
+
+-- The bytes are those of a document that is read from this source: all that it had left, if that is known, to its end,
+-- unless they are more than a document may have.
+pub record IsWholeDocument (source : Source) (bytes : List ℕ) : Type 0 where
+  pub all : IfSome source.bytes (λ known. bytes ≡ known)
+  pub ended : source.fails ≡ Some true → document_byte_limit < length bytes
 
 -- ---- how a run ends
 
@@ -143,138 +135,136 @@ Reports (Failed failure) old new = WritesUpTo (IsLineOf failure) old new
 
 -- A session is judged or refused: the text of its report. The output fails: that text or a prefix of it. Any other end:
 -- nothing; and that the input can't be read is said only if a read of it may fail.
-abbrev pub JudgementLeaves : (input : Option (List ℕ)) (never_fails : Bool) → Ending → (old new : Option (List ℕ))
-    → Type 0
-JudgementLeaves input never_fails Success old new = Writes (IsTextOfBundle input IsJudged) Whole old new
-JudgementLeaves input never_fails Negative old new = Writes (IsTextOfBundle input IsRefused) Whole old new
-JudgementLeaves input never_fails Alarm old new = ⊥
-JudgementLeaves input never_fails NoPredicate old new = ⊥
-JudgementLeaves input never_fails Misuse old new = ⊥
-JudgementLeaves input never_fails (Failed MemoryFailure) old new = Keeps old new
-JudgementLeaves input never_fails (Failed ReadFailure) old new = (never_fails ≡ true → ⊥) × Keeps old new
-JudgementLeaves input never_fails (Failed WriteFailure) old new = WritesUpTo (IsTextOfBundle input IsAnyReport) old new
-JudgementLeaves input never_fails (Failed BundleFailure) old new = IsTooLong input × Keeps old new
-JudgementLeaves input never_fails (Failed NetworkFailure) old new = ⊥
+abbrev pub JudgementLeaves : (input : Source) → Ending → (old new : Option (List ℕ)) → Type 0
+JudgementLeaves input Success old new = Writes (IsTextOfBundle input IsJudged) Whole old new
+JudgementLeaves input Negative old new = Writes (IsTextOfBundle input IsRefused) Whole old new
+JudgementLeaves input Alarm old new = ⊥
+JudgementLeaves input NoPredicate old new = ⊥
+JudgementLeaves input Misuse old new = ⊥
+JudgementLeaves input (Failed MemoryFailure) old new = Keeps old new
+JudgementLeaves input (Failed ReadFailure) old new = IsBrokenOff input × Keeps old new
+JudgementLeaves input (Failed WriteFailure) old new = WritesUpTo (IsTextOfBundle input IsAnyReport) old new
+JudgementLeaves input (Failed BundleFailure) old new = IsTooLong input × Keeps old new
+JudgementLeaves input (Failed NetworkFailure) old new = ⊥
 
--- P holds of the bytes of a document, which are all that its file holds, if that is known.
-pub record OfDocument (document : Option (List ℕ)) (P : List ℕ → Type 0) : Type 0 where
-  pub document_bytes : List ℕ
-  pub whole_document : IsWholeInput document document_bytes
-  pub holds : P document_bytes
+-- P holds of the document in this file, with what is asked.
+pub record OfDocument (options : Options) (document : File) (P : Inquiry → Type 0) : Type 0 where
+  pub bytes : List ℕ
+  pub whole : IsWholeDocument document.source bytes
+  pub holds : P (inquiry_of options bytes)
+
+-- What is left of a run whose document stands in this file: nothing if memory runs out, nothing if a file can't be
+-- opened or read, which is so only if that may be, and else what P says of the document with what is asked.
+abbrev pub LeavesOf : (options : Options) (document : File) (IsUnread : Type 0)
+    (P : Inquiry → Ending → (old new : Option (List ℕ)) → Type 0) → Ending → (old new : Option (List ℕ)) → Type 0
+LeavesOf options document IsUnread P (Failed MemoryFailure) old new = Keeps old new
+LeavesOf options document IsUnread P (Failed ReadFailure) old new = IsUnread × Keeps old new
+LeavesOf options document IsUnread P (Failed WriteFailure) old new =
+    OfDocument options document (λ inquiry. P inquiry (Failed WriteFailure) old new)
+LeavesOf options document IsUnread P (Failed BundleFailure) old new =
+    OfDocument options document (λ inquiry. P inquiry (Failed BundleFailure) old new)
+LeavesOf options document IsUnread P (Failed NetworkFailure) old new =
+    OfDocument options document (λ inquiry. P inquiry (Failed NetworkFailure) old new)
+LeavesOf options document IsUnread P Success old new =
+    OfDocument options document (λ inquiry. P inquiry Success old new)
+LeavesOf options document IsUnread P Negative old new =
+    OfDocument options document (λ inquiry. P inquiry Negative old new)
+LeavesOf options document IsUnread P Alarm old new = OfDocument options document (λ inquiry. P inquiry Alarm old new)
+LeavesOf options document IsUnread P NoPredicate old new =
+    OfDocument options document (λ inquiry. P inquiry NoPredicate old new)
+LeavesOf options document IsUnread P Misuse old new = OfDocument options document (λ inquiry. P inquiry Misuse old new)
 
 -- a report comes to this, under these conditions
 abbrev pub ComesTo : (fail_on : List Condition) → Conclusion → Report → Type 0
 ComesTo fail_on end report = conclusion fail_on report ≡ end
 
--- The same of a document, with what is asked beside it, and of streams that stand in files, which may be such that they
--- can't be opened or read, or not. A session that is judged has an answer to fail on, or none, or it has no predicate
--- of a name among these conditions.
-abbrev pub FilesJudgementLeaves : (beyond_width : Bool) (fail_on : List Condition) (document : Option (List ℕ))
-    (streams : List (Option (List ℕ))) (never_fails : Bool) (MayBeUnread : Type 0) → Ending
+-- What is left of the texts of a report, of which IsText holds by what is said of the report. A session that is judged
+-- has an answer to fail on, or none, or no predicate of a name among these conditions; or it is refused: the text
+-- of its report. The output fails: that text or a prefix of it.
+abbrev pub OfReport : (IsText : (Report → Type 0) → List ℕ → Type 0) (fail_on : List Condition) → Ending
     → (old new : Option (List ℕ)) → Type 0
-FilesJudgementLeaves beyond_width fail_on document streams never_fails MayBeUnread Success old new =
-    OfDocument document (λ d. Writes (IsTextOfStreams (inquiry beyond_width d) streams never_fails
-    (ComesTo fail_on conditions.Unmet)) Whole old new)
-FilesJudgementLeaves beyond_width fail_on document streams never_fails MayBeUnread Negative old new =
-    OfDocument document (λ d. Writes (IsTextOfStreams (inquiry beyond_width d) streams never_fails IsRefused) Whole
-    old new)
-FilesJudgementLeaves beyond_width fail_on document streams never_fails MayBeUnread Alarm old new =
-    OfDocument document (λ d. Writes (IsTextOfStreams (inquiry beyond_width d) streams never_fails
-    (ComesTo fail_on conditions.Met)) Whole old new)
-FilesJudgementLeaves beyond_width fail_on document streams never_fails MayBeUnread NoPredicate old new =
-    OfDocument document (λ d. Writes (IsTextOfStreams (inquiry beyond_width d) streams never_fails
-    (ComesTo fail_on conditions.NoPredicate)) Whole old new)
-FilesJudgementLeaves beyond_width fail_on document streams never_fails MayBeUnread Misuse old new = ⊥
-FilesJudgementLeaves beyond_width fail_on document streams never_fails MayBeUnread (Failed MemoryFailure) old new =
-    Keeps old new
-FilesJudgementLeaves beyond_width fail_on document streams never_fails MayBeUnread (Failed ReadFailure) old new =
-    MayBeUnread × Keeps old new
-FilesJudgementLeaves beyond_width fail_on document streams never_fails MayBeUnread (Failed WriteFailure) old new =
-    OfDocument document (λ d. WritesUpTo (IsTextOfStreams (inquiry beyond_width d) streams never_fails IsAnyReport)
-    old new)
-FilesJudgementLeaves beyond_width fail_on document streams never_fails MayBeUnread (Failed BundleFailure) old new = ⊥
-FilesJudgementLeaves beyond_width fail_on document streams never_fails MayBeUnread (Failed NetworkFailure) old new = ⊥
+OfReport IsText fail_on Success old new = Writes (IsText (ComesTo fail_on conditions.Unmet)) Whole old new
+OfReport IsText fail_on Negative old new = Writes (IsText IsRefused) Whole old new
+OfReport IsText fail_on Alarm old new = Writes (IsText (ComesTo fail_on conditions.Met)) Whole old new
+OfReport IsText fail_on NoPredicate old new = Writes (IsText (ComesTo fail_on conditions.NoPredicate)) Whole old new
+OfReport IsText fail_on Misuse old new = ⊥
+OfReport IsText fail_on (Failed MemoryFailure) old new = ⊥
+OfReport IsText fail_on (Failed ReadFailure) old new = ⊥
+OfReport IsText fail_on (Failed WriteFailure) old new = WritesUpTo (IsText IsAnyReport) old new
+OfReport IsText fail_on (Failed BundleFailure) old new = ⊥
+OfReport IsText fail_on (Failed NetworkFailure) old new = ⊥
 
--- The text of the report of a document's bytes and of the streams that accepted connections gave, where a connection
--- may have left what G holds of, and no read of one ever fails, if that is said. There are as many connections as the
--- document has processes, and none if it is refused.
-pub record IsTextOfAccepted (document : Inquiry) (G : Option (List ℕ) → Type 0) (never_fails : Bool)
-    (IsSaid : Report → Type 0) (text : List ℕ) : Type 0 where
-  pub inputs : List (Option (List ℕ))
+-- of a document and of streams that these sources give
+abbrev pub OfStreams : (streams : List Source) (fail_on : List Condition) → Inquiry → Ending
+    → (old new : Option (List ℕ)) → Type 0
+OfStreams streams fail_on inquiry ending old new = OfReport (IsTextOfStreams inquiry streams) fail_on ending old new
+
+-- The text of the report of a document and of the streams that accepted connections gave, where a connection may be a
+-- source of which G holds. There are as many connections as the document has processes, and none if it is refused.
+pub record IsTextOfAccepted (document : Inquiry) (G : Source → Type 0) (IsSaid : Report → Type 0) (text : List ℕ) :
+    Type 0 where
+  pub inputs : List Source
   pub accepted : All G inputs
-  pub one_each : (read : Document) → IsDocument document.bytes read → length inputs ≡ length read.names
-  pub none_refused : (fault : DocumentFault) → IsRefusedDocument document.bytes fault → inputs ≡ []
-  pub is_text : IsTextOfStreams document inputs never_fails IsSaid text
+  pub one_each : (read : Document) → IsDocument document read → length inputs ≡ length read.names
+  pub none_refused : (fault : DocumentFault) → IsRefusedDocument document fault → inputs ≡ []
+  pub is_text : IsTextOfStreams document inputs IsSaid text
 
 -- Not all ports may be bound and connections accepted: the network may fail, or they are waited for no longer than some
 -- seconds.
 abbrev pub ServiceMayFail : (wait : Option ℕ) (network_serves : Bool) → Type 0
 ServiceMayFail wait network_serves = wait ≡ None → network_serves ≡ true → ⊥
 
--- the bytes are a document, and aren't refused
-abbrev pub HoldsDocument : List ℕ → Type 0
-HoldsDocument bytes = (document : Document) × IsDocument bytes document
+-- the inquiry is of a document, and isn't refused
+abbrev pub HoldsDocument : Inquiry → Type 0
+HoldsDocument inquiry = (document : Document) × IsDocument inquiry document
 
--- The same of a document that stands in a file, and of streams that come by connections. If a port can't be bound, or a
--- stream not be accepted, or not in time: nothing; and that comes only of a document that isn't refused. If the session
--- is to be kept, and can't be: nothing, in the same way, or all of the report.
-abbrev pub ServiceLeaves : (beyond_width : Bool) (fail_on : List Condition) (document : Option (List ℕ))
-    (G : Option (List ℕ) → Type 0) (never_fails : Bool) (MayBeUnread MayNotServe IsKept : Type 0) → Ending
-    → (old new : Option (List ℕ)) → Type 0
-ServiceLeaves beyond_width fail_on document G never_fails MayBeUnread MayNotServe IsKept Success old new =
-    OfDocument document (λ d. Writes (IsTextOfAccepted (inquiry beyond_width d) G never_fails
-    (ComesTo fail_on conditions.Unmet)) Whole old new)
-ServiceLeaves beyond_width fail_on document G never_fails MayBeUnread MayNotServe IsKept Negative old new =
-    OfDocument document (λ d. Writes (IsTextOfAccepted (inquiry beyond_width d) G never_fails IsRefused) Whole
-    old new)
-ServiceLeaves beyond_width fail_on document G never_fails MayBeUnread MayNotServe IsKept Alarm old new =
-    OfDocument document (λ d. Writes (IsTextOfAccepted (inquiry beyond_width d) G never_fails
-    (ComesTo fail_on conditions.Met)) Whole old new)
-ServiceLeaves beyond_width fail_on document G never_fails MayBeUnread MayNotServe IsKept NoPredicate old new =
-    OfDocument document (λ d. Writes (IsTextOfAccepted (inquiry beyond_width d) G never_fails
-    (ComesTo fail_on conditions.NoPredicate)) Whole old new)
-ServiceLeaves beyond_width fail_on document G never_fails MayBeUnread MayNotServe IsKept Misuse old new = ⊥
-ServiceLeaves beyond_width fail_on document G never_fails MayBeUnread MayNotServe IsKept (Failed MemoryFailure)
-    old new =
-    Keeps old new
-ServiceLeaves beyond_width fail_on document G never_fails MayBeUnread MayNotServe IsKept (Failed ReadFailure) old new =
-    MayBeUnread × Keeps old new
-ServiceLeaves beyond_width fail_on document G never_fails MayBeUnread MayNotServe IsKept (Failed WriteFailure) old new =
-    OfDocument document (λ d. WritesUpTo (IsTextOfAccepted (inquiry beyond_width d) G never_fails IsAnyReport) old new)
-    ⊎ (IsKept × OfDocument document HoldsDocument × Keeps old new)
-ServiceLeaves beyond_width fail_on document G never_fails MayBeUnread MayNotServe IsKept (Failed BundleFailure)
-    old new = ⊥
-ServiceLeaves beyond_width fail_on document G never_fails MayBeUnread MayNotServe IsKept (Failed NetworkFailure)
-    old new =
-    MayNotServe × OfDocument document HoldsDocument × Keeps old new
+-- The same of streams that come by connections. If a port can't be bound, or a stream not be accepted, or not in time:
+-- nothing; and that comes only of a document that isn't refused. If the session is to be kept, and can't be: nothing,
+-- in the same way, or all of the report.
+abbrev pub OfConnections : (G : Source → Type 0) (MayNotServe IsKept : Type 0) (fail_on : List Condition) → Inquiry
+    → Ending → (old new : Option (List ℕ)) → Type 0
+OfConnections G MayNotServe IsKept fail_on inquiry (Failed NetworkFailure) old new =
+    MayNotServe × HoldsDocument inquiry × Keeps old new
+OfConnections G MayNotServe IsKept fail_on inquiry (Failed WriteFailure) old new =
+    WritesUpTo (IsTextOfAccepted inquiry G IsAnyReport) old new
+    ⊎ (IsKept × HoldsDocument inquiry × Keeps old new)
+OfConnections G MayNotServe IsKept fail_on inquiry (Failed MemoryFailure) old new = ⊥
+OfConnections G MayNotServe IsKept fail_on inquiry (Failed ReadFailure) old new = ⊥
+OfConnections G MayNotServe IsKept fail_on inquiry (Failed BundleFailure) old new = ⊥
+OfConnections G MayNotServe IsKept fail_on inquiry Success old new =
+    OfReport (IsTextOfAccepted inquiry G) fail_on Success old new
+OfConnections G MayNotServe IsKept fail_on inquiry Negative old new =
+    OfReport (IsTextOfAccepted inquiry G) fail_on Negative old new
+OfConnections G MayNotServe IsKept fail_on inquiry Alarm old new =
+    OfReport (IsTextOfAccepted inquiry G) fail_on Alarm old new
+OfConnections G MayNotServe IsKept fail_on inquiry NoPredicate old new =
+    OfReport (IsTextOfAccepted inquiry G) fail_on NoPredicate old new
+OfConnections G MayNotServe IsKept fail_on inquiry Misuse old new = ⊥
 
--- P holds of the bytes of a document and of those of a report, which are all that their files hold, if that is known,
--- and the report isn't too long.
-pub record OfFiles (document report : Option (List ℕ)) (P : List ℕ → List ℕ → Type 0) : Type 0 where
-  pub document_bytes : List ℕ
-  pub report_bytes : List ℕ
-  pub whole_document : IsWholeInput document document_bytes
-  pub whole_report : IsWholeInput report report_bytes
-  pub fits : length report_bytes ≤ report_byte_limit
-  pub holds : P document_bytes report_bytes
+-- P holds of the bytes of a report, which are all that its source had left, and not too many.
+pub record OfClaim (report : Source) (P : List ℕ → Type 0) : Type 0 where
+  pub bytes : List ℕ
+  pub whole : IsWholeInput report bytes
+  pub fits : length bytes ≤ report_byte_limit
+  pub holds : P bytes
 
--- A check finds nothing bad, or something: the text of what it finds. The output fails: that text or a prefix of it.
--- Any other end: nothing.
-abbrev pub CheckLeaves : (document report : Option (List ℕ)) (streams : List (Option (List ℕ))) (never_fails : Bool)
-    (MayBeUnread : Type 0) → Ending → (old new : Option (List ℕ)) → Type 0
-CheckLeaves document report streams never_fails MayBeUnread Success old new =
-    OfFiles document report (λ d r. Writes (IsFindingTextOf d r streams never_fails (Some true)) Whole old new)
-CheckLeaves document report streams never_fails MayBeUnread Negative old new =
-    OfFiles document report (λ d r. Writes (IsFindingTextOf d r streams never_fails (Some false)) Whole old new)
-CheckLeaves document report streams never_fails MayBeUnread Alarm old new = ⊥
-CheckLeaves document report streams never_fails MayBeUnread NoPredicate old new = ⊥
-CheckLeaves document report streams never_fails MayBeUnread Misuse old new = ⊥
-CheckLeaves document report streams never_fails MayBeUnread (Failed MemoryFailure) old new = Keeps old new
-CheckLeaves document report streams never_fails MayBeUnread (Failed ReadFailure) old new = MayBeUnread × Keeps old new
-CheckLeaves document report streams never_fails MayBeUnread (Failed WriteFailure) old new =
-    OfFiles document report (λ d r. WritesUpTo (IsFindingTextOf d r streams never_fails None) old new)
-CheckLeaves document report streams never_fails MayBeUnread (Failed BundleFailure) old new = ⊥
-CheckLeaves document report streams never_fails MayBeUnread (Failed NetworkFailure) old new = ⊥
+-- A check of a report of this source finds nothing bad, or something: the text of what it finds. The output fails: that
+-- text or a prefix of it.
+abbrev pub OfFinding : (report : Source) (streams : List Source) → Inquiry → Ending → (old new : Option (List ℕ))
+    → Type 0
+OfFinding report streams inquiry Success old new =
+    OfClaim report (λ r. Writes (IsFindingTextOf inquiry r streams (Some true)) Whole old new)
+OfFinding report streams inquiry Negative old new =
+    OfClaim report (λ r. Writes (IsFindingTextOf inquiry r streams (Some false)) Whole old new)
+OfFinding report streams inquiry Alarm old new = ⊥
+OfFinding report streams inquiry NoPredicate old new = ⊥
+OfFinding report streams inquiry Misuse old new = ⊥
+OfFinding report streams inquiry (Failed MemoryFailure) old new = ⊥
+OfFinding report streams inquiry (Failed ReadFailure) old new = ⊥
+OfFinding report streams inquiry (Failed WriteFailure) old new =
+    OfClaim report (λ r. WritesUpTo (IsFindingTextOf inquiry r streams None) old new)
+OfFinding report streams inquiry (Failed BundleFailure) old new = ⊥
+OfFinding report streams inquiry (Failed NetworkFailure) old new = ⊥
 
 -- The help is the parser's text: it is shown, or the output fails.
 abbrev pub HelpLeaves : Ending → (old new : Option (List ℕ)) → Type 0
@@ -319,40 +309,48 @@ MisuseLeaves (Failed WriteFailure) old new = ⊥
 MisuseLeaves (Failed BundleFailure) old new = ⊥
 MisuseLeaves (Failed NetworkFailure) old new = ⊥
 
--- P holds of the document that stands in a file, with what is asked in place of what it says; or of every document.
-pub data HoldsAsked (asks : Asks) (file : Option (List ℕ)) (P : List ℕ → Type 0) : Type 0 where
-  of_asked : (document asked : List ℕ) → IsWholeInput file document → IsAsked asks document asked → P asked
-      → HoldsAsked asks file P
-  of_any : ((document : List ℕ) → P document) → HoldsAsked asks file P
+-- What is left of a run whose document and streams stand in files of these names, by what P says of the streams'
+-- sources.
+abbrev pub SessionLeaves : (files : List ℕ → File) (options : Options) (document : List ℕ) (streams : List (List ℕ))
+    (P : List Source → Inquiry → Ending → (old new : Option (List ℕ)) → Type 0) → Ending
+    → (old new : Option (List ℕ)) → Type 0
+SessionLeaves files options document streams P ending old new =
+    LeavesOf options (files document) (MayBeUnread (files document ∷ map files streams) (files document ∷ []))
+    (P (sources_of (map files streams))) ending old new
 
--- By what is asked for, where the input and the file of each name hold these bytes, if that is known, and a connection
--- to each port may have left what is said of it.
-abbrev pub Leaves : (on : Reliance) (input : Option (List ℕ)) (files : List ℕ → Option (List ℕ))
-    (connections : ℕ → Option (List ℕ) → Type 0) → Request → Ending → (old new : Option (List ℕ)) → Type 0
-Leaves on input files connections JudgeInput ending old new = JudgementLeaves input on.input_is_read ending old new
-Leaves on input files connections (JudgeFiles beyond_width fail_on asks document streams) ending old new =
-    HoldsAsked asks (files document) (λ d. FilesJudgementLeaves beyond_width fail_on (Some d) (map files streams)
-    on.files_are_read (FilesMayFail on) ending old new)
-Leaves on input files connections (CheckFiles asks document report streams) ending old new =
-    HoldsAsked asks (files document) (λ d. CheckLeaves (Some d) (files report) (map files streams) on.files_are_read
-    (FilesMayFail on ⊎ IsLongReport (files report)) ending old new)
-Leaves on input files connections (ServeStreams beyond_width fail_on asks document port watchers wait keep) ending
-    old new =
-    HoldsAsked asks (files document) (λ d. ServiceLeaves beyond_width fail_on (Some d) (connections port)
-    on.connections_are_read (FilesMayFail on) (ServiceMayFail wait on.network_serves) (keep ≢ None) ending old new)
-Leaves on input files connections ShowHelp ending old new = HelpLeaves ending old new
-Leaves on input files connections ShowVersion ending old new = VersionLeaves ending old new
-Leaves on input files connections Unclear ending old new = MisuseLeaves ending old new
+-- Of the files of a document, a report and streams one may be such that it can't be opened, or one of the first two such
+-- that it can't be read; or the report is too long.
+abbrev pub UnreadClaim : (files : List ℕ → File) (document report : List ℕ) (streams : List (List ℕ)) → Type 0
+UnreadClaim files document report streams =
+    MayBeUnread (files document ∷ files report ∷ map files streams) (files document ∷ files report ∷ [])
+    ⊎ IsLongReport (files report).source
+
+-- By what is asked for, where of the input and of the file of each name this is known, a connection to each port may be
+-- such a source, and the network serves or may fail to.
+abbrev pub Leaves : (input : Source) (files : List ℕ → File) (connections : ℕ → Source → Type 0)
+    (network_serves : Bool) → Request → Ending → (old new : Option (List ℕ)) → Type 0
+Leaves input files connections network_serves JudgeInput ending old new = JudgementLeaves input ending old new
+Leaves input files connections network_serves (JudgeFiles options fail_on document streams) ending old new =
+    SessionLeaves files options document streams (λ sources. OfStreams sources fail_on) ending old new
+Leaves input files connections network_serves (CheckFiles options document report streams) ending old new =
+    LeavesOf options (files document) (UnreadClaim files document report streams) (OfFinding (files report).source (sources_of (map files streams))) ending old new
+Leaves input files connections network_serves (ServeStreams options fail_on document port watchers wait keep) ending old
+    new =
+    LeavesOf options (files document) (MayBeUnread (files document ∷ []) (files document ∷ []))
+    (OfConnections (connections port) (ServiceMayFail wait network_serves) (keep ≢ None) fail_on) ending old new
+Leaves input files connections network_serves ShowHelp ending old new = HelpLeaves ending old new
+Leaves input files connections network_serves ShowVersion ending old new = VersionLeaves ending old new
+Leaves input files connections network_serves Unclear ending old new = MisuseLeaves ending old new
 
 -- ---- a run
 
 -- Memory runs out before it is known what is asked for, and nothing is written; or the arguments ask for something, and
 -- what is left on the output is by that and by how the run ends.
-abbrev pub DoesAsAsked : (IsAsked : Request → Type 0) (on : Reliance) (input : Option (List ℕ))
-    (files : List ℕ → Option (List ℕ)) (connections : ℕ → Option (List ℕ) → Type 0) → Ending
-    → (old new : Option (List ℕ)) → Type 0
-DoesAsAsked IsAsked on input files connections ending old new = ((ending ≡ Failed MemoryFailure) × Keeps old new)
-    ⊎ (request : Request) × IsAsked request × Leaves on input files connections request ending old new
+abbrev pub DoesAsAsked : (IsAsked : Request → Type 0) (input : Source) (files : List ℕ → File)
+    (connections : ℕ → Source → Type 0) (network_serves : Bool) → Ending → (old new : Option (List ℕ)) → Type 0
+DoesAsAsked IsAsked input files connections network_serves ending old new =
+    ((ending ≡ Failed MemoryFailure) × Keeps old new)
+    ⊎ (request : Request) × IsAsked request × Leaves input files connections network_serves request ending old new
 
 -- A run with this exit status came to some end, by which this is left on the output.
 pub record Ends (IsLeft : Ending → Type 0) (status : ℕ) (errors_old errors_new : Option (List ℕ)) : Type 0 where
@@ -362,8 +360,9 @@ pub record Ends (IsLeft : Ending → Type 0) (status : ℕ) (errors_old errors_n
   pub errors : Reports ending errors_old errors_new
 
 -- A run did what its arguments ask for: requests of which this holds.
-abbrev pub EndsAsAsked : (IsAsked : Request → Type 0) (on : Reliance) (input : Option (List ℕ))
-    (files : List ℕ → Option (List ℕ)) (connections : ℕ → Option (List ℕ) → Type 0) (status : ℕ)
+abbrev pub EndsAsAsked : (IsAsked : Request → Type 0) (input : Source) (files : List ℕ → File)
+    (connections : ℕ → Source → Type 0) (network_serves : Bool) (status : ℕ)
     (old new errors_old errors_new : Option (List ℕ)) → Type 0
-EndsAsAsked IsAsked on input files connections status old new errors_old errors_new =
-    Ends (λ ending. DoesAsAsked IsAsked on input files connections ending old new) status errors_old errors_new
+EndsAsAsked IsAsked input files connections network_serves status old new errors_old errors_new =
+    Ends (λ ending. DoesAsAsked IsAsked input files connections network_serves ending old new) status errors_old
+    errors_new

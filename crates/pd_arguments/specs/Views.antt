@@ -3,7 +3,7 @@ use Rattle.std.specs.Prelude.{List, ℕ, map, option_map, Option, Some, None}
 use Rattle.std.specs.Borrow.{Bor}
 use Rattle.pd_arguments.specs.Statuses as asked
 use Rattle.clap.specs.Words.{Text}
-use Rattle.pd_asked.specs.Views.{asks_view}
+use Rattle.pd_spec.specs.Views.{options_view}
 use Rattle.pd_fail_on.specs.Views.{fail_on_view}
 use Rattle.pd_wish.specs.Wishes.{wish_view}
 use Rattle.pd_arguments.specs.Arguments.{AsksFor, AsksToDraw, AsksToExplore}
@@ -23,19 +23,20 @@ keep_view keep = option_map (λ (folder : Bor (List ℕ)). folder.now) keep
 abbrev pub IsAsked : List Text → Request → Type 0
 IsAsked arguments Bundle = AsksFor arguments asked.JudgeInput
 IsAsked arguments (Judge judgement) =
-    AsksFor arguments (asked.JudgeFiles judgement.beyond_width (fail_on_view judgement.fail_on)
-    (asks_view judgement.names.asks) (session_view judgement.names).0 (session_view judgement.names).1)
+    AsksFor arguments (asked.JudgeFiles (options_view judgement.names.options) (fail_on_view judgement.fail_on)
+    (session_view judgement.names).0 (session_view judgement.names).1)
 IsAsked arguments (Check report names) =
-    AsksFor arguments (asked.CheckFiles (asks_view names.asks) (session_view names).0 report.now (session_view names).1)
+    AsksFor arguments (asked.CheckFiles (options_view names.options) (session_view names).0 report.now
+    (session_view names).1)
 IsAsked arguments (Draw report wish names) =
-    AsksToDraw arguments (asks_view names.asks) (session_view names).0 report.now (session_view names).1
+    AsksToDraw arguments (options_view names.options) (session_view names).0 report.now (session_view names).1
     (wish_view wish)
 IsAsked arguments (Serve service) =
-    AsksFor arguments (asked.ServeStreams service.beyond_width (fail_on_view service.fail_on) (asks_view service.asks)
+    AsksFor arguments (asked.ServeStreams (options_view service.options) (fail_on_view service.fail_on)
     service.spec.now service.port service.watchers service.wait (keep_view service.keep))
 IsAsked arguments (Explore exploration) =
-    AsksToExplore arguments exploration.beyond_width (asks_view exploration.names.asks)
-    (session_view exploration.names).0 (session_view exploration.names).1
+    AsksToExplore arguments (options_view exploration.names.options) (session_view exploration.names).0
+    (session_view exploration.names).1
 
 -- the same of a request; with none the arguments ask for nothing that can be done
 abbrev pub IsAskedIf : List Text → Option Request → Type 0

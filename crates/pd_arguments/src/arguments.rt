@@ -3,10 +3,10 @@ ghost use Rattle.clap.specs.Matches.{found_of};
 ghost use Rattle.clap.specs.Simple.{app_of, subcommand_of, subcommand_rows_of};
 ghost use Rattle.clap.specs.Values.{kind_of};
 ghost use Rattle.clap.specs.Walk.{Text, all_of, rows_of};
-ghost use Rattle.pd_arguments.specs.Arguments.{AreOf, AreTaken, FindsConditions, FindsExtent, FindsSession, FindsWish, IsErrorOf, IsNumberText, IsPort, IsShownKind, NamesAsks, NamesConditions, NamesNumber, NamesPredicates, NamesWait, NamesWidth, NamesWorkers, SaysFlag, extent_by, kind_text, monitor_app};
-ghost use Rattle.pd_asked.specs.Views.{asks_view};
+ghost use Rattle.pd_arguments.specs.Arguments.{AreOf, AreTaken, FindsConditions, FindsExtent, FindsSession, FindsWish, IsErrorOf, IsNumberText, IsPort, IsShownKind, NamesConditions, NamesNumber, NamesOptions, NamesPredicates, NamesWait, NamesWidth, NamesWorkers, SaysBeyondWidth, SaysFlag, extent_by, kind_text, monitor_app};
 ghost use Rattle.pd_fail_on.specs.Views.{fail_on_view};
 ghost use Rattle.pd_arguments.specs.Views.{IsAsked, IsAskedIf, session_view};
+ghost use Rattle.pd_spec.specs.Views.{options_view};
 ghost use Rattle.pd_wish.specs.Wishes.{wish_view};
 ghost use Rattle.pd_wish.specs.declared.kind.Kind as kinds;
 ghost use Rattle.std.specs.Prelude.{◌≡◌, ◌≢◌, ℕ, IfErr, IfOk, IfSome, List, MatchOption, None, codes, false, map, option_map, true};
@@ -18,8 +18,8 @@ use super::request::{Exploration, Judgement, Request, Service, SessionNames};
 use super::workers::Workers;
 use clap::error::ErrorKind;
 use clap::{ArgMatches, Command, Error};
-use pd_asked::Asks;
 use pd_fail_on::FailOn;
+use pd_spec::Options;
 use pd_wish::{Extent, Kind, Wish};
 use std::alloc::{AllocError, Global};
 
@@ -49,14 +49,20 @@ fn wait_of(matches: &ArgMatches<'_>) -> Option<u64>
     number_of(matches, "SECONDS")
 }
 
-/// What is asked in place of what the document says.
-fn asks_of<'a>(alloc: Global, matches: &ArgMatches<'a>) -> Result<Asks<'a>, AllocError>
-    ensures { IfOk result (λ asks. NamesAsks (rows_of (found_of matches.now)) (asks_view asks)) }
+/// What is asked beside the document, and whether what is decided whatever the width is.
+fn options_of<'a>(
+    alloc: Global,
+    matches: &ArgMatches<'a>,
+    beyond_width: bool,
+) -> Result<Options<'a>, AllocError>
+    ensures options { IfOk result (λ options. NamesOptions (rows_of (found_of matches.now)) (options_view options)) }
+    ensures beyond { IfOk result (λ options. options.beyond_width ≡ beyond_width) }
 {
     let predicates = predicates_of(alloc, matches)?;
-    Ok(Asks {
+    Ok(Options {
         width: width_of(matches),
         predicates,
+        beyond_width,
     })
 }
 
@@ -64,11 +70,13 @@ fn asks_of<'a>(alloc: Global, matches: &ArgMatches<'a>) -> Result<Asks<'a>, Allo
 fn session_names<'a>(
     alloc: Global,
     matches: &ArgMatches<'a>,
+    beyond_width: bool,
 ) -> Result<Option<SessionNames<'a>>, AllocError>
     ensures names { IfOk result (λ names.
         FindsSession (rows_of (found_of matches.now)) (option_map session_view names)) }
-    ensures asks { IfOk result (λ names. IfSome names (λ names.
-        NamesAsks (rows_of (found_of matches.now)) (asks_view names.asks))) }
+    ensures options { IfOk result (λ names. IfSome names (λ names.
+        NamesOptions (rows_of (found_of matches.now)) (options_view names.options))) }
+    ensures beyond { IfOk result (λ names. IfSome names (λ names. names.options.beyond_width ≡ beyond_width)) }
 {
     let (Some(spec), Some(streams)) = (matches.get_str("SPEC"), matches.get_strs("STREAM")) else {
         return Ok(None);
@@ -76,7 +84,7 @@ fn session_names<'a>(
     Ok(Some(SessionNames {
         spec,
         streams: streams.to_vec(alloc)?,
-        asks: asks_of(alloc, matches)?,
+        options: options_of(alloc, matches, beyond_width)?,
     }))
 }
 
@@ -92,16 +100,15 @@ fn judge_request<'a>(
     let Some(workers) = workers_of(matches) else {
         return Ok(None);
     };
-    let Some(names) = session_names(alloc, matches)? else {
+    let beyond_width = flag_of(matches, "BEYOND_WIDTH");
+    let Some(names) = session_names(alloc, matches, beyond_width)? else {
         return Ok(None);
     };
     let Some(fail_on) = conditions_of(alloc, matches)? else {
         return Ok(None);
     };
-    let beyond_width = flag_of(matches, "BEYOND_WIDTH");
     Ok(Some(Request::Judge(Judgement {
         names,
-        beyond_width,
         fail_on,
         workers,
     })))
@@ -119,7 +126,7 @@ fn check_request<'a>(
     let Some(report) = matches.get_str("REPORT") else {
         return Ok(None);
     };
-    let Some(names) = session_names(alloc, matches)? else {
+    let Some(names) = session_names(alloc, matches, false)? else {
         return Ok(None);
     };
     Ok(Some(Request::Check(report, names)))
@@ -216,7 +223,7 @@ fn draw_request<'a>(
     let Some(report) = matches.get_str("REPORT") else {
         return Ok(None);
     };
-    let Some(names) = session_names(alloc, matches)? else {
+    let Some(names) = session_names(alloc, matches, false)? else {
         return Ok(None);
     };
     Ok(Some(Request::Draw(report, wish, names)))
@@ -290,12 +297,13 @@ fn port_of(number: u64) -> Option<u16>
 /// What the arguments of `serve` ask for with these conditions, if all else is there.
 fn service_request<'a>(
     matches: &ArgMatches<'a>,
-    asks: Asks<'a>,
+    options: Options<'a>,
     fail_on: FailOn<'a>,
 ) -> Option<Request<'a>>
     ensures { (arguments : List Text) → AreTaken arguments
         → AreOf (codes "serve") arguments (rows_of (found_of matches.now))
-        → NamesAsks (rows_of (found_of matches.now)) (asks_view asks.entry)
+        → NamesOptions (rows_of (found_of matches.now)) (options_view options.entry)
+        → SaysBeyondWidth (rows_of (found_of matches.now)) options.entry.beyond_width
         → NamesConditions (rows_of (found_of matches.now)) (fail_on_view fail_on.entry)
         → IsAskedIf arguments result }
 {
@@ -319,12 +327,11 @@ fn service_request<'a>(
     };
     Some(Request::Serve(Service {
         spec,
-        asks,
+        options,
         port,
         watchers,
         wait: wait_of(matches),
         keep: matches.get_str("FOLDER"),
-        beyond_width: flag_of(matches, "BEYOND_WIDTH"),
         fail_on,
         workers,
     }))
@@ -342,8 +349,9 @@ fn serve_request<'a>(
     let Some(fail_on) = conditions_of(alloc, matches)? else {
         return Ok(None);
     };
-    let asks = asks_of(alloc, matches)?;
-    Ok(service_request(matches, asks, fail_on))
+    let beyond_width = flag_of(matches, "BEYOND_WIDTH");
+    let options = options_of(alloc, matches, beyond_width)?;
+    Ok(service_request(matches, options, fail_on))
 }
 
 /// What the arguments of `explore` ask for, if all names are there.
@@ -358,13 +366,12 @@ fn explore_request<'a>(
     let Some(workers) = workers_of(matches) else {
         return Ok(None);
     };
-    let Some(names) = session_names(alloc, matches)? else {
+    let beyond_width = flag_of(matches, "BEYOND_WIDTH");
+    let Some(names) = session_names(alloc, matches, beyond_width)? else {
         return Ok(None);
     };
-    let beyond_width = flag_of(matches, "BEYOND_WIDTH");
     Ok(Some(Request::Explore(Exploration {
         names,
-        beyond_width,
         workers,
     })))
 }

@@ -1,8 +1,8 @@
 //! What the program is asked for.
 
 use super::workers::Workers;
-use pd_asked::Asks;
 use pd_fail_on::FailOn;
+use pd_spec::Options;
 use pd_wish::Wish;
 
 /// The names of the files of a session, and what is asked of it.
@@ -12,8 +12,8 @@ pub struct SessionNames<'a> {
     pub spec: &'a str,
     /// Of the streams of events, in their order.
     pub streams: Vec<&'a str>,
-    /// What is asked in place of what the document says.
-    pub asks: Asks<'a>,
+    /// What is asked beside the document.
+    pub options: Options<'a>,
 }
 
 /// What a judgement of files is asked for.
@@ -21,8 +21,6 @@ pub struct SessionNames<'a> {
 pub struct Judgement<'a> {
     /// The names of the session's files.
     pub names: SessionNames<'a>,
-    /// That predicates are answered whatever the width, as far as they are decided without the levels of the lattice.
-    pub beyond_width: bool,
     /// The answers to fail on.
     pub fail_on: FailOn<'a>,
     /// How many workers share the work.
@@ -34,8 +32,6 @@ pub struct Judgement<'a> {
 pub struct Exploration<'a> {
     /// The names of the session's files.
     pub names: SessionNames<'a>,
-    /// That predicates are answered whatever the width, as far as they are decided without the levels of the lattice.
-    pub beyond_width: bool,
     /// How many workers share the work.
     pub workers: Workers,
 }
@@ -45,8 +41,8 @@ pub struct Exploration<'a> {
 pub struct Service<'a> {
     /// The name of the session document's file.
     pub spec: &'a str,
-    /// What is asked in place of what the document says.
-    pub asks: Asks<'a>,
+    /// What is asked beside the document.
+    pub options: Options<'a>,
     /// The port on which the streams are accepted, from 1 to 65,534.
     pub port: u16,
     /// How many watchers are accepted on the next port, at most 64.
@@ -55,8 +51,6 @@ pub struct Service<'a> {
     pub wait: Option<u64>,
     /// The name of the folder in which the session is kept, if it is.
     pub keep: Option<&'a str>,
-    /// Whether predicates are answered whatever the width, as far as they are decided without the levels.
-    pub beyond_width: bool,
     /// The answers to fail on.
     pub fail_on: FailOn<'a>,
     /// How many workers share the work.

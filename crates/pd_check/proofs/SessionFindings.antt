@@ -2,10 +2,9 @@
 use Rattle.std.proofs.Common.{◌≡◌, ◌↔◌, ℕ, Bool, IsTrue, List, Option, length, subst}
 use Rattle.pd_model.specs.Cuts.{total}
 use Rattle.pd_model.specs.Predicates.{Recorded}
-use Rattle.pd_format.specs.Documents.{Document}
+use Rattle.pd_format.specs.Documents.{Document, Inquiry}
 use Rattle.pd_format.specs.OtherTexts.{Checked, Finding, OfSession}
 use Rattle.pd_format.specs.Readings.{Trace}
-use Rattle.pd_format.specs.Documents.{plain}
 use Rattle.pd_format.specs.Reports.{Answer, IsReport, Refusal, Report, Judged, Refused}
 use Rattle.pd_judgement.specs.Findings as findings
 use Rattle.pd_judgement.specs.Findings.{IsAnswersFinding, IsFinding, IsSessionOf}
@@ -13,21 +12,21 @@ use Rattle.pd_judgement.specs.Judgements.{IsJudgement, RawStream, recorded_of}
 use Rattle.pd_check.specs.Found.{IsFoundOf, IsFoundOfRefused, of_refused_session, of_refusal, of_session}
 
 -- of a refused session
-pub finding_of_refused : (bytes report : List ℕ) (streams : List RawStream) (refusal : Refusal) (claimed : Report)
-    (finding : Finding) → IsReport report claimed → IsJudgement (plain bytes) streams (Refused refusal)
+pub finding_of_refused : (inquiry : Inquiry) (report : List ℕ) (streams : List RawStream) (refusal : Refusal) (claimed : Report)
+    (finding : Finding) → IsReport report claimed → IsJudgement inquiry streams (Refused refusal)
     → IsFoundOfRefused refusal claimed finding
-    → IsFinding bytes report streams finding
-finding_of_refused bytes report streams refusal claimed finding read refused (of_refused_session good right) =
+    → IsFinding inquiry report streams finding
+finding_of_refused inquiry report streams refusal claimed finding read refused (of_refused_session good right) =
     findings.of_refused_session claimed refusal good read refused right
 
 -- of a well-formed session
-pub finding_of_session : (bytes report : List ℕ) (streams : List RawStream) (document : Document) (traces : List Trace)
+pub finding_of_session : (inquiry : Inquiry) (report : List ℕ) (streams : List RawStream) (document : Document) (traces : List Trace)
     (messages : ℕ) (claimed : Report) (finding : Finding) → IsReport report claimed
-    → IsSessionOf bytes streams document traces messages → IsFoundOf document traces messages claimed finding
-    → IsFinding bytes report streams finding
-finding_of_session bytes report streams document traces messages claimed finding read held (of_refusal refusal is) =
+    → IsSessionOf inquiry streams document traces messages → IsFoundOf document traces messages claimed finding
+    → IsFinding inquiry report streams finding
+finding_of_session inquiry report streams document traces messages claimed finding read held (of_refusal refusal is) =
     findings.of_refusal refusal document traces messages (subst (IsReport report) is read) held
-finding_of_session bytes report streams document traces messages claimed finding read held
+finding_of_session inquiry report streams document traces messages claimed finding read held
     (of_session processes events matched answers good found is counts verdicts) =
     findings.of_session processes events matched answers document traces messages good found
     (subst (IsReport report) is read) held counts verdicts

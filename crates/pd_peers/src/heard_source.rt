@@ -95,11 +95,9 @@ fn note_line(peer: &Peer, lines: &LastLines, fault: StreamFault) {
 }
 
 impl<'a, R: ByteSource, W: Write, T: Notices> ByteSource for HeardSource<'a, R, W, T> {
-    ghost remaining = { λ heard. R.remaining heard.source };
+    ghost left = { λ heard. R.left heard.source };
 
     ghost has_ended = { λ heard. R.has_ended heard.source };
-
-    ghost never_fails = { R.never_fails };
 
     fn read_next(&mut self, piece: &mut [u8]) -> io::Result<usize> {
         let read = self.source.read_next(piece);

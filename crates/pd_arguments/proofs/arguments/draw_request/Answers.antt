@@ -1,11 +1,11 @@
 -- The names of a session's files and of a report's file ask to draw the report.
-use Rattle.std.proofs.Common.{codes, inl, inr, option_map, refl, subst, sym, ◌∙◌, Option}
+use Rattle.std.proofs.Common.{◌≡◌, false, codes, inl, inr, option_map, refl, subst, sym, ◌∙◌, Option}
 use Rattle.clap.specs.Matches.{found_of}
 use Rattle.clap.specs.Walk.{rows_of}
 use Rattle.clap.proofs.WalkLemmas.{first_value-rows}
 use Rattle.std.specs.Prelude.{IfSome}
-use Rattle.pd_asked.specs.Views.{asks_view}
-use Rattle.pd_arguments.specs.Arguments.{NamesAsks, FindsSession, FindsWish, of_missing, of_missing_report, of_no_wish}
+use Rattle.pd_spec.specs.Views.{options_view}
+use Rattle.pd_arguments.specs.Arguments.{NamesOptions, FindsSession, FindsWish, of_missing, of_missing_report, of_no_wish}
 use Rattle.pd_arguments.specs.Views.{session_view}
 use Rattle.pd_wish.specs.Wishes.{wish_view}
 use Rattle.pd_wish.specs.declared.wish.Wish.{Wish}
@@ -39,9 +39,11 @@ returns c arguments taken are = record {
   are_of = are;
   names_session = subst (λ (names : Option SessionNames). FindsSession (rows_of (found_of c.args.matches.now))
       (option_map session_view names)) c.in-Some-2.is c.in_ok-names.ensures.names;
-  names_asks = subst (λ (names : Option SessionNames). IfSome names (λ names.
-      NamesAsks (rows_of (found_of c.args.matches.now)) (asks_view names.asks))) c.in-Some-2.is
-      c.in_ok-names.ensures.asks;
+  names_options = subst (λ (names : Option SessionNames). IfSome names (λ names.
+      NamesOptions (rows_of (found_of c.args.matches.now)) (options_view names.options))) c.in-Some-2.is
+      c.in_ok-names.ensures.options;
+  within_width = subst (λ (names : Option SessionNames). IfSome names (λ names. names.options.beyond_width ≡ false))
+      c.in-Some-2.is c.in_ok-names.ensures.beyond;
   names_report = sym (first_value-rows (found_of c.args.matches.now) (codes "REPORT")) ∙ sym c.in-Some-get_str.ensures;
   names_wish = subst (λ (wish : Option Wish). FindsWish (rows_of (found_of c.args.matches.now))
       (option_map wish_view wish)) c.in-Some.is c.wish_of.ensures;

@@ -1,10 +1,10 @@
 -- The names of a session's files and a number of workers ask to explore it, as the flag says.
-use Rattle.std.proofs.Common.{codes, inr, option_map, refl, subst, Option}
+use Rattle.std.proofs.Common.{◌≡◌, codes, inr, option_map, refl, subst, sym, Bool, Option}
 use Rattle.clap.specs.Matches.{found_of}
 use Rattle.clap.specs.Walk.{rows_of}
 use Rattle.std.specs.Prelude.{IfSome}
-use Rattle.pd_asked.specs.Views.{asks_view}
-use Rattle.pd_arguments.specs.Arguments.{NamesAsks, FindsSession, of_missing, of_missing_workers}
+use Rattle.pd_spec.specs.Views.{options_view}
+use Rattle.pd_arguments.specs.Arguments.{NamesOptions, FindsSession, SaysBeyondWidth, of_missing, of_missing_workers}
 use Rattle.pd_arguments.specs.Views.{session_view}
 use Rattle.pd_arguments.specs.declared.request.SessionNames.{SessionNames}
 use Rattle.pd_arguments.proofs.Numbers.{lacks_workers}
@@ -29,10 +29,13 @@ returns c arguments taken are = record {
   are_of = are;
   names_session = subst (λ (names : Option SessionNames). FindsSession (rows_of (found_of c.args.matches.now))
       (option_map session_view names)) c.in-Some-2.is c.in_ok-names.ensures.names;
-  names_asks = subst (λ (names : Option SessionNames). IfSome names (λ names.
-      NamesAsks (rows_of (found_of c.args.matches.now)) (asks_view names.asks))) c.in-Some-2.is
-      c.in_ok-names.ensures.asks;
+  names_options = subst (λ (names : Option SessionNames). IfSome names (λ names.
+      NamesOptions (rows_of (found_of c.args.matches.now)) (options_view names.options))) c.in-Some-2.is
+      c.in_ok-names.ensures.options;
+  says_beyond_width = subst (λ (beyond : Bool). SaysBeyondWidth (rows_of (found_of c.args.matches.now)) beyond)
+      (sym (subst (λ (names : Option SessionNames). IfSome names (λ names. names.options.beyond_width ≡ c.flag_of-beyond_width.result))
+      c.in-Some-2.is c.in_ok-names.ensures.beyond))
+      c.flag_of-beyond_width.ensures;
   workers = _;
   names_workers = c.in-Some.ensures.some;
-  says_beyond_width = c.flag_of-beyond_width.ensures;
 }
