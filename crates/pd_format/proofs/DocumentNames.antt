@@ -142,7 +142,8 @@ clear_if false fault r h = h
 clear_inquiry : (inquiry : Inquiry) → HoldsOk (outline_of_inquiry inquiry)
 unfolding outline_of_inquiry
 clear_inquiry inquiry =
-    clear_if _ Long (outline_of_json (inquiry_json inquiry)) (clear_json (inquiry_json inquiry) (ordered_inquiry inquiry))
+    clear_if _ Long (outline_of_json (inquiry_json inquiry)) (clear_json (inquiry_json inquiry)
+    (ordered_inquiry inquiry))
 
 -- an outline that is read has no fault
 pub sound_is_faultless : (inquiry : Inquiry) (outline : Outline) → outline_of_inquiry inquiry ≡ Ok outline

@@ -144,7 +144,8 @@ pub predicates_of_example : with_outline (λ (o : Outline). o.predicates) (outli
 unfolding on_lines
 predicates_of_example = refl
 
-pub width_of_example : with_outline (λ (o : Outline). width_of o.width) (outline_of_inquiry (plain example_document)) ≡ Some 4096
+pub width_of_example : with_outline (λ (o : Outline). width_of o.width) (outline_of_inquiry
+    (plain example_document)) ≡ Some 4096
 unfolding on_lines
 width_of_example = refl
 
@@ -152,12 +153,14 @@ width_of_example = refl
 abbrev asked : Options
 asked = record { width = Some 7; predicates = codes "a.x == 2" ∷ []; beyond_width = false }
 
-pub width_asked : with_outline (λ (o : Outline). width_of o.width) (outline_of_inquiry (inquiry_of asked example_document))
+pub width_asked : with_outline (λ (o : Outline). width_of o.width) (outline_of_inquiry
+    (inquiry_of asked example_document))
     ≡ Some 7
 unfolding on_lines
 width_asked = refl
 
-pub predicates_asked : with_outline (λ (o : Outline). o.predicates) (outline_of_inquiry (inquiry_of asked example_document))
+pub predicates_asked : with_outline (λ (o : Outline). o.predicates) (outline_of_inquiry
+    (inquiry_of asked example_document))
     ≡ Some ((codes "ask1", codes "a.x == 2") ∷ [])
 unfolding on_lines
 predicates_asked = refl

@@ -28,8 +28,8 @@ abbrev pub row_of_stream : List ProcessNames → RawStream → Row
 row_of_stream names stream = row_of_reading (reading names stream.ending stream.bytes)
 
 -- The stream of this source ended as the source may: with its end, unless it is known that a read fails; with a failed
--- read, unless it is known that none fails, and after all its bytes if it is known that one does. Or it was closed by its
--- bytes, and not read on.
+-- read, unless it is known that none fails, and after all its bytes if it is known that one does. Or it was closed by
+-- its bytes, and not read on.
 pub record IsOwnEnd (names : List ProcessNames) (source : Source) (stream : RawStream) : Type 0 where
   pub ends : stream.ending ≡ Ended → source.fails ≢ Some true
   pub fails : stream.ending ≡ Failed

@@ -54,21 +54,22 @@ pub record IsGivenBy (input : Option (List ℕ)) (given : RawStream) : Type 0 wh
   pub prefix : IfSome input (λ bytes. (rest : List ℕ) × (bytes ≡ given.bytes ++ rest))
   pub whole : given.ending ≡ Ended → IfSome input (λ bytes. given.bytes ≡ bytes)
 
--- The same of a source. If it is known whether a read of it fails, that is how what it gave ended: with its end, or
--- with a failed read after all bytes that it had left, as far as they are known.
+-- The same of a source. If it is known whether a read of it fails, what it gave ended so: with its end, or with a
+-- failed read after all bytes that it had left, if these are known.
 pub record IsGivenAs (source : Source) (given : RawStream) : Type 0 where
   pub given_by : IsGivenBy source.bytes given
   pub ends : source.fails ≡ Some false → given.ending ≡ Ended
   pub fails : source.fails ≡ Some true → given.ending ≡ Failed
   pub fails_after : source.fails ≡ Some true → IfSome source.bytes (λ bytes. given.bytes ≡ bytes)
 
--- A read failed of a source that had this left: no read of it is known not to fail, and if one is known to, this holds of
--- all bytes that were left, as far as they are known.
+-- A read failed of a source that had this left: it isn't known that none does, and if it is known that one does, this
+-- holds of all bytes that were left, if these are known.
 pub record FailsAfter (source : Source) (IsAll : List ℕ → Type 0) : Type 0 where
   pub may : source.fails ≢ Some false
   pub all : source.fails ≡ Some true → IfSome source.bytes IsAll
 
--- The bytes that a source gave to its end: all that it had left, if that is known, and no read of it was known to fail.
+-- The bytes that a source gave to its end: all that it had left, if that is known. It isn't known that a read of it
+-- fails.
 pub record IsWholeInput (source : Source) (bytes : List ℕ) : Type 0 where
   pub all : IfSome source.bytes (λ left. bytes ≡ left)
   pub ends : source.fails ≢ Some true
