@@ -14,7 +14,8 @@ use Rattle.pd_format.proofs.DocumentNames.{clear_document}
 abbrev Written : Type 0
 Written = List ℕ × List ℕ
 
-same_outline : (inquiry : Inquiry) (a b : Outline) → outline_of_inquiry inquiry ≡ Ok a → outline_of_inquiry inquiry ≡ Ok b → a ≡ b
+same_outline : (inquiry : Inquiry) (a b : Outline) → outline_of_inquiry inquiry ≡ Ok a
+    → outline_of_inquiry inquiry ≡ Ok b → a ≡ b
 same_outline inquiry a b e f = cc
 
 -- ---- one document

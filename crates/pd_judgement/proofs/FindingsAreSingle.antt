@@ -142,7 +142,8 @@ one_refused_finding inquiry report streams claimed claimed' refusal refusal' goo
     ap (λ b. OfRefusal b) (same_test good good' right moved)
 
 -- a finding on a report of answers, of a well-formed session
-record Judging (inquiry : Inquiry) (report : List ℕ) (streams : List RawStream) (good : Bool) (found : Option (List Checked)) :
+record Judging (inquiry : Inquiry) (report : List ℕ) (streams : List RawStream) (good : Bool) (found : Option
+    (List Checked)) :
     Type 0 where
   processes : ℕ
   events : ℕ
@@ -167,7 +168,8 @@ one_session_finding inquiry report streams good good' found found' p q =
     let events : q.events ≡ p.events = cc in
     let matched : q.matched ≡ p.matched = cc in
     let answers : q.answers ≡ p.answers = cc in
-    let same = one_session inquiry streams p.document q.document p.traces q.traces p.messages q.messages p.held q.held in
+    let same = one_session inquiry streams p.document q.document p.traces q.traces p.messages q.messages p.held q.held
+    in
     let right : IsTrue good' ↔ AreCounts p.document p.traces p.messages p.processes p.events p.matched =
     subst (λ (x : Document × List Trace × ℕ × ℕ × ℕ × ℕ). IsTrue good'
     ↔ AreCounts x.0 x.1 x.2 x.3 x.4 x.5) (λ i. (same.0 i, same.1 i, same.2 i, processes i, events i, matched i))
@@ -189,14 +191,16 @@ not_judged bytes refusal processes events matched answers h k =
 pub one_finding_lem : OneFinding
 one_finding_lem inquiry report streams a b (of_unread line h) (of_unread other k) =
     ap (λ n. NotRead n) (stops_at_one_line_lem report line other h k)
-one_finding_lem inquiry report streams a b (of_unread line h) (of_refused_session claimed refusal good is judged right) =
+one_finding_lem inquiry report streams a b (of_unread line h)
+    (of_refused_session claimed refusal good is judged right) =
     absurd (h.no_report claimed is)
 one_finding_lem inquiry report streams a b (of_unread line h) (of_refusal refusal document traces messages is held) =
     absurd (h.no_report (Refused refusal) is)
 one_finding_lem inquiry report streams a b (of_unread line h)
     (of_session processes events matched answers document traces messages good found is held right finds) =
     absurd (h.no_report (Judged processes events matched answers) is)
-one_finding_lem inquiry report streams a b (of_refused_session claimed refusal good is judged right) (of_unread line h) =
+one_finding_lem inquiry report streams a b (of_refused_session claimed refusal good is judged right)
+    (of_unread line h) =
     absurd (h.no_report claimed is)
 one_finding_lem inquiry report streams a b (of_refused_session claimed refusal good is judged right)
     (of_refused_session claimed' refusal' good' is' judged' right') =

@@ -132,5 +132,6 @@ CleanIsClean = (finding : Finding) → IsTrue (is_clean finding) ↔ IsClean fin
 
 -- a check finds one thing
 abbrev pub OneFinding : Type 0
-OneFinding = (inquiry : Inquiry) (report : List ℕ) (streams : List RawStream) (a b : Finding) → IsFinding inquiry report streams a
+OneFinding = (inquiry : Inquiry) (report : List ℕ) (streams : List RawStream) (a b : Finding)
+    → IsFinding inquiry report streams a
     → IsFinding inquiry report streams b → a ≡ b

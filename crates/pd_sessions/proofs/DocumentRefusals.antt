@@ -12,7 +12,7 @@ use Rattle.pd_format.specs.PredicateTexts.{PredicateFault}
 use Rattle.pd_sessions.specs.Refusals.{IsDocumentRefusal}
 
 pub refused_judged : (asked : Inquiry) (streams : List RawStream) (fault : SpecFault) (refusal : Refusal)
-    → IsFaultOf asked.bytes fault → IsDocumentRefusal fault refusal → IsJudgement asked streams (Refused refusal)
+    → IsFaultOf asked fault → IsDocumentRefusal fault refusal → IsJudgement asked streams (Refused refusal)
 refused_judged asked streams faults.Long refusal is tells = of_refused documents.Long is (ap Refused tells)
 refused_judged asked streams faults.Json refusal is tells = of_refused documents.Json is (ap Refused tells)
 refused_judged asked streams faults.Shape refusal is tells = of_refused documents.Shape is (ap Refused tells)

@@ -1,14 +1,14 @@
 -- The report of the results that readers gave is that of the document's inquiry and of the streams that they gave.
 use Rattle.std.proofs.Common.{◌≡◌, ℕ, List, sym, subst, Some, None, Option, Ok, Err}
-use Rattle.std.specs.Prelude.{Bool, IfErr, IfSome, IsErrAnd, Result}
+use Rattle.std.specs.Prelude.{IfErr, IfSome, IsErrAnd, Result}
 use Rattle.std.specs.List.{AllZip}
-use Rattle.pd_format.specs.Documents.{Document, Inquiry, IsInquired}
+use Rattle.pd_format.specs.Documents.{Document, Inquiry, IsDocument}
 use Rattle.pd_format.specs.Readings.{Trace}
 use Rattle.pd_format.specs.Reports.{Report}
 use Rattle.pd_format.specs.Sessions.{SessionFault, StreamResult, session}
 use Rattle.pd_gather.specs.ReadStreams.{ComesTo}
 use Rattle.pd_judgement.specs.Judgements.{IsJudgement, IsReportOfResults, IsReportOfSession, IsTracesReport, RawStream, of_read}
-use Rattle.pd_judgement.specs.Writes.{IsGivenAs}
+use Rattle.pd_judgement.specs.Writes.{IsGivenAs, Source}
 use Rattle.pd_judgement.proofs.WholeStreams.{all_left_unread, all_unread_given}
 use Rattle.pd_sessions.specs.SessionReports.{IsReportOfInputs}
 use Rattle.pd_sessions.specs.Unanswered.{IsUnanswered, refused_report}
@@ -31,7 +31,7 @@ refusal_given (Err u) unanswered P Q f same p =
 -- ---- streams that are read
 
 pub judged_of_results : (inquiry : Inquiry) (streams : List RawStream) (document : Document) (count : ℕ)
-    (results : List StreamResult) (report : Report) → IsInquired inquiry document
+    (results : List StreamResult) (report : Report) → IsDocument inquiry document
     → ComesTo document.names streams count results → IsReportOfResults document count results report
     → IsJudgement inquiry streams report
 judged_of_results inquiry streams document count results report is comes right =
@@ -39,16 +39,16 @@ judged_of_results inquiry streams document count results report is comes right =
     (subst (λ (r : Result (List Trace) SessionFault). IsReportOfSession document r report) comes.same_session right)
 
 -- what the readers gave comes to these results
-abbrev pub AreGiven : Document → List (Option (List ℕ)) → Bool → ℕ → List StreamResult → Type 0
-AreGiven document inputs never_fails count results =
-    (streams : List RawStream) × AllZip (IsGivenAs never_fails) inputs streams
+abbrev pub AreGiven : Document → List Source → ℕ → List StreamResult → Type 0
+AreGiven document inputs count results =
+    (streams : List RawStream) × AllZip IsGivenAs inputs streams
     × ComesTo document.names streams count results
 
-pub inputs_report : (inquiry : Inquiry) (inputs : List (Option (List ℕ))) (never_fails : Bool) (document : Document)
-    (count : ℕ) (results : List StreamResult) (report : Report) → IsInquired inquiry document
-    → AreGiven document inputs never_fails count results → IsReportOfResults document count results report
-    → IsReportOfInputs inquiry inputs never_fails report
-inputs_report inquiry inputs never_fails document count results report is given right = record {
+pub inputs_report : (inquiry : Inquiry) (inputs : List Source) (document : Document)
+    (count : ℕ) (results : List StreamResult) (report : Report) → IsDocument inquiry document
+    → AreGiven document inputs count results → IsReportOfResults document count results report
+    → IsReportOfInputs inquiry inputs report
+inputs_report inquiry inputs document count results report is given right = record {
   streams = given.0;
   are_given = given.1;
   right = judged_of_results inquiry given.0 document count results report is given.2 right;
@@ -56,12 +56,12 @@ inputs_report inquiry inputs never_fails document count results report is given 
 
 -- ---- a document that is refused
 
-pub refused_inputs_report : (inquiry : Inquiry) (inputs : List (Option (List ℕ))) (never_fails : Bool)
+pub refused_inputs_report : (inquiry : Inquiry) (inputs : List Source)
     (report : Report) → ((streams : List RawStream) → IsJudgement inquiry streams report)
-    → IsReportOfInputs inquiry inputs never_fails report
-refused_inputs_report inquiry inputs never_fails report any = record {
+    → IsReportOfInputs inquiry inputs report
+refused_inputs_report inquiry inputs report any = record {
   streams = all_left_unread inputs;
-  are_given = all_unread_given never_fails inputs;
+  are_given = all_unread_given inputs;
   right = any (all_left_unread inputs);
 }
 

@@ -1,6 +1,7 @@
 //! Reads a source up to a limit.
 ghost use Rattle.pd_format.specs.Limits.{report_byte_limit};
-ghost use Rattle.std.specs.Prelude.{◌≡◌, ◌≢◌, ◌+◌, ◌≤◌, ◌⊎◌, Err, IfErr, IfOk, IfSome, false, take, true, vec_len};
+ghost use Rattle.pd_judgement.specs.Writes.{FailsAfter};
+ghost use Rattle.std.specs.Prelude.{◌≡◌, ◌≢◌, ◌+◌, ◌≤◌, ◌⊎◌, Err, IfErr, IfOk, IfSome, Some, false, length, take, true, vec_len};
 
 use super::EngineFault;
 use pd_gather::{ByteSource, read_bytes};
@@ -20,9 +21,10 @@ pub fn read_upto<R: ByteSource + Drop>(
     requires open { R.has_ended reader ≡ false }
     requires few { limit ≤ report_byte_limit }
     ensures within { IfOk result (λ bytes. vec_len bytes ≤ limit + 1) }
-    ensures prefix { IfOk result (λ bytes. IfSome (R.remaining reader) (λ input.
+    ensures prefix { IfOk result (λ bytes. IfSome (R.left reader).bytes (λ input.
         bytes.items ≡ take (limit + 1) input)) }
-    ensures sure { R.never_fails ≡ true → result ≢ Err EngineFault.Read }
+    ensures end { IfOk result (λ bytes. vec_len bytes ≤ limit → (R.left reader).fails ≢ Some true) }
+    ensures cause { result ≡ Err EngineFault.Read → FailsAfter (R.left reader) (λ bytes. length bytes ≤ limit) }
     ensures err { IfErr result (λ fault. (fault ≡ EngineFault.Memory) ⊎ (fault ≡ EngineFault.Read)) }
 {
     Ok(read_bytes(alloc, reader, limit)?)

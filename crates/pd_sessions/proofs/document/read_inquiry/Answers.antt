@@ -1,14 +1,14 @@
 -- The refusal of a document is the report of any streams.
-use Rattle.pd_format.specs.Documents.{inquiry}
 use Rattle.pd_report.specs.Views.{refusal_view}
 use Rattle.pd_sessions.proofs.DocumentRefusals.{refused_judged}
 use Rattle.pd_sessions.proofs.EarlyRefusals.{document_names_none}
+use Rattle.pd_sessions.specs.Inquiries.{inquiry_view}
 use Rattle.pd_sessions.specs.Refusals.{document_fault_view}
-use Rattle.pd_sessions.proofs.document.read_document.Goals as goal
+use Rattle.pd_sessions.proofs.document.read_inquiry.Goals as goal
 
 pub returns-in_ok-of_document-in-Err-clause-refused : goal.returns-in_ok-of_document-in-Err-clause-refused
-returns-in_ok-of_document-in-Err-clause-refused c = λ beyond_width streams.
-    refused_judged (inquiry beyond_width c.args.bytes.now) streams c.in-Err.fault
+returns-in_ok-of_document-in-Err-clause-refused c = λ streams.
+    refused_judged (inquiry_view c.args.inquiry) streams c.in-Err.fault
     (refusal_view c.in_ok-of_document-in-Err.field-0)
     c.in-Err.ensures.err c.in_ok-of_document-in-Err.ensures
 
