@@ -12,7 +12,8 @@ use Rattle.pd_judgement.specs.Judgements.{IsJudgement, RawStream, recorded_of}
 use Rattle.pd_check.specs.Found.{IsFoundOf, IsFoundOfRefused, of_refused_session, of_refusal, of_session}
 
 -- of a refused session
-pub finding_of_refused : (inquiry : Inquiry) (report : List ℕ) (streams : List RawStream) (refusal : Refusal) (claimed : Report)
+pub finding_of_refused : (inquiry : Inquiry) (report : List ℕ) (streams : List RawStream) (refusal : Refusal)
+    (claimed : Report)
     (finding : Finding) → IsReport report claimed → IsJudgement inquiry streams (Refused refusal)
     → IsFoundOfRefused refusal claimed finding
     → IsFinding inquiry report streams finding
@@ -20,7 +21,8 @@ finding_of_refused inquiry report streams refusal claimed finding read refused (
     findings.of_refused_session claimed refusal good read refused right
 
 -- of a well-formed session
-pub finding_of_session : (inquiry : Inquiry) (report : List ℕ) (streams : List RawStream) (document : Document) (traces : List Trace)
+pub finding_of_session : (inquiry : Inquiry) (report : List ℕ) (streams : List RawStream) (document : Document)
+    (traces : List Trace)
     (messages : ℕ) (claimed : Report) (finding : Finding) → IsReport report claimed
     → IsSessionOf inquiry streams document traces messages → IsFoundOf document traces messages claimed finding
     → IsFinding inquiry report streams finding

@@ -1,13 +1,13 @@
 -- What is drawn of a report by the session that readers gave.
 use Rattle.std.proofs.Common.{◌≡◌, ℕ, List, sym, ap, ◌∙◌, subst, refl, true}
-use Rattle.std.specs.Prelude.{Bool, Option}
+use Rattle.pd_judgement.specs.Writes.{Source}
 use Rattle.pd_model.specs.Events.{Computation, Place}
 use Rattle.pd_model.specs.Messages.{IsMessageList}
 use Rattle.pd_model.specs.Predicates.{Recorded}
 use Rattle.pd_traces.specs.Views.{computation_view}
 use Rattle.pd_traces.specs.declared.event.Trace.{Trace as Read}
 use Rattle.pd_gather.specs.Views.{traces_view}
-use Rattle.pd_format.specs.Documents.{Document, plain}
+use Rattle.pd_format.specs.Documents.{Document, Inquiry}
 use Rattle.pd_format.specs.OtherTexts.{Finding, NotRead}
 use Rattle.pd_format.specs.Readings.{Trace}
 use Rattle.pd_format.specs.Reports.{IsNoReport, IsReport, Refusal, Refused, Report}
@@ -94,11 +94,11 @@ cycle_drawn document traces pairs claimed refusal extent picture list refused sa
 }
 
 -- a session that was read
-module _ (bytes : List ℕ) (inputs : List (Option (List ℕ))) (never_fails : Bool) (document : Document)
+module _ (inquiry : Inquiry) (inputs : List Source) (document : Document)
     (traces : List Trace) (claimed : Report) (wish : Wished)
-    (read : IsRead bytes inputs never_fails document traces) where
+    (read : IsRead inquiry inputs document traces) where
   held : (given : Drawn) → (draws : DrawsFormed document traces claimed wish given)
-      → IsSessionOf bytes read.streams document traces draws.messages
+      → IsSessionOf inquiry read.streams document traces draws.messages
   held given draws = record {
     read = read.is_document;
     results = read.comes.given_results;
@@ -109,7 +109,7 @@ module _ (bytes : List ℕ) (inputs : List (Option (List ℕ))) (never_fails : B
   }
 
   pub session_drawn : (given : Drawn) → DrawsTraces document traces claimed wish given
-      → DrawsOf bytes claimed inputs never_fails wish given
+      → DrawsOf inquiry claimed inputs wish given
   session_drawn (drawn.Picture picture) draws report is_report = record {
     streams = read.streams;
     are_given = read.are_given;
@@ -126,7 +126,7 @@ module _ (bytes : List ℕ) (inputs : List (Option (List ℕ))) (never_fails : B
   session_drawn (drawn.Bad finding) draws report is_report = record {
     streams = read.streams;
     are_given = read.are_given;
-    right = finding_of_session bytes report read.streams document traces draws.messages claimed (finding_view finding)
+    right = finding_of_session inquiry report read.streams document traces draws.messages claimed (finding_view finding)
         is_report (held (drawn.Bad finding) draws) draws.comes.found;
     stands = draws.comes.stands;
     undrawn = λ same. absurd (formed_unrefused document traces draws.messages claimed (finding_view finding)
@@ -136,7 +136,7 @@ module _ (bytes : List ℕ) (inputs : List (Option (List ℕ))) (never_fails : B
     streams = read.streams;
     are_given = read.are_given;
     checked = draws.comes.checked;
-    right = finding_of_session bytes report read.streams document traces draws.messages claimed _
+    right = finding_of_session inquiry report read.streams document traces draws.messages claimed _
         is_report (held drawn.NoPredicate draws) draws.comes.found;
     is_unknown = draws.comes.is_unknown;
   }
@@ -144,7 +144,7 @@ module _ (bytes : List ℕ) (inputs : List (Option (List ℕ))) (never_fails : B
     streams = read.streams;
     are_given = read.are_given;
     checked = draws.comes.checked;
-    right = finding_of_session bytes report read.streams document traces draws.messages claimed _
+    right = finding_of_session inquiry report read.streams document traces draws.messages claimed _
         is_report (held drawn.NoEvidence draws) draws.comes.found;
     is_lacking = draws.comes.is_lacking;
   }
@@ -167,13 +167,13 @@ refusal_stands : (refusal : Refusal) (claimed : Report) (wish : Wished) (finding
     → IsFoundOfRefused refusal claimed finding → stands_against wish finding ≡ true
 refusal_stands refusal claimed wish finding (of_refused_session good right) = refl
 
-pub refusal_drawn : (bytes : List ℕ) (inputs : List (Option (List ℕ))) (never_fails : Bool) (refusal : Refusal)
+pub refusal_drawn : (inquiry : Inquiry) (inputs : List Source) (refusal : Refusal)
     (claimed : Report)
-    (wish : Wished) (finding : Finding) → IsReportOfInputs (plain bytes) inputs never_fails (Refused refusal)
+    (wish : Wished) (finding : Finding) → IsReportOfInputs inquiry inputs (Refused refusal)
     → NeedsNoPicture claimed (Refused refusal) → IsFoundOfRefused refusal claimed finding
-    → (report : List ℕ) → IsReport report claimed → IsAgainst bytes report inputs never_fails wish finding
-refusal_drawn bytes inputs never_fails refusal claimed wish finding refused undrawn found report is_report =
-    let finds = refusal_found bytes inputs never_fails refusal claimed finding refused found in record {
+    → (report : List ℕ) → IsReport report claimed → IsAgainst inquiry report inputs wish finding
+refusal_drawn inquiry inputs refusal claimed wish finding refused undrawn found report is_report =
+    let finds = refusal_found inquiry inputs refusal claimed finding refused found in record {
       streams = finds.streams;
       are_given = finds.are_given;
       right = finds.right report is_report;
@@ -182,10 +182,10 @@ refusal_drawn bytes inputs never_fails refusal claimed wish finding refused undr
     }
 
 -- a report that isn't read
-pub unread_drawn : (bytes report : List ℕ) (inputs : List (Option (List ℕ))) (never_fails : Bool) (wish : Wished)
-    (line : ℕ) → IsNoReport report line → IsAgainst bytes report inputs never_fails wish (NotRead line)
-unread_drawn bytes report inputs never_fails wish line none =
-    let finds = unread_found bytes report inputs never_fails line none in record {
+pub unread_drawn : (inquiry : Inquiry) (report : List ℕ) (inputs : List Source) (wish : Wished)
+    (line : ℕ) → IsNoReport report line → IsAgainst inquiry report inputs wish (NotRead line)
+unread_drawn inquiry report inputs wish line none =
+    let finds = unread_found inquiry report inputs line none in record {
       streams = finds.streams;
       are_given = finds.are_given;
       right = finds.right;

@@ -1,16 +1,15 @@
 -- What is found of a report by the session that readers gave.
 use Rattle.std.proofs.Common.{ℕ, List, sym, ap, ◌∙◌, subst}
-use Rattle.std.specs.Prelude.{Bool, Option}
+use Rattle.pd_judgement.specs.Writes.{Source}
 use Rattle.pd_model.specs.Events.{Computation}
 use Rattle.pd_model.specs.Messages.{HasMessages}
 use Rattle.pd_model.specs.Predicates.{Recorded}
-use Rattle.pd_format.specs.Documents.{Document, plain}
+use Rattle.pd_format.specs.Documents.{Document, Inquiry}
 use Rattle.pd_format.specs.OtherTexts.{Finding, NotRead}
 use Rattle.pd_format.specs.Readings.{Trace}
 use Rattle.pd_format.specs.Reports.{IsNoReport, IsReport, Refusal, Refused, Report}
 use Rattle.pd_judgement.specs.Findings.{of_unread}
 use Rattle.pd_judgement.specs.Judgements.{IsTracesReport}
-use Rattle.pd_judgement.proofs.DocumentsAreSingle.{plainly}
 use Rattle.pd_judgement.proofs.WholeStreams.{all_left_unread, all_unread_given}
 use Rattle.pd_check.specs.Found.{IsFoundOf, IsFoundOfRefused}
 use Rattle.pd_check.proofs.SessionFindings.{finding_of_refused, finding_of_session}
@@ -27,15 +26,15 @@ messages_counted document traces recorded messages well =
     subst (λ (c : Computation). HasMessages c messages) (ap (λ (r : Recorded). r.events) (sym well.same)) well.counted
 
 -- a well-formed session
-pub session_found : (bytes : List ℕ) (inputs : List (Option (List ℕ))) (never_fails : Bool) (document : Document)
+pub session_found : (inquiry : Inquiry) (inputs : List Source) (document : Document)
     (traces : List Trace) (recorded : Recorded) (messages : ℕ) (claimed : Report) (finding : Finding)
-    → IsRead bytes inputs never_fails document traces → AreWellFormed document traces recorded messages
-    → IsFoundOf document traces messages claimed finding → FindsOf bytes claimed inputs never_fails finding
-session_found bytes inputs never_fails document traces recorded messages claimed finding session well found =
+    → IsRead inquiry inputs document traces → AreWellFormed document traces recorded messages
+    → IsFoundOf document traces messages claimed finding → FindsOf inquiry claimed inputs finding
+session_found inquiry inputs document traces recorded messages claimed finding session well found =
     record {
       streams = session.streams;
       are_given = session.are_given;
-      right = λ report read. finding_of_session bytes report session.streams document traces messages claimed finding
+      right = λ report read. finding_of_session inquiry report session.streams document traces messages claimed finding
           read
           (record {
             read = session.is_document;
@@ -49,44 +48,44 @@ session_found bytes inputs never_fails document traces recorded messages claimed
     }
 
 -- a refusal of a session that was read so far
-pub read_report : (bytes : List ℕ) (inputs : List (Option (List ℕ))) (never_fails : Bool) (document : Document)
-    (traces : List Trace) (report : Report) → IsRead bytes inputs never_fails document traces
-    → IsTracesReport document traces report → IsReportOfInputs (plain bytes) inputs never_fails report
-read_report bytes inputs never_fails document traces report session right =
-    inputs_report (plain bytes) inputs never_fails document session.count session.results report
-    (plainly bytes document session.is_document)
+pub read_report : (inquiry : Inquiry) (inputs : List Source) (document : Document)
+    (traces : List Trace) (report : Report) → IsRead inquiry inputs document traces
+    → IsTracesReport document traces report → IsReportOfInputs inquiry inputs report
+read_report inquiry inputs document traces report session right =
+    inputs_report inquiry inputs document session.count session.results report
+    session.is_document
     (session.streams, session.are_given, session.comes)
     (traces_report document session.count session.results traces report session.joined right)
 
 -- a refused session
-pub refusal_found : (bytes : List ℕ) (inputs : List (Option (List ℕ))) (never_fails : Bool) (refusal : Refusal)
-    (claimed : Report) (finding : Finding) → IsReportOfInputs (plain bytes) inputs never_fails (Refused refusal)
-    → IsFoundOfRefused refusal claimed finding → FindsOf bytes claimed inputs never_fails finding
-refusal_found bytes inputs never_fails refusal claimed finding refused found = record {
+pub refusal_found : (inquiry : Inquiry) (inputs : List Source) (refusal : Refusal)
+    (claimed : Report) (finding : Finding) → IsReportOfInputs inquiry inputs (Refused refusal)
+    → IsFoundOfRefused refusal claimed finding → FindsOf inquiry claimed inputs finding
+refusal_found inquiry inputs refusal claimed finding refused found = record {
   streams = refused.streams;
   are_given = refused.are_given;
-  right = λ report read. finding_of_refused bytes report refused.streams refusal claimed finding read refused.right
+  right = λ report read. finding_of_refused inquiry report refused.streams refusal claimed finding read refused.right
       found;
 }
 
 -- a report that is read
-pub report_found : (bytes report : List ℕ) (inputs : List (Option (List ℕ))) (never_fails : Bool) (claimed : Report)
+pub report_found : (inquiry : Inquiry) (report : List ℕ) (inputs : List Source) (claimed : Report)
     (finding : Finding)
-    → IsReport report claimed → FindsOf bytes claimed inputs never_fails finding
-    → Finds bytes report inputs never_fails finding
-report_found bytes report inputs never_fails claimed finding read found = record {
+    → IsReport report claimed → FindsOf inquiry claimed inputs finding
+    → Finds inquiry report inputs finding
+report_found inquiry report inputs claimed finding read found = record {
   streams = found.streams;
   are_given = found.are_given;
   right = found.right report read;
 }
 
 -- a report that isn't read
-pub unread_found : (bytes report : List ℕ) (inputs : List (Option (List ℕ))) (never_fails : Bool) (line : ℕ)
+pub unread_found : (inquiry : Inquiry) (report : List ℕ) (inputs : List Source) (line : ℕ)
     → IsNoReport report line
-    → Finds bytes report inputs never_fails (NotRead line)
-unread_found bytes report inputs never_fails line none =
+    → Finds inquiry report inputs (NotRead line)
+unread_found inquiry report inputs line none =
     record {
       streams = all_left_unread inputs;
-      are_given = all_unread_given never_fails inputs;
+      are_given = all_unread_given inputs;
       right = of_unread line none;
     }

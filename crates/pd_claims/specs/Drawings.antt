@@ -1,11 +1,11 @@
 -- What is drawn by a document's bytes, a report's bytes and the streams that readers gave.
-use Rattle.std.specs.Prelude.{◌≡◌, ◌≢◌, ◌⊎◌, ℕ, Bool, true, List, length, Option, Some, Result, Ok, Err}
+use Rattle.std.specs.Prelude.{◌≡◌, ◌≢◌, ◌⊎◌, ℕ, true, List, length, Option, Some, Result, Ok, Err}
 use Rattle.std.specs.Io.KnownBytes.{Keeps}
 use Rattle.std.specs.List.{AllZip}
 use Rattle.pd_model.specs.Events.{Place}
 use Rattle.pd_model.specs.Messages.{HasMessages, IsMessageList}
 use Rattle.pd_model.specs.Order.{IsWellFormed}
-use Rattle.pd_format.specs.Documents.{Document, IsDocument}
+use Rattle.pd_format.specs.Documents.{Document, IsDocument, Inquiry}
 use Rattle.pd_format.specs.OtherTexts.{Checked, Finding, OfRefusal, OfSession, check_text}
 use Rattle.pd_format.specs.Readings.{Trace}
 use Rattle.pd_format.specs.Reports.{IsReport, NamedPlace, Refusal, Report}
@@ -13,7 +13,7 @@ use Rattle.pd_format.specs.Reports as reports
 use Rattle.pd_format.specs.Sessions.{StreamResult, session}
 use Rattle.pd_judgement.specs.Findings.{IsFinding, IsSessionOf}
 use Rattle.pd_judgement.specs.Judgements.{AreResultsOf, IsTracesReport, RawStream, events_of_traces}
-use Rattle.pd_judgement.specs.Writes.{IsGivenAs, Whole, Writes}
+use Rattle.pd_judgement.specs.Writes.{IsGivenAs, Whole, Writes, Source}
 use Rattle.pd_check.specs.Views.{finding_view}
 use Rattle.pd_svg.specs.Svg.{drawing_text}
 use Rattle.pd_svg.specs.declared.drawing.Drawing.{Drawing as Picture}
@@ -67,30 +67,29 @@ DrawsTraces document traces claimed wish drawn.NoEvidence = DrawsFormed document
 DrawsTraces document traces claimed wish (drawn.Cycle picture) =
     DrawsCycle document traces claimed wish.extent picture
 
--- the picture of the session that the streams hold, which readers with this left gave, of which no read ever fails, if
--- that is said; and of the report in these bytes
-pub record IsPictureOf (bytes report : List ℕ) (inputs : List (Option (List ℕ))) (never_fails : Bool)
+-- the picture of the session that the streams hold which these sources gave, and of the report in these bytes
+pub record IsPictureOf (inquiry : Inquiry) (report : List ℕ) (inputs : List Source)
     (wish : Wished) (picture : Picture) : Type 0 where
   pub streams : List RawStream
-  pub are_given : AllZip (IsGivenAs never_fails) inputs streams
+  pub are_given : AllZip IsGivenAs inputs streams
   pub document : Document
   pub traces : List Trace
   pub messages : ℕ
-  pub held : IsSessionOf bytes streams document traces messages
+  pub held : IsSessionOf inquiry streams document traces messages
   pub pairs : List (Place × Place)
   pub are_pairs : IsMessageList (events_of_traces traces) pairs
   pub claimed : Report
   pub read : IsReport report claimed
   pub drawn : IsDrawn document traces pairs messages claimed wish picture
 
--- The picture of a session that is refused for a causal cycle, as the report in these bytes says, which readers with
--- this left gave, of which no read ever fails, if that is said.
-pub record IsPictureOfCycle (bytes report : List ℕ) (inputs : List (Option (List ℕ))) (never_fails : Bool)
+-- The picture of a session that is refused for a causal cycle, as the report in these bytes says, of the streams that
+-- these sources gave.
+pub record IsPictureOfCycle (inquiry : Inquiry) (report : List ℕ) (inputs : List Source)
     (extent : Extent) (picture : Picture) : Type 0 where
   pub streams : List RawStream
-  pub are_given : AllZip (IsGivenAs never_fails) inputs streams
+  pub are_given : AllZip IsGivenAs inputs streams
   pub document : Document
-  pub is_document : IsDocument bytes document
+  pub is_document : IsDocument inquiry document
   pub results : List StreamResult
   pub are_results : AreResultsOf document.names streams results
   pub traces : List Trace
@@ -101,99 +100,99 @@ pub record IsPictureOfCycle (bytes report : List ℕ) (inputs : List (Option (Li
 
 -- What a check finds, which stands against a picture. It isn't that the session is refused for a causal cycle as the
 -- report says: that cycle is drawn.
-pub record IsAgainst (bytes report : List ℕ) (inputs : List (Option (List ℕ))) (never_fails : Bool)
+pub record IsAgainst (inquiry : Inquiry) (report : List ℕ) (inputs : List Source)
     (wish : Wished) (finding : Finding) : Type 0 where
   pub streams : List RawStream
-  pub are_given : AllZip (IsGivenAs never_fails) inputs streams
-  pub right : IsFinding bytes report streams finding
+  pub are_given : AllZip IsGivenAs inputs streams
+  pub right : IsFinding inquiry report streams finding
   pub stands : stands_against wish finding ≡ true
   pub undrawn : finding ≡ OfRefusal true → (places : List NamedPlace)
       → ¬ IsReport report (reports.Refused (reports.Cycle places))
 
 -- a check finds verdicts on predicates of which none has this name
-pub record LacksPredicate (bytes report : List ℕ) (inputs : List (Option (List ℕ))) (never_fails : Bool)
+pub record LacksPredicate (inquiry : Inquiry) (report : List ℕ) (inputs : List Source)
     (wish : Wished) : Type 0 where
   pub streams : List RawStream
-  pub are_given : AllZip (IsGivenAs never_fails) inputs streams
+  pub are_given : AllZip IsGivenAs inputs streams
   pub checked : List Checked
-  pub right : IsFinding bytes report streams (OfSession true (Some checked))
+  pub right : IsFinding inquiry report streams (OfSession true (Some checked))
   pub is_unknown : LacksName wish checked
 
 -- a check finds verdicts on predicates without evidence of the kind that is asked for
-pub record LacksKind (bytes report : List ℕ) (inputs : List (Option (List ℕ))) (never_fails : Bool) (wish : Wished) :
+pub record LacksKind (inquiry : Inquiry) (report : List ℕ) (inputs : List Source) (wish : Wished) :
     Type 0 where
   pub streams : List RawStream
-  pub are_given : AllZip (IsGivenAs never_fails) inputs streams
+  pub are_given : AllZip IsGivenAs inputs streams
   pub checked : List Checked
-  pub right : IsFinding bytes report streams (OfSession true (Some checked))
+  pub right : IsFinding inquiry report streams (OfSession true (Some checked))
   pub is_lacking : LacksEvidence wish checked
 
-abbrev pub Draws : (bytes report : List ℕ) (inputs : List (Option (List ℕ))) (never_fails : Bool)
+abbrev pub Draws : (inquiry : Inquiry) (report : List ℕ) (inputs : List Source)
     (wish : Wished) → Drawn → Type 0
-Draws bytes report inputs never_fails wish (drawn.Picture picture) =
-    IsPictureOf bytes report inputs never_fails wish picture
-Draws bytes report inputs never_fails wish (drawn.Bad finding) =
-    IsAgainst bytes report inputs never_fails wish (finding_view finding)
-Draws bytes report inputs never_fails wish drawn.NoPredicate = LacksPredicate bytes report inputs never_fails wish
-Draws bytes report inputs never_fails wish drawn.NoEvidence = LacksKind bytes report inputs never_fails wish
-Draws bytes report inputs never_fails wish (drawn.Cycle picture) =
-    IsPictureOfCycle bytes report inputs never_fails wish.extent picture
+Draws inquiry report inputs wish (drawn.Picture picture) =
+    IsPictureOf inquiry report inputs wish picture
+Draws inquiry report inputs wish (drawn.Bad finding) =
+    IsAgainst inquiry report inputs wish (finding_view finding)
+Draws inquiry report inputs wish drawn.NoPredicate = LacksPredicate inquiry report inputs wish
+Draws inquiry report inputs wish drawn.NoEvidence = LacksKind inquiry report inputs wish
+Draws inquiry report inputs wish (drawn.Cycle picture) =
+    IsPictureOfCycle inquiry report inputs wish.extent picture
 
 -- the same of any bytes that are this report
-abbrev pub DrawsOf : (bytes : List ℕ) (claimed : Report) (inputs : List (Option (List ℕ))) (never_fails : Bool)
+abbrev pub DrawsOf : (inquiry : Inquiry) (claimed : Report) (inputs : List Source)
     (wish : Wished) → Drawn → Type 0
-DrawsOf bytes claimed inputs never_fails wish given =
-    (report : List ℕ) → IsReport report claimed → Draws bytes report inputs never_fails wish given
+DrawsOf inquiry claimed inputs wish given =
+    (report : List ℕ) → IsReport report claimed → Draws inquiry report inputs wish given
 
 -- ---- what is written, and what is given
 
 -- the text of the picture
-pub record IsDrawingTextOf (bytes report : List ℕ) (inputs : List (Option (List ℕ))) (never_fails : Bool)
+pub record IsDrawingTextOf (inquiry : Inquiry) (report : List ℕ) (inputs : List Source)
     (wish : Wished) (text : List ℕ) : Type 0 where
   pub picture : Picture
-  pub is_picture : IsPictureOf bytes report inputs never_fails wish picture
+  pub is_picture : IsPictureOf inquiry report inputs wish picture
   pub is_text : text ≡ drawing_text picture
 
 -- the text of what a check finds, which stands against a picture
-pub record IsRefusalTextOf (bytes report : List ℕ) (inputs : List (Option (List ℕ))) (never_fails : Bool)
+pub record IsRefusalTextOf (inquiry : Inquiry) (report : List ℕ) (inputs : List Source)
     (wish : Wished) (text : List ℕ) : Type 0 where
   pub finding : Finding
-  pub is_against : IsAgainst bytes report inputs never_fails wish finding
+  pub is_against : IsAgainst inquiry report inputs wish finding
   pub is_text : text ≡ check_text finding
 
 -- the text of the picture of a cycle
-pub record IsCycleTextOf (bytes report : List ℕ) (inputs : List (Option (List ℕ))) (never_fails : Bool)
+pub record IsCycleTextOf (inquiry : Inquiry) (report : List ℕ) (inputs : List Source)
     (extent : Extent) (text : List ℕ) : Type 0 where
   pub picture : Picture
-  pub is_picture : IsPictureOfCycle bytes report inputs never_fails extent picture
+  pub is_picture : IsPictureOfCycle inquiry report inputs extent picture
   pub is_text : text ≡ drawing_text picture
 
 -- the text of one picture or of the other
-abbrev pub IsAnyTextOf : (bytes report : List ℕ) (inputs : List (Option (List ℕ))) (never_fails : Bool)
+abbrev pub IsAnyTextOf : (inquiry : Inquiry) (report : List ℕ) (inputs : List Source)
     (wish : Wished) → (text : List ℕ) → Type 0
-IsAnyTextOf bytes report inputs never_fails wish text =
-    IsDrawingTextOf bytes report inputs never_fails wish text
-    ⊎ IsCycleTextOf bytes report inputs never_fails wish.extent text
+IsAnyTextOf inquiry report inputs wish text =
+    IsDrawingTextOf inquiry report inputs wish text
+    ⊎ IsCycleTextOf inquiry report inputs wish.extent text
 
 -- what is left on the output
-abbrev pub WritesPicture : (bytes report : List ℕ) (inputs : List (Option (List ℕ))) (never_fails : Bool)
+abbrev pub WritesPicture : (inquiry : Inquiry) (report : List ℕ) (inputs : List Source)
     (wish : Wished) → Result DrawOutcome EngineFault → (old new : Option (List ℕ)) → Type 0
-WritesPicture bytes report inputs never_fails wish (Ok Written) old new =
-    Writes (IsDrawingTextOf bytes report inputs never_fails wish) Whole old new
-WritesPicture bytes report inputs never_fails wish (Ok CycleWritten) old new =
-    Writes (IsCycleTextOf bytes report inputs never_fails wish.extent) Whole old new
-WritesPicture bytes report inputs never_fails wish (Ok (Refused text)) old new = Keeps old new
-WritesPicture bytes report inputs never_fails wish (Ok NoPredicate) old new = Keeps old new
-WritesPicture bytes report inputs never_fails wish (Ok NoEvidence) old new = Keeps old new
-WritesPicture bytes report inputs never_fails wish (Err fault) old new =
-    Writes (IsAnyTextOf bytes report inputs never_fails wish) (fault_end fault) old new
+WritesPicture inquiry report inputs wish (Ok Written) old new =
+    Writes (IsDrawingTextOf inquiry report inputs wish) Whole old new
+WritesPicture inquiry report inputs wish (Ok CycleWritten) old new =
+    Writes (IsCycleTextOf inquiry report inputs wish.extent) Whole old new
+WritesPicture inquiry report inputs wish (Ok (Refused text)) old new = Keeps old new
+WritesPicture inquiry report inputs wish (Ok NoPredicate) old new = Keeps old new
+WritesPicture inquiry report inputs wish (Ok NoEvidence) old new = Keeps old new
+WritesPicture inquiry report inputs wish (Err fault) old new =
+    Writes (IsAnyTextOf inquiry report inputs wish) (fault_end fault) old new
 
 -- what stands against the picture, if none is written
-abbrev pub ShowsEnd : (bytes report : List ℕ) (inputs : List (Option (List ℕ))) (never_fails : Bool)
+abbrev pub ShowsEnd : (inquiry : Inquiry) (report : List ℕ) (inputs : List Source)
     (wish : Wished) → DrawOutcome → Type 0
-ShowsEnd bytes report inputs never_fails wish Written = Unit {0}
-ShowsEnd bytes report inputs never_fails wish CycleWritten = Unit {0}
-ShowsEnd bytes report inputs never_fails wish (Refused text) =
-    IsRefusalTextOf bytes report inputs never_fails wish text.items
-ShowsEnd bytes report inputs never_fails wish NoPredicate = LacksPredicate bytes report inputs never_fails wish
-ShowsEnd bytes report inputs never_fails wish NoEvidence = LacksKind bytes report inputs never_fails wish
+ShowsEnd inquiry report inputs wish Written = Unit {0}
+ShowsEnd inquiry report inputs wish CycleWritten = Unit {0}
+ShowsEnd inquiry report inputs wish (Refused text) =
+    IsRefusalTextOf inquiry report inputs wish text.items
+ShowsEnd inquiry report inputs wish NoPredicate = LacksPredicate inquiry report inputs wish
+ShowsEnd inquiry report inputs wish NoEvidence = LacksKind inquiry report inputs wish

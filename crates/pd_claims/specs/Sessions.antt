@@ -1,20 +1,20 @@
 -- The session that a report is held against.
-use Rattle.std.specs.Prelude.{◌≡◌, ℕ, Bool, List, Ok, Option}
+use Rattle.std.specs.Prelude.{◌≡◌, ℕ, List, Ok}
 use Rattle.std.specs.List.{AllZip}
-use Rattle.pd_format.specs.Documents.{Document, IsDocument}
+use Rattle.pd_format.specs.Documents.{Document, IsDocument, Inquiry}
 use Rattle.pd_format.specs.Readings.{Trace}
 use Rattle.pd_format.specs.Sessions.{StreamResult, session}
 use Rattle.pd_gather.specs.ReadStreams.{ComesTo}
 use Rattle.pd_judgement.specs.Judgements.{RawStream}
-use Rattle.pd_judgement.specs.Writes.{IsGivenAs}
+use Rattle.pd_judgement.specs.Writes.{IsGivenAs, Source}
 
--- The document and the traces are those that these bytes and streams hold, of which none is refused; readers with this
--- left gave the streams, and no read of them ever fails, if that is said.
-pub record IsRead (bytes : List ℕ) (inputs : List (Option (List ℕ))) (never_fails : Bool) (document : Document)
+-- The document and the traces are those that this inquiry and the streams that these sources gave hold, of which none
+-- is refused.
+pub record IsRead (inquiry : Inquiry) (inputs : List Source) (document : Document)
     (traces : List Trace) : Type 0 where
-  pub is_document : IsDocument bytes document
+  pub is_document : IsDocument inquiry document
   pub streams : List RawStream
-  pub are_given : AllZip (IsGivenAs never_fails) inputs streams
+  pub are_given : AllZip IsGivenAs inputs streams
   pub count : ℕ
   pub results : List StreamResult
   pub comes : ComesTo document.names streams count results

@@ -5,6 +5,7 @@ ghost use Rattle.pd_format.specs.Documents.{plain};
 ghost use Rattle.pd_judgement.specs.Writes.{IsFindingTextOf, Writes};
 ghost use Rattle.pd_report.specs.Views.{report_view};
 ghost use Rattle.pd_sessions.specs.Ends.{call_end};
+ghost use Rattle.pd_sessions.specs.Inquiries.{inquiry_view};
 ghost use Rattle.pd_sessions.specs.SessionReports.{IsReportOfInputs};
 ghost use Rattle.pd_sessions.specs.Unanswered.{IsUnanswered};
 ghost use Rattle.std.specs.Prelude.{◌≡◌, ◌⊎◌, All, IfErr, IfOk, IsOkUnless, false, map};
@@ -13,7 +14,8 @@ use super::session::read_session;
 use pd_check::{Finding, find_formed, find_refused, text};
 use pd_gather::ByteSource;
 use pd_report::{Report, ReportFault, write_all};
-use pd_sessions::{EngineFault, Unanswered, computation_of};
+use pd_sessions::{EngineFault, Inquiry, Unanswered, computation_of};
+use pd_spec::Options;
 use std::alloc::Global;
 use std::io::Write;
 use std::random::RandomSource;
@@ -25,16 +27,16 @@ fn find_in_session<S: RandomSource + Threads + Wait + Sync, R: ByteSource + Send
     rt: &S,
     alloc: Global,
     claimed: &Report,
-    document: &[u8],
+    inquiry: Inquiry<'_, '_, '_>,
     streams: Vec<R>,
 ) -> Result<Finding, Unanswered>
     requires open { All (λ r. R.has_ended r ≡ false) streams.items }
-    ensures found { IfOk result (λ finding. FindsOf document.now (report_view claimed.now)
-        (map R.remaining streams.items) R.never_fails (finding_view finding)) }
+    ensures found { IfOk result (λ finding. FindsOf (inquiry_view inquiry.entry) (report_view claimed.now)
+        (map R.left streams.items) (finding_view finding)) }
     ensures refused { IfErr result (IsUnanswered
-        (IsReportOfInputs (plain document.now) (map R.remaining streams.items) R.never_fails)) }
+        (IsReportOfInputs (inquiry_view inquiry.entry) (map R.left streams.items))) }
 {
-    let session = read_session(rt, alloc, document, streams)?;
+    let session = read_session(rt, alloc, inquiry, streams)?;
     let (computation, messages) = computation_of(rt, alloc, &session.spec, &session.traces)?;
     Ok(find_formed(alloc, &session.spec, claimed, &computation, messages)?)
 }
@@ -44,15 +46,15 @@ fn find_claimed<S: RandomSource + Threads + Wait + Sync, R: ByteSource + Send + 
     rt: &S,
     alloc: Global,
     claimed: &Report,
-    document: &[u8],
+    inquiry: Inquiry<'_, '_, '_>,
     streams: Vec<R>,
 ) -> Result<Finding, EngineFault>
     requires open { All (λ r. R.has_ended r ≡ false) streams.items }
-    ensures found { IfOk result (λ finding. FindsOf document.now (report_view claimed.now)
-        (map R.remaining streams.items) R.never_fails (finding_view finding)) }
+    ensures found { IfOk result (λ finding. FindsOf (inquiry_view inquiry.entry) (report_view claimed.now)
+        (map R.left streams.items) (finding_view finding)) }
     ensures err { IsOkUnless result EngineFault.Memory }
 {
-    match find_in_session(rt, alloc, claimed, document, streams) {
+    match find_in_session(rt, alloc, claimed, inquiry, streams) {
         Ok(finding) => Ok(finding),
         Err(unanswered) => match unanswered {
             Unanswered::Refused(refusal) => Ok(find_refused(claimed, &refusal)),
@@ -65,20 +67,46 @@ fn find_claimed<S: RandomSource + Threads + Wait + Sync, R: ByteSource + Send + 
 fn find<S: RandomSource + Threads + Wait + Sync, R: ByteSource + Send + Drop>(
     rt: &S,
     alloc: Global,
-    document: &[u8],
+    inquiry: Inquiry<'_, '_, '_>,
     report: &[u8],
     streams: Vec<R>,
 ) -> Result<Finding, EngineFault>
     requires open { All (λ r. R.has_ended r ≡ false) streams.items }
-    ensures found { IfOk result (λ finding. Finds document.now report.now (map R.remaining streams.items)
-        R.never_fails (finding_view finding)) }
+    ensures found { IfOk result (λ finding. Finds (inquiry_view inquiry.entry) report.now (map R.left streams.items)
+        (finding_view finding)) }
     ensures err { IsOkUnless result EngineFault.Memory }
 {
     match pd_report::read(alloc, report) {
-        Ok(claimed) => find_claimed(rt, alloc, &claimed, document, streams),
+        Ok(claimed) => find_claimed(rt, alloc, &claimed, inquiry, streams),
         Err(ReportFault::Line(line)) => Ok(Finding::NotRead(line)),
         Err(ReportFault::Memory) => Err(EngineFault::Memory),
     }
+}
+
+/// Checks a report against the session of the document in these bytes, as `check_inquiry` does where nothing is asked
+/// beside it.
+///
+/// # Errors
+/// As `check_inquiry`.
+pub fn check<S: RandomSource + Threads + Wait + Sync, R: ByteSource + Send + Drop, W: Write>(
+    rt: &S,
+    alloc: Global,
+    spec: &[u8],
+    report: &[u8],
+    streams: Vec<R>,
+    writer: &mut W,
+) -> Result<bool, EngineFault>
+    requires open { All (λ r. R.has_ended r ≡ false) streams.items }
+    ensures written { Writes (IsFindingTextOf (plain spec.now) report.now (map R.left streams.items) (good_as result))
+        (call_end result) (W.contents writer.old) (W.contents writer.new) }
+    ensures err { IfErr result (λ fault. (fault ≡ EngineFault.Memory) ⊎ (fault ≡ EngineFault.Write)) }
+{
+    let options = Options::none(alloc);
+    let inquiry = Inquiry {
+        document: spec,
+        options: &options,
+    };
+    check_inquiry(rt, alloc, inquiry, report, streams, writer)
 }
 
 /// Checks a report against the session that it is said to be of, and writes what it finds: that the report's bytes are
@@ -91,10 +119,14 @@ fn find<S: RandomSource + Threads + Wait + Sync, R: ByteSource + Send + Drop>(
 /// # Errors
 /// `Memory` leaves nothing written. `Write` leaves a prefix of the text written, and not all of it. A read that fails
 /// is a fault of its stream.
-pub fn check<S: RandomSource + Threads + Wait + Sync, R: ByteSource + Send + Drop, W: Write>(
+pub fn check_inquiry<
+    S: RandomSource + Threads + Wait + Sync,
+    R: ByteSource + Send + Drop,
+    W: Write,
+>(
     rt: &S,
     alloc: Global,
-    spec: &[u8],
+    inquiry: Inquiry<'_, '_, '_>,
     report: &[u8],
     streams: Vec<R>,
     writer: &mut W,
@@ -103,12 +135,12 @@ pub fn check<S: RandomSource + Threads + Wait + Sync, R: ByteSource + Send + Dro
     // The text of what the check finds is written whole, and true is reported exactly if no line of it ends with the
     // word `bad` and none says that the report isn't read; a write that fails leaves a prefix of that text, and out of
     // memory leaves nothing.
-    ensures written { Writes (IsFindingTextOf spec.now report.now (map R.remaining streams.items) R.never_fails
+    ensures written { Writes (IsFindingTextOf (inquiry_view inquiry.entry) report.now (map R.left streams.items)
         (good_as result)) (call_end result) (W.contents writer.old) (W.contents writer.new) }
     ensures err { IfErr result (λ fault. (fault ≡ EngineFault.Memory) ⊎ (fault ≡ EngineFault.Write)) }
 {
     pd_judgement::clean_is_clean();
-    let finding = find(rt, alloc, spec, report, streams)?;
+    let finding = find(rt, alloc, inquiry, report, streams)?;
     let text = text(alloc, &finding)?;
     write_all(&text, writer)?;
     Ok(finding.is_clean())

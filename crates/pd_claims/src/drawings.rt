@@ -4,11 +4,11 @@ ghost use Rattle.pd_match.specs.Views.{pairs_view};
 ghost use Rattle.pd_model.specs.Messages.{IsMessageList};
 ghost use Rattle.pd_sessions.specs.Computations.{AreWellFormed};
 ghost use Rattle.pd_sessions.specs.Ends.{call_end};
+ghost use Rattle.pd_sessions.specs.Inquiries.{inquiry_view};
 ghost use Rattle.pd_sessions.specs.SessionReports.{IsReportOfInputs};
 ghost use Rattle.pd_sessions.specs.Unanswered.{IsUnanswered};
 ghost use Rattle.pd_traces.specs.SessionTraces.{AreTraces};
 ghost use Rattle.pd_traces.specs.Views.{computation_view};
-ghost use Rattle.pd_format.specs.Documents.{plain};
 ghost use Rattle.pd_gather.specs.Views.{traces_view};
 ghost use Rattle.pd_judgement.specs.Judgements.{IsTracesReport};
 ghost use Rattle.pd_judgement.specs.Writes.{Writes};
@@ -24,7 +24,7 @@ use pd_draw::{Drawn, Run, draw_cycle};
 use pd_gather::ByteSource;
 use pd_match::Place;
 use pd_report::{Report, ReportFault, WriteFault};
-use pd_sessions::{EngineFault, Unanswered, build, messages_of};
+use pd_sessions::{EngineFault, Inquiry, Unanswered, build, messages_of};
 use pd_spec::Spec;
 use pd_traces::Trace;
 use pd_wish::Wish;
@@ -137,18 +137,18 @@ fn draw_session<S: RandomSource + Threads + Wait + Sync, R: ByteSource + Send + 
     rt: &S,
     alloc: Global,
     claimed: &Report,
-    document: &[u8],
+    inquiry: Inquiry<'_, '_, '_>,
     streams: Vec<R>,
     wish: &Wish<'_>,
 ) -> Result<Drawn, Unanswered>
     requires open { All (λ r. R.has_ended r ≡ false) streams.items }
-    ensures drawn { IfOk result (DrawsOf document.now (report_view claimed.now)
-        (map R.remaining streams.items) R.never_fails (wish_view wish.now)) }
+    ensures drawn { IfOk result (DrawsOf (inquiry_view inquiry.entry) (report_view claimed.now)
+        (map R.left streams.items) (wish_view wish.now)) }
     ensures refused { IfErr result (IsUnanswered
-        (IsReportOfInputs (plain document.now) (map R.remaining streams.items) R.never_fails)) }
+        (IsReportOfInputs (inquiry_view inquiry.entry) (map R.left streams.items))) }
     ensures undrawn { IfErr result (IsUnanswered (NeedsNoPicture (report_view claimed.now))) }
 {
-    let session = read_session(rt, alloc, document, streams)?;
+    let session = read_session(rt, alloc, inquiry, streams)?;
     let drawn = draw_traces(rt, alloc, &session.spec, claimed, &session.traces, wish)?;
     Ok(drawn)
 }
@@ -158,16 +158,16 @@ fn draw_claimed<S: RandomSource + Threads + Wait + Sync, R: ByteSource + Send + 
     rt: &S,
     alloc: Global,
     claimed: &Report,
-    document: &[u8],
+    inquiry: Inquiry<'_, '_, '_>,
     streams: Vec<R>,
     wish: &Wish<'_>,
 ) -> Result<Drawn, EngineFault>
     requires open { All (λ r. R.has_ended r ≡ false) streams.items }
-    ensures drawn { IfOk result (DrawsOf document.now (report_view claimed.now)
-        (map R.remaining streams.items) R.never_fails (wish_view wish.now)) }
+    ensures drawn { IfOk result (DrawsOf (inquiry_view inquiry.entry) (report_view claimed.now)
+        (map R.left streams.items) (wish_view wish.now)) }
     ensures err { IsOkUnless result EngineFault.Memory }
 {
-    match draw_session(rt, alloc, claimed, document, streams, wish) {
+    match draw_session(rt, alloc, claimed, inquiry, streams, wish) {
         Ok(drawn) => Ok(drawn),
         Err(unanswered) => match unanswered {
             Unanswered::Refused(refusal) => Ok(Drawn::Bad(find_refused(claimed, &refusal))),
@@ -180,18 +180,18 @@ fn draw_claimed<S: RandomSource + Threads + Wait + Sync, R: ByteSource + Send + 
 fn draw_read<S: RandomSource + Threads + Wait + Sync, R: ByteSource + Send + Drop>(
     rt: &S,
     alloc: Global,
-    document: &[u8],
+    inquiry: Inquiry<'_, '_, '_>,
     report: &[u8],
     streams: Vec<R>,
     wish: &Wish<'_>,
 ) -> Result<Drawn, EngineFault>
     requires open { All (λ r. R.has_ended r ≡ false) streams.items }
-    ensures drawn { IfOk result (Draws document.now report.now (map R.remaining streams.items)
-        R.never_fails (wish_view wish.now)) }
+    ensures drawn { IfOk result (Draws (inquiry_view inquiry.entry) report.now (map R.left streams.items)
+        (wish_view wish.now)) }
     ensures err { IsOkUnless result EngineFault.Memory }
 {
     match pd_report::read(alloc, report) {
-        Ok(claimed) => draw_claimed(rt, alloc, &claimed, document, streams, wish),
+        Ok(claimed) => draw_claimed(rt, alloc, &claimed, inquiry, streams, wish),
         Err(ReportFault::Line(line)) => Ok(Drawn::Bad(Finding::NotRead(line))),
         Err(ReportFault::Memory) => Err(EngineFault::Memory),
     }
@@ -224,10 +224,9 @@ fn write_picture<W: Write>(
 /// Draws a session and a report on it, and writes the picture as SVG: the run, and the evidence of the predicate of
 /// the name that is asked for, or without a name of the first predicate that has evidence; of the kind that is asked
 /// for, if one is. Of a session that is refused for a causal cycle, as the report says, it draws the run with its
-/// cycle. It reads and judges both as `check` does. If
-/// something in what a check finds stands against the picture, nothing is written, and the text of what it finds is
-/// given: the report isn't read, or it is a refusal or the session is refused, or the counts or the names are wrong, or
-/// the evidence that would be drawn is bad.
+/// cycle. It reads and judges both as `check_inquiry` does. If something in what a check finds stands against the
+/// picture, nothing is written, and the text of what it finds is given: the report isn't read, or it is a refusal or
+/// the session is refused, or the counts or the names are wrong, or the evidence that would be drawn is bad.
 ///
 /// # Errors
 /// `Memory` leaves nothing written. `Write` leaves a prefix of the picture's text written, and not all of it. A read
@@ -235,7 +234,7 @@ fn write_picture<W: Write>(
 pub fn draw<S: RandomSource + Threads + Wait + Sync, R: ByteSource + Send + Drop, W: Write>(
     rt: &S,
     alloc: Global,
-    spec: &[u8],
+    inquiry: Inquiry<'_, '_, '_>,
     report: &[u8],
     streams: Vec<R>,
     wish: &Wish<'_>,
@@ -243,15 +242,15 @@ pub fn draw<S: RandomSource + Threads + Wait + Sync, R: ByteSource + Send + Drop
 ) -> Result<DrawOutcome, EngineFault>
     requires open { All (λ r. R.has_ended r ≡ false) streams.items }
     // The picture's text is written whole, or a write fails and a prefix of it is; else nothing is.
-    ensures written { WritesPicture spec.now report.now (map R.remaining streams.items) R.never_fails
+    ensures written { WritesPicture (inquiry_view inquiry.entry) report.now (map R.left streams.items)
         (wish_view wish.now) result (W.contents writer.old) (W.contents writer.new) }
     // What stands against a picture is what a check finds, or that no predicate has the name, or the evidence,
     // that is asked for; and never that the session is refused for a causal cycle as the report says.
-    ensures shown { IfOk result (ShowsEnd spec.now report.now (map R.remaining streams.items)
-        R.never_fails (wish_view wish.now)) }
+    ensures shown { IfOk result (ShowsEnd (inquiry_view inquiry.entry) report.now (map R.left streams.items)
+        (wish_view wish.now)) }
     ensures err { IfErr result (λ fault. (fault ≡ EngineFault.Memory) ⊎ (fault ≡ EngineFault.Write)) }
 {
-    let drawn = draw_read(rt, alloc, spec, report, streams, wish)?;
+    let drawn = draw_read(rt, alloc, inquiry, report, streams, wish)?;
     match drawn {
         Drawn::Picture(picture) => write_picture(alloc, &picture, writer, DrawOutcome::Written),
         Drawn::Cycle(picture) => write_picture(alloc, &picture, writer, DrawOutcome::CycleWritten),

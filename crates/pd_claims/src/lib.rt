@@ -13,6 +13,6 @@ mod checks;
 mod drawings;
 mod session;
 
-pub use checks::check;
+pub use checks::{check, check_inquiry};
 pub use drawings::{DrawOutcome, draw};
 pub use pd_check::{Checked, Finding, Verdict};

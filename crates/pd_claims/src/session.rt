@@ -1,7 +1,7 @@
 //! The session that a report is held against.
 ghost use Rattle.pd_claims.specs.Sessions.{IsRead};
-ghost use Rattle.pd_format.specs.Documents.{plain};
 ghost use Rattle.pd_gather.specs.Views.{traces_view};
+ghost use Rattle.pd_sessions.specs.Inquiries.{inquiry_view};
 ghost use Rattle.pd_sessions.specs.SessionReports.{IsReportOfInputs};
 ghost use Rattle.pd_sessions.specs.Unanswered.{IsUnanswered, NamesNoCycle};
 ghost use Rattle.pd_spec.specs.Views.{document_view};
@@ -9,7 +9,7 @@ ghost use Rattle.pd_traces.specs.SessionTraces.{AreTraces};
 ghost use Rattle.std.specs.Prelude.{◌≡◌, All, IfErr, IfOk, false, map};
 
 use pd_gather::{ByteSource, read_streams};
-use pd_sessions::{Unanswered, read_document, traces_of};
+use pd_sessions::{Inquiry, Unanswered, read_inquiry, traces_of};
 use pd_spec::Spec;
 use pd_traces::Trace;
 use std::alloc::Global;
@@ -28,18 +28,18 @@ pub(crate) struct Session {
 pub(crate) fn read_session<T: Threads + Wait + Sync, R: ByteSource + Send + Drop>(
     rt: &T,
     alloc: Global,
-    document: &[u8],
+    inquiry: Inquiry<'_, '_, '_>,
     streams: Vec<R>,
 ) -> Result<Session, Unanswered>
     requires open { All (λ r. R.has_ended r ≡ false) streams.items }
-    ensures read { IfOk result (λ session. IsRead document.now (map R.remaining streams.items) R.never_fails
+    ensures read { IfOk result (λ session. IsRead (inquiry_view inquiry.entry) (map R.left streams.items)
         (document_view session.spec) (traces_view session.traces.items)) }
     ensures fit { IfOk result (λ session. AreTraces (document_view session.spec).names session.traces.items) }
     ensures refused { IfErr result (IsUnanswered
-        (IsReportOfInputs (plain document.now) (map R.remaining streams.items) R.never_fails)) }
+        (IsReportOfInputs (inquiry_view inquiry.entry) (map R.left streams.items))) }
     ensures no_cycle { IfErr result (IsUnanswered NamesNoCycle) }
 {
-    let spec = read_document(alloc, document)?;
+    let spec = read_inquiry(alloc, inquiry)?;
     let gathered = read_streams(rt, alloc, &spec, streams)?;
     let traces = traces_of(alloc, &spec, gathered)?;
     Ok(Session { spec, traces })

@@ -4,7 +4,7 @@ use Rattle.std.specs.Io.KnownBytes.{Appends}
 use Rattle.pd_format.specs.OtherTexts.{check_text}
 use Rattle.pd_judgement.specs.Findings.{IsClean}
 use Rattle.pd_check.specs.Views.{finding_view}
-use Rattle.pd_claims.proofs.checks.check.Goals as goal
+use Rattle.pd_claims.proofs.checks.check_inquiry.Goals as goal
 
 pub returns-clause-written : goal.returns-clause-written
 returns-clause-written g c =

@@ -2,12 +2,12 @@
 use Rattle.std.proofs.Common.{map}
 use Rattle.pd_check.specs.Views.{finding_view}
 use Rattle.pd_report.specs.Views.{refusal_view, report_view}
+use Rattle.pd_sessions.specs.Inquiries.{inquiry_view}
 use Rattle.pd_claims.proofs.SessionFindings.{refusal_found}
 use Rattle.pd_claims.proofs.checks.find_claimed.Goals as goal
 
 pub returns-in-Refused-clause-found : goal.returns-in-Refused-clause-found
 returns-in-Refused-clause-found g c =
-    refusal_found c.args.document.now (map g.R.ByteSource.remaining c.args.streams.items)
-    g.R.ByteSource.never_fails
+    refusal_found (inquiry_view c.args.inquiry) (map g.R.ByteSource.left c.args.streams.items)
     (refusal_view c.in-Refused.refusal) (report_view c.args.claimed.now) (finding_view c.find_refused.result)
     (rw c.in-Refused.is at c.in-Err.ensures.refused) c.find_refused.ensures

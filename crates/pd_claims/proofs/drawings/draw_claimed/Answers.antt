@@ -3,13 +3,13 @@ use Rattle.std.proofs.Common.{map}
 use Rattle.pd_check.specs.Views.{finding_view}
 use Rattle.pd_wish.specs.Wishes.{wish_view}
 use Rattle.pd_report.specs.Views.{refusal_view, report_view}
+use Rattle.pd_sessions.specs.Inquiries.{inquiry_view}
 use Rattle.pd_claims.proofs.SessionDrawings.{refusal_drawn}
 use Rattle.pd_claims.proofs.drawings.draw_claimed.Goals as goal
 
 pub returns-in-Refused-clause-drawn : goal.returns-in-Refused-clause-drawn
 returns-in-Refused-clause-drawn g c =
-    refusal_drawn c.args.document.now (map g.R.ByteSource.remaining c.args.streams.items)
-    g.R.ByteSource.never_fails
+    refusal_drawn (inquiry_view c.args.inquiry) (map g.R.ByteSource.left c.args.streams.items)
     (refusal_view c.in-Refused.refusal) (report_view c.args.claimed.now) (wish_view c.args.wish.now)
     (finding_view c.find_refused.result)
     (rw c.in-Refused.is at c.in-Err.ensures.refused) (rw c.in-Refused.is at c.in-Err.ensures.undrawn)

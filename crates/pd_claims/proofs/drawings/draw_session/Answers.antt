@@ -1,6 +1,5 @@
 -- What is drawn by the session, or why it comes to no answers.
 use Rattle.std.proofs.Common.{List, map, subst}
-use Rattle.pd_format.specs.Documents.{plain}
 use Rattle.pd_wish.specs.Wishes.{wish_view}
 use Rattle.pd_traces.specs.declared.event.Trace.{Trace}
 use Rattle.pd_gather.specs.Views.{traces_view}
@@ -10,6 +9,7 @@ use Rattle.pd_spec.specs.Views.{document_view}
 use Rattle.pd_claims.specs.Drawings.{DrawsTraces, NeedsNoPicture}
 use Rattle.pd_sessions.specs.SessionReports.{IsReportOfInputs}
 use Rattle.pd_sessions.specs.Unanswered.{IsUnanswered, NamesNoCycle}
+use Rattle.pd_sessions.specs.Inquiries.{inquiry_view}
 use Rattle.pd_claims.proofs.SessionDrawings.{session_drawn}
 use Rattle.pd_claims.proofs.SessionFindings.{read_report}
 use Rattle.pd_sessions.proofs.SessionReports.{refusal_given}
@@ -17,13 +17,13 @@ use Rattle.pd_claims.proofs.drawings.draw_session.Goals as goal
 
 pub returns-in_err-drawn-clause-refused : goal.returns-in_err-drawn-clause-refused
 returns-in_err-drawn-clause-refused g c =
-    let bytes = c.args.document.now in
-    let inputs = map g.R.ByteSource.remaining c.args.streams.items in
+    let inquiry = inquiry_view c.args.inquiry in
+    let inputs = map g.R.ByteSource.left c.args.streams.items in
     let document = document_view c.in_ok-session.session.spec in
     let traces = traces_view c.in_ok-session.session.traces.items in
     refusal_given c.from_residual-in_err-drawn.result c.in_err-drawn.field-0.0
-    (IsTracesReport document traces) (IsReportOfInputs (plain bytes) inputs g.R.ByteSource.never_fails)
-    (λ report right. read_report bytes inputs g.R.ByteSource.never_fails document traces report
+    (IsTracesReport document traces) (IsReportOfInputs inquiry inputs)
+    (λ report right. read_report inquiry inputs document traces report
     c.in_ok-session.ensures.read right)
     c.from_residual-in_err-drawn.ensures.1
     (subst (λ (all : List Trace). IsUnanswered (IsTracesReport document (traces_view all))
@@ -46,7 +46,7 @@ pub returns-clause-drawn : goal.returns-clause-drawn
 returns-clause-drawn g c =
     let document = document_view c.in_ok-session.session.spec in
     let traces = traces_view c.in_ok-session.session.traces.items in
-    session_drawn c.args.document.now (map g.R.ByteSource.remaining c.args.streams.items) g.R.ByteSource.never_fails
+    session_drawn (inquiry_view c.args.inquiry) (map g.R.ByteSource.left c.args.streams.items)
     document traces (report_view c.args.claimed.now) (wish_view c.args.wish.now) c.in_ok-session.ensures.read
     c.in_ok-drawn.drawn
     (subst (λ (all : List Trace). DrawsTraces document (traces_view all) (report_view c.args.claimed.now)

@@ -1,39 +1,37 @@
 -- Why a session comes to no answers before its messages are matched, and what is read of it.
-use Rattle.std.proofs.Common.{Bool, false, List, map}
-use Rattle.pd_format.specs.Documents.{inquiry, plain}
+use Rattle.std.proofs.Common.{List, map}
 use Rattle.pd_format.specs.Reports.{Report}
 use Rattle.pd_gather.specs.Views.{results_view}
 use Rattle.pd_judgement.specs.Judgements.{IsJudgement, IsReportOfResults, RawStream}
 use Rattle.pd_spec.specs.Views.{document_view}
-use Rattle.pd_judgement.proofs.DocumentsAreSingle.{plainly}
 use Rattle.pd_sessions.specs.SessionReports.{IsReportOfInputs}
 use Rattle.pd_sessions.specs.Unanswered.{NamesNoCycle}
 use Rattle.pd_sessions.proofs.SessionReports.{inputs_report, refusal_given, refused_inputs_report}
+use Rattle.pd_sessions.specs.Inquiries.{inquiry_view}
 use Rattle.pd_claims.proofs.session.read_session.Goals as goal
 
 pub returns-in_err-spec-clause-refused : goal.returns-in_err-spec-clause-refused
 returns-in_err-spec-clause-refused g c =
-    let bytes = c.args.document.now in
-    let inputs = map g.R.ByteSource.remaining c.args.streams.items in
+    let inquiry = inquiry_view c.args.inquiry in
+    let inputs = map g.R.ByteSource.left c.args.streams.items in
     refusal_given c.from_residual.result c.in_err-spec.field-0.0
-    (λ (report : Report). (beyond_width : Bool) (streams : List RawStream)
-    → IsJudgement (inquiry beyond_width bytes) streams report)
-    (IsReportOfInputs (plain bytes) inputs g.R.ByteSource.never_fails)
-    (λ report any. refused_inputs_report (plain bytes) inputs g.R.ByteSource.never_fails report (any false))
+    (λ (report : Report). (streams : List RawStream) → IsJudgement inquiry streams report)
+    (IsReportOfInputs inquiry inputs)
+    (λ report any. refused_inputs_report inquiry inputs report any)
     c.from_residual.ensures.1
     c.in_err-spec.ensures.refused
 
 pub returns-in_err-traces-clause-refused : goal.returns-in_err-traces-clause-refused
 returns-in_err-traces-clause-refused g c =
-    let bytes = c.args.document.now in
-    let inputs = map g.R.ByteSource.remaining c.args.streams.items in
+    let inquiry = inquiry_view c.args.inquiry in
+    let inputs = map g.R.ByteSource.left c.args.streams.items in
     let document = document_view c.in_ok-spec.spec in
     let count = c.in_ok-gathered.gathered.streams in
     let results = results_view c.in_ok-gathered.gathered.readings.items in
     refusal_given c.from_residual-in_err-traces.result c.in_err-traces.field-0.0
-    (IsReportOfResults document count results) (IsReportOfInputs (plain bytes) inputs g.R.ByteSource.never_fails)
-    (λ report right. inputs_report (plain bytes) inputs g.R.ByteSource.never_fails document count results report
-    (plainly bytes document c.in_ok-spec.ensures.read)
+    (IsReportOfResults document count results) (IsReportOfInputs inquiry inputs)
+    (λ report right. inputs_report inquiry inputs document count results report
+    c.in_ok-spec.ensures.read
     c.in_ok-gathered.ensures.given right)
     c.from_residual-in_err-traces.ensures.1 c.in_err-traces.ensures.refused
 
