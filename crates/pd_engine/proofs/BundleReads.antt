@@ -1,6 +1,7 @@
 -- The report of a bundle that was read part by part.
 use Rattle.std.proofs.Common.{◌≡◌, ℕ, List, [], ◌∷◌, refl, sym, subst, Option, Ok, Err}
 use Rattle.std.specs.Prelude.{IfErr, IfOk, IfSome, IsErrAnd, Result}
+use Rattle.pd_judgement.specs.Writes.{Source}
 use Rattle.pd_bundle.specs.PartsRead.{AreStreams}
 use Rattle.pd_bundle.specs.Steps.{AreParts}
 use Rattle.pd_bundle.specs.declared.fault.BundleFault.{BundleFault}
@@ -9,7 +10,6 @@ use Rattle.pd_format.specs.Documents.{Document, IsDocument, plain}
 use Rattle.pd_format.specs.Reports.{Report}
 use Rattle.pd_format.specs.Sessions.{StreamResult}
 use Rattle.pd_judgement.specs.Judgements.{IsJudgement, IsReportOfParts, IsReportOfResults, RawStream, ended_streams}
-use Rattle.pd_judgement.proofs.DocumentsAreSingle.{plainly}
 use Rattle.pd_report.specs.Views.{report_view}
 use Rattle.pd_report.specs.declared.report.Report.{Report as Judged}
 use Rattle.pd_sessions.specs.Faults.{engine_bundle_fault}
@@ -21,8 +21,8 @@ use Rattle.pd_sessions.specs.declared.unanswered.Unanswered.{Unanswered}
 use Rattle.pd_sessions.proofs.SessionReports.{judged_of_results, of_given}
 
 -- the report of the streams that were read after the document
-pub streams_read : (input : Option (List ℕ)) (bytes : List ℕ) (document : Document) (count : ℕ)
-    (results : List StreamResult) (report : Report) → IsDocument bytes document
+pub streams_read : (input : Source) (bytes : List ℕ) (document : Document) (count : ℕ)
+    (results : List StreamResult) (report : Report) → IsDocument (plain bytes) document
     → AreStreams document.names count results input (bytes ∷ []) → IsReportOfResults document count results report
     → IsReportOfRead input report
 streams_read input bytes document count results report is are right = record {
@@ -31,11 +31,11 @@ streams_read input bytes document count results report is are right = record {
   fits = are.are_parts.fits;
   right = subst (λ (all : List (List ℕ)). IsReportOfParts all report) (sym are.are_parts.are_parts)
       (judged_of_results (plain bytes) (ended_streams are.streams) document count results report
-      (plainly bytes document is) are.comes right);
+      is are.comes right);
 }
 
 -- the refusal of the document, whatever the streams are
-pub refusal_read : (input : Option (List ℕ)) (bytes : List ℕ) (streams : List (List ℕ)) (report : Report)
+pub refusal_read : (input : Source) (bytes : List ℕ) (streams : List (List ℕ)) (report : Report)
     → AreParts input (bytes ∷ streams) → ((all : List RawStream) → IsJudgement (plain bytes) all report)
     → IsReportOfRead input report
 refusal_read input bytes streams report are any = record {
@@ -61,6 +61,16 @@ pub report_weaker : {P Q : Judged → Type 0} (result : Result Judged EngineFaul
     → ((report : Judged) → P report → Q report) → IfOk result P → IfOk result Q
 report_weaker (Ok report) f p = f report p
 report_weaker (Err fault) f p = tt
+
+-- a fault that is handed on, if it is reported that a read failed
+pub read_handed_on : {A B : Type 0} (fault : BundleFault) (result : Result B EngineFault)
+    → IsErrAnd result (λ e. e ≡ engine_bundle_fault fault) → result ≡ Err engine.Read
+    → ◌≡◌ {A = Result A BundleFault} (Err fault) (Err bundles.Read)
+read_handed_on bundles.Read result is reported = refl
+read_handed_on bundles.Memory (Ok x) is reported = absurd is
+read_handed_on bundles.Memory (Err e) is reported = cc
+read_handed_on bundles.Long (Ok x) is reported = absurd is
+read_handed_on bundles.Long (Err e) is reported = cc
 
 -- a fault that is handed on, if it is reported that the bundle is too long
 pub long_handed_on : {A B : Type 0} (fault : BundleFault) (result : Result B EngineFault)

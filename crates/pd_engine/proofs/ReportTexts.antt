@@ -1,12 +1,13 @@
 -- The text of a session's report is owed, and what is written whole of it is the truth.
-use Rattle.std.proofs.Common.{◌≡◌, ℕ, ◌≤◌, Bool, true, List, length, map, sym, subst, ap, ◌∙◌, inl, inr, Some, Ok, Err}
+use Rattle.std.proofs.Common.{◌≡◌, ℕ, ◌≤◌, true, List, length, sym, subst, ap, ◌∙◌, inl, inr, Ok, Err}
 use Rattle.std.specs.Prelude.{◌⊎◌, Option, IfErr, IfOk, Result}
+use Rattle.std.specs.List.{AllZip}
 use Rattle.pd_format.specs.Documents.{Inquiry, plain}
 use Rattle.pd_format.specs.Limits.{bundle_byte_limit}
 use Rattle.pd_format.specs.Reports as formats
 use Rattle.pd_judgement.specs.Headline.{is_judged}
 use Rattle.pd_judgement.specs.Judgements.{IsJudgement, IsReportOfBundle, IsReportOfParts, RawStream, ended_streams}
-use Rattle.pd_judgement.specs.Writes.{IsReportTextOf, IsTextOfBundle, IsTextOfStreams, IsWholeInput, Writes, WritesTruth, WritesTruthOfBundle}
+use Rattle.pd_judgement.specs.Writes.{IsKnownAs, IsReportTextOf, IsTextOfBundle, IsTextOfStreams, IsWholeInput, Source, Writes, WritesTruth, WritesTruthOfBundle}
 use Rattle.pd_judgement.proofs.TextsOwed.{parts_are_some, report_text_of, truth_of_bundle_text, truth_of_text}
 use Rattle.pd_judgement.proofs.Writing.{writes_weaker}
 use Rattle.pd_report.specs.Views.{report_view}
@@ -27,16 +28,16 @@ text_owed document streams report result text right owed =
     subst (IsReportTextOf document streams (IsGiven result)) (sym owed.is_text)
     (report_text_of document streams report right (IsGiven result) owed.given)
 
-streams_text : (document : Inquiry) (inputs : List (Option (List ℕ))) (never_fails : Bool) (report : formats.Report)
-    (result : Result Report EngineFault) (text : List ℕ) → IsReportOfInputs document inputs never_fails report
-    → IsTextAs report result text → IsTextOfStreams document inputs never_fails (IsGiven result) text
-streams_text document inputs never_fails report result text right owed = record {
+streams_text : (document : Inquiry) (inputs : List Source) (report : formats.Report)
+    (result : Result Report EngineFault) (text : List ℕ) → IsReportOfInputs document inputs report
+    → IsTextAs report result text → IsTextOfStreams document inputs (IsGiven result) text
+streams_text document inputs report result text right owed = record {
   streams = right.streams;
   are_given = right.are_given;
   is_report_text = text_owed document right.streams report result text right.right owed;
 }
 
-bundle_text : (input : Option (List ℕ)) (bundle : List ℕ) (report : formats.Report)
+bundle_text : (input : Source) (bundle : List ℕ) (report : formats.Report)
     (result : Result Report EngineFault) (text : List ℕ) → IsWholeInput input bundle
     → length bundle ≤ bundle_byte_limit → IsReportOfBundle bundle report → IsTextAs report result text
     → IsTextOfBundle input (IsGiven result) text
@@ -56,26 +57,26 @@ bundle_text input bundle report result text whole fits right owed =
 
 -- ---- what is written
 
-pub streams_written : (document : Inquiry) (inputs : List (Option (List ℕ))) (never_fails : Bool)
+pub streams_written : (document : Inquiry) (inputs : List Source)
     (report : formats.Report) (result : Result Report EngineFault) (old new : Option (List ℕ))
-    → IsReportOfInputs document inputs never_fails report → Writes (IsTextAs report result) (call_end result) old new
-    → Writes (IsTextOfStreams document inputs never_fails (IsGiven result)) (call_end result) old new
-streams_written document inputs never_fails report result old new right written =
-    writes_weaker (IsTextAs report result) (IsTextOfStreams document inputs never_fails (IsGiven result))
-    (call_end result) old new (λ text owed. streams_text document inputs never_fails report result text right owed)
+    → IsReportOfInputs document inputs report → Writes (IsTextAs report result) (call_end result) old new
+    → Writes (IsTextOfStreams document inputs (IsGiven result)) (call_end result) old new
+streams_written document inputs report result old new right written =
+    writes_weaker (IsTextAs report result) (IsTextOfStreams document inputs (IsGiven result))
+    (call_end result) old new (λ text owed. streams_text document inputs report result text right owed)
     written
 
-pub whole_written : (document : Inquiry) (inputs : List (Option (List ℕ))) (report : formats.Report)
+pub whole_written : (document : Inquiry) (inputs : List Source) (report : formats.Report)
     (result : Result Report EngineFault) (old new : Option (List ℕ)) → IsReportOfWhole document inputs report
     → Writes (IsTextAs report result) (call_end result) old new
-    → (streams : List (List ℕ)) → inputs ≡ map Some streams
+    → (streams : List (List ℕ)) → AllZip IsKnownAs inputs streams
     → Writes (IsReportTextOf document (ended_streams streams) (IsGiven result)) (call_end result) old new
 whole_written document inputs report result old new right written streams same =
     writes_weaker (IsTextAs report result) (IsReportTextOf document (ended_streams streams) (IsGiven result))
     (call_end result) old new
     (λ text owed. text_owed document (ended_streams streams) report result text (right streams same) owed) written
 
-pub bundle_written : (input : Option (List ℕ)) (bundle : List ℕ) (report : formats.Report)
+pub bundle_written : (input : Source) (bundle : List ℕ) (report : formats.Report)
     (result : Result Report EngineFault) (old new : Option (List ℕ)) → IsWholeInput input bundle
     → length bundle ≤ bundle_byte_limit → IsReportOfBundle bundle report
     → Writes (IsTextAs report result) (call_end result) old new
@@ -91,17 +92,17 @@ given_is_judged : (given : Report) (report : formats.Report) → report ≡ repo
     → is_judged report ≡ true → is_judged (report_view given) ≡ true
 given_is_judged given report same judged = sym (ap is_judged same) ∙ judged
 
-pub whole_truth : (document : Inquiry) (inputs : List (Option (List ℕ))) (report : formats.Report)
+pub whole_truth : (document : Inquiry) (inputs : List Source) (report : formats.Report)
     (result : Result Report EngineFault) (old new : Option (List ℕ)) → IsReportOfWhole document inputs report
     → Writes (IsTextAs report result) (call_end result) old new
-    → IfOk result (λ given. (streams : List (List ℕ)) → inputs ≡ map Some streams
+    → IfOk result (λ given. (streams : List (List ℕ)) → AllZip IsKnownAs inputs streams
     → WritesTruth document (ended_streams streams) (is_judged (report_view given) ≡ true) old new)
 whole_truth document inputs report (Err fault) old new right written = tt
 whole_truth document inputs report (Ok given) old new right written = λ streams same.
     truth_of_text document (ended_streams streams) (IsGiven (Ok given)) (is_judged (report_view given) ≡ true) old new
     (given_is_judged given) (whole_written document inputs report (Ok given) old new right written streams same)
 
-pub bundle_truth : (input : Option (List ℕ)) (bundle : List ℕ) (report : formats.Report)
+pub bundle_truth : (input : Source) (bundle : List ℕ) (report : formats.Report)
     (result : Result Report EngineFault) (old new : Option (List ℕ)) → IsWholeInput input bundle
     → length bundle ≤ bundle_byte_limit → IsReportOfBundle bundle report
     → Writes (IsTextAs report result) (call_end result) old new

@@ -7,11 +7,11 @@ ghost use Rattle.pd_sessions.specs.Unanswered.{IsUnanswered};
 ghost use Rattle.pd_format.specs.Limits.{worker_limit};
 ghost use Rattle.pd_format.specs.Documents.{IsDocument, plain};
 ghost use Rattle.pd_judgement.specs.Judgements.{IsJudgement, RawStream};
-ghost use Rattle.pd_judgement.specs.Writes.{IsTooLong, Silent};
+ghost use Rattle.pd_judgement.specs.Writes.{IsBrokenOff, IsTooLong, Silent, Source};
 ghost use Rattle.pd_report.specs.Views.{report_view};
 ghost use Rattle.pd_spec.specs.Views.{document_view};
 ghost use Rattle.pd_bundle.specs.Steps.{HasParts};
-ghost use Rattle.std.specs.Prelude.{◌≡◌, ◌≢◌, ◌≤◌, ◌∷◌, [], ℕ, Err, IfErr, IfOk, List, Option, false, true};
+ghost use Rattle.std.specs.Prelude.{◌≡◌, ◌≤◌, ◌∷◌, [], ℕ, Err, IfErr, IfOk, List, false};
 
 use super::Outcome;
 use super::judges::write_report;
@@ -34,7 +34,7 @@ use std::thread::Threads;
 /// The document in what is kept of a bundle's first part, or its refusal.
 fn read_kept_document(alloc: Global, kept: &[u8]) -> Result<Spec, Unanswered>
     ensures read { IfOk result (λ spec. (part : List ℕ) → IsKept kept.now part
-        → IsDocument part (document_view spec)) }
+        → IsDocument (plain part) (document_view spec)) }
     ensures refused { IfErr result (IsUnanswered (λ report. (part : List ℕ) → IsKept kept.now part
         → (streams : List RawStream) → IsJudgement (plain part) streams report)) }
 {
@@ -57,13 +57,14 @@ fn streams_report_of<S: RandomSource + Threads + Wait + Sync, R: ByteSource, G: 
     begins: bool,
 ) -> Result<Report, EngineFault>
     requires ready { bundle.old.ended ≡ false → R.has_ended reader.old ≡ false }
-    ensures report { IfOk result (λ report. (input : Option (List ℕ)) (document : List ℕ)
-        → IsDocument document (document_view spec.now)
-        → HasParts begins input (R.remaining reader.old) (document ∷ []) bundle.old
+    ensures report { IfOk result (λ report. (input : Source) (document : List ℕ)
+        → IsDocument (plain document) (document_view spec.now)
+        → HasParts begins input (R.left reader.old) (document ∷ []) bundle.old
         → IsReportOfRead input (report_view report)) }
-    ensures long { result ≡ Err EngineFault.BundleLong → (input : Option (List ℕ)) (closed : List (List ℕ))
-        → HasParts begins input (R.remaining reader.old) closed bundle.old → IsTooLong input }
-    ensures sure { R.never_fails ≡ true → result ≢ Err EngineFault.Read }
+    ensures long { result ≡ Err EngineFault.BundleLong → (input : Source) (closed : List (List ℕ))
+        → HasParts begins input (R.left reader.old) closed bundle.old → IsTooLong input }
+    ensures cause { result ≡ Err EngineFault.Read → (input : Source) (closed : List (List ℕ))
+        → HasParts begins input (R.left reader.old) closed bundle.old → IsBrokenOff input }
     ensures err { IfErr result (λ _. call_end result ≡ Silent) }
 {
     let gathered = read_stream_parts(alloc, spec, reader, bundle, begins)?;
@@ -82,13 +83,14 @@ fn refusal_report_of<R: ByteSource>(
     unanswered: Unanswered,
 ) -> Result<Report, EngineFault>
     requires ready { bundle.old.ended ≡ false → R.has_ended reader.old ≡ false }
-    ensures report { IfOk result (λ report. (input : Option (List ℕ)) (document : List ℕ)
+    ensures report { IfOk result (λ report. (input : Source) (document : List ℕ)
         → IsUnanswered (λ r. (streams : List RawStream) → IsJudgement (plain document) streams r) unanswered
-        → HasParts begins input (R.remaining reader.old) (document ∷ []) bundle.old
+        → HasParts begins input (R.left reader.old) (document ∷ []) bundle.old
         → IsReportOfRead input (report_view report)) }
-    ensures long { result ≡ Err EngineFault.BundleLong → (input : Option (List ℕ)) (closed : List (List ℕ))
-        → HasParts begins input (R.remaining reader.old) closed bundle.old → IsTooLong input }
-    ensures sure { R.never_fails ≡ true → result ≢ Err EngineFault.Read }
+    ensures long { result ≡ Err EngineFault.BundleLong → (input : Source) (closed : List (List ℕ))
+        → HasParts begins input (R.left reader.old) closed bundle.old → IsTooLong input }
+    ensures cause { result ≡ Err EngineFault.Read → (input : Source) (closed : List (List ℕ))
+        → HasParts begins input (R.left reader.old) closed bundle.old → IsBrokenOff input }
     ensures err { IfErr result (λ _. call_end result ≡ Silent) }
 {
     if begins {
@@ -110,9 +112,9 @@ fn bundle_report<S: RandomSource + Threads + Wait + Sync, R: ByteSource + Drop, 
     reader: R,
 ) -> Result<Report, EngineFault>
     requires open { R.has_ended reader ≡ false }
-    ensures report { IfOk result (λ report. IsReportOfRead (R.remaining reader) (report_view report)) }
-    ensures long { result ≡ Err EngineFault.BundleLong → IsTooLong (R.remaining reader) }
-    ensures sure { R.never_fails ≡ true → result ≢ Err EngineFault.Read }
+    ensures report { IfOk result (λ report. IsReportOfRead (R.left reader) (report_view report)) }
+    ensures long { result ≡ Err EngineFault.BundleLong → IsTooLong (R.left reader) }
+    ensures cause { result ≡ Err EngineFault.Read → IsBrokenOff (R.left reader) }
     ensures err { IfErr result (λ _. call_end result ≡ Silent) }
 {
     let mut reader = reader;
@@ -147,7 +149,7 @@ pub fn write_bundle_report<
     requires open { R.has_ended reader ≡ false }
     requires some_workers { 1 ≤ workers }
     requires few_workers { workers ≤ worker_limit }
-    ensures { JudgesBundle (R.remaining reader) R.never_fails result (W.contents writer.old) (W.contents writer.new) }
+    ensures { JudgesBundle (R.left reader) result (W.contents writer.old) (W.contents writer.new) }
 {
     let crew = Crew::new(rt, workers, gate);
     let report = bundle_report(&crew, alloc, reader)?;
@@ -174,8 +176,7 @@ pub fn judge_bundle<
     requires open { R.has_ended reader ≡ false }
     requires some_workers { 1 ≤ workers }
     requires few_workers { workers ≤ worker_limit }
-    ensures { JudgesBundleToOutcome (R.remaining reader) R.never_fails result (W.contents writer.old)
-        (W.contents writer.new) }
+    ensures { JudgesBundleToOutcome (R.left reader) result (W.contents writer.old) (W.contents writer.new) }
 {
     outcome_of(write_bundle_report(rt, alloc, reader, workers, gate, writer))
 }

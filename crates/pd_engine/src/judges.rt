@@ -17,6 +17,7 @@ use pd_gather::{ByteSource, NoObserver, Observer};
 use pd_level::Gate;
 use pd_report::{Report, write};
 use pd_sessions::{EngineFault, Inquiry};
+use pd_spec::Options;
 use std::alloc::Global;
 use std::io::Write;
 use std::random::RandomSource;
@@ -50,13 +51,13 @@ fn judge_streams<
 >(
     crew: &Crew<'_, '_, S, G>,
     alloc: Global,
-    inquiry: Inquiry<'_>,
+    inquiry: Inquiry<'_, '_, '_>,
     readers: Vec<R>,
     observer: Option<&O>,
     writer: &mut W,
 ) -> Result<Report, EngineFault>
     requires { All (λ r. R.has_ended r ≡ false) readers.items }
-    ensures { JudgesStreams (inquiry_view inquiry.entry) (map R.remaining readers.items) R.never_fails result
+    ensures { JudgesStreams (inquiry_view inquiry.entry) (map R.left readers.items) result
         (W.contents writer.old) (W.contents writer.new) }
 {
     let report = streams_report(crew, alloc, inquiry, readers, observer)?;
@@ -87,22 +88,18 @@ pub fn judge<
     requires open { All (λ r. R.has_ended r ≡ false) readers.items }
     requires some_workers { 1 ≤ workers }
     requires few_workers { workers ≤ worker_limit }
-    ensures { JudgesToOutcome (plain spec.now) (map R.remaining readers.items) R.never_fails result
+    ensures { JudgesToOutcome (plain spec.now) (map R.left readers.items) result
         (W.contents writer.old) (W.contents writer.new) }
 {
-    outcome_of(judge_inquiry(
-        rt,
-        alloc,
-        Inquiry::plain(spec),
-        readers,
-        workers,
-        gate,
-        writer,
-    ))
+    let options = Options::none(alloc);
+    let inquiry = Inquiry {
+        document: spec,
+        options: &options,
+    };
+    outcome_of(judge_inquiry(rt, alloc, inquiry, readers, workers, gate, writer))
 }
 
-/// Judges a session as `judge` does, with what is asked of it beside its document's bytes, and gives the report that it
-/// wrote.
+/// Judges a session as `judge` does, with what is asked of it beside its document, and gives the report that it wrote.
 ///
 /// # Errors
 /// As `judge`.
@@ -114,7 +111,7 @@ pub fn judge_inquiry<
 >(
     rt: &S,
     alloc: Global,
-    inquiry: Inquiry<'_>,
+    inquiry: Inquiry<'_, '_, '_>,
     readers: Vec<R>,
     workers: u64,
     gate: &G,
@@ -123,7 +120,7 @@ pub fn judge_inquiry<
     requires open { All (λ r. R.has_ended r ≡ false) readers.items }
     requires some_workers { 1 ≤ workers }
     requires few_workers { workers ≤ worker_limit }
-    ensures { JudgesStreams (inquiry_view inquiry.entry) (map R.remaining readers.items) R.never_fails result
+    ensures { JudgesStreams (inquiry_view inquiry.entry) (map R.left readers.items) result
         (W.contents writer.old) (W.contents writer.new) }
 {
     let crew = Crew::new(rt, workers, gate);
@@ -156,18 +153,16 @@ pub fn judge_watched<
     requires open { All (λ r. R.has_ended r ≡ false) readers.items }
     requires some_workers { 1 ≤ workers }
     requires few_workers { workers ≤ worker_limit }
-    ensures { JudgesToOutcome (plain spec.now) (map R.remaining readers.items) R.never_fails result
+    ensures { JudgesToOutcome (plain spec.now) (map R.left readers.items) result
         (W.contents writer.old) (W.contents writer.new) }
 {
+    let options = Options::none(alloc);
+    let inquiry = Inquiry {
+        document: spec,
+        options: &options,
+    };
     let crew = Crew::new(rt, workers, gate);
-    outcome_of(judge_inquiry_watched(
-        &crew,
-        alloc,
-        Inquiry::plain(spec),
-        readers,
-        observer,
-        writer,
-    ))
+    outcome_of(judge_inquiry_watched(&crew, alloc, inquiry, readers, observer, writer))
 }
 
 /// Judges a session as `judge_watched` does, by this crew, with what is asked of it beside its document's bytes, and
@@ -184,13 +179,13 @@ pub fn judge_inquiry_watched<
 >(
     crew: &Crew<'_, '_, S, G>,
     alloc: Global,
-    inquiry: Inquiry<'_>,
+    inquiry: Inquiry<'_, '_, '_>,
     readers: Vec<R>,
     observer: &O,
     writer: &mut W,
 ) -> Result<Report, EngineFault>
     requires { All (λ r. R.has_ended r ≡ false) readers.items }
-    ensures { JudgesStreams (inquiry_view inquiry.entry) (map R.remaining readers.items) R.never_fails result
+    ensures { JudgesStreams (inquiry_view inquiry.entry) (map R.left readers.items) result
         (W.contents writer.old) (W.contents writer.new) }
 {
     judge_streams(crew, alloc, inquiry, readers, Some(observer), writer)

@@ -35,5 +35,5 @@ pub use pd_level::{Gate, NoGate, Reached};
 pub use pd_register::{Register, Row, RowState, Snapshot, Watcher};
 pub use pd_report::{Answer, Definitely, Possibly, Refusal, Report, text};
 pub use pd_sessions::{EngineFault, Inquiry, read_upto, write_snapshot};
-pub use pd_spec::{Spec, SpecFault};
+pub use pd_spec::{Options, Spec, SpecFault};
 pub use reports::report_of;

@@ -119,13 +119,13 @@ fn session_report<
 >(
     crew: &Crew<'_, '_, S, G>,
     alloc: Global,
-    inquiry: Inquiry<'_>,
+    inquiry: Inquiry<'_, '_, '_>,
     readers: Vec<R>,
     observer: Option<&O>,
 ) -> Result<Report, Unanswered>
     requires { All (λ r. R.has_ended r ≡ false) readers.items }
     ensures { IfSome (given_report result)
-        (IsReportOfInputs (inquiry_view inquiry.entry) (map R.remaining readers.items) R.never_fails) }
+        (IsReportOfInputs (inquiry_view inquiry.entry) (map R.left readers.items)) }
 {
     let spec = read_inquiry(alloc, inquiry)?;
     let gathered = read_streams_watched(crew.runtime(), alloc, &spec, readers, observer)?;
@@ -146,13 +146,13 @@ pub(crate) fn streams_report<
 >(
     crew: &Crew<'_, '_, S, G>,
     alloc: Global,
-    inquiry: Inquiry<'_>,
+    inquiry: Inquiry<'_, '_, '_>,
     readers: Vec<R>,
     observer: Option<&O>,
 ) -> Result<Report, EngineFault>
     requires { All (λ r. R.has_ended r ≡ false) readers.items }
     ensures given { IfOk result (λ report.
-        IsReportOfInputs (inquiry_view inquiry.entry) (map R.remaining readers.items) R.never_fails
+        IsReportOfInputs (inquiry_view inquiry.entry) (map R.left readers.items)
         (report_view report)) }
     ensures err { IsOkUnless result EngineFault.Memory }
 {

@@ -6,19 +6,19 @@ use Rattle.pd_format.specs.Reports.{Report}
 use Rattle.pd_judgement.specs.Judgements.{IsJudgement, RawStream}
 use Rattle.pd_report.specs.declared.report.Report.{Report as Judged}
 use Rattle.pd_sessions.specs.Unanswered.{IsUnanswered, refused_report}
-use Rattle.pd_engine.proofs.BundleReads.{long_handed_on, report_weaker}
+use Rattle.pd_engine.proofs.BundleReads.{long_handed_on, read_handed_on, report_weaker}
 use Rattle.pd_sessions.proofs.SessionReports.{of_given}
 use Rattle.pd_engine.proofs.bundle_judges.bundle_report.Goals as goal
 
 pub returns-in_err-document-clause-long : goal.returns-in_err-document-clause-long
 returns-in_err-document-clause-long g c = λ reported.
-    let input = g.R.ByteSource.remaining c.args.reader in
+    let input = g.R.ByteSource.left c.args.reader in
     c.in_err-document.ensures.long (long_handed_on c.in_err-document.field-0.0 c.from_residual-in_err-document.result
     c.from_residual-in_err-document.ensures.1 reported) input [] (c.in_ok-bundle.ensures.fresh input)
 
 pub returns-in-Ok-clause-report : goal.returns-in-Ok-clause-report
 returns-in-Ok-clause-report g c =
-    let input = g.R.ByteSource.remaining c.args.reader in
+    let input = g.R.ByteSource.left c.args.reader in
     let part = c.in_ok-document.ensures.part in
     let parts = part.goes input [] (c.in_ok-bundle.ensures.fresh input) in
     let kept : IsKept c.deref.result.now part.part =
@@ -29,14 +29,14 @@ returns-in-Ok-clause-report g c =
 
 pub returns-in-Ok-clause-long : goal.returns-in-Ok-clause-long
 returns-in-Ok-clause-long g c = λ reported.
-    let input = g.R.ByteSource.remaining c.args.reader in
+    let input = g.R.ByteSource.left c.args.reader in
     let part = c.in_ok-document.ensures.part in
     let parts = part.goes input [] (c.in_ok-bundle.ensures.fresh input) in
     c.streams_report_of.ensures.long reported input (part.part ∷ []) parts
 
 pub returns-clause-report : goal.returns-clause-report
 returns-clause-report g c =
-    let input = g.R.ByteSource.remaining c.args.reader in
+    let input = g.R.ByteSource.left c.args.reader in
     let part = c.in_ok-document.ensures.part in
     let parts = part.goes input [] (c.in_ok-bundle.ensures.fresh input) in
     let kept : IsKept c.deref.result.now part.part =
@@ -53,7 +53,27 @@ returns-clause-report g c =
 
 pub returns-clause-long : goal.returns-clause-long
 returns-clause-long g c = λ reported.
-    let input = g.R.ByteSource.remaining c.args.reader in
+    let input = g.R.ByteSource.left c.args.reader in
     let part = c.in_ok-document.ensures.part in
     let parts = part.goes input [] (c.in_ok-bundle.ensures.fresh input) in
     c.refusal_report_of.ensures.long reported input (part.part ∷ []) parts
+
+pub returns-in_err-document-clause-cause : goal.returns-in_err-document-clause-cause
+returns-in_err-document-clause-cause g c = λ reported.
+    let input = g.R.ByteSource.left c.args.reader in
+    c.in_err-document.ensures.cause (read_handed_on c.in_err-document.field-0.0 c.from_residual-in_err-document.result
+    c.from_residual-in_err-document.ensures.1 reported) input [] (c.in_ok-bundle.ensures.fresh input)
+
+pub returns-in-Ok-clause-cause : goal.returns-in-Ok-clause-cause
+returns-in-Ok-clause-cause g c = λ reported.
+    let input = g.R.ByteSource.left c.args.reader in
+    let part = c.in_ok-document.ensures.part in
+    let parts = part.goes input [] (c.in_ok-bundle.ensures.fresh input) in
+    c.streams_report_of.ensures.cause reported input (part.part ∷ []) parts
+
+pub returns-clause-cause : goal.returns-clause-cause
+returns-clause-cause g c = λ reported.
+    let input = g.R.ByteSource.left c.args.reader in
+    let part = c.in_ok-document.ensures.part in
+    let parts = part.goes input [] (c.in_ok-bundle.ensures.fresh input) in
+    c.refusal_report_of.ensures.cause reported input (part.part ∷ []) parts

@@ -1,7 +1,7 @@
 -- The document in what is kept of the first part is that of the part.
-use Rattle.std.proofs.Common.{Bool, false, ℕ, List, subst, arith}
+use Rattle.std.proofs.Common.{ℕ, List, subst, arith}
 use Rattle.pd_bundle.specs.PartsRead.{IsKept}
-use Rattle.pd_format.specs.Documents.{inquiry, plain}
+use Rattle.pd_format.specs.Documents.{plain}
 use Rattle.pd_format.specs.Reports.{Report}
 use Rattle.pd_judgement.specs.Judgements.{IsJudgement, RawStream}
 use Rattle.pd_report.specs.Views.{refusal_view}
@@ -15,15 +15,15 @@ pub returns-then-kept-gt-DOCUMENT_BYTE_LIMIT-clause-refused :
     goal.returns-then-kept-gt-DOCUMENT_BYTE_LIMIT-clause-refused
 returns-then-kept-gt-DOCUMENT_BYTE_LIMIT-clause-refused c = λ part kept streams.
     refused_judged (plain part) streams faults.Long (refusal_view c.in_ok-of_document.field-0)
-    (long_bytes part (kept.long (omega (arith, c.if-kept-gt-DOCUMENT_BYTE_LIMIT.true)))) c.in_ok-of_document.ensures
+    (long_bytes (plain part) (kept.long (omega
+    (arith, c.if-kept-gt-DOCUMENT_BYTE_LIMIT.true)))) c.in_ok-of_document.ensures
 
 pub returns-clause-refused : goal.returns-clause-refused
 returns-clause-refused c =
     refusal_weaker c.read_document.result
-    (λ (report : Report). (beyond_width : Bool) (streams : List RawStream)
-    → IsJudgement (inquiry beyond_width c.args.kept.now) streams report)
+    (λ (report : Report). (streams : List RawStream) → IsJudgement (plain c.args.kept.now) streams report)
     (λ (report : Report). (part : List ℕ) → IsKept c.args.kept.now part → (streams : List RawStream)
     → IsJudgement (plain part) streams report)
     (λ report any part kept streams. subst (λ (bytes : List ℕ). IsJudgement (plain bytes) streams report)
-    (kept.same (omega (arith, c.if-kept-gt-DOCUMENT_BYTE_LIMIT.false))) (any false streams))
+    (kept.same (omega (arith, c.if-kept-gt-DOCUMENT_BYTE_LIMIT.false))) (any streams))
     c.read_document.ensures.refused

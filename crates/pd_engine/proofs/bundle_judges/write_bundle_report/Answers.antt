@@ -6,7 +6,7 @@ use Rattle.pd_engine.proofs.bundle_judges.write_bundle_report.Goals as goal
 pub returns : goal.returns
 returns g c =
     let read = c.in_ok-report.ensures.report in
-    let input = g.R.ByteSource.remaining c.args.reader in
+    let input = g.R.ByteSource.left c.args.reader in
     let report = report_view c.in_ok-report.report in
     let result = c.write_report.result in
     let old = g.W.Write.contents c.args.writer.now in
@@ -15,5 +15,5 @@ returns g c =
       written = bundle_written input read.bundle report result old new read.is_given read.fits read.right written;
       headline = bundle_truth input read.bundle report result old new read.is_given read.fits read.right written;
       long = λ e. absurd (write_not_long result c.write_report.ensures.err e);
-      sure = λ _ e. write_not_read result c.write_report.ensures.err e;
+      cause = λ e. absurd (write_not_read result c.write_report.ensures.err e);
     }
