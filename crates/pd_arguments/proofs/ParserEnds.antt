@@ -44,13 +44,16 @@ pub record EndsByKind (k : ErrorKind) (status : ℕ) (old new errors_old errors_
 
 -- from an end by the kind of the error, one by what is asked for
 as_asked : (arguments : List Text) (input : Source) (files : List ℕ → File)
-    (connections : ℕ → Source → Type 0) (network_serves : Bool) (status : ℕ) (old new errors_old errors_new : Option (List ℕ))
-    (k : ErrorKind) → KindCase k → IsErrorOf arguments k → EndsByKind k status old new errors_old errors_new
+    (connections : ℕ → Source → Type 0) (network_serves : Bool) (status : ℕ)
+    (old new errors_old errors_new : Option (List ℕ)) (k : ErrorKind) → KindCase k → IsErrorOf arguments k
+    → EndsByKind k status old new errors_old errors_new
     → EndsAsAsked (AsksFor arguments) input files connections network_serves status old new errors_old errors_new
-as_asked arguments input files connections network_serves status old new errors_old errors_new k (memory is) is_error ends =
+as_asked arguments input files connections network_serves status old new errors_old errors_new k
+    (memory is) is_error ends =
     let h = ends.memory is in
     record { ending = h.ending; is_status = h.is_status; output = inl h.output; errors = h.errors }
-as_asked arguments input files connections network_serves status old new errors_old errors_new k (help is) is_error ends =
+as_asked arguments input files connections network_serves status old new errors_old errors_new k
+    (help is) is_error ends =
     let h = ends.help is in
     record {
       ending = h.ending;
@@ -58,7 +61,8 @@ as_asked arguments input files connections network_serves status old new errors_
       output = inr (ShowHelp, is_error.help is, h.output);
       errors = h.errors;
     }
-as_asked arguments input files connections network_serves status old new errors_old errors_new k (version is) is_error ends =
+as_asked arguments input files connections network_serves status old new errors_old errors_new k
+    (version is) is_error ends =
     let h = ends.version is in
     record {
       ending = h.ending;
@@ -66,7 +70,8 @@ as_asked arguments input files connections network_serves status old new errors_
       output = inr (ShowVersion, is_error.version is, h.output);
       errors = h.errors;
     }
-as_asked arguments input files connections network_serves status old new errors_old errors_new k (other is_not un) is_error ends =
+as_asked arguments input files connections network_serves status old new errors_old errors_new k
+    (other is_not un) is_error ends =
     let h = ends.misused is_not un in
     record {
       ending = h.ending;

@@ -318,8 +318,8 @@ SessionLeaves files options document streams P ending old new =
     LeavesOf options (files document) (MayBeUnread (files document ∷ map files streams) (files document ∷ []))
     (P (sources_of (map files streams))) ending old new
 
--- Of the files of a document, a report and streams one may be such that it can't be opened, or one of the first two such
--- that it can't be read; or the report is too long.
+-- Of the files of a document, a report and streams one may be such that it can't be opened, or one of the first two
+-- such that it can't be read; or the report is too long.
 abbrev pub UnreadClaim : (files : List ℕ → File) (document report : List ℕ) (streams : List (List ℕ)) → Type 0
 UnreadClaim files document report streams =
     MayBeUnread (files document ∷ files report ∷ map files streams) (files document ∷ files report ∷ [])
@@ -333,9 +333,10 @@ Leaves input files connections network_serves JudgeInput ending old new = Judgem
 Leaves input files connections network_serves (JudgeFiles options fail_on document streams) ending old new =
     SessionLeaves files options document streams (λ sources. OfStreams sources fail_on) ending old new
 Leaves input files connections network_serves (CheckFiles options document report streams) ending old new =
-    LeavesOf options (files document) (UnreadClaim files document report streams) (OfFinding (files report).source (sources_of (map files streams))) ending old new
-Leaves input files connections network_serves (ServeStreams options fail_on document port watchers wait keep) ending old
-    new =
+    LeavesOf options (files document) (UnreadClaim files document report streams)
+    (OfFinding (files report).source (sources_of (map files streams))) ending old new
+Leaves input files connections network_serves (ServeStreams options fail_on document port watchers wait keep) ending
+    old new =
     LeavesOf options (files document) (MayBeUnread (files document ∷ []) (files document ∷ []))
     (OfConnections (connections port) (ServiceMayFail wait network_serves) (keep ≢ None) fail_on) ending old new
 Leaves input files connections network_serves ShowHelp ending old new = HelpLeaves ending old new

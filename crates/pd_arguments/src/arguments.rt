@@ -370,10 +370,7 @@ fn explore_request<'a>(
     let Some(names) = session_names(alloc, matches, beyond_width)? else {
         return Ok(None);
     };
-    Ok(Some(Request::Explore(Exploration {
-        names,
-        workers,
-    })))
+    Ok(Some(Request::Explore(Exploration { names, workers })))
 }
 
 /// What is asked for, by what the parser found, if no name of a file and no number is missing.

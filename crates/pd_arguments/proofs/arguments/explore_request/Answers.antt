@@ -33,7 +33,8 @@ returns c arguments taken are = record {
       NamesOptions (rows_of (found_of c.args.matches.now)) (options_view names.options))) c.in-Some-2.is
       c.in_ok-names.ensures.options;
   says_beyond_width = subst (λ (beyond : Bool). SaysBeyondWidth (rows_of (found_of c.args.matches.now)) beyond)
-      (sym (subst (λ (names : Option SessionNames). IfSome names (λ names. names.options.beyond_width ≡ c.flag_of-beyond_width.result))
+      (sym (subst (λ (names : Option SessionNames). IfSome names
+      (λ names. names.options.beyond_width ≡ c.flag_of-beyond_width.result))
       c.in-Some-2.is c.in_ok-names.ensures.beyond))
       c.flag_of-beyond_width.ensures;
   workers = _;

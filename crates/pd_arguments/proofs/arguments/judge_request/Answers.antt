@@ -39,7 +39,8 @@ returns c arguments taken are =
     NamesOptions (rows_of (found_of c.args.matches.now)) (options_view names.options))) c.in-Some-2.is
     c.in_ok-names.ensures.options)
     (subst (λ (beyond : Bool). SaysBeyondWidth (rows_of (found_of c.args.matches.now)) beyond)
-    (sym (subst (λ (names : Option SessionNames). IfSome names (λ names. names.options.beyond_width ≡ c.flag_of-beyond_width.result))
+    (sym (subst (λ (names : Option SessionNames). IfSome names
+    (λ names. names.options.beyond_width ≡ c.flag_of-beyond_width.result))
     c.in-Some-2.is c.in_ok-names.ensures.beyond))
     c.flag_of-beyond_width.ensures) c.in-Some.ensures.some
     (subst (λ (fail_on : Option FailOn). FindsConditions (rows_of (found_of c.args.matches.now))
