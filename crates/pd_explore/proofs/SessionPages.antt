@@ -1,19 +1,19 @@
 -- The page of traces, and of the streams that hold them.
 use Rattle.std.proofs.Common.{◌≡◌, ℕ, List, length, refl, sym, ap, ◌∙◌, subst, Ok, Err}
-use Rattle.std.specs.Prelude.{Bool, Option, Result, IfErr}
+use Rattle.std.specs.Prelude.{Result, IfErr}
 use Rattle.std.specs.List.{AllZip}
 use Rattle.pd_model.specs.Cuts.{total}
 use Rattle.pd_model.specs.Events.{Computation, Place}
 use Rattle.pd_model.specs.Messages.{IsMessageList}
 use Rattle.pd_model.specs.Predicates.{Recorded}
-use Rattle.pd_format.specs.Documents.{Document, Inquiry, IsInquired}
+use Rattle.pd_format.specs.Documents.{Document, Inquiry, IsDocument}
 use Rattle.pd_format.specs.Readings.{Trace}
 use Rattle.pd_format.specs.Reports.{Answer, Judged, NamedPlace, Refused, Report}
 use Rattle.pd_format.specs.Reports as reports
 use Rattle.pd_format.specs.Sessions.{StreamResult, session}
 use Rattle.pd_gather.specs.Views.{traces_view}
 use Rattle.pd_judgement.specs.Judgements.{IsAnswered, IsJudgement, IsTracesReport, events_of_traces}
-use Rattle.pd_judgement.specs.Writes.{IsJudged}
+use Rattle.pd_judgement.specs.Writes.{IsJudged, Source as StreamSource}
 use Rattle.pd_judgement.proofs.TrueReports.{judgement_is_true_lem}
 use Rattle.pd_page.specs.AnswerData.{Answered, Cyclic}
 use Rattle.pd_page.specs.Pages.{page_text}
@@ -66,15 +66,15 @@ cycle_page document sources traces pairs places text list right is_text = record
 }
 
 -- the same of the streams that readers gave
-pub inputs_page : (inquiry : Inquiry) (files : List StreamFile) (inputs : List (Option (List ℕ)))
-    (never_fails : Bool) (document : Document) (count : ℕ) (results : List StreamResult) (sources : List Source)
+pub inputs_page : (inquiry : Inquiry) (files : List StreamFile) (inputs : List StreamSource) (document : Document)
+    (count : ℕ) (results : List StreamResult) (sources : List Source)
     (traces : List Trace) (IsSaid : Report → Type 0) (text : List ℕ)
-    → IsInquired inquiry document → AreGiven document inputs never_fails count results
+    → IsDocument inquiry document → AreGiven document inputs count results
     → session document.names count results ≡ Ok traces
     → sources ≡ sources_of document.names files (events_of_traces traces)
     → IsPageOfTraces document sources traces IsSaid text
-    → IsPageOfInputs inquiry files inputs never_fails IsSaid text
-inputs_page inquiry files inputs never_fails document count results sources traces IsSaid text is given joined
+    → IsPageOfInputs inquiry files inputs IsSaid text
+inputs_page inquiry files inputs document count results sources traces IsSaid text is given joined
     recorded page =
     let report : Report = report_with document traces page.messages page.outcome in
     let right : IsJudgement inquiry given.0 report =

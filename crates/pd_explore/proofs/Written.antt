@@ -1,11 +1,11 @@
 -- What is written of a session is what is owed.
-use Rattle.std.proofs.Common.{◌≡◌, ℕ, Bool, true, false, List, refl, sym, subst, inl, inr, Some, None, Ok, Err}
+use Rattle.std.proofs.Common.{◌≡◌, ℕ, true, false, List, refl, sym, subst, inl, inr, Some, None, Ok, Err}
 use Rattle.std.specs.Prelude.{◌⊎◌, Option, Result, IfErr, IfOk, MatchResult, is_some}
 use Rattle.pd_format.specs.Documents.{Document, Inquiry}
 use Rattle.pd_format.specs.Readings.{Trace}
 use Rattle.pd_format.specs.Reports as reports
 use Rattle.pd_format.specs.Reports.{Refusal, Refused}
-use Rattle.pd_judgement.specs.Writes.{IsAnyReport, IsJudged, IsReportTextOf, IsTextOfStreams, Whole, Writes}
+use Rattle.pd_judgement.specs.Writes.{IsAnyReport, IsJudged, IsReportTextOf, IsTextOfStreams, Whole, Writes, Source as StreamSource}
 use Rattle.pd_judgement.proofs.TextsOwed.{report_text_of}
 use Rattle.pd_judgement.proofs.Writing.{writes_weaker}
 use Rattle.pd_report.specs.declared.refusal.Refusal.{Refusal as Given}
@@ -23,11 +23,11 @@ use Rattle.pd_explore.specs.Sources.{StreamFile}
 -- ---- the page
 
 -- what is said of the report, or what follows from that
-pub page_weaker : (inquiry : Inquiry) (files : List StreamFile) (inputs : List (Option (List ℕ)))
-    (never_fails : Bool) (P Q : reports.Report → Type 0) (text : List ℕ)
+pub page_weaker : (inquiry : Inquiry) (files : List StreamFile) (inputs : List StreamSource)
+    (P Q : reports.Report → Type 0) (text : List ℕ)
     → ((report : reports.Report) → P report → Q report)
-    → IsPageOfInputs inquiry files inputs never_fails P text → IsPageOfInputs inquiry files inputs never_fails Q text
-page_weaker inquiry files inputs never_fails P Q text go h = record {
+    → IsPageOfInputs inquiry files inputs P text → IsPageOfInputs inquiry files inputs Q text
+page_weaker inquiry files inputs P Q text go h = record {
   streams = h.streams;
   are_given = h.are_given;
   is_page = record {
@@ -52,11 +52,11 @@ cycle_shown : (document : Document) (traces : List Trace) (messages : ℕ) (outc
 cycle_shown document traces messages (Answered answers) refusal said = absurd (cc said)
 cycle_shown document traces messages (Cyclic places) refusal said = refl
 
-cycle_page : (inquiry : Inquiry) (files : List StreamFile) (inputs : List (Option (List ℕ))) (never_fails : Bool)
+cycle_page : (inquiry : Inquiry) (files : List StreamFile) (inputs : List StreamSource)
     (refusal : Given) (text : List ℕ)
-    → IsPageOfInputs inquiry files inputs never_fails (IsRefusedBy (Some refusal)) text
-    → IsPageOfInputs inquiry files inputs never_fails IsCycle text
-cycle_page inquiry files inputs never_fails refusal text h = record {
+    → IsPageOfInputs inquiry files inputs (IsRefusedBy (Some refusal)) text
+    → IsPageOfInputs inquiry files inputs IsCycle text
+cycle_page inquiry files inputs refusal text h = record {
   streams = h.streams;
   are_given = h.are_given;
   is_page = record {
@@ -75,32 +75,32 @@ cycle_page inquiry files inputs never_fails refusal text h = record {
   };
 }
 
-pub page_written : (inquiry : Inquiry) (files : List StreamFile) (inputs : List (Option (List ℕ)))
-    (never_fails : Bool) (page : List ℕ) (refusal : Option Given) (result : Result (Option Report) EngineFault)
+pub page_written : (inquiry : Inquiry) (files : List StreamFile) (inputs : List StreamSource) (page : List ℕ)
+    (refusal : Option Given) (result : Result (Option Report) EngineFault)
     (old new : Option (List ℕ))
-    → IsPageOfInputs inquiry files inputs never_fails (IsRefusedBy refusal) page
+    → IsPageOfInputs inquiry files inputs (IsRefusedBy refusal) page
     → IfOk result (λ report. is_some report ≡ is_some refusal)
     → Writes (λ (text : List ℕ). text ≡ page) (call_end result) old new
-    → Writes (IsOwed inquiry files inputs never_fails (judged_as result)) (call_end result) old new
-page_written inquiry files inputs never_fails page None (Ok None) old new right judged written =
-    writes_weaker (λ (text : List ℕ). text ≡ page) (IsOwed inquiry files inputs never_fails (Some true))
+    → Writes (IsOwed inquiry files inputs (judged_as result)) (call_end result) old new
+page_written inquiry files inputs page None (Ok None) old new right judged written =
+    writes_weaker (λ (text : List ℕ). text ≡ page) (IsOwed inquiry files inputs (Some true))
     Whole old new
-    (λ text is. subst (IsPageOfInputs inquiry files inputs never_fails IsJudged) (sym is) right) written
-page_written inquiry files inputs never_fails page None (Ok (Some report)) old new right judged written =
+    (λ text is. subst (IsPageOfInputs inquiry files inputs IsJudged) (sym is) right) written
+page_written inquiry files inputs page None (Ok (Some report)) old new right judged written =
     absurd (cc judged)
-page_written inquiry files inputs never_fails page (Some refusal) (Ok None) old new right judged written =
+page_written inquiry files inputs page (Some refusal) (Ok None) old new right judged written =
     absurd (cc judged)
-page_written inquiry files inputs never_fails page (Some refusal) (Ok (Some report)) old new right judged written =
-    writes_weaker (λ (text : List ℕ). text ≡ page) (IsOwed inquiry files inputs never_fails (Some false))
+page_written inquiry files inputs page (Some refusal) (Ok (Some report)) old new right judged written =
+    writes_weaker (λ (text : List ℕ). text ≡ page) (IsOwed inquiry files inputs (Some false))
     Whole old new
-    (λ text is. inl (subst (IsPageOfInputs inquiry files inputs never_fails IsCycle) (sym is)
-    (cycle_page inquiry files inputs never_fails refusal page right)))
+    (λ text is. inl (subst (IsPageOfInputs inquiry files inputs IsCycle) (sym is)
+    (cycle_page inquiry files inputs refusal page right)))
     written
-page_written inquiry files inputs never_fails page refusal (Err fault) old new right judged written =
-    writes_weaker (λ (text : List ℕ). text ≡ page) (IsOwed inquiry files inputs never_fails None)
+page_written inquiry files inputs page refusal (Err fault) old new right judged written =
+    writes_weaker (λ (text : List ℕ). text ≡ page) (IsOwed inquiry files inputs None)
     (fault_end fault) old new
-    (λ text is. inl (subst (IsPageOfInputs inquiry files inputs never_fails IsAnyReport) (sym is)
-    (page_weaker inquiry files inputs never_fails (IsRefusedBy refusal) IsAnyReport page (λ report said. tt) right)))
+    (λ text is. inl (subst (IsPageOfInputs inquiry files inputs IsAnyReport) (sym is)
+    (page_weaker inquiry files inputs (IsRefusedBy refusal) IsAnyReport page (λ report said. tt) right)))
     written
 
 pub write_only : (result : Result (Option Report) EngineFault) → IfErr result (λ fault. fault ≡ Write)
@@ -110,36 +110,36 @@ write_only (Err fault) only = inr only
 
 -- ---- a refusal
 
-refusal_text : (inquiry : Inquiry) (inputs : List (Option (List ℕ))) (never_fails : Bool) (refusal : Refusal)
-    (given : Result Report EngineFault) (text : List ℕ) → IsReportOfInputs inquiry inputs never_fails (Refused refusal)
+refusal_text : (inquiry : Inquiry) (inputs : List StreamSource) (refusal : Refusal)
+    (given : Result Report EngineFault) (text : List ℕ) → IsReportOfInputs inquiry inputs (Refused refusal)
     → is_cycle (Refused refusal) ≡ false → IsTextAs (Refused refusal) given text
-    → IsTextOfStreams inquiry inputs never_fails IsOtherRefusal text
-refusal_text inquiry inputs never_fails refusal given text right other owed = record {
+    → IsTextOfStreams inquiry inputs IsOtherRefusal text
+refusal_text inquiry inputs refusal given text right other owed = record {
   streams = right.streams;
   are_given = right.are_given;
   is_report_text = subst (IsReportTextOf inquiry right.streams IsOtherRefusal) (sym owed.is_text)
       (report_text_of inquiry right.streams (Refused refusal) right.right IsOtherRefusal (refl, other));
 }
 
-pub refusal_written : (inquiry : Inquiry) (files : List StreamFile) (inputs : List (Option (List ℕ)))
-    (never_fails : Bool) (refusal : Refusal) (written : Result Report EngineFault)
+pub refusal_written : (inquiry : Inquiry) (files : List StreamFile) (inputs : List StreamSource) (refusal : Refusal)
+    (written : Result Report EngineFault)
     (result : Result (Option Report) EngineFault) (old new : Option (List ℕ))
-    → IsReportOfInputs inquiry inputs never_fails (Refused refusal) → is_cycle (Refused refusal) ≡ false
+    → IsReportOfInputs inquiry inputs (Refused refusal) → is_cycle (Refused refusal) ≡ false
     → MatchResult written (λ report. result ≡ Ok (Some report)) (λ fault. result ≡ Err fault)
     → Writes (IsTextAs (Refused refusal) written) (call_end written) old new
-    → Writes (IsOwed inquiry files inputs never_fails (judged_as result)) (call_end result) old new
-refusal_written inquiry files inputs never_fails refusal (Ok report) result old new right other same written =
-    subst (λ (r : Result (Option Report) EngineFault). Writes (IsOwed inquiry files inputs never_fails (judged_as r))
+    → Writes (IsOwed inquiry files inputs (judged_as result)) (call_end result) old new
+refusal_written inquiry files inputs refusal (Ok report) result old new right other same written =
+    subst (λ (r : Result (Option Report) EngineFault). Writes (IsOwed inquiry files inputs (judged_as r))
     (call_end r) old new) (sym same)
-    (writes_weaker (IsTextAs (Refused refusal) (Ok report)) (IsOwed inquiry files inputs never_fails (Some false))
+    (writes_weaker (IsTextAs (Refused refusal) (Ok report)) (IsOwed inquiry files inputs (Some false))
     Whole old new
-    (λ text owed. inr (refusal_text inquiry inputs never_fails refusal (Ok report) text right other owed)) written)
-refusal_written inquiry files inputs never_fails refusal (Err fault) result old new right other same written =
-    subst (λ (r : Result (Option Report) EngineFault). Writes (IsOwed inquiry files inputs never_fails (judged_as r))
+    (λ text owed. inr (refusal_text inquiry inputs refusal (Ok report) text right other owed)) written)
+refusal_written inquiry files inputs refusal (Err fault) result old new right other same written =
+    subst (λ (r : Result (Option Report) EngineFault). Writes (IsOwed inquiry files inputs (judged_as r))
     (call_end r) old new) (sym same)
-    (writes_weaker (IsTextAs (Refused refusal) (Err fault)) (IsOwed inquiry files inputs never_fails None)
+    (writes_weaker (IsTextAs (Refused refusal) (Err fault)) (IsOwed inquiry files inputs None)
     (fault_end fault) old new
-    (λ text owed. inr (refusal_text inquiry inputs never_fails refusal (Err fault) text right other owed)) written)
+    (λ text owed. inr (refusal_text inquiry inputs refusal (Err fault) text right other owed)) written)
 
 pub refusal_faults : (written : Result Report EngineFault) (result : Result (Option Report) EngineFault)
     → MatchResult written (λ report. result ≡ Ok (Some report)) (λ fault. result ≡ Err fault)

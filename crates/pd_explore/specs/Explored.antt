@@ -10,7 +10,7 @@ use Rattle.pd_format.specs.Reports.{Report, Judged, Refused}
 use Rattle.pd_format.specs.Reports as reports
 use Rattle.pd_judgement.specs.Headline.{HoldsSession, IsTrueReport, is_judged}
 use Rattle.pd_judgement.specs.Judgements.{IsJudgement, IsTracesReport, RawStream, events_of_traces}
-use Rattle.pd_judgement.specs.Writes.{IsAnyReport, IsGivenAs, IsJudged, IsTextOfStreams, Writes}
+use Rattle.pd_judgement.specs.Writes.{IsAnyReport, IsGivenAs, IsJudged, IsTextOfStreams, Writes, Source as StreamSource}
 use Rattle.pd_page.specs.AnswerData.{Answered, Cyclic, Outcome}
 use Rattle.pd_page.specs.Pages.{page_text}
 use Rattle.pd_page.specs.SourceData.{Source}
@@ -57,11 +57,11 @@ pub record IsPageOf (inquiry : Inquiry) (files : List StreamFile) (streams : Lis
   pub is_text : text ≡ page_text document (sources_of document.names files (events_of_traces traces))
       (events_of_traces traces) pairs outcome
 
--- the same of the streams that readers with this left gave, of which no read ever fails, if that is said
-pub record IsPageOfInputs (inquiry : Inquiry) (files : List StreamFile) (inputs : List (Option (List ℕ)))
-    (never_fails : Bool) (IsSaid : Report → Type 0) (text : List ℕ) : Type 0 where
+-- the same of the streams that these sources gave
+pub record IsPageOfInputs (inquiry : Inquiry) (files : List StreamFile) (inputs : List StreamSource)
+    (IsSaid : Report → Type 0) (text : List ℕ) : Type 0 where
   pub streams : List RawStream
-  pub are_given : AllZip (IsGivenAs never_fails) inputs streams
+  pub are_given : AllZip IsGivenAs inputs streams
   pub is_page : IsPageOf inquiry files streams IsSaid text
 
 -- whether it is a refusal for a causal cycle
@@ -78,16 +78,16 @@ IsOtherRefusal report = (is_judged report ≡ false) × (is_cycle report ≡ fal
 
 -- The text that is owed of a session, with these files: of one that is judged its page; of one that is refused for a
 -- causal cycle its page, which shows that; and of one that is refused otherwise the text of its report.
-abbrev pub IsOwed : (inquiry : Inquiry) (files : List StreamFile) (inputs : List (Option (List ℕ)))
-    (never_fails : Bool) (judged : Option Bool) (text : List ℕ) → Type 0
-IsOwed inquiry files inputs never_fails (Some true) text =
-    IsPageOfInputs inquiry files inputs never_fails IsJudged text
-IsOwed inquiry files inputs never_fails (Some false) text =
-    IsPageOfInputs inquiry files inputs never_fails IsCycle text
-    ⊎ IsTextOfStreams inquiry inputs never_fails IsOtherRefusal text
-IsOwed inquiry files inputs never_fails None text =
-    IsPageOfInputs inquiry files inputs never_fails IsAnyReport text
-    ⊎ IsTextOfStreams inquiry inputs never_fails IsOtherRefusal text
+abbrev pub IsOwed : (inquiry : Inquiry) (files : List StreamFile) (inputs : List StreamSource) (judged : Option Bool)
+    (text : List ℕ) → Type 0
+IsOwed inquiry files inputs (Some true) text =
+    IsPageOfInputs inquiry files inputs IsJudged text
+IsOwed inquiry files inputs (Some false) text =
+    IsPageOfInputs inquiry files inputs IsCycle text
+    ⊎ IsTextOfStreams inquiry inputs IsOtherRefusal text
+IsOwed inquiry files inputs None text =
+    IsPageOfInputs inquiry files inputs IsAnyReport text
+    ⊎ IsTextOfStreams inquiry inputs IsOtherRefusal text
 
 -- whether the session is judged, and not refused with a report, if that is said
 abbrev pub judged_as : Result (Option programs.Report) EngineFault → Option Bool
@@ -95,12 +95,10 @@ judged_as (Ok None) = Some true
 judged_as (Ok (Some refusal)) = Some false
 judged_as (Err fault) = None
 
--- What a call leaves on its output, and its result, if it explores the session of a document's bytes, with what is
--- asked beside them, and of readers with this left, of which no read ever fails, if that is said, with these files.
--- What is owed is written whole, judged or refused as is reported; a write that fails leaves a prefix of it, out of
--- memory nothing, and no other fault comes.
-pub record Explores (inquiry : Inquiry) (files : List StreamFile) (inputs : List (Option (List ℕ)))
-    (never_fails : Bool) (result : Result (Option programs.Report) EngineFault) (old new : Option (List ℕ)) :
-    Type 0 where
-  pub written : Writes (IsOwed inquiry files inputs never_fails (judged_as result)) (call_end result) old new
+-- What a call leaves on its output, and its result, if it explores the session of a document, with what is asked, and
+-- of these sources of streams, with these files. What is owed is written whole, judged or refused as is reported; a
+-- write that fails leaves a prefix of it, out of memory nothing, and no other fault comes.
+pub record Explores (inquiry : Inquiry) (files : List StreamFile) (inputs : List StreamSource)
+    (result : Result (Option programs.Report) EngineFault) (old new : Option (List ℕ)) : Type 0 where
+  pub written : Writes (IsOwed inquiry files inputs (judged_as result)) (call_end result) old new
   pub err : IfErr result (λ fault. (fault ≡ Memory) ⊎ (fault ≡ Write))

@@ -5,7 +5,7 @@ ghost use Rattle.pd_explore.specs.Sources.{StreamFile as SourceFile};
 ghost use Rattle.pd_format.specs.Documents as documents;
 ghost use Rattle.pd_format.specs.Limits.{worker_limit};
 ghost use Rattle.pd_format.specs.Reports.{Refused};
-ghost use Rattle.pd_judgement.specs.Writes.{Writes};
+ghost use Rattle.pd_judgement.specs.Writes.{Source as StreamSource, Writes};
 ghost use Rattle.pd_report.specs.Views.{refusal_view};
 ghost use Rattle.pd_sessions.specs.Ends.{call_end};
 ghost use Rattle.pd_sessions.specs.Inquiries.{inquiry_view};
@@ -78,9 +78,9 @@ fn write_refusal<W: Write>(
     writer: &mut W,
 ) -> Result<Option<Report>, EngineFault>
     // It is owed of each inquiry and of readers of which it is the report, whatever the files.
-    ensures written { (inquiry : documents.Inquiry) (files : List SourceFile) (inputs : List (Option (List ℕ)))
-        (never_fails : Bool) → IsUnanswered (IsReportOfInputs inquiry inputs never_fails) unanswered
-        → Writes (IsOwed inquiry files inputs never_fails (judged_as result)) (call_end result)
+    ensures written { (inquiry : documents.Inquiry) (files : List SourceFile) (inputs : List StreamSource)
+        → IsUnanswered (IsReportOfInputs inquiry inputs) unanswered
+        → Writes (IsOwed inquiry files inputs (judged_as result)) (call_end result)
         (W.contents writer.old) (W.contents writer.new) }
     ensures err { IfErr result (λ fault. (fault ≡ EngineFault.Memory) ⊎ (fault ≡ EngineFault.Write)) }
 {
@@ -104,14 +104,14 @@ fn explore_by<
 >(
     crew: &Crew<'_, '_, S, G>,
     alloc: Global,
-    inquiry: Inquiry<'_>,
+    inquiry: Inquiry<'_, '_, '_>,
     files: &[StreamFile<'_>],
     readers: Vec<R>,
     writer: &mut W,
 ) -> Result<Option<Report>, EngineFault>
     requires { All (λ r. R.has_ended r ≡ false) readers.items }
-    ensures { Explores (inquiry_view inquiry.entry) (files_view files.now) (map R.remaining readers.items)
-        R.never_fails result (W.contents writer.old) (W.contents writer.new) }
+    ensures { Explores (inquiry_view inquiry.entry) (files_view files.now) (map R.left readers.items) result
+        (W.contents writer.old) (W.contents writer.new) }
 {
     match page_of_session(crew, alloc, inquiry, files, readers) {
         Ok(page) => write_page(page, writer),
@@ -136,7 +136,7 @@ pub fn explore<
 >(
     rt: &S,
     alloc: Global,
-    inquiry: Inquiry<'_>,
+    inquiry: Inquiry<'_, '_, '_>,
     files: &[StreamFile<'_>],
     readers: Vec<R>,
     workers: u64,
@@ -146,8 +146,8 @@ pub fn explore<
     requires open { All (λ r. R.has_ended r ≡ false) readers.items }
     requires some_workers { 1 ≤ workers }
     requires few_workers { workers ≤ worker_limit }
-    ensures { Explores (inquiry_view inquiry.entry) (files_view files.now) (map R.remaining readers.items)
-        R.never_fails result (W.contents writer.old) (W.contents writer.new) }
+    ensures { Explores (inquiry_view inquiry.entry) (files_view files.now) (map R.left readers.items) result
+        (W.contents writer.old) (W.contents writer.new) }
 {
     explore_by(
         &Crew::new(rt, workers, gate),

@@ -175,15 +175,15 @@ pub(crate) fn page_of_session<
 >(
     crew: &Crew<'_, '_, S, G>,
     alloc: Global,
-    inquiry: Inquiry<'_>,
+    inquiry: Inquiry<'_, '_, '_>,
     files: &[StreamFile<'_>],
     readers: Vec<R>,
 ) -> Result<Page, Unanswered>
     requires { All (λ r. R.has_ended r ≡ false) readers.items }
     ensures page { IfOk result (λ page. IsPageOfInputs (inquiry_view inquiry.entry) (files_view files.now)
-        (map R.remaining readers.items) R.never_fails (IsRefusedBy page.refusal) page.text.items) }
+        (map R.left readers.items) (IsRefusedBy page.refusal) page.text.items) }
     ensures refused { IfErr result (IsUnanswered
-        (IsReportOfInputs (inquiry_view inquiry.entry) (map R.remaining readers.items) R.never_fails)) }
+        (IsReportOfInputs (inquiry_view inquiry.entry) (map R.left readers.items))) }
 {
     let spec = read_inquiry(alloc, inquiry)?;
     let gathered = read_streams(crew.runtime(), alloc, &spec, readers)?;

@@ -9,9 +9,9 @@ pub returns-in-Ok : goal.returns-in-Ok
 returns-in-Ok g c =
     let asked = inquiry_view c.args.inquiry in
     let files = files_view c.args.files.now in
-    let inputs = map g.R.ByteSource.remaining c.args.readers.items in
+    let inputs = map g.R.ByteSource.left c.args.readers.items in
     record {
-      written = page_written asked files inputs g.R.ByteSource.never_fails c.in-Ok.page.text.items c.in-Ok.page.refusal
+      written = page_written asked files inputs c.in-Ok.page.text.items c.in-Ok.page.refusal
           c.write_page.result (g.W.Write.contents c.args.writer.now) (g.W.Write.contents c.write_page.new.writer)
           c.in-Ok.ensures.page c.write_page.ensures.judged c.write_page.ensures.written;
       err = write_only c.write_page.result c.write_page.ensures.err;
@@ -20,6 +20,6 @@ returns-in-Ok g c =
 pub returns-in-Err : goal.returns-in-Err
 returns-in-Err g c = record {
   written = c.write_refusal.ensures.written (inquiry_view c.args.inquiry) (files_view c.args.files.now)
-      (map g.R.ByteSource.remaining c.args.readers.items) g.R.ByteSource.never_fails c.in-Err.ensures.refused;
+      (map g.R.ByteSource.left c.args.readers.items) c.in-Err.ensures.refused;
   err = c.write_refusal.ensures.err;
 }

@@ -26,23 +26,23 @@ use Rattle.pd_explore.proofs.pages.page_of_session.Goals as goal
 pub returns-in_err-spec-clause-refused : goal.returns-in_err-spec-clause-refused
 returns-in_err-spec-clause-refused g c =
     let asked = inquiry_view c.args.inquiry in
-    let inputs = map g.R.ByteSource.remaining c.args.readers.items in
+    let inputs = map g.R.ByteSource.left c.args.readers.items in
     refusal_given c.from_residual.result c.in_err-spec.field-0.0
     (λ (report : Report). (streams : List RawStream) → IsJudgement asked streams report)
-    (IsReportOfInputs asked inputs g.R.ByteSource.never_fails)
-    (refused_inputs_report asked inputs g.R.ByteSource.never_fails) c.from_residual.ensures.1
+    (IsReportOfInputs asked inputs)
+    (refused_inputs_report asked inputs) c.from_residual.ensures.1
     c.in_err-spec.ensures.refused
 
 pub returns-in_err-traces-clause-refused : goal.returns-in_err-traces-clause-refused
 returns-in_err-traces-clause-refused g c =
     let asked = inquiry_view c.args.inquiry in
-    let inputs = map g.R.ByteSource.remaining c.args.readers.items in
+    let inputs = map g.R.ByteSource.left c.args.readers.items in
     let document = document_view c.in_ok-spec.spec in
     let count = c.in_ok-gathered.gathered.streams in
     let results = results_view c.in_ok-gathered.gathered.readings.items in
     refusal_given c.from_residual-in_err-traces.result c.in_err-traces.field-0.0
-    (IsReportOfResults document count results) (IsReportOfInputs asked inputs g.R.ByteSource.never_fails)
-    (λ report right. inputs_report asked inputs g.R.ByteSource.never_fails document count results report
+    (IsReportOfResults document count results) (IsReportOfInputs asked inputs)
+    (λ report right. inputs_report asked inputs document count results report
     c.in_ok-spec.ensures.read c.in_ok-gathered.ensures.given right)
     c.from_residual-in_err-traces.ensures.1 c.in_err-traces.ensures.refused
 
@@ -50,7 +50,7 @@ pub returns-clause-page : goal.returns-clause-page
 returns-clause-page g c =
     let asked = inquiry_view c.args.inquiry in
     let files = files_view c.args.files.now in
-    let inputs = map g.R.ByteSource.remaining c.args.readers.items in
+    let inputs = map g.R.ByteSource.left c.args.readers.items in
     let document = document_view c.in_ok-spec.spec in
     let count = c.in_ok-gathered.gathered.streams in
     let results = results_view c.in_ok-gathered.gathered.readings.items in
@@ -63,8 +63,8 @@ returns-clause-page g c =
     (same_events c.in_ok-traces.traces.items) in
     IfOk-weaker c.page_of_traces.result
     (λ page. IsPageOfTraces document sources traces (IsRefusedBy page.refusal) page.text.items)
-    (λ page. IsPageOfInputs asked files inputs g.R.ByteSource.never_fails (IsRefusedBy page.refusal) page.text.items)
-    (λ page is. inputs_page asked files inputs g.R.ByteSource.never_fails document count results sources traces
+    (λ page. IsPageOfInputs asked files inputs (IsRefusedBy page.refusal) page.text.items)
+    (λ page is. inputs_page asked files inputs document count results sources traces
     (IsRefusedBy page.refusal) page.text.items
     c.in_ok-spec.ensures.read c.in_ok-gathered.ensures.given c.in_ok-traces.ensures.joined recorded is)
     (subst (λ (all : List Trace). IfOk c.page_of_traces.result
@@ -77,14 +77,14 @@ returns-clause-page g c =
 pub returns-clause-refused : goal.returns-clause-refused
 returns-clause-refused g c =
     let asked = inquiry_view c.args.inquiry in
-    let inputs = map g.R.ByteSource.remaining c.args.readers.items in
+    let inputs = map g.R.ByteSource.left c.args.readers.items in
     let document = document_view c.in_ok-spec.spec in
     let count = c.in_ok-gathered.gathered.streams in
     let results = results_view c.in_ok-gathered.gathered.readings.items in
     let traces = traces_view c.in_ok-traces.traces.items in
     refused_weaker c.page_of_traces.result (IsTracesReport document traces)
-    (IsReportOfInputs asked inputs g.R.ByteSource.never_fails)
-    (λ report right. inputs_report asked inputs g.R.ByteSource.never_fails document count results report
+    (IsReportOfInputs asked inputs)
+    (λ report right. inputs_report asked inputs document count results report
     c.in_ok-spec.ensures.read c.in_ok-gathered.ensures.given
     (traces_report document count results traces report c.in_ok-traces.ensures.joined right))
     (subst (λ (all : List Trace). IfErr c.page_of_traces.result
