@@ -2,8 +2,8 @@
 use Rattle.std.proofs.Common.{◌≡◌, ◌≤◌, ℕ, List, [], ◌∷◌, drop, map, length, refl, sym, subst, arith, Option, inr}
 use Rattle.std.specs.Prelude.{Bool}
 use Rattle.clap.specs.Walk.{Text}
-use Rattle.pd_arguments.specs.Statuses.{Ending, Success, Negative, Alarm, NoPredicate, Misuse, Failed, MemoryFailure, ReadFailure, WriteFailure, BundleFailure, NetworkFailure, Ends, EndsAsAsked, JudgeInput, JudgementLeaves, Reliance, status_of}
-use Rattle.pd_judgement.specs.Writes.{IsJudged, IsRefused, WritesTruthOfBundle}
+use Rattle.pd_arguments.specs.Statuses.{Ending, Success, Negative, Alarm, NoPredicate, Misuse, Failed, MemoryFailure, ReadFailure, WriteFailure, BundleFailure, NetworkFailure, Ends, EndsAsAsked, JudgeInput, JudgementLeaves, File, status_of}
+use Rattle.pd_judgement.specs.Writes.{IsJudged, IsRefused, Source, WritesTruthOfBundle}
 use Rattle.pd_judgement.proofs.TextsOwed.{truth_of_bundle_text}
 use Rattle.pd_arguments.specs.Arguments.{AsksFor, of_input}
 use Rattle.pd_arguments.proofs.Parsed.{nothing_is_no_command, nothing_is_taken}
@@ -20,38 +20,38 @@ none_left f [] le = refl
 none_left f (x ∷ []) le = refl
 none_left f (x ∷ y ∷ xs) le = absurd (omega arith)
 
-pub as_asked_by_none : (arguments : List Text) (on : Reliance) (input : Option (List ℕ)) (files : List ℕ → Option
-    (List ℕ))
-    (connections : ℕ → Option (List ℕ) → Type 0) (status : ℕ) (old new errors_old errors_new : Option (List ℕ))
-    → arguments ≡ [] → Ends (λ ending. JudgementLeaves input on.input_is_read ending old new) status errors_old
-    errors_new → EndsAsAsked (AsksFor arguments) on input files connections status old new errors_old errors_new
-as_asked_by_none arguments on input files connections status old new errors_old errors_new none h = record {
+pub as_asked_by_none : (arguments : List Text) (input : Source) (files : List ℕ → File)
+    (connections : ℕ → Source → Type 0) (network_serves : Bool) (status : ℕ)
+    (old new errors_old errors_new : Option (List ℕ)) → arguments ≡ []
+    → Ends (λ ending. JudgementLeaves input ending old new) status errors_old errors_new
+    → EndsAsAsked (AsksFor arguments) input files connections network_serves status old new errors_old errors_new
+as_asked_by_none arguments input files connections network_serves status old new errors_old errors_new none h = record {
   ending = h.ending;
   is_status = h.is_status;
   output = inr (JudgeInput, subst (λ (l : List Text). AsksFor l JudgeInput) (sym none) none_asks, h.output);
   errors = h.errors;
 }
 
-truth_of_end : (input : Option (List ℕ)) (never_fails : Bool) (ending : Ending) (old new : Option (List ℕ))
-    → status_of ending ≤ 1 → JudgementLeaves input never_fails ending old new → WritesTruthOfBundle input
+truth_of_end : (input : Source) (ending : Ending) (old new : Option (List ℕ))
+    → status_of ending ≤ 1 → JudgementLeaves input ending old new → WritesTruthOfBundle input
     (status_of ending ≡ 0) old new
-truth_of_end input never_fails Success old new le left =
+truth_of_end input Success old new le left =
     truth_of_bundle_text input IsJudged (status_of Success ≡ 0) old new (λ _ _ _. refl) left
-truth_of_end input never_fails Negative old new le left =
+truth_of_end input Negative old new le left =
     truth_of_bundle_text input IsRefused (status_of Negative ≡ 0) old new (λ _ refused judged. cc) left
-truth_of_end input never_fails Alarm old new le left = absurd left
-truth_of_end input never_fails NoPredicate old new le left = absurd left
-truth_of_end input never_fails Misuse old new le left = absurd left
-truth_of_end input never_fails (Failed MemoryFailure) old new le left = absurd (omega (arith, le))
-truth_of_end input never_fails (Failed ReadFailure) old new le left = absurd (omega (arith, le))
-truth_of_end input never_fails (Failed WriteFailure) old new le left = absurd (omega (arith, le))
-truth_of_end input never_fails (Failed BundleFailure) old new le left = absurd (omega (arith, le))
-truth_of_end input never_fails (Failed NetworkFailure) old new le left = absurd left
+truth_of_end input Alarm old new le left = absurd left
+truth_of_end input NoPredicate old new le left = absurd left
+truth_of_end input Misuse old new le left = absurd left
+truth_of_end input (Failed MemoryFailure) old new le left = absurd (omega (arith, le))
+truth_of_end input (Failed ReadFailure) old new le left = absurd (omega (arith, le))
+truth_of_end input (Failed WriteFailure) old new le left = absurd (omega (arith, le))
+truth_of_end input (Failed BundleFailure) old new le left = absurd (omega (arith, le))
+truth_of_end input (Failed NetworkFailure) old new le left = absurd left
 
-pub truth_of_status : (input : Option (List ℕ)) (never_fails : Bool) (status : ℕ)
+pub truth_of_status : (input : Source) (status : ℕ)
     (old new errors_old errors_new : Option (List ℕ))
-    → Ends (λ ending. JudgementLeaves input never_fails ending old new) status errors_old errors_new → status ≤ 1
+    → Ends (λ ending. JudgementLeaves input ending old new) status errors_old errors_new → status ≤ 1
     → WritesTruthOfBundle input (status ≡ 0) old new
-truth_of_status input never_fails status old new errors_old errors_new h le =
+truth_of_status input status old new errors_old errors_new h le =
     subst (λ (n : ℕ). WritesTruthOfBundle input (n ≡ 0) old new) (sym h.is_status)
-    (truth_of_end input never_fails h.ending old new (subst (λ (n : ℕ). n ≤ 1) h.is_status le) h.output)
+    (truth_of_end input h.ending old new (subst (λ (n : ℕ). n ≤ 1) h.is_status le) h.output)

@@ -1,16 +1,19 @@
 -- What a run that draws leaves by the bytes that were read, before and after the flush.
-use Rattle.std.proofs.Common.{◌≡◌, ◌≤◌, ◌⊎◌, ◌∙◌, ℕ, List, length, refl, sym, subst, Some, None, Option, Ok, Err, inl, inr}
-use Rattle.std.specs.Prelude.{Bool, Result}
+use Rattle.std.proofs.Common.{◌≡◌, ◌≤◌, ◌⊎◌, ◌∙◌, ℕ, List, length, sym, subst, Some, None, Option, Ok, Err, inl, inr}
+use Rattle.std.specs.Prelude.{Result}
 use Rattle.std.specs.Io.KnownBytes.{Keeps}
+use Rattle.pd_format.specs.Documents.{Inquiry}
 use Rattle.pd_format.specs.Limits.{report_byte_limit}
-use Rattle.pd_arguments.specs.Statuses.{OfFiles}
+use Rattle.pd_arguments.specs.Statuses.{OfClaim}
+use Rattle.pd_judgement.specs.Writes.{Source, whole_source}
+use Rattle.pd_cli.proofs.FilesRead.{whole_is_whole}
 use Rattle.pd_wish.specs.Wishes.{Wished}
 use Rattle.pd_claims.specs.Drawings.{ShowsEnd, WritesPicture}
 use Rattle.pd_claims.specs.declared.drawings.DrawOutcome.{DrawOutcome}
 use Rattle.pd_claims.specs.declared.drawings.DrawOutcome.TheVariants.{Written, CycleWritten, Refused, NoPredicate, NoEvidence}
 use Rattle.pd_sessions.specs.declared.fault.EngineFault.{EngineFault}
 use Rattle.pd_sessions.specs.declared.fault.EngineFault.TheVariants.{Memory, Write, Read, BundleLong}
-use Rattle.pd_cli.specs.Drawings.{DrawLeaves, Finishes, IsNoticeOf}
+use Rattle.pd_cli.specs.Drawings.{DrawReadLeaves, Finishes, IsNoticeOf, OfDrawing}
 use Rattle.pd_cli.proofs.WrittenSoFar.{appends_kept}
 
 -- what is kept twice is kept
@@ -20,23 +23,19 @@ kept_on (Some old) None c first then = absurd first
 kept_on (Some old) (Some mid) None first then = absurd then
 kept_on (Some old) (Some mid) (Some new) first then = then ∙ first
 
-module _ (document report : List ℕ) (inputs : List (Option (List ℕ))) (never_fails : Bool) (wish : Wished)
+module _ (document : Inquiry) (report : List ℕ) (inputs : List Source) (wish : Wished)
     (short : length report ≤ report_byte_limit) where
+  abbrev Leaves : Result DrawOutcome EngineFault → (old new : Option (List ℕ)) → Type 0
+  Leaves result old new = DrawReadLeaves (OfDrawing (whole_source report) inputs wish document) result old new
+
   -- what holds of the bytes that were read
-  of_read : (P : List ℕ → List ℕ → Type 0) → P document report → OfFiles (Some document) (Some report) P
-  of_read P holds = record {
-    document_bytes = document;
-    report_bytes = report;
-    whole_document = refl;
-    whole_report = refl;
-    fits = short;
-    holds = holds;
-  }
+  of_read : (P : List ℕ → Type 0) → P report → OfClaim (whole_source report) P
+  of_read P holds = record { bytes = report; whole = whole_is_whole report; fits = short; holds = holds }
 
   -- the call failed
   pub drawing_failed : (fault : EngineFault) (old new : Option (List ℕ)) → (fault ≡ Memory) ⊎ (fault ≡ Write)
-      → WritesPicture document report inputs never_fails wish (Err fault) old new
-      → DrawLeaves (Some document) (Some report) inputs never_fails ⊥ wish (Err fault) old new
+      → WritesPicture document report inputs wish (Err fault) old new
+      → Leaves (Err fault) old new
   drawing_failed Memory old new is written = written
   drawing_failed Write old new is written = of_read _ (inr written)
   drawing_failed Read old new (inl is) written = absurd (cc)
@@ -47,48 +46,36 @@ module _ (document report : List ℕ) (inputs : List (Option (List ℕ))) (never
   -- the call came to an end, and then the output was flushed
   pub drawing_finished : (drawing : DrawOutcome) (result : Result DrawOutcome EngineFault)
       (old middle new : Option (List ℕ))
-      → WritesPicture document report inputs never_fails wish (Ok drawing) old middle
-      → ShowsEnd document report inputs never_fails wish drawing → Finishes drawing result middle new
-      → DrawLeaves (Some document) (Some report) inputs never_fails ⊥ wish result old new
+      → WritesPicture document report inputs wish (Ok drawing) old middle
+      → ShowsEnd document report inputs wish drawing → Finishes drawing result middle new
+      → Leaves result old new
   drawing_finished Written result old middle new written shows (inl is, keeps) =
-      subst (λ (r : Result DrawOutcome EngineFault). DrawLeaves (Some document)
-      (Some report) inputs never_fails ⊥ wish r old new)
-      (sym is)
+      subst (λ (r : Result DrawOutcome EngineFault). Leaves r old new) (sym is)
       (of_read _ (written.0, written.1, appends_kept old middle new written.0 written.2 keeps))
   drawing_finished Written result old middle new written shows (inr is, keeps) =
-      subst (λ (r : Result DrawOutcome EngineFault). DrawLeaves (Some document)
-      (Some report) inputs never_fails ⊥ wish r old new)
-      (sym is)
+      subst (λ (r : Result DrawOutcome EngineFault). Leaves r old new) (sym is)
       (of_read _ (inl (written.0, inl written.1, appends_kept old middle new written.0 written.2 keeps)))
   drawing_finished CycleWritten result old middle new written shows (inl is, keeps) =
-      subst (λ (r : Result DrawOutcome EngineFault). DrawLeaves (Some document)
-      (Some report) inputs never_fails ⊥ wish r old new)
-      (sym is)
+      subst (λ (r : Result DrawOutcome EngineFault). Leaves r old new) (sym is)
       (of_read _ (written.0, written.1, appends_kept old middle new written.0 written.2 keeps))
   drawing_finished CycleWritten result old middle new written shows (inr is, keeps) =
-      subst (λ (r : Result DrawOutcome EngineFault). DrawLeaves (Some document)
-      (Some report) inputs never_fails ⊥ wish r old new)
-      (sym is)
+      subst (λ (r : Result DrawOutcome EngineFault). Leaves r old new) (sym is)
       (of_read _ (inl (written.0, inr written.1, appends_kept old middle new written.0 written.2 keeps)))
   drawing_finished (Refused found) result old middle new written shows (inl is, keeps) =
-      subst (λ (r : Result DrawOutcome EngineFault). DrawLeaves (Some document)
-      (Some report) inputs never_fails ⊥ wish r old new)
-      (sym is) (kept_on old middle new written keeps)
+      subst (λ (r : Result DrawOutcome EngineFault). Leaves r old new) (sym is) (kept_on old middle new written keeps)
   drawing_finished (Refused found) (Ok Written) old middle new written shows (inr is, keeps) = absurd is
   drawing_finished (Refused found) (Ok CycleWritten) old middle new written shows (inr is, keeps) = absurd is
   drawing_finished (Refused found) (Ok NoPredicate) old middle new written shows (inr is, keeps) = absurd is
   drawing_finished (Refused found) (Ok NoEvidence) old middle new written shows (inr is, keeps) = absurd is
   drawing_finished (Refused found) (Ok (Refused notice)) old middle new written shows (inr is, keeps) = (
-    of_read (λ d r. IsNoticeOf d r inputs never_fails wish notice.items)
+    of_read (λ r. IsNoticeOf document r inputs wish notice.items)
         (record { found = found.items; is_against = shows; is_notice = is }),
     kept_on old middle new written keeps,
   )
   drawing_finished (Refused found) (Err fault) old middle new written shows (inr is, keeps) = absurd is
   drawing_finished NoPredicate result old middle new written shows (is, keeps) =
-      subst (λ (r : Result DrawOutcome EngineFault). DrawLeaves (Some document)
-      (Some report) inputs never_fails ⊥ wish r old new)
-      (sym is) (of_read _ shows, kept_on old middle new written keeps)
+      subst (λ (r : Result DrawOutcome EngineFault). Leaves r old new) (sym is)
+      (of_read _ shows, kept_on old middle new written keeps)
   drawing_finished NoEvidence result old middle new written shows (is, keeps) =
-      subst (λ (r : Result DrawOutcome EngineFault). DrawLeaves (Some document)
-      (Some report) inputs never_fails ⊥ wish r old new)
-      (sym is) (of_read _ shows, kept_on old middle new written keeps)
+      subst (λ (r : Result DrawOutcome EngineFault). Leaves r old new) (sym is)
+      (of_read _ shows, kept_on old middle new written keeps)

@@ -3,10 +3,10 @@ use Rattle.std.proofs.Common.{◌≡◌, ℕ, Bool, true, false, List, refl, sym
 use Rattle.std.specs.Prelude.{◌⊎◌, IsErrAnd, Result}
 use Rattle.std.specs.List.{AllZip}
 use Rattle.std.specs.Io.KnownBytes.{Keeps}
-use Rattle.pd_format.specs.Documents.{Inquiry, inquiry}
+use Rattle.pd_format.specs.Documents.{Inquiry, Options, inquiry_of}
 use Rattle.pd_arguments.specs.Statuses.{Alarm, BundleFailure, Ending, Failed, MemoryFailure, Misuse, Negative, NetworkFailure, NoPredicate, ReadFailure, Success, WriteFailure}
 use Rattle.pd_format.specs.Reports as reports
-use Rattle.pd_judgement.specs.Writes.{IsAnyReport, IsJudged, Partial, Whole, Writes}
+use Rattle.pd_judgement.specs.Writes.{IsAnyReport, IsJudged, Partial, Source, Whole, Writes}
 use Rattle.pd_judgement.proofs.Writing.{writes_weaker}
 use Rattle.pd_report.specs.declared.report.Report.{Report}
 use Rattle.pd_sessions.specs.Ends.{fault_end}
@@ -15,76 +15,53 @@ use Rattle.pd_sessions.specs.declared.fault.EngineFault.TheVariants.{BundleLong,
 use Rattle.pd_explore.specs.Explored.{IsCycle, IsOtherRefusal, IsOwed, IsPageOfInputs, judged_as}
 use Rattle.pd_explore.specs.Sources.{StreamFile}
 use Rattle.pd_explore.proofs.Written.{page_weaker}
-use Rattle.pd_cli.specs.Explorations.{ExploreLeaves, IsOwedWith}
+use Rattle.pd_cli.specs.Explorations.{IsOwedWith, OfPage}
 use Rattle.pd_cli.specs.Faults.{exploration_ending}
-use Rattle.pd_cli.specs.FileSources.{HasWholeFile, SameOutline, StandsFor}
+use Rattle.pd_cli.specs.FileSources.{Knows, ReadLeaves, SameOutline}
 use Rattle.pd_cli.proofs.DocumentPrefixes.{same_holding, same_judgement, same_truth}
-use Rattle.pd_cli.proofs.FilesRead.{given_as_files, of_document, report_text_of_files, up_to_weaker}
+use Rattle.pd_cli.proofs.FilesRead.{given_as_files, report_text_of_files, up_to_weaker}
 use Rattle.pd_cli.proofs.WrittenSoFar.{appends_kept}
 
 -- ---- after the flush
 
 -- a text of which it is said whether the session is judged is one of which that isn't said
-pub unsaid_of_owed : (asked : Inquiry) (files : List StreamFile) (inputs : List (Option (List ℕ)))
-    (never_fails : Bool) (judged : Option Bool) (text : List ℕ)
-    → IsOwed asked files inputs never_fails judged text → IsOwed asked files inputs never_fails None text
-unsaid_of_owed asked files inputs never_fails (Some true) text owed =
-    inl (page_weaker asked files inputs never_fails IsJudged IsAnyReport text (λ report said. tt) owed)
-unsaid_of_owed asked files inputs never_fails (Some false) text (inl page) =
-    inl (page_weaker asked files inputs never_fails IsCycle IsAnyReport text (λ report said. tt) page)
-unsaid_of_owed asked files inputs never_fails (Some false) text (inr report) = inr report
-unsaid_of_owed asked files inputs never_fails None text owed = owed
+pub unsaid_of_owed : (asked : Inquiry) (files : List StreamFile) (inputs : List Source)
+    (judged : Option Bool) (text : List ℕ)
+    → IsOwed asked files inputs judged text → IsOwed asked files inputs None text
+unsaid_of_owed asked files inputs (Some true) text owed =
+    inl (page_weaker asked files inputs IsJudged IsAnyReport text (λ report said. tt) owed)
+unsaid_of_owed asked files inputs (Some false) text (inl page) =
+    inl (page_weaker asked files inputs IsCycle IsAnyReport text (λ report said. tt) page)
+unsaid_of_owed asked files inputs (Some false) text (inr report) = inr report
+unsaid_of_owed asked files inputs None text owed = owed
 
-pub explored_ends : (beyond : Bool) (document : List ℕ) (files : List StreamFile) (inputs : List (Option (List ℕ)))
-    (never_fails : Bool) (refusal : Option Report) (old middle new : Option (List ℕ))
-    → Writes (IsOwed (inquiry beyond document) files inputs never_fails (judged_as (Ok refusal))) Whole old middle
+pub explored_ends : (asked : Inquiry) (files : List StreamFile) (inputs : List Source) (refusal : Option Report)
+    (old middle new : Option (List ℕ)) → Writes (IsOwed asked files inputs (judged_as (Ok refusal))) Whole old middle
     → Keeps middle new
-    → ExploreLeaves beyond (Some document) (λ all. all ≡ files) inputs never_fails ⊥
-    (exploration_ending (Ok refusal)) old new
-explored_ends beyond document files inputs never_fails None old middle new written keeps = record {
-  document_bytes = document;
-  whole_document = refl;
-  holds = (
-    written.0,
-    (files, refl, written.1),
-    appends_kept old middle new written.0 written.2 keeps,
-  );
-}
-explored_ends beyond document files inputs never_fails (Some report) old middle new written keeps = record {
-  document_bytes = document;
-  whole_document = refl;
-  holds = (
-    written.0,
-    (files, refl, written.1),
-    appends_kept old middle new written.0 written.2 keeps,
-  );
-}
+    → ReadLeaves (OfPage (λ all. all ≡ files) inputs asked) (exploration_ending (Ok refusal)) old new
+explored_ends asked files inputs None old middle new written keeps =
+    (written.0, (files, refl, written.1), appends_kept old middle new written.0 written.2 keeps)
+explored_ends asked files inputs (Some report) old middle new written keeps =
+    (written.0, (files, refl, written.1), appends_kept old middle new written.0 written.2 keeps)
 
 -- a fault
-pub explored_fails : (beyond : Bool) (document : List ℕ) (files : List StreamFile) (inputs : List (Option (List ℕ)))
-    (never_fails : Bool) (result : Result (Option Report) EngineFault) (fault : EngineFault)
-    (old new : Option (List ℕ)) → IsErrAnd result (λ given. given ≡ fault)
-    → Writes (IsOwed (inquiry beyond document) files inputs never_fails None) (fault_end fault) old new
+pub explored_fails : (asked : Inquiry) (files : List StreamFile) (inputs : List Source)
+    (result : Result (Option Report) EngineFault) (fault : EngineFault) (old new : Option (List ℕ))
+    → IsErrAnd result (λ given. given ≡ fault) → Writes (IsOwed asked files inputs None) (fault_end fault) old new
     → (fault ≡ Memory) ⊎ (fault ≡ Write)
-    → ExploreLeaves beyond (Some document) (λ all. all ≡ files) inputs never_fails ⊥ (exploration_ending result) old
-    new
-explored_fails beyond document files inputs never_fails (Ok given) fault old new same written two = absurd same
-explored_fails beyond document files inputs never_fails (Err given) fault old new same written two =
-    subst (λ (f : EngineFault). ExploreLeaves beyond (Some document) (λ all. all ≡ files) inputs never_fails ⊥
-    (exploration_ending (Err f)) old new) (sym same) (go fault two written)
+    → ReadLeaves (OfPage (λ all. all ≡ files) inputs asked) (exploration_ending result) old new
+explored_fails asked files inputs (Ok given) fault old new same written two = absurd same
+explored_fails asked files inputs (Err given) fault old new same written two =
+    subst (λ (f : EngineFault). ReadLeaves (OfPage (λ all. all ≡ files) inputs asked) (exploration_ending (Err f)) old
+    new) (sym same) (go fault two written)
   where
     go : (fault : EngineFault) → (fault ≡ Memory) ⊎ (fault ≡ Write)
-        → Writes (IsOwed (inquiry beyond document) files inputs never_fails None) (fault_end fault) old new
-        → ExploreLeaves beyond (Some document) (λ all. all ≡ files) inputs never_fails ⊥
-        (exploration_ending (Err fault)) old new
+        → Writes (IsOwed asked files inputs None) (fault_end fault) old new
+        → ReadLeaves (OfPage (λ all. all ≡ files) inputs asked) (exploration_ending (Err fault)) old new
     go Memory two written = written
-    go Write two written = record {
-      document_bytes = document;
-      whole_document = refl;
-      holds = inr (writes_weaker (IsOwed (inquiry beyond document) files inputs never_fails None)
-          (IsOwedWith (λ all. all ≡ files) (inquiry beyond document) inputs never_fails None) Partial old new
-          (λ text owed. (files, refl, owed)) written);
-    }
+    go Write two written =
+        inr (writes_weaker (IsOwed asked files inputs None) (IsOwedWith (λ all. all ≡ files) asked inputs None) Partial
+        old new (λ text owed. (files, refl, owed)) written)
     go Read (inl is) written = absurd (cc)
     go Read (inr is) written = absurd (cc)
     go BundleLong (inl is) written = absurd (cc)
@@ -92,81 +69,61 @@ explored_fails beyond document files inputs never_fails (Err given) fault old ne
 
 -- ---- files
 
-page_of_files : (beyond : Bool) (read document : List ℕ) (used : List StreamFile)
-    (files lefts : List (Option (List ℕ))) (never_fails : Bool) (IsSaid : reports.Report → Type 0) (text : List ℕ)
-    → SameOutline read document → AllZip HasWholeFile files lefts
-    → IsPageOfInputs (inquiry beyond read) used lefts never_fails IsSaid text
-    → IsPageOfInputs (inquiry beyond document) used files never_fails IsSaid text
-page_of_files beyond read document used files lefts never_fails IsSaid text same are h = record {
-  streams = h.streams;
-  are_given = given_as_files never_fails files lefts h.streams are h.are_given;
-  is_page = record {
-    document = h.is_page.document;
-    traces = h.is_page.traces;
-    held = same_holding beyond read document h.streams h.is_page.document h.is_page.traces same h.is_page.held;
-    pairs = h.is_page.pairs;
-    are_messages = h.is_page.are_messages;
-    messages = h.is_page.messages;
-    outcome = h.is_page.outcome;
-    right = same_judgement beyond read document h.streams _ same h.is_page.right;
-    truth = same_truth beyond read document h.streams _ same h.is_page.truth;
-    said = h.is_page.said;
-    is_text = h.is_page.is_text;
-  };
-}
+module _ (options : Options) (read document : List ℕ) (files lefts : List Source)
+    (same : SameOutline options read document) (are : AllZip Knows files lefts) where
+  page_of_files : (used : List StreamFile) (IsSaid : reports.Report → Type 0) (text : List ℕ)
+      → IsPageOfInputs (inquiry_of options read) used lefts IsSaid text
+      → IsPageOfInputs (inquiry_of options document) used files IsSaid text
+  page_of_files used IsSaid text h = record {
+    streams = h.streams;
+    are_given = given_as_files files lefts h.streams are h.are_given;
+    is_page = record {
+      document = h.is_page.document;
+      traces = h.is_page.traces;
+      held = same_holding options read document h.streams h.is_page.document h.is_page.traces same h.is_page.held;
+      pairs = h.is_page.pairs;
+      are_messages = h.is_page.are_messages;
+      messages = h.is_page.messages;
+      outcome = h.is_page.outcome;
+      right = same_judgement options read document h.streams _ same h.is_page.right;
+      truth = same_truth options read document h.streams _ same h.is_page.truth;
+      said = h.is_page.said;
+      is_text = h.is_page.is_text;
+    };
+  }
 
-owed_of_files : (beyond : Bool) (read document : List ℕ) (used : List StreamFile)
-    (files lefts : List (Option (List ℕ))) (never_fails : Bool) (judged : Option Bool) (text : List ℕ)
-    → SameOutline read document → AllZip HasWholeFile files lefts
-    → IsOwed (inquiry beyond read) used lefts never_fails judged text
-    → IsOwed (inquiry beyond document) used files never_fails judged text
-owed_of_files beyond read document used files lefts never_fails (Some true) text same are owed =
-    page_of_files beyond read document used files lefts never_fails IsJudged text same are owed
-owed_of_files beyond read document used files lefts never_fails (Some false) text same are (inl page) =
-    inl (page_of_files beyond read document used files lefts never_fails IsCycle text same are page)
-owed_of_files beyond read document used files lefts never_fails (Some false) text same are (inr report) =
-    inr (report_text_of_files beyond read document files lefts never_fails IsOtherRefusal text same are report)
-owed_of_files beyond read document used files lefts never_fails None text same are (inl page) =
-    inl (page_of_files beyond read document used files lefts never_fails IsAnyReport text same are page)
-owed_of_files beyond read document used files lefts never_fails None text same are (inr report) =
-    inr (report_text_of_files beyond read document files lefts never_fails IsOtherRefusal text same are report)
+  owed_of_files : (used : List StreamFile) (judged : Option Bool) (text : List ℕ)
+      → IsOwed (inquiry_of options read) used lefts judged text
+      → IsOwed (inquiry_of options document) used files judged text
+  owed_of_files used (Some true) text owed = page_of_files used IsJudged text owed
+  owed_of_files used (Some false) text (inl page) = inl (page_of_files used IsCycle text page)
+  owed_of_files used (Some false) text (inr report) =
+      inr (report_text_of_files options read document files lefts IsOtherRefusal text same are report)
+  owed_of_files used None text (inl page) = inl (page_of_files used IsAnyReport text page)
+  owed_of_files used None text (inr report) =
+      inr (report_text_of_files options read document files lefts IsOtherRefusal text same are report)
 
--- the same with some files, of which something follows from what was said
-owed_with_files : (beyond : Bool) (read document : List ℕ) (P Q : List StreamFile → Type 0)
-    (files lefts : List (Option (List ℕ))) (never_fails : Bool) (judged : Option Bool) (text : List ℕ)
-    → ((used : List StreamFile) → P used → Q used) → SameOutline read document → AllZip HasWholeFile files lefts
-    → IsOwedWith P (inquiry beyond read) lefts never_fails judged text
-    → IsOwedWith Q (inquiry beyond document) files never_fails judged text
-owed_with_files beyond read document P Q files lefts never_fails judged text go same are owed = (
-  owed.0,
-  go owed.0 owed.1,
-  owed_of_files beyond read document owed.0 files lefts never_fails judged text same are owed.2,
-)
+  -- the same with some files, of which something follows from what was said
+  owed_with_files : (P Q : List StreamFile → Type 0) → ((used : List StreamFile) → P used → Q used)
+      → (judged : Option Bool) (text : List ℕ) → IsOwedWith P (inquiry_of options read) lefts judged text
+      → IsOwedWith Q (inquiry_of options document) files judged text
+  owed_with_files P Q go judged text owed =
+      (owed.0, go owed.0 owed.1, owed_of_files owed.0 judged text owed.2)
 
--- what is left written by the bytes that were read is what is to be left by the files
-pub exploration_of_files : (beyond : Bool) (file : Option (List ℕ)) (read : List ℕ) (P Q : List StreamFile → Type 0)
-    (files lefts : List (Option (List ℕ))) (never_fails : Bool) (MayBeUnread : Type 0) (ending : Ending)
-    (old new : Option (List ℕ)) → ((used : List StreamFile) → P used → Q used) → StandsFor read file
-    → AllZip HasWholeFile files lefts
-    → ExploreLeaves beyond (Some read) P lefts never_fails ⊥ ending old new
-    → ExploreLeaves beyond file Q files never_fails MayBeUnread ending old new
-exploration_of_files beyond file read P Q files lefts never_fails M Success old new go stands are left =
-    of_document file read _ _ stands (λ document same. writes_weaker _ _ Whole old new (λ text.
-    owed_with_files beyond read document P Q files lefts never_fails (Some true) text go same are)) left
-exploration_of_files beyond file read P Q files lefts never_fails M Negative old new go stands are left =
-    of_document file read _ _ stands (λ document same. writes_weaker _ _ Whole old new (λ text.
-    owed_with_files beyond read document P Q files lefts never_fails (Some false) text go same are)) left
-exploration_of_files beyond file read P Q files lefts never_fails M Misuse old new go stands are left = left
-exploration_of_files beyond file read P Q files lefts never_fails M Alarm old new go stands are left = left
-exploration_of_files beyond file read P Q files lefts never_fails M NoPredicate old new go stands are left = left
-exploration_of_files beyond file read P Q files lefts never_fails M (Failed MemoryFailure) old new go stands are left =
-    left
-exploration_of_files beyond file read P Q files lefts never_fails M (Failed ReadFailure) old new go stands are left =
-    absurd left.0
-exploration_of_files beyond file read P Q files lefts never_fails M (Failed WriteFailure) old new go stands are left =
-    of_document file read _ _ stands (λ document same. up_to_weaker _ _ old new (λ text.
-    owed_with_files beyond read document P Q files lefts never_fails None text go same are)) left
-exploration_of_files beyond file read P Q files lefts never_fails M (Failed BundleFailure) old new go stands are left =
-    left
-exploration_of_files beyond file read P Q files lefts never_fails M (Failed NetworkFailure) old new go stands are left =
-    left
+  -- what is left written by the bytes that were read is what is to be left by the files
+  pub exploration_of_files : (P Q : List StreamFile → Type 0) → ((used : List StreamFile) → P used → Q used)
+      → (old new : Option (List ℕ)) (ending : Ending) → OfPage P lefts (inquiry_of options read) ending old new
+      → OfPage Q files (inquiry_of options document) ending old new
+  exploration_of_files P Q go old new Success left =
+      writes_weaker _ _ Whole old new (owed_with_files P Q go (Some true)) left
+  exploration_of_files P Q go old new Negative left =
+      writes_weaker _ _ Whole old new (owed_with_files P Q go (Some false)) left
+  exploration_of_files P Q go old new Misuse left = left
+  exploration_of_files P Q go old new Alarm left = left
+  exploration_of_files P Q go old new NoPredicate left = left
+  exploration_of_files P Q go old new (Failed MemoryFailure) left = left
+  exploration_of_files P Q go old new (Failed ReadFailure) left = left
+  exploration_of_files P Q go old new (Failed WriteFailure) left =
+      up_to_weaker _ _ old new (owed_with_files P Q go None) left
+  exploration_of_files P Q go old new (Failed BundleFailure) left = left
+  exploration_of_files P Q go old new (Failed NetworkFailure) left = left

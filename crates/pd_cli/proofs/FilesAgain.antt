@@ -6,14 +6,7 @@ use Rattle.std.proofs.lemmas.List.{map-append}
 use Rattle.std.proofs.Math.Seq.{take-suc}
 use Rattle.pd_format.specs.Lines.{Line, finished_lines}
 use Rattle.pd_explore.specs.Sources.{IsFileOf, StreamFile, file_of_lines, stream_bytes, stream_file, unread_file}
-use Rattle.pd_cli.specs.FileSources.{HasWholeFile}
 use Rattle.pd_cli.proofs.FilesRead.{zip_on}
-
--- what is said of all that a reader has left is said of its file
-pub of_file : (file left : Option (List ℕ)) (P : List ℕ → Type 0) → HasWholeFile file left → IfSome left P
-    → IfSome file P
-of_file None left P has all = tt
-of_file (Some bytes) left P has all = subst (λ (l : Option (List ℕ)). IfSome l P) has all
 
 named : (name : List ℕ) (lines : List Line) → (file_of_lines name lines).name ≡ name
 named name [] = refl

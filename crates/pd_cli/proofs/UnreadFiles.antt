@@ -1,77 +1,110 @@
 -- What is left if a file can't be opened or read, or memory runs out before: nothing, whatever the document is.
-use Rattle.std.proofs.Common.{◌≡◌, ◌⊎◌, ℕ, List, Option, None, Some, Err, refl, inl, inr}
-use Rattle.std.specs.Prelude.{Bool}
+use Rattle.std.proofs.Common.{◌≡◌, ◌⊎◌, ℕ, suc, zero, List, [], ◌∷◌, map, Option, None, Some, Ok, Err, refl, inl, inr, true, false, arith}
+use Rattle.std.specs.Prelude.{All, Bool, IsErrAnd, Result}
 use Rattle.std.specs.Io.KnownBytes.{Keeps}
 use Rattle.pd_fail_on.specs.Conditions.{Condition}
-use Rattle.pd_arguments.specs.Statuses.{CheckLeaves, FilesJudgementLeaves, ServiceLeaves}
+use Rattle.pd_format.specs.Documents.{Inquiry, Options}
+use Rattle.pd_arguments.specs.Statuses.{Ending, File, IsLongReport, LeavesOf}
+use Rattle.pd_judgement.specs.Writes.{Source}
 use Rattle.pd_sessions.specs.declared.fault.EngineFault.{EngineFault}
 use Rattle.pd_sessions.specs.declared.fault.EngineFault.TheVariants.{BundleLong, Memory, Read, Write}
-use Rattle.pd_wish.specs.Wishes.{Wished}
+use Rattle.pd_claims.specs.declared.drawings.DrawOutcome.{DrawOutcome}
 use Rattle.pd_cli.specs.declared.service_fault.ServiceFault.TheVariants.{Engine}
 use Rattle.pd_cli.specs.Drawings.{DrawLeaves}
-use Rattle.pd_cli.specs.Explorations.{ExploreLeaves}
-use Rattle.pd_explore.specs.Sources.{StreamFile}
+use Rattle.pd_cli.specs.FileSources.{Knows}
+use Rattle.pd_cli.proofs.FilesRead.{of_known_bytes, of_known_fate}
 use Rattle.pd_cli.specs.Faults.{ending_view, exploration_ending, judgement_ending, service_ending}
 
 keeps_same : (bytes : Option (List ℕ)) → Keeps bytes bytes
 keeps_same None = tt
 keeps_same (Some bytes) = refl
 
+-- ---- why a file can't be opened or read
+
+-- the fault that is passed on is the one that was given
+pub same_fault : {A B : Type 0} (result : Result A EngineFault) (fault reported : EngineFault)
+    → IsErrAnd result (λ e. e ≡ fault) → result ≡ Err reported
+    → ◌≡◌ {A = Result B EngineFault} (Err fault) (Err reported)
+same_fault (Ok x) fault reported is e = absurd is
+same_fault (Err f) fault reported is e = cc
+
+-- the files of these names can surely be opened
+pub all_open : {N : Type 0} (files : List ℕ → File) (name_of : N → List ℕ) (names : List N)
+    → All (λ (file : File). file.opens ≡ true) (map files (map name_of names))
+    → All (λ name. (files (name_of name)).opens ≡ true) names
+all_open files name_of [] all = λ i d lt. absurd (omega (arith, lt))
+all_open files name_of (n ∷ names) all =
+    go (all_open files name_of names (λ i d lt. all (suc i) d (omega (arith, lt))))
+  where
+    go : All (λ name. (files (name_of name)).opens ≡ true) names
+        → All (λ name. (files (name_of name)).opens ≡ true) (n ∷ names)
+    go rest zero d lt = all 0 (files (name_of n)) (omega arith)
+    go rest (suc i) d lt = rest i d (omega (arith, lt))
+
+-- A report that can't be read is too long, or a read of its file may fail.
+pub unread_report : (report : File) (left : Source) (Opens Reads : Type 0)
+    → (Reads → report.source.fails ≡ Some false) → Knows report.source left
+    → (left.fails ≡ Some false → IsLongReport left) → (Opens → Reads → ⊥) ⊎ IsLongReport report.source
+unread_report report left Opens Reads surely knows long = go report.source.fails refl
+  where
+    go : (fails : Option Bool) → report.source.fails ≡ fails → (Opens → Reads → ⊥) ⊎ IsLongReport report.source
+    go None same = inl (λ opened read. let never = surely read in absurd (cc))
+    go (Some true) same = inl (λ opened read. let never = surely read in absurd (cc))
+    go (Some false) same =
+        inr (of_known_bytes report.source left _ knows (long (of_known_fate report.source left false knows same)))
+
+-- ---- what is left
+
 -- a fault of reading
 abbrev pub IsReadFault : EngineFault → Type 0
 IsReadFault fault = (fault ≡ Memory) ⊎ (fault ≡ Read)
 
-module _ (streams : List (Option (List ℕ))) (never_fails : Bool) (MayBeUnread : Type 0) (old : Option (List ℕ)) where
-  pub unread_judgement : (beyond_width : Bool) (fail_on : List Condition) (fault : EngineFault) → IsReadFault fault
-      → (fault ≡ Read → MayBeUnread) → (document : List ℕ)
-      → FilesJudgementLeaves beyond_width fail_on (Some document) streams never_fails MayBeUnread
-      (judgement_ending fail_on (Err fault)) old old
-  unread_judgement beyond_width fail_on Memory is unread document = keeps_same old
-  unread_judgement beyond_width fail_on Read is unread document = (unread refl, keeps_same old)
-  unread_judgement beyond_width fail_on Write (inl is) unread document = absurd (cc)
-  unread_judgement beyond_width fail_on Write (inr is) unread document = absurd (cc)
-  unread_judgement beyond_width fail_on BundleLong (inl is) unread document = absurd (cc)
-  unread_judgement beyond_width fail_on BundleLong (inr is) unread document = absurd (cc)
+module _ (options : Options) (document : File) (IsUnread : Type 0)
+    (P : Inquiry → Ending → (old new : Option (List ℕ)) → Type 0) (old : Option (List ℕ)) where
+  pub unread_judgement : (fail_on : List Condition) (fault : EngineFault) → IsReadFault fault
+      → (fault ≡ Read → IsUnread) → LeavesOf options document IsUnread P (judgement_ending fail_on (Err fault)) old old
+  unread_judgement fail_on Memory is unread = keeps_same old
+  unread_judgement fail_on Read is unread = (unread refl, keeps_same old)
+  unread_judgement fail_on Write (inl is) unread = absurd (cc)
+  unread_judgement fail_on Write (inr is) unread = absurd (cc)
+  unread_judgement fail_on BundleLong (inl is) unread = absurd (cc)
+  unread_judgement fail_on BundleLong (inr is) unread = absurd (cc)
 
-  pub unread_exploration : (beyond_width : Bool) (AreFiles : List StreamFile → Type 0) (fault : EngineFault)
-      → IsReadFault fault → (fault ≡ Read → MayBeUnread) → (document : List ℕ)
-      → ExploreLeaves beyond_width (Some document) AreFiles streams never_fails MayBeUnread
-      (exploration_ending (Err fault)) old old
-  unread_exploration beyond_width AreFiles Memory is unread document = keeps_same old
-  unread_exploration beyond_width AreFiles Read is unread document = (unread refl, keeps_same old)
-  unread_exploration beyond_width AreFiles Write (inl is) unread document = absurd (cc)
-  unread_exploration beyond_width AreFiles Write (inr is) unread document = absurd (cc)
-  unread_exploration beyond_width AreFiles BundleLong (inl is) unread document = absurd (cc)
-  unread_exploration beyond_width AreFiles BundleLong (inr is) unread document = absurd (cc)
+  pub unread_exploration : (fault : EngineFault) → IsReadFault fault → (fault ≡ Read → IsUnread)
+      → LeavesOf options document IsUnread P (exploration_ending (Err fault)) old old
+  unread_exploration Memory is unread = keeps_same old
+  unread_exploration Read is unread = (unread refl, keeps_same old)
+  unread_exploration Write (inl is) unread = absurd (cc)
+  unread_exploration Write (inr is) unread = absurd (cc)
+  unread_exploration BundleLong (inl is) unread = absurd (cc)
+  unread_exploration BundleLong (inr is) unread = absurd (cc)
 
-  pub unread_check : (report : Option (List ℕ)) (fault : EngineFault) → IsReadFault fault
-      → (fault ≡ Read → MayBeUnread) → (document : List ℕ)
-      → CheckLeaves (Some document) report streams never_fails MayBeUnread (ending_view (Err fault)) old old
-  unread_check report Memory is unread document = keeps_same old
-  unread_check report Read is unread document = (unread refl, keeps_same old)
-  unread_check report Write (inl is) unread document = absurd (cc)
-  unread_check report Write (inr is) unread document = absurd (cc)
-  unread_check report BundleLong (inl is) unread document = absurd (cc)
-  unread_check report BundleLong (inr is) unread document = absurd (cc)
+  pub unread_check : (fault : EngineFault) → IsReadFault fault → (fault ≡ Read → IsUnread)
+      → LeavesOf options document IsUnread P (ending_view (Err fault)) old old
+  unread_check Memory is unread = keeps_same old
+  unread_check Read is unread = (unread refl, keeps_same old)
+  unread_check Write (inl is) unread = absurd (cc)
+  unread_check Write (inr is) unread = absurd (cc)
+  unread_check BundleLong (inl is) unread = absurd (cc)
+  unread_check BundleLong (inr is) unread = absurd (cc)
 
-  pub unread_drawing : (report : Option (List ℕ)) (wish : Wished) (fault : EngineFault) → IsReadFault fault
-      → (fault ≡ Read → MayBeUnread) → (document : List ℕ)
-      → DrawLeaves (Some document) report streams never_fails MayBeUnread wish (Err fault) old old
-  unread_drawing report wish Memory is unread document = keeps_same old
-  unread_drawing report wish Read is unread document = (unread refl, keeps_same old)
-  unread_drawing report wish Write (inl is) unread document = absurd (cc)
-  unread_drawing report wish Write (inr is) unread document = absurd (cc)
-  unread_drawing report wish BundleLong (inl is) unread document = absurd (cc)
-  unread_drawing report wish BundleLong (inr is) unread document = absurd (cc)
+  pub unread_service : (fail_on : List Condition) (fault : EngineFault) → IsReadFault fault
+      → (fault ≡ Read → IsUnread)
+      → LeavesOf options document IsUnread P (service_ending fail_on (Err (Engine fault))) old old
+  unread_service fail_on Memory is unread = keeps_same old
+  unread_service fail_on Read is unread = (unread refl, keeps_same old)
+  unread_service fail_on Write (inl is) unread = absurd (cc)
+  unread_service fail_on Write (inr is) unread = absurd (cc)
+  unread_service fail_on BundleLong (inl is) unread = absurd (cc)
+  unread_service fail_on BundleLong (inr is) unread = absurd (cc)
 
-pub unread_service : (beyond_width : Bool) (fail_on : List Condition) (G : Option (List ℕ) → Type 0)
-    (never_fails : Bool) (MayBeUnread MayNotServe IsKept : Type 0) (old : Option (List ℕ)) (fault : EngineFault)
-    → IsReadFault fault → (fault ≡ Read → MayBeUnread) → (document : List ℕ)
-    → ServiceLeaves beyond_width fail_on (Some document) G never_fails MayBeUnread MayNotServe IsKept
-    (service_ending fail_on (Err (Engine fault))) old old
-unread_service beyond_width fail_on G never_fails M N K old Memory is unread document = keeps_same old
-unread_service beyond_width fail_on G never_fails M N K old Read is unread document = (unread refl, keeps_same old)
-unread_service beyond_width fail_on G never_fails M N K old Write (inl is) unread document = absurd (cc)
-unread_service beyond_width fail_on G never_fails M N K old Write (inr is) unread document = absurd (cc)
-unread_service beyond_width fail_on G never_fails M N K old BundleLong (inl is) unread document = absurd (cc)
-unread_service beyond_width fail_on G never_fails M N K old BundleLong (inr is) unread document = absurd (cc)
+pub unread_drawing : (options : Options) (document : File) (IsUnread : Type 0)
+    (P : Inquiry → Result DrawOutcome EngineFault → (old new : Option (List ℕ)) → Type 0) (old : Option (List ℕ))
+    (fault : EngineFault) → IsReadFault fault → (fault ≡ Read → IsUnread)
+    → DrawLeaves options document IsUnread P (Err fault) old old
+unread_drawing options document IsUnread P old Memory is unread = keeps_same old
+unread_drawing options document IsUnread P old Read is unread = (unread refl, keeps_same old)
+unread_drawing options document IsUnread P old Write (inl is) unread = absurd (cc)
+unread_drawing options document IsUnread P old Write (inr is) unread = absurd (cc)
+unread_drawing options document IsUnread P old BundleLong (inl is) unread = absurd (cc)
+unread_drawing options document IsUnread P old BundleLong (inr is) unread = absurd (cc)

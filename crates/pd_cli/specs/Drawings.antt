@@ -1,10 +1,10 @@
 -- What a run that draws leaves on its output and on its errors.
-use Rattle.std.specs.Prelude.{◌≡◌, ◌⊎◌, ℕ, Bool, List, [], ◌++◌, codes, map, Option, Result, Ok, Err, IsOkAnd, Some}
+use Rattle.std.specs.Prelude.{◌≡◌, ◌⊎◌, ℕ, Bool, List, [], ◌++◌, codes, map, Option, Result, Ok, Err, IsOkAnd}
 use Rattle.std.specs.Io.KnownBytes.{Keeps}
 use Rattle.clap.specs.Words.{Text}
-use Rattle.pd_asked.specs.Asked.{Asks}
-use Rattle.pd_arguments.specs.Statuses.{EndsAsAsked, FilesMayFail, HoldsAsked, IsLongReport, OfFiles, Reliance, WritesUpTo, line_of_failure, status_of_failure}
-use Rattle.pd_judgement.specs.Writes.{Whole, Writes}
+use Rattle.pd_format.specs.Documents.{Inquiry, Options}
+use Rattle.pd_arguments.specs.Statuses.{EndsAsAsked, File, OfClaim, OfDocument, UnreadClaim, WritesUpTo, line_of_failure, sources_of, status_of_failure}
+use Rattle.pd_judgement.specs.Writes.{Source, Whole, Writes}
 use Rattle.pd_wish.specs.Wishes.{Wished}
 use Rattle.pd_claims.specs.Drawings.{IsAnyTextOf, IsCycleTextOf, IsDrawingTextOf, IsRefusalTextOf, LacksKind, LacksPredicate}
 use Rattle.pd_claims.specs.declared.drawings.DrawOutcome.{DrawOutcome}
@@ -20,10 +20,10 @@ abbrev pub refusal_heading : List ℕ
 refusal_heading = codes "monitor: no picture, for a check finds:\n"
 
 -- what is reported of a check's finding that stands against the picture: a line, and the text of what it finds
-pub record IsNoticeOf (document report : List ℕ) (streams : List (Option (List ℕ))) (never_fails : Bool)
-    (wish : Wished) (notice : List ℕ) : Type 0 where
+pub record IsNoticeOf (document : Inquiry) (report : List ℕ) (streams : List Source) (wish : Wished)
+    (notice : List ℕ) : Type 0 where
   pub found : List ℕ
-  pub is_against : IsRefusalTextOf document report streams never_fails wish found
+  pub is_against : IsRefusalTextOf document report streams wish found
   pub is_notice : notice ≡ refusal_heading ++ found
 
 -- the notice of this finding
@@ -34,26 +34,48 @@ IsNoticed found (Refused notice) = notice.items ≡ refusal_heading ++ found
 IsNoticed found NoPredicate = ⊥
 IsNoticed found NoEvidence = ⊥
 
--- The picture is written, that of a cycle too: its whole text. The output fails: that text or a prefix of it. Something
--- stands against the picture, or another failure: nothing.
-abbrev pub DrawLeaves : (document report : Option (List ℕ)) (streams : List (Option (List ℕ))) (never_fails : Bool)
-    (MayBeUnread : Type 0) (wish : Wished) → Result DrawOutcome EngineFault → (old new : Option (List ℕ))
-    → Type 0
-DrawLeaves document report streams never_fails MayBeUnread wish (Ok Written) old new =
-    OfFiles document report (λ d r. Writes (IsDrawingTextOf d r streams never_fails wish) Whole old new)
-DrawLeaves document report streams never_fails MayBeUnread wish (Ok CycleWritten) old new =
-    OfFiles document report (λ d r. Writes (IsCycleTextOf d r streams never_fails wish.extent) Whole old new)
-DrawLeaves document report streams never_fails MayBeUnread wish (Ok (Refused notice)) old new =
-    OfFiles document report (λ d r. IsNoticeOf d r streams never_fails wish notice.items) × Keeps old new
-DrawLeaves document report streams never_fails MayBeUnread wish (Ok NoPredicate) old new =
-    OfFiles document report (λ d r. LacksPredicate d r streams never_fails wish) × Keeps old new
-DrawLeaves document report streams never_fails MayBeUnread wish (Ok NoEvidence) old new =
-    OfFiles document report (λ d r. LacksKind d r streams never_fails wish) × Keeps old new
-DrawLeaves document report streams never_fails MayBeUnread wish (Err Memory) old new = Keeps old new
-DrawLeaves document report streams never_fails MayBeUnread wish (Err Read) old new = MayBeUnread × Keeps old new
-DrawLeaves document report streams never_fails MayBeUnread wish (Err Write) old new =
-    OfFiles document report (λ d r. WritesUpTo (IsAnyTextOf d r streams never_fails wish) old new)
-DrawLeaves document report streams never_fails MayBeUnread wish (Err BundleLong) old new = ⊥
+-- The picture is written of a document, a report of this source and streams, that of a cycle too: its whole text. The
+-- output fails: that text or a prefix of it. Something stands against the picture: nothing.
+abbrev pub OfDrawing : (report : Source) (streams : List Source) (wish : Wished) → Inquiry
+    → Result DrawOutcome EngineFault → (old new : Option (List ℕ)) → Type 0
+OfDrawing report streams wish inquiry (Ok Written) old new =
+    OfClaim report (λ r. Writes (IsDrawingTextOf inquiry r streams wish) Whole old new)
+OfDrawing report streams wish inquiry (Ok CycleWritten) old new =
+    OfClaim report (λ r. Writes (IsCycleTextOf inquiry r streams wish.extent) Whole old new)
+OfDrawing report streams wish inquiry (Ok (Refused notice)) old new =
+    OfClaim report (λ r. IsNoticeOf inquiry r streams wish notice.items) × Keeps old new
+OfDrawing report streams wish inquiry (Ok NoPredicate) old new =
+    OfClaim report (λ r. LacksPredicate inquiry r streams wish) × Keeps old new
+OfDrawing report streams wish inquiry (Ok NoEvidence) old new =
+    OfClaim report (λ r. LacksKind inquiry r streams wish) × Keeps old new
+OfDrawing report streams wish inquiry (Err Memory) old new = ⊥
+OfDrawing report streams wish inquiry (Err Read) old new = ⊥
+OfDrawing report streams wish inquiry (Err Write) old new =
+    OfClaim report (λ r. WritesUpTo (IsAnyTextOf inquiry r streams wish) old new)
+OfDrawing report streams wish inquiry (Err BundleLong) old new = ⊥
+
+-- What a call leaves to which the document was handed: nothing if memory runs out, and else what P says.
+abbrev pub DrawReadLeaves : (P : Result DrawOutcome EngineFault → (old new : Option (List ℕ)) → Type 0)
+    → Result DrawOutcome EngineFault → (old new : Option (List ℕ)) → Type 0
+DrawReadLeaves P (Ok outcome) old new = P (Ok outcome) old new
+DrawReadLeaves P (Err Memory) old new = Keeps old new
+DrawReadLeaves P (Err Read) old new = ⊥
+DrawReadLeaves P (Err Write) old new = P (Err Write) old new
+DrawReadLeaves P (Err BundleLong) old new = P (Err BundleLong) old new
+
+-- What is left of a run whose document stands in this file: nothing if memory runs out, nothing if a file can't be
+-- opened or read, which is so only if that may be, and else what P says of the document with what is asked.
+abbrev pub DrawLeaves : (options : Options) (document : File) (IsUnread : Type 0)
+    (P : Inquiry → Result DrawOutcome EngineFault → (old new : Option (List ℕ)) → Type 0)
+    → Result DrawOutcome EngineFault → (old new : Option (List ℕ)) → Type 0
+DrawLeaves options document IsUnread P (Ok outcome) old new =
+    OfDocument options document (λ inquiry. P inquiry (Ok outcome) old new)
+DrawLeaves options document IsUnread P (Err Memory) old new = Keeps old new
+DrawLeaves options document IsUnread P (Err Read) old new = IsUnread × Keeps old new
+DrawLeaves options document IsUnread P (Err Write) old new =
+    OfDocument options document (λ inquiry. P inquiry (Err Write) old new)
+DrawLeaves options document IsUnread P (Err BundleLong) old new =
+    OfDocument options document (λ inquiry. P inquiry (Err BundleLong) old new)
 
 -- how a drawing ends after the flush: a picture stays written, and of a finding its notice is made
 abbrev pub Finishes : DrawOutcome → Result DrawOutcome EngineFault → (middle new : Option (List ℕ)) → Type 0
@@ -84,32 +106,29 @@ draw_notice (Ok NoEvidence) = codes "monitor: no evidence of this kind\n"
 draw_notice (Err fault) = line_of_failure (failure_view fault)
 
 -- A run that draws came to some end, by which this is left on the output and on the errors.
-pub record EndsDrawn (asks : Asks) (document report : Option (List ℕ)) (streams : List (Option (List ℕ)))
-    (never_fails : Bool) (MayBeUnread : Type 0) (wish : Wished) (status : ℕ)
-    (old new errors_old errors_new : Option (List ℕ)) : Type 0 where
+pub record EndsDrawn (files : List ℕ → File) (options : Options) (document report : List ℕ) (streams : List (List ℕ))
+    (wish : Wished) (status : ℕ) (old new errors_old errors_new : Option (List ℕ)) : Type 0 where
   pub ending : Result DrawOutcome EngineFault
   pub is_status : status ≡ draw_status ending
-  pub output : HoldsAsked asks document
-      (λ d. DrawLeaves (Some d) report streams never_fails MayBeUnread wish ending old new)
+  pub output : DrawLeaves options (files document) (UnreadClaim files document report streams)
+      (OfDrawing (files report).source (sources_of (map files streams)) wish) ending old new
   pub errors : WritesUpTo (λ text. text ≡ draw_notice ending) errors_old errors_new
 
 -- the arguments ask for a picture, and the run came to such an end
-pub record DrawsAsAsked (arguments : List Text) (on : Reliance) (files : List ℕ → Option (List ℕ)) (status : ℕ)
+pub record DrawsAsAsked (arguments : List Text) (files : List ℕ → File) (status : ℕ)
     (old new errors_old errors_new : Option (List ℕ)) : Type 0 where
-  pub asks : Asks
+  pub options : Options
   pub document : Text
   pub report : Text
   pub streams : List Text
   pub wish : Wished
-  pub asked : AsksToDraw arguments asks document report streams wish
-  pub ends : EndsDrawn asks (files document) (files report) (map files streams) on.files_are_read
-      (FilesMayFail on ⊎ IsLongReport (files report)) wish status old new errors_old errors_new
+  pub asked : AsksToDraw arguments options document report streams wish
+  pub ends : EndsDrawn files options document report streams wish status old new errors_old errors_new
 
 -- A run did what its arguments ask for.
-abbrev pub RunsAsAsked : List Text → (on : Reliance) (input : Option (List ℕ)) (files : List ℕ → Option (List ℕ))
-    (connections : ℕ → Option (List ℕ) → Type 0) (status : ℕ) (old new errors_old errors_new : Option (List ℕ))
-    → Type 0
-RunsAsAsked arguments on input files connections status old new errors_old errors_new =
-    EndsAsAsked (AsksFor arguments) on input files connections status old new errors_old errors_new
-    ⊎ DrawsAsAsked arguments on files status old new errors_old errors_new
-    ⊎ ExploresAsAsked arguments on files status old new errors_old errors_new
+abbrev pub RunsAsAsked : List Text → (input : Source) (files : List ℕ → File) (connections : ℕ → Source → Type 0)
+    (network_serves : Bool) (status : ℕ) (old new errors_old errors_new : Option (List ℕ)) → Type 0
+RunsAsAsked arguments input files connections network_serves status old new errors_old errors_new =
+    EndsAsAsked (AsksFor arguments) input files connections network_serves status old new errors_old errors_new
+    ⊎ DrawsAsAsked arguments files status old new errors_old errors_new
+    ⊎ ExploresAsAsked arguments files status old new errors_old errors_new

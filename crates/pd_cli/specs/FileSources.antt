@@ -1,29 +1,45 @@
--- What the readers of files have left, and which bytes of a document are enough.
-use Rattle.std.specs.Prelude.{◌≡◌, ◌<◌, ◌⊎◌, List, ℕ, Option, Some, IfSome, length}
-use Rattle.pd_asked.specs.Asked.{Asks, IsAsked}
-use Rattle.pd_format.specs.Documents.{outline_of_bytes}
+-- What the readers of files have left, and what a call leaves that judges what was read of them.
+use Rattle.std.specs.Prelude.{◌≡◌, ◌<◌, ◌⊎◌, ℕ, true, false, List, length, Option, Some, None, IfSome}
+use Rattle.std.specs.Io.KnownBytes.{Keeps}
+use Rattle.pd_arguments.specs.Statuses.{Ending, Success, Negative, Alarm, NoPredicate, Misuse, Failed, File, MemoryFailure, ReadFailure, WriteFailure, BundleFailure, NetworkFailure}
+use Rattle.pd_format.specs.Documents.{Options, inquiry_of, outline_of_inquiry}
 use Rattle.pd_format.specs.Limits.{document_byte_limit}
-use Rattle.pd_judgement.specs.Writes.{IsWholeInput}
+use Rattle.pd_judgement.specs.Writes.{Source}
 
--- all bytes of its file, if they are known
-abbrev pub HasWholeFile : (file left : Option (List ℕ)) → Type 0
-HasWholeFile file left = IfSome file (λ bytes. left ≡ Some bytes)
+-- a file of which nothing is known
+abbrev pub unknown_file : File
+unknown_file = record { source = record { bytes = None; fails = None }; opens = false }
 
--- the documents and the refusals of the one are those of the other
-abbrev pub SameOutline : List ℕ → List ℕ → Type 0
-SameOutline a b = outline_of_bytes a ≡ outline_of_bytes b
+-- the bytes of the file of this name, if they are known
+abbrev pub bytes_in : (files : List ℕ → File) → List ℕ → Option (List ℕ)
+bytes_in files name = (files name).source.bytes
 
--- the bytes that were read are as good as all that the file of a document holds, if that is known
-abbrev pub StandsFor : (read : List ℕ) (file : Option (List ℕ)) → Type 0
-StandsFor read file = IfSome file (λ bytes. SameOutline read bytes)
+-- What is known of a file's source is so of the reader that has opened it.
+pub record Knows (file left : Source) : Type 0 where
+  pub bytes : IfSome file.bytes (λ bytes. left.bytes ≡ Some bytes)
+  pub fails : IfSome file.fails (λ fails. left.fails ≡ Some fails)
 
--- the bytes that were read are all that the file of a document holds, if that is known; or both are too many
-abbrev pub IsReadOf : (read : List ℕ) (file : Option (List ℕ)) → Type 0
-IsReadOf read file =
-    IfSome file (λ bytes. (read ≡ bytes) ⊎ (document_byte_limit < length read) × (document_byte_limit < length bytes))
+-- with these options the documents and the refusals of the one are those of the other
+abbrev pub SameOutline : Options → List ℕ → List ℕ → Type 0
+SameOutline options a b = outline_of_inquiry (inquiry_of options a) ≡ outline_of_inquiry (inquiry_of options b)
 
--- the bytes are those of the document in a file, with what is asked in place of what it says
-pub record AreAsked (asks : Asks) (file : Option (List ℕ)) (asked : List ℕ) : Type 0 where
-  pub document : List ℕ
-  pub whole : IsWholeInput file document
-  pub is_asked : IsAsked asks document asked
+-- The bytes that were read of a document's source are all that it had left, if that is known, or both are too many; and
+-- they were read to its end, unless they are too many.
+pub record IsReadOf (read : List ℕ) (source : Source) : Type 0 where
+  pub all : IfSome source.bytes
+      (λ bytes. (read ≡ bytes) ⊎ (document_byte_limit < length read) × (document_byte_limit < length bytes))
+  pub ended : source.fails ≡ Some true → document_byte_limit < length read
+
+-- What a call leaves to which the document was handed: nothing if memory runs out, and else what P says.
+abbrev pub ReadLeaves : (P : Ending → (old new : Option (List ℕ)) → Type 0) → Ending → (old new : Option (List ℕ))
+    → Type 0
+ReadLeaves P (Failed MemoryFailure) old new = Keeps old new
+ReadLeaves P (Failed ReadFailure) old new = ⊥
+ReadLeaves P (Failed WriteFailure) old new = P (Failed WriteFailure) old new
+ReadLeaves P (Failed BundleFailure) old new = P (Failed BundleFailure) old new
+ReadLeaves P (Failed NetworkFailure) old new = P (Failed NetworkFailure) old new
+ReadLeaves P Success old new = P Success old new
+ReadLeaves P Negative old new = P Negative old new
+ReadLeaves P Alarm old new = P Alarm old new
+ReadLeaves P NoPredicate old new = P NoPredicate old new
+ReadLeaves P Misuse old new = P Misuse old new

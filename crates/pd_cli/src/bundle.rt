@@ -23,8 +23,7 @@ pub(crate) fn judge_input<
     O: Write,
 >(rt: &S, alloc: Global, input: I, gate: &G, output: &mut O) -> Result<Report, EngineFault>
     requires { I.has_ended input ≡ false }
-    ensures { JudgementLeaves (I.remaining input) I.never_fails (report_ending result) (O.contents output.old)
-        (O.contents output.new) }
+    ensures { JudgementLeaves (I.left input) (report_ending result) (O.contents output.old) (O.contents output.new) }
 {
     let report = write_bundle_report(rt, alloc, input, Workers::one().count(), gate, output)?;
     if output.flush().is_err() {

@@ -1,15 +1,19 @@
 //! Checks a report against the session in files.
+ghost use Rattle.pd_arguments.specs.Statuses.{LeavesOf, OfFinding, UnreadClaim, sources_of};
+ghost use Rattle.pd_arguments.specs.Views.{session_view};
 ghost use Rattle.pd_cli.specs.Faults.{ending_view};
+ghost use Rattle.pd_cli.specs.FileSources.{ReadLeaves};
 ghost use Rattle.pd_format.specs.Limits.{report_byte_limit};
-ghost use Rattle.pd_arguments.specs.Statuses.{CheckLeaves, HoldsAsked, IsLongReport};
-ghost use Rattle.pd_asked.specs.Views.{asks_view};
-ghost use Rattle.std.specs.Prelude.{◌≡◌, ◌≤◌, ◌⊎◌, All, Err, Some, false, length, map, true};
+ghost use Rattle.pd_judgement.specs.Writes.{whole_source};
+ghost use Rattle.pd_sessions.specs.Inquiries.{inquiry_view};
+ghost use Rattle.pd_spec.specs.Views.{options_view};
+ghost use Rattle.std.specs.Prelude.{◌≡◌, ◌≤◌, All, false, length, map};
 
 use super::claim_files::read_claim;
 use super::file_source::FileSource;
 use pd_arguments::SessionNames;
-use pd_claims::check;
-use pd_engine::ByteSource;
+use pd_claims::check_inquiry;
+use pd_engine::{ByteSource, Inquiry};
 use pd_sessions::EngineFault;
 use std::alloc::Global;
 use std::io::Write;
@@ -17,25 +21,25 @@ use std::random::RandomSource;
 use std::sync::Wait;
 use std::thread::Threads;
 
-/// Checks a report by a document's bytes and the streams, writes what is found, and flushes the output. It reports
-/// whether nothing that it found is bad.
+/// Checks a report by a document, with what is asked, and the streams, writes what is found, and flushes the output. It
+/// reports whether nothing that it found is bad.
 ///
 /// # Errors
 /// `Memory` leaves nothing written. `Write` leaves a part of the text written, or all of it if only the flush failed.
 fn check_read<S: RandomSource + Threads + Wait + Sync, R: ByteSource + Send + Drop, O: Write>(
     rt: &S,
     alloc: Global,
-    spec: &[u8],
+    inquiry: Inquiry<'_, '_, '_>,
     report: &[u8],
     streams: Vec<R>,
     output: &mut O,
 ) -> Result<bool, EngineFault>
     requires open { All (λ stream. R.has_ended stream ≡ false) streams.items }
     requires short { length report.now ≤ report_byte_limit }
-    ensures { CheckLeaves (Some spec.now) (Some report.now) (map R.remaining streams.items) R.never_fails ⊥
-        (ending_view result) (O.contents output.old) (O.contents output.new) }
+    ensures { ReadLeaves (OfFinding (whole_source report.now) (map R.left streams.items)
+        (inquiry_view inquiry.entry)) (ending_view result) (O.contents output.old) (O.contents output.new) }
 {
-    let good = check(rt, alloc, spec, report, streams, output)?;
+    let good = check_inquiry(rt, alloc, inquiry, report, streams, output)?;
     if output.flush().is_err() {
         return Err(EngineFault::Write);
     }
@@ -58,16 +62,20 @@ pub(crate) fn check_files<S: RandomSource + Threads + Wait + Sync, F: FileSource
     names: &SessionNames<'_>,
     output: &mut O,
 ) -> Result<bool, EngineFault>
-    ensures { HoldsAsked (asks_view names.now.asks) (F.bytes_of files.now names.now.spec.now) (λ d. CheckLeaves (Some d)
-        (F.bytes_of files.now report.now)
-        (map (λ name. F.bytes_of files.now name.now) names.now.streams.items) F.File.never_fails
-        ((F.always_opens ≡ true → F.File.never_fails ≡ true → ⊥) ⊎ IsLongReport (F.bytes_of files.now report.now))
-        (ending_view result) (O.contents output.old) (O.contents output.new)) }
+    ensures { LeavesOf (options_view names.now.options) (F.file_of files.now names.now.spec.now)
+        (UnreadClaim (F.file_of files.now) names.now.spec.now report.now (session_view names.now).1)
+        (OfFinding (F.file_of files.now report.now).source
+        (sources_of (map (F.file_of files.now) (session_view names.now).1)))
+        (ending_view result) (O.contents output.old) (O.contents output.new) }
 {
     match read_claim(files, alloc, report, names) {
         Ok(read) => {
             let streams = read.streams;
-            check_read(rt, alloc, &read.document, &read.report, streams, output)
+            let inquiry = Inquiry {
+                document: &read.document,
+                options: &names.options,
+            };
+            check_read(rt, alloc, inquiry, &read.report, streams, output)
         }
         Err(fault) => Err(fault),
     }

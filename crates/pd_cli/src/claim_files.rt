@@ -1,21 +1,21 @@
 //! The files of a report and of the session that it is said to be of.
-ghost use Rattle.pd_asked.specs.Views.{asks_view};
-ghost use Rattle.pd_cli.specs.FileSources.{AreAsked, HasWholeFile};
+ghost use Rattle.pd_arguments.specs.Statuses.{IsLongReport, UnreadClaim, sources_of};
+ghost use Rattle.pd_arguments.specs.Views.{session_view};
+ghost use Rattle.pd_cli.specs.FileSources.{IsReadOf, Knows};
 ghost use Rattle.pd_format.specs.Limits.{report_byte_limit};
-ghost use Rattle.pd_arguments.specs.Statuses.{IsLongReport};
 ghost use Rattle.pd_judgement.specs.Writes.{IsWholeInput};
 ghost use Rattle.std.specs.List.{AllZip};
-ghost use Rattle.std.specs.Prelude.{◌≡◌, ◌≤◌, ◌⊎◌, All, Err, IfErr, IfOk, false, map, true, vec_len};
+ghost use Rattle.std.specs.Prelude.{◌≡◌, ◌≤◌, ◌⊎◌, All, Err, IfErr, IfOk, Some, false, map, vec_len};
 
 use super::file_source::FileSource;
-use super::session_files::{open_streams, read_asked};
+use super::session_files::{open_streams, read_document};
 use pd_arguments::SessionNames;
 use pd_engine::{ByteSource, within_limit};
 use pd_format::REPORT_BYTE_LIMIT;
 use pd_sessions::{EngineFault, read_upto};
 use std::alloc::Global;
 
-/// The bytes of a document, with what is asked, and of a report, and the streams, which are open and unread.
+/// The bytes of a document and of a report, and the streams, which are open and unread.
 #[derive(Drop)]
 pub(crate) struct ClaimFiles<R: Drop> {
     pub(crate) document: Vec<u8>,
@@ -29,9 +29,10 @@ pub(crate) struct ClaimFiles<R: Drop> {
 /// `Read`, if there are more or a read fails, and `Memory`.
 fn read_report<R: ByteSource + Drop>(alloc: Global, reader: R) -> Result<Vec<u8>, EngineFault>
     requires { R.has_ended reader ≡ false }
-    ensures whole { IfOk result (λ bytes. IsWholeInput (R.remaining reader) bytes.items) }
+    ensures whole { IfOk result (λ bytes. IsWholeInput (R.left reader) bytes.items) }
     ensures short { IfOk result (λ bytes. vec_len bytes ≤ report_byte_limit) }
-    ensures unread { R.never_fails ≡ true → result ≡ Err EngineFault.Read → IsLongReport (R.remaining reader) }
+    ensures unread { (R.left reader).fails ≡ Some false → result ≡ Err EngineFault.Read
+        → IsLongReport (R.left reader) }
     ensures err { IfErr result (λ fault. (fault ≡ EngineFault.Memory) ⊎ (fault ≡ EngineFault.Read)) }
 {
     let bytes = read_upto(alloc, reader, REPORT_BYTE_LIMIT)?;
@@ -50,22 +51,21 @@ pub(crate) fn read_claim<F: FileSource>(
     report: &str,
     names: &SessionNames<'_>,
 ) -> Result<ClaimFiles<F::File>, EngineFault>
-    ensures document { IfOk result (λ read. AreAsked (asks_view names.now.asks)
-        (F.bytes_of files.now names.now.spec.now) read.document.items) }
-    ensures report { IfOk result (λ read. IsWholeInput (F.bytes_of files.now report.now) read.report.items) }
+    ensures document { IfOk result (λ read. IsReadOf read.document.items
+        (F.file_of files.now names.now.spec.now).source) }
+    ensures report { IfOk result (λ read. IsWholeInput (F.file_of files.now report.now).source read.report.items) }
     ensures short { IfOk result (λ read. vec_len read.report ≤ report_byte_limit) }
-    ensures streams { IfOk result (λ read. AllZip HasWholeFile
-        (map (λ name. F.bytes_of files.now name.now) names.now.streams.items)
-        (map F.File.remaining read.streams.items)) }
+    ensures streams { IfOk result (λ read. AllZip Knows
+        (sources_of (map (F.file_of files.now) (session_view names.now).1)) (map F.File.left read.streams.items)) }
     ensures open { IfOk result (λ read. All (λ stream. F.File.has_ended stream ≡ false) read.streams.items) }
     ensures unread { result ≡ Err EngineFault.Read
-        → (F.always_opens ≡ true → F.File.never_fails ≡ true → ⊥) ⊎ IsLongReport (F.bytes_of files.now report.now) }
+        → UnreadClaim (F.file_of files.now) names.now.spec.now report.now (session_view names.now).1 }
     ensures err { IfErr result (λ fault. (fault ≡ EngineFault.Memory) ⊎ (fault ≡ EngineFault.Read)) }
 {
     let document = files.open(names.spec)?;
     let report = files.open(report)?;
     let streams = open_streams(files, alloc, &names.streams)?;
-    let document = read_asked(alloc, document, &names.asks)?;
+    let document = read_document(alloc, document)?;
     let report = read_report(alloc, report)?;
     Ok(ClaimFiles {
         document,

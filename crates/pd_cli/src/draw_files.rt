@@ -1,10 +1,13 @@
 //! Draws a report with the session in files.
-ghost use Rattle.pd_cli.specs.Drawings.{DrawLeaves, Finishes, draw_notice, draw_status, refusal_heading};
+ghost use Rattle.pd_arguments.specs.Statuses.{UnreadClaim, WritesUpTo, sources_of};
+ghost use Rattle.pd_arguments.specs.Views.{session_view};
+ghost use Rattle.pd_cli.specs.Drawings.{DrawLeaves, DrawReadLeaves, Finishes, OfDrawing, draw_notice, draw_status, refusal_heading};
 ghost use Rattle.pd_format.specs.Limits.{report_byte_limit};
-ghost use Rattle.pd_arguments.specs.Statuses.{HoldsAsked, IsLongReport, WritesUpTo};
-ghost use Rattle.pd_asked.specs.Views.{asks_view};
+ghost use Rattle.pd_judgement.specs.Writes.{whole_source};
+ghost use Rattle.pd_sessions.specs.Inquiries.{inquiry_view};
+ghost use Rattle.pd_spec.specs.Views.{options_view};
 ghost use Rattle.pd_wish.specs.Wishes.{wish_view};
-ghost use Rattle.std.specs.Prelude.{◌≡◌, ◌⊎◌, ◌≤◌, ◌++◌, All, IfOk, Some, false, length, map, true};
+ghost use Rattle.std.specs.Prelude.{◌≡◌, ◌≤◌, ◌++◌, All, IfOk, false, length, map};
 
 use super::claim_files::read_claim;
 use super::file_source::FileSource;
@@ -12,7 +15,7 @@ use super::line::write_line;
 use super::status::{MISUSED, REFUSED, SUCCESS, report_fault};
 use pd_arguments::SessionNames;
 use pd_claims::{DrawOutcome, draw};
-use pd_engine::ByteSource;
+use pd_engine::{ByteSource, Inquiry};
 use pd_sessions::EngineFault;
 use pd_wish::Wish;
 use std::alloc::{AllocError, Global};
@@ -57,7 +60,8 @@ fn finish<O: Write>(
     }
 }
 
-/// Draws a report by its bytes, a document's bytes and the streams, writes the picture, and flushes the output.
+/// Draws a report by its bytes, a document, with what is asked, and the streams, writes the picture, and flushes the
+/// output.
 ///
 /// # Errors
 /// `Memory` leaves nothing written. `Write` leaves a part of the picture written, or all of it if only the flush
@@ -65,7 +69,7 @@ fn finish<O: Write>(
 fn draw_read<S: RandomSource + Threads + Wait + Sync, R: ByteSource + Send + Drop, O: Write>(
     rt: &S,
     alloc: Global,
-    spec: &[u8],
+    inquiry: Inquiry<'_, '_, '_>,
     report: &[u8],
     streams: Vec<R>,
     wish: &Wish<'_>,
@@ -73,10 +77,10 @@ fn draw_read<S: RandomSource + Threads + Wait + Sync, R: ByteSource + Send + Dro
 ) -> Result<DrawOutcome, EngineFault>
     requires open { All (λ stream. R.has_ended stream ≡ false) streams.items }
     requires short { length report.now ≤ report_byte_limit }
-    ensures { DrawLeaves (Some spec.now) (Some report.now) (map R.remaining streams.items) R.never_fails ⊥
-        (wish_view wish.now) result (O.contents output.old) (O.contents output.new) }
+    ensures { DrawReadLeaves (OfDrawing (whole_source report.now) (map R.left streams.items) (wish_view wish.now)
+        (inquiry_view inquiry.entry)) result (O.contents output.old) (O.contents output.new) }
 {
-    let drawing = draw(rt, alloc, spec, report, streams, wish, output)?;
+    let drawing = draw(rt, alloc, inquiry, report, streams, wish, output)?;
     finish(alloc, drawing, output)
 }
 
@@ -97,24 +101,20 @@ pub(crate) fn draw_files<S: RandomSource + Threads + Wait + Sync, F: FileSource,
     names: &SessionNames<'_>,
     output: &mut O,
 ) -> Result<DrawOutcome, EngineFault>
-    ensures { HoldsAsked (asks_view names.now.asks) (F.bytes_of files.now names.now.spec.now) (λ d. DrawLeaves (Some d)
-        (F.bytes_of files.now report.now)
-        (map (λ name. F.bytes_of files.now name.now) names.now.streams.items) F.File.never_fails
-        ((F.always_opens ≡ true → F.File.never_fails ≡ true → ⊥) ⊎ IsLongReport (F.bytes_of files.now report.now))
-        (wish_view wish.now) result (O.contents output.old) (O.contents output.new)) }
+    ensures { DrawLeaves (options_view names.now.options) (F.file_of files.now names.now.spec.now)
+        (UnreadClaim (F.file_of files.now) names.now.spec.now report.now (session_view names.now).1)
+        (OfDrawing (F.file_of files.now report.now).source
+        (sources_of (map (F.file_of files.now) (session_view names.now).1)) (wish_view wish.now))
+        result (O.contents output.old) (O.contents output.new) }
 {
     match read_claim(files, alloc, report, names) {
         Ok(read) => {
             let streams = read.streams;
-            draw_read(
-                rt,
-                alloc,
-                &read.document,
-                &read.report,
-                streams,
-                wish,
-                output,
-            )
+            let inquiry = Inquiry {
+                document: &read.document,
+                options: &names.options,
+            };
+            draw_read(rt, alloc, inquiry, &read.report, streams, wish, output)
         }
         Err(fault) => Err(fault),
     }

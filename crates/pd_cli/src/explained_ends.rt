@@ -4,7 +4,6 @@ use super::explained_refusals::put_refusal;
 use super::file_source::FileSource;
 use super::second_look::{Seen, can_be_checked_again, report_again, spec_again};
 use pd_arguments::{Exploration, Judgement, SessionNames};
-use pd_asked::Asks;
 use pd_claims::DrawOutcome;
 use pd_explain::{
     Judged, Source, Widest, explain_answers, explain_bundle_fault, explain_file, explain_finding,
@@ -14,6 +13,7 @@ use pd_explain::{
 use pd_fail_on::{Conclusion, FailOn};
 use pd_report::Report;
 use pd_sessions::EngineFault;
+use pd_spec::Options;
 use std::alloc::{AllocError, Global};
 use std::random::RandomSource;
 use std::sync::Wait;
@@ -30,12 +30,12 @@ pub(crate) fn put_report<F: FileSource>(
     match report {
         Report::Judged { answers, .. } => {
             let spec = match seen.spec {
-                Some(name) => spec_again(files, alloc, name, seen.asks),
+                Some(name) => spec_again(files, alloc, name, seen.options),
                 None => None,
             };
             let judged = Judged {
                 width: spec.map(|spec| spec.width()),
-                beyond_width: seen.beyond_width,
+                beyond_width: seen.options.is_some_and(|options| options.beyond_width),
                 widest: seen.widest,
             };
             explain_answers(out, answers, judged)
@@ -114,9 +114,9 @@ fn put_predicates<F: FileSource>(
     files: &F,
     alloc: Global,
     spec: &str,
-    asks: Option<&Asks<'_>>,
+    options: Option<&Options<'_>>,
 ) -> Result<(), AllocError> {
-    match spec_again(files, alloc, spec, asks) {
+    match spec_again(files, alloc, spec, options) {
         Some(spec) => explain_no_predicate(out, spec.predicates()),
         None => Ok(()),
     }
@@ -133,7 +133,7 @@ pub(crate) fn put_named<F: FileSource>(
 ) -> Result<(), AllocError> {
     match (fail_on.conclusion(report), seen.spec) {
         (Conclusion::NoPredicate, Some(spec)) => {
-            put_predicates(out, files, alloc, spec, seen.asks)
+            put_predicates(out, files, alloc, spec, seen.options)
         }
         _ => Ok(()),
     }
@@ -151,9 +151,8 @@ fn put_judgement<F: FileSource>(
     let names = &judgement.names;
     let seen = Seen {
         spec: Some(names.spec),
-        asks: Some(&names.asks),
+        options: Some(&names.options),
         streams: &names.streams,
-        beyond_width: judgement.beyond_width,
         widest,
     };
     match end {
@@ -192,9 +191,8 @@ fn put_exploration<F: FileSource>(
     let names = &exploration.names;
     let seen = Seen {
         spec: Some(names.spec),
-        asks: Some(&names.asks),
+        options: Some(&names.options),
         streams: &names.streams,
-        beyond_width: exploration.beyond_width,
         widest: Widest::unknown(),
     };
     match end {
@@ -230,9 +228,8 @@ fn put_bundle<F: FileSource>(
 ) -> Result<(), AllocError> {
     let seen = Seen {
         spec: None,
-        asks: None,
+        options: None,
         streams: &[],
-        beyond_width: false,
         widest,
     };
     match end {
@@ -346,7 +343,7 @@ fn put_drawing<F: FileSource>(
 ) -> Result<(), AllocError> {
     match end {
         Ok(DrawOutcome::NoPredicate) => {
-            put_predicates(out, files, alloc, names.spec, Some(&names.asks))
+            put_predicates(out, files, alloc, names.spec, Some(&names.options))
         }
         Ok(DrawOutcome::NoEvidence) => explain_no_evidence(out),
         Ok(DrawOutcome::Refused(_)) => explain_no_picture(out),

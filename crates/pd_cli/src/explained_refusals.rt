@@ -1,9 +1,8 @@
 //! Explains the refusal of a session by its files.
 use super::file_source::FileSource;
 use super::second_look::{
-    Seen, document_again, process_again, spec_again, stream_again, stream_of,
+    Seen, document_again, process_again, spec_again, stream_again, stream_of, text_again,
 };
-use pd_asked::Asks;
 use pd_explain::{
     EventName, Others, PredicateFault, Source, StreamFault, advise_absent, advise_cycle,
     advise_messages, explain_absent, explain_cycle, explain_document, explain_document_word,
@@ -12,6 +11,7 @@ use pd_explain::{
     show_other, show_step,
 };
 use pd_report::Refusal;
+use pd_spec::Options;
 use std::alloc::{AllocError, Global};
 
 /// The most events of a causal cycle that are shown.
@@ -28,9 +28,9 @@ fn name_at<'a>(streams: &[&'a str], number: u64) -> &'a str {
 }
 
 /// Whether a fault of this word may be one of what is asked in place of what the document says, and not of that.
-fn may_be_asked(asks: Option<&Asks<'_>>, word: &str) -> bool {
-    match asks {
-        Some(asks) => !asks.are_none() && (word == "shape" || word == "predicates"),
+fn may_be_asked(options: Option<&Options<'_>>, word: &str) -> bool {
+    match options {
+        Some(options) => !options.keep_fields() && (word == "shape" || word == "predicates"),
         None => false,
     }
 }
@@ -46,10 +46,10 @@ fn put_document<F: FileSource>(
     let Some(name) = seen.spec else {
         return explain_document_word(out, word);
     };
-    if may_be_asked(seen.asks, word) {
+    if may_be_asked(seen.options, word) {
         return explain_document_word(out, word);
     }
-    match document_again(files, alloc, name, None) {
+    match document_again(files, alloc, name) {
         Some(bytes) => {
             let source = Source {
                 name,
@@ -62,9 +62,9 @@ fn put_document<F: FileSource>(
 }
 
 /// Where the texts of the predicates come from.
-fn predicates_of<'a>(document: &'a str, asks: Option<&Asks<'_>>) -> &'a str {
-    match asks {
-        Some(asks) if !asks.predicates.is_empty() => "--ask",
+fn predicates_of<'a>(document: &'a str, options: Option<&Options<'_>>) -> &'a str {
+    match options {
+        Some(options) if !options.predicates.is_empty() => "--ask",
         _ => document,
     }
 }
@@ -80,10 +80,10 @@ fn put_predicate<F: FileSource>(
     let Some(name) = seen.spec else {
         return explain_predicate_word(out, fault);
     };
-    match document_again(files, alloc, name, seen.asks) {
+    match text_again(files, alloc, name, seen.options) {
         Some(bytes) => {
             let source = Source {
-                name: predicates_of(name, seen.asks),
+                name: predicates_of(name, seen.options),
                 bytes: &bytes,
             };
             explain_predicate(out, alloc, &source, fault)
@@ -144,7 +144,7 @@ fn put_line<F: FileSource>(
     let Some(spec) = seen.spec else {
         return explain_stream_with(out, fault, name, "");
     };
-    let Some(spec) = spec_again(files, alloc, spec, seen.asks) else {
+    let Some(spec) = spec_again(files, alloc, spec, seen.options) else {
         return explain_stream_with(out, fault, name, "");
     };
     let Some(bytes) = stream_again(files, alloc, name) else {

@@ -35,7 +35,7 @@ fn put_network<F, N: Network>(out: &mut Vec<u8>, host: &Host<'_, F, N>) -> Resul
 /// Explains that not all streams connected in time.
 fn put_wait<F: FileSource, N>(out: &mut Vec<u8>, host: &Host<'_, F, N>) -> Result<(), AllocError> {
     let service = host.service;
-    let Some(spec) = spec_again(host.files, host.alloc, service.spec, Some(&service.asks)) else {
+    let Some(spec) = spec_again(host.files, host.alloc, service.spec, Some(&service.options)) else {
         return explain_connection(out, service.port as u64);
     };
     let known = known_senders(host.alloc, host.peers, host.peers.count())?;
@@ -53,7 +53,7 @@ fn put_stream<F: FileSource, N>(
     let known = known_senders(host.alloc, host.peers, host.peers.count())?;
     let senders = senders(host.alloc, host.peers, &known)?;
     let service = host.service;
-    let spec = spec_again(host.files, host.alloc, service.spec, Some(&service.asks));
+    let spec = spec_again(host.files, host.alloc, service.spec, Some(&service.options));
     let names = spec.as_ref().map(|spec| spec.names());
     explain_sent_stream(out, host.alloc, names, fault, &senders)
 }
@@ -98,9 +98,8 @@ fn put_by_files<F: FileSource, N>(
 ) -> Result<(), AllocError> {
     let seen = Seen {
         spec: Some(host.service.spec),
-        asks: Some(&host.service.asks),
+        options: Some(&host.service.options),
         streams,
-        beyond_width: host.service.beyond_width,
         widest: host.gate.widest(),
     };
     put_report(out, host.files, host.alloc, seen, report)?;

@@ -1,11 +1,14 @@
 //! Explores the session in files.
-ghost use Rattle.pd_arguments.specs.Statuses.{HoldsAsked};
-ghost use Rattle.pd_asked.specs.Views.{asks_view};
-ghost use Rattle.pd_cli.specs.Explorations.{ExploreLeaves};
+ghost use Rattle.pd_arguments.specs.Statuses.{SessionLeaves};
+ghost use Rattle.pd_arguments.specs.Views.{session_view};
+ghost use Rattle.pd_cli.specs.Explorations.{OfPage};
 ghost use Rattle.pd_cli.specs.Faults.{exploration_ending};
+ghost use Rattle.pd_cli.specs.FileSources.{ReadLeaves, bytes_in};
 ghost use Rattle.pd_explore.specs.FileViews.{file_view, files_view};
 ghost use Rattle.pd_explore.specs.Sources.{AreFilesOf, IsFileOf, stream_bytes};
-ghost use Rattle.std.specs.Prelude.{◌≡◌, All, IfOk, IfSome, Some, false, map, true};
+ghost use Rattle.pd_sessions.specs.Inquiries.{inquiry_view};
+ghost use Rattle.pd_spec.specs.Views.{options_view};
+ghost use Rattle.std.specs.Prelude.{◌≡◌, All, IfOk, IfSome, false, map};
 
 use super::file_source::FileSource;
 use super::level_gate::LevelGate;
@@ -21,8 +24,8 @@ use std::random::RandomSource;
 use std::sync::Wait;
 use std::thread::Threads;
 
-/// Explores a document's bytes, with what is asked beside them, and the streams, writes the page or the report of a
-/// refusal, and flushes the output. It gives the report, if the session is refused.
+/// Explores a document, with what is asked, and the streams, writes the page or the report of a refusal, and flushes
+/// the output. It gives the report, if the session is refused.
 ///
 /// # Errors
 /// `Memory` leaves nothing written. `Write` leaves a part of the text written, or all of it if only the flush failed.
@@ -34,7 +37,7 @@ fn explore_read<
 >(
     rt: &S,
     alloc: Global,
-    inquiry: Inquiry<'_>,
+    inquiry: Inquiry<'_, '_, '_>,
     sources: &[StreamFile<'_>],
     streams: Vec<R>,
     workers: &Workers,
@@ -42,9 +45,8 @@ fn explore_read<
     output: &mut O,
 ) -> Result<Option<Report>, EngineFault>
     requires { All (λ stream. R.has_ended stream ≡ false) streams.items }
-    ensures { ExploreLeaves inquiry.entry.beyond_width (Some inquiry.entry.document.now)
-        (λ used. used ≡ files_view sources.now) (map R.remaining streams.items) R.never_fails ⊥
-        (exploration_ending result) (O.contents output.old) (O.contents output.new) }
+    ensures { ReadLeaves (OfPage (λ used. used ≡ files_view sources.now) (map R.left streams.items)
+        (inquiry_view inquiry.entry)) (exploration_ending result) (O.contents output.old) (O.contents output.new) }
 {
     let refusal = explore(
         rt,
@@ -68,7 +70,7 @@ fn explore_read<
 /// Out of memory.
 fn stream_left<R: ByteSource + Drop>(alloc: Global, file: R) -> Result<Option<Vec<u8>>, AllocError>
     requires { R.has_ended file ≡ false }
-    ensures { IfOk result (λ found. IfSome found (λ found. IfSome (R.remaining file)
+    ensures { IfOk result (λ found. IfSome found (λ found. IfSome (R.left file).bytes
         (λ bytes. found.items ≡ stream_bytes bytes))) }
 {
     match read_upto(alloc, file, STREAM_BYTE_LIMIT as usize) {
@@ -87,7 +89,7 @@ fn read_again<F: FileSource>(
     alloc: Global,
     name: &str,
 ) -> Result<Option<Vec<u8>>, AllocError>
-    ensures { IfOk result (λ found. IfSome found (λ found. IfSome (F.bytes_of files.now name.now)
+    ensures { IfOk result (λ found. IfSome found (λ found. IfSome (bytes_in (F.file_of files.now) name.now)
         (λ bytes. found.items ≡ stream_bytes bytes))) }
 {
     if !files.can_be_reread(name) {
@@ -108,7 +110,7 @@ fn stream_file<'a, F: FileSource>(
     alloc: Global,
     name: &'a str,
 ) -> Result<StreamFile<'a>, AllocError>
-    ensures { IfOk result (λ file. IsFileOf (F.bytes_of files.now) name.now (file_view file)) }
+    ensures { IfOk result (λ file. IsFileOf (bytes_in (F.file_of files.now)) name.now (file_view file)) }
 {
     let found = read_again(files, alloc, name)?;
     match found {
@@ -126,7 +128,7 @@ fn stream_files<'a, F: FileSource>(
     alloc: Global,
     names: &[&'a str],
 ) -> Result<Vec<StreamFile<'a>>, AllocError>
-    ensures { IfOk result (λ found. AreFilesOf (F.bytes_of files.now) (map (λ name. name.now) names.now)
+    ensures { IfOk result (λ found. AreFilesOf (bytes_in (F.file_of files.now)) (map (λ name. name.now) names.now)
         (files_view found.items)) }
 {
     let mut found = Vec::new(alloc);
@@ -151,12 +153,10 @@ pub(crate) fn explore_files<S: RandomSource + Threads + Wait + Sync, F: FileSour
     exploration: &Exploration<'_>,
     output: &mut O,
 ) -> Result<Option<Report>, EngineFault>
-    ensures { HoldsAsked (asks_view exploration.now.names.asks)
-        (F.bytes_of files.now exploration.now.names.spec.now) (λ d. ExploreLeaves exploration.now.beyond_width (Some d)
-        (AreFilesOf (F.bytes_of files.now) (map (λ name. name.now) exploration.now.names.streams.items))
-        (map (λ name. F.bytes_of files.now name.now) exploration.now.names.streams.items) F.File.never_fails
-        (F.always_opens ≡ true → F.File.never_fails ≡ true → ⊥) (exploration_ending result) (O.contents output.old)
-        (O.contents output.new)) }
+    ensures { SessionLeaves (F.file_of files.now) (options_view exploration.now.names.options)
+        exploration.now.names.spec.now (session_view exploration.now.names).1
+        (OfPage (AreFilesOf (bytes_in (F.file_of files.now)) (session_view exploration.now.names).1))
+        (exploration_ending result) (O.contents output.old) (O.contents output.new) }
 {
     match read_session(files, alloc, &exploration.names) {
         Ok(read) => {
@@ -164,7 +164,7 @@ pub(crate) fn explore_files<S: RandomSource + Threads + Wait + Sync, F: FileSour
             let streams = read.streams;
             let inquiry = Inquiry {
                 document: &read.document,
-                beyond_width: exploration.beyond_width,
+                options: &exploration.names.options,
             };
             let gate = LevelGate::new(files);
             explore_read(

@@ -21,29 +21,27 @@ fn system_name(name: &str) -> &str {
 /// Opens files by their names. What each holds may be known, as it is in proofs over files that are made up; of the
 /// system's files nothing is known.
 pub trait FileSource: Sync {
-    ghost use Rattle.pd_cli.specs.FileSources.{HasWholeFile};
+    ghost use Rattle.pd_arguments.specs.Statuses.{File};
+    ghost use Rattle.pd_cli.specs.FileSources.{Knows};
     ghost use Rattle.pd_sessions.specs.declared.fault.EngineFault.TheVariants as faults;
-    ghost use Rattle.std.specs.Prelude.{◌≡◌, Bool, IfOk, IsOk, IsOkUnless, ℕ, List, Option, false, true};
+    ghost use Rattle.std.specs.Prelude.{◌≡◌, IfOk, IsOk, IsOkUnless, ℕ, List, false, true};
 
     type File: ByteSource + Send + Drop;
 
     /// A file that is written.
     type Sink: Write + Send + Drop;
 
-    // The bytes of the file of each name, if they are known.
-    ghost bytes_of: { Self → List ℕ → Option (List ℕ) };
-
-    // Whether each file can be opened.
-    ghost always_opens: { Bool };
+    // What is known of the file of each name.
+    ghost file_of: { Self → List ℕ → File };
 
     /// Opens the file of this name to read it from its start.
     ///
     /// # Errors
     /// `Read`, if it can't be opened.
     fn open(&self, name: &str) -> Result<Self::File, EngineFault>
-        ensures file { IfOk result (λ file. HasWholeFile (bytes_of self.now name.now) (Self.File.remaining file)) }
+        ensures file { IfOk result (λ file. Knows (file_of self.now name.now).source (Self.File.left file)) }
         ensures open { IfOk result (λ file. Self.File.has_ended file ≡ false) }
-        ensures sure { always_opens ≡ true → IsOk result }
+        ensures sure { (file_of self.now name.now).opens ≡ true → IsOk result }
         ensures err { IsOkUnless result faults.Read };
 
     /// Makes the file of this name, to write it from its start.
@@ -144,15 +142,13 @@ impl<R: Files + Sync> FileSource for R
 where
     R::File: Send,
 {
-    ghost use Rattle.std.specs.Prelude.{None, false};
+    ghost use Rattle.pd_cli.specs.FileSources.{unknown_file};
 
     type File = R::File;
 
     type Sink = R::File;
 
-    ghost bytes_of = { λ _ _. None };
-
-    ghost always_opens = { false };
+    ghost file_of = { λ _ _. unknown_file };
 
     fn open(&self, name: &str) -> Result<R::File, EngineFault> {
         fs::open(self, system_name(name)).map_err(|_| EngineFault::Read)

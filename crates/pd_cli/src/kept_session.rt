@@ -6,9 +6,10 @@ ghost use Rattle.std.specs.Prelude.{◌≡◌, ◌≢◌, ◌⊎◌, IfErr, None
 use super::file_source::FileSource;
 use super::host::Host;
 use super::service_fault::ServiceFault;
-use pd_engine::{Report, Spec, text};
+use pd_engine::{Inquiry, Report, Spec, text};
 use pd_peers::{Keeping, Notices};
 use pd_sessions::EngineFault;
+use pd_spec::document_text;
 use std::alloc::{AllocError, Global};
 use std::io;
 use std::io::Write;
@@ -37,18 +38,20 @@ fn write_file<F: FileSource>(files: &F, path: &str, bytes: &[u8]) -> io::Result<
     file.flush()
 }
 
-/// Makes the folder, and the document's file in it. It gives whether both are there; if not, it is noted why.
+/// Makes the folder, and the document's file in it, which says what was asked in place of what the document said. It
+/// gives whether both are there; if not, it is noted why.
 fn keep_document<F: FileSource, N>(
     host: &Host<'_, F, N>,
     folder: &str,
-    document: &[u8],
+    inquiry: Inquiry<'_, '_, '_>,
 ) -> Result<bool, AllocError> {
+    let document = document_text(host.alloc, inquiry.document, inquiry.options)?;
     if let Err(error) = host.files.make_folder(host.alloc, folder) {
         host.peers.note_unkept(host.alloc, folder, &error);
         return Ok(false);
     }
     let path = path_in(host.alloc, folder, DOCUMENT)?;
-    if let Err(error) = write_file(host.files, &path, document) {
+    if let Err(error) = write_file(host.files, &path, &document) {
         host.peers.note_unkept(host.alloc, &path, &error);
         return Ok(false);
     }
@@ -84,7 +87,7 @@ fn make_streams<'a, F: FileSource, N, T: Notices>(
 /// `Unkept`, if one of these can't be made, as if the folder has a file already, and `Memory`.
 pub(crate) fn begin_keeping<'a, F: FileSource, N, T: Notices>(
     host: &Host<'a, F, N>,
-    document: &[u8],
+    inquiry: Inquiry<'_, '_, '_>,
     spec: &Spec,
     notices: &'a T,
 ) -> Result<Vec<Keeping<'a, F::Sink, T>>, ServiceFault>
@@ -94,7 +97,7 @@ pub(crate) fn begin_keeping<'a, F: FileSource, N, T: Notices>(
     let Some(folder) = host.service.keep else {
         return Ok(Vec::new(host.alloc));
     };
-    if !keep_document(host, folder, document)? {
+    if !keep_document(host, folder, inquiry)? {
         return Err(ServiceFault::Unkept);
     }
     let count = spec.names().processes();

@@ -12,7 +12,8 @@ const PAUSE: u64 = 10;
 /// Accepts connections to ports. What a connection has to give may be known, as it is in proofs over a network that is
 /// made up; of the system's network nothing is known.
 pub trait Network {
-    ghost use Rattle.std.specs.Prelude.{◌≡◌, Bool, IfOk, IfSome, IsOk, IsSome, ℕ, List, None, Option, false, true};
+    ghost use Rattle.pd_judgement.specs.Writes.{Source};
+    ghost use Rattle.std.specs.Prelude.{◌≡◌, Bool, IfOk, IfSome, IsOk, IsSome, ℕ, None, false, true};
 
     /// A port that is bound.
     type Listener: Sync + Drop;
@@ -20,8 +21,8 @@ pub trait Network {
     /// One end of a connection: the bytes that its peer sends, and a place to write bytes to the peer.
     type Connection: ByteSource + Write + Send + Drop;
 
-    // What may be left of a connection that is accepted on a port.
-    ghost may_give: { Self → ℕ → Option (List ℕ) → Type 0 };
+    // Which source a connection may be that is accepted on a port.
+    ghost may_give: { Self → ℕ → Source → Type 0 };
 
     // Whether the listener is bound to the port.
     ghost is_on: { Self.Listener → ℕ → Type 0 };
@@ -47,7 +48,7 @@ pub trait Network {
         end: Option<Instant>,
     ) -> io::Result<Option<Self::Connection>>
         ensures given { IfOk result (λ found. IfSome found (λ connection. (port : ℕ) → is_on listener.now port
-            → may_give self.now port (Self.Connection.remaining connection))) }
+            → may_give self.now port (Self.Connection.left connection))) }
         ensures open { IfOk result (λ found. IfSome found (λ connection.
             Self.Connection.has_ended connection ≡ false)) }
         ensures come { end ≡ None → IfOk result IsSome }

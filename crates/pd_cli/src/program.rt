@@ -1,16 +1,17 @@
 //! One run of the program.
 ghost use Rattle.pd_arguments.specs.Arguments.{port_limit};
-ghost use Rattle.pd_asked.specs.Views.{asks_view};
 ghost use Rattle.pd_cli.specs.Drawings.{EndsDrawn, RunsAsAsked};
+ghost use Rattle.pd_cli.specs.FileSources.{bytes_in};
 ghost use Rattle.pd_cli.specs.Explained.{Explained};
-ghost use Rattle.pd_cli.specs.Explorations.{ExploreLeaves};
+ghost use Rattle.pd_cli.specs.Explorations.{OfPage};
 ghost use Rattle.pd_explore.specs.Sources.{AreFilesOf};
 ghost use Rattle.pd_wish.specs.Wishes.{wish_view};
 ghost use Rattle.pd_fail_on.specs.Views.{fail_on_view};
-ghost use Rattle.pd_arguments.specs.Statuses.{CheckLeaves, Ends, FilesJudgementLeaves, HoldsAsked, IsLongReport, JudgementLeaves, ServiceLeaves, ServiceMayFail, reliance};
-ghost use Rattle.pd_arguments.specs.Views.{keep_view};
+ghost use Rattle.pd_arguments.specs.Statuses.{Ends, JudgementLeaves, LeavesOf, MayBeUnread, OfConnections, OfFinding, OfStreams, ServiceMayFail, SessionLeaves, UnreadClaim, sources_of};
+ghost use Rattle.pd_arguments.specs.Views.{keep_view, session_view};
 ghost use Rattle.pd_judgement.specs.Writes.{WritesTruthOfBundle};
-ghost use Rattle.std.specs.Prelude.{◌≡◌, ◌≢◌, ◌⊎◌, ◌≤◌, drop, false, length, map, true, vec_len, None, Some};
+ghost use Rattle.pd_spec.specs.Views.{options_view};
+ghost use Rattle.std.specs.Prelude.{◌≡◌, ◌≢◌, ◌≤◌, ◌∷◌, [], drop, false, length, map, vec_len, None};
 
 use super::bundle::judge_input;
 use super::check_files::check_files;
@@ -52,11 +53,12 @@ fn run_check<S: RandomSource + Threads + Wait + Sync, F: FileSource, O: Write, E
     output: &mut O,
     errors: &mut E,
 ) -> u8
-    ensures { Explained explain (λ start. Ends (λ ending. HoldsAsked (asks_view names.now.asks)
-        (F.bytes_of files.now names.now.spec.now) (λ d. CheckLeaves (Some d) (F.bytes_of files.now report.now)
-        (map (λ name. F.bytes_of files.now name.now) names.now.streams.items) F.File.never_fails
-        ((F.always_opens ≡ true → F.File.never_fails ≡ true → ⊥) ⊎ IsLongReport (F.bytes_of files.now report.now))
-        ending (O.contents output.old) (O.contents output.new))) result start (E.contents errors.new))
+    ensures { Explained explain (λ start. Ends (λ ending. LeavesOf (options_view names.now.options)
+        (F.file_of files.now names.now.spec.now)
+        (UnreadClaim (F.file_of files.now) names.now.spec.now report.now (session_view names.now).1)
+        (OfFinding (F.file_of files.now report.now).source
+        (sources_of (map (F.file_of files.now) (session_view names.now).1)))
+        ending (O.contents output.old) (O.contents output.new)) result start (E.contents errors.new))
         (E.contents errors.old) }
 {
     let end = check_files(rt, files, alloc, report, names, output);
@@ -77,12 +79,9 @@ fn run_draw<S: RandomSource + Threads + Wait + Sync, F: FileSource, O: Write, E:
     output: &mut O,
     errors: &mut E,
 ) -> u8
-    ensures { Explained explain (λ start. EndsDrawn (asks_view names.now.asks) (F.bytes_of files.now names.now.spec.now)
-        (F.bytes_of files.now report.now)
-        (map (λ name. F.bytes_of files.now name.now) names.now.streams.items) F.File.never_fails
-        ((F.always_opens ≡ true → F.File.never_fails ≡ true → ⊥) ⊎ IsLongReport (F.bytes_of files.now report.now))
-        (wish_view wish.now) result (O.contents output.old) (O.contents output.new) start
-        (E.contents errors.new)) (E.contents errors.old) }
+    ensures { Explained explain (λ start. EndsDrawn (F.file_of files.now) (options_view names.now.options)
+        names.now.spec.now report.now (session_view names.now).1 (wish_view wish.now) result (O.contents output.old)
+        (O.contents output.new) start (E.contents errors.new)) (E.contents errors.old) }
 {
     let end = draw_files(rt, files, alloc, report, wish, names, output);
     let text = drawing_text(explain, files, alloc, report, names, &end);
@@ -109,13 +108,13 @@ fn run_service<
 ) -> u8
     requires some { 1 ≤ service.now.port }
     requires port { service.now.port ≤ port_limit }
-    ensures { Explained explain (λ start. Ends (λ ending. HoldsAsked (asks_view service.now.asks)
-        (F.bytes_of files.now service.now.spec.now) (λ d. ServiceLeaves service.now.beyond_width
-        (fail_on_view service.now.fail_on) (Some d)
-        (N.may_give network.now service.now.port) N.Connection.never_fails
-        (F.always_opens ≡ true → F.File.never_fails ≡ true → ⊥) (ServiceMayFail service.now.wait N.never_fails)
-        (keep_view service.now.keep ≢ None) ending (O.contents output.old) (O.contents output.new))) result start
-        (E.contents errors.new)) (E.contents errors.old) }
+    ensures { Explained explain (λ start. Ends (λ ending. LeavesOf (options_view service.now.options)
+        (F.file_of files.now service.now.spec.now) (MayBeUnread (F.file_of files.now service.now.spec.now ∷ [])
+        (F.file_of files.now service.now.spec.now ∷ []))
+        (OfConnections (N.may_give network.now service.now.port) (ServiceMayFail service.now.wait N.never_fails)
+        (keep_view service.now.keep ≢ None) (fail_on_view service.now.fail_on))
+        ending (O.contents output.old) (O.contents output.new)) result start (E.contents errors.new))
+        (E.contents errors.old) }
 {
     let peers = Peers::new(alloc, explain || service.keep.is_some());
     let gate = LevelGate::new(files);
@@ -144,12 +143,10 @@ fn run_files<S: RandomSource + Threads + Wait + Sync, F: FileSource, O: Write, E
     output: &mut O,
     errors: &mut E,
 ) -> u8
-    ensures { Explained explain (λ start. Ends (λ ending. HoldsAsked (asks_view judgement.now.names.asks)
-        (F.bytes_of files.now judgement.now.names.spec.now) (λ d. FilesJudgementLeaves judgement.now.beyond_width
-        (fail_on_view judgement.now.fail_on) (Some d)
-        (map (λ name. F.bytes_of files.now name.now) judgement.now.names.streams.items) F.File.never_fails
-        (F.always_opens ≡ true → F.File.never_fails ≡ true → ⊥) ending (O.contents output.old)
-        (O.contents output.new))) result start (E.contents errors.new)) (E.contents errors.old) }
+    ensures { Explained explain (λ start. Ends (λ ending. SessionLeaves (F.file_of files.now)
+        (options_view judgement.now.names.options) judgement.now.names.spec.now (session_view judgement.now.names).1
+        (λ sources. OfStreams sources (fail_on_view judgement.now.fail_on)) ending (O.contents output.old)
+        (O.contents output.new)) result start (E.contents errors.new)) (E.contents errors.old) }
 {
     let gate = LevelGate::new(files);
     let end = judge_files(rt, files, alloc, judgement, &gate, output);
@@ -168,12 +165,12 @@ fn run_explore<S: RandomSource + Threads + Wait + Sync, F: FileSource, O: Write,
     output: &mut O,
     errors: &mut E,
 ) -> u8
-    ensures { Explained explain (λ start. Ends (λ ending. HoldsAsked (asks_view exploration.now.names.asks)
-        (F.bytes_of files.now exploration.now.names.spec.now) (λ d. ExploreLeaves exploration.now.beyond_width (Some d)
-        (AreFilesOf (F.bytes_of files.now) (map (λ name. name.now) exploration.now.names.streams.items))
-        (map (λ name. F.bytes_of files.now name.now) exploration.now.names.streams.items) F.File.never_fails
-        (F.always_opens ≡ true → F.File.never_fails ≡ true → ⊥) ending (O.contents output.old)
-        (O.contents output.new))) result start (E.contents errors.new)) (E.contents errors.old) }
+    ensures { Explained explain (λ start. Ends (λ ending. SessionLeaves (F.file_of files.now)
+        (options_view exploration.now.names.options) exploration.now.names.spec.now
+        (session_view exploration.now.names).1
+        (OfPage (AreFilesOf (bytes_in (F.file_of files.now)) (session_view exploration.now.names).1))
+        ending (O.contents output.old) (O.contents output.new)) result start (E.contents errors.new))
+        (E.contents errors.old) }
 {
     let end = explore_files(rt, files, alloc, exploration, output);
     let text = exploration_text(explain, files, alloc, exploration, &end);
@@ -190,7 +187,7 @@ fn run_bundle<
     E: Write,
 >(rt: &S, files: &F, alloc: Global, input: I, explain: bool, output: &mut O, errors: &mut E) -> u8
     requires { I.has_ended input ≡ false }
-    ensures { Explained explain (λ start. Ends (λ ending. JudgementLeaves (I.remaining input) I.never_fails ending
+    ensures { Explained explain (λ start. Ends (λ ending. JudgementLeaves (I.left input) ending
         (O.contents output.old) (O.contents output.new)) result start (E.contents errors.new)) (E.contents errors.old) }
 {
     let gate = LevelGate::new(files);
@@ -221,8 +218,7 @@ fn run_arguments<
 ) -> u8
     requires { I.has_ended input ≡ false }
     ensures ends { Explained explain (λ start. RunsAsAsked (map (λ argument. argument.bytes.items) arguments.now)
-        (reliance I.never_fails F.always_opens F.File.never_fails N.never_fails N.Connection.never_fails)
-        (I.remaining input) (F.bytes_of files.now) (N.may_give network.now) result
+        (I.left input) (F.file_of files.now) (N.may_give network.now) N.never_fails result
         (O.contents output.old) (O.contents output.new) start (E.contents errors.new)) (E.contents errors.old) }
 {
     match parse(alloc, arguments) {
@@ -288,20 +284,20 @@ pub fn run<
 ) -> u8
     requires open { I.has_ended input ≡ false }
     // The exit status says what is left on the output and on the errors, by what the arguments after the first ask for.
-    // Where nothing that is read can fail, all bytes of the input, the files and the connections are judged.
+    // Each file, each connection and the input are a source of their own: what is known to be given to its end is
+    // judged whole, and of one that is known to fail all that it gave before.
     // If explanations are wanted, any text may stand before that on the errors.
     ensures ends { Explained explain (λ start. RunsAsAsked
         (drop 1 (map (λ argument. argument.bytes.items) arguments.items))
-        (reliance I.never_fails F.always_opens F.File.never_fails N.never_fails N.Connection.never_fails)
-        (I.remaining input) (F.bytes_of files.now) (N.may_give network.now) result
+        (I.left input) (F.file_of files.now) (N.may_give network.now) N.never_fails result
         (O.contents output.old) (O.contents output.new) start (E.contents errors.new)) (E.contents errors.old) }
     // With no further argument that is the report of the bundle on the input.
     ensures bundle { vec_len arguments ≤ 1 → Explained explain (λ start. Ends (λ ending.
-        JudgementLeaves (I.remaining input) I.never_fails ending (O.contents output.old) (O.contents output.new)) result
+        JudgementLeaves (I.left input) ending (O.contents output.old) (O.contents output.new)) result
         start (E.contents errors.new)) (E.contents errors.old) }
     // If the input holds a well-formed session, status 0 or 1 is 0; and with no level over the width, that report says
     // the truth of each predicate.
-    ensures headline { vec_len arguments ≤ 1 → result ≤ 1 → WritesTruthOfBundle (I.remaining input) (result ≡ 0)
+    ensures headline { vec_len arguments ≤ 1 → result ≤ 1 → WritesTruthOfBundle (I.left input) (result ≡ 0)
         (O.contents output.old) (O.contents output.new) }
 {
     if arguments.len() <= 1 {

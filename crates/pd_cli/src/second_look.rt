@@ -1,12 +1,12 @@
 //! Reads the files of a session again, for an explanation.
 use super::file_source::FileSource;
-use super::session_files::{read_asked, read_document};
+use super::session_files::read_document;
 use pd_arguments::SessionNames;
-use pd_asked::Asks;
 use pd_engine::Spec;
 use pd_explain::{Widest, joined_name};
 use pd_format::{REPORT_BYTE_LIMIT, STREAM_BYTE_LIMIT};
 use pd_sessions::read_upto;
+use pd_spec::{Options, document_text};
 use std::alloc::{AllocError, Global};
 
 /// How many bytes of a stream are read again to find out whose it is.
@@ -18,44 +18,55 @@ const START_LENGTH: usize = 131_072;
 pub(crate) struct Seen<'a> {
     /// The name of the document's file.
     pub(crate) spec: Option<&'a str>,
-    /// What was asked in place of what the document says, if there is one.
-    pub(crate) asks: Option<&'a Asks<'a>>,
+    /// What was asked beside the document, if there is one.
+    pub(crate) options: Option<&'a Options<'a>>,
     /// The names of the streams' files.
     pub(crate) streams: &'a [&'a str],
-    /// Whether predicates were to be answered beyond the width.
-    pub(crate) beyond_width: bool,
     /// The level with the most cuts to which the walk has come.
     pub(crate) widest: Widest,
 }
 
-/// The bytes of the document in the file of this name, with what is asked, if they can be read again.
+/// The bytes of the document in the file of this name, if they can be read again.
 pub(crate) fn document_again<F: FileSource>(
     files: &F,
     alloc: Global,
     name: &str,
-    asks: Option<&Asks<'_>>,
 ) -> Option<Vec<u8>> {
     if !files.can_be_reread(name) {
         return None;
     }
-    let Ok(file) = files.open(name) else {
-        return None;
-    };
-    match asks {
-        Some(asks) => read_asked(alloc, file, asks).ok(),
-        None => read_document(alloc, file).ok(),
+    match files.open(name) {
+        Ok(file) => read_document(alloc, file).ok(),
+        Err(_) => None,
     }
 }
 
-/// The document in the file of this name, with what is asked, if it can be read again and isn't refused.
+/// The text of the document in the file of this name, with what was asked, if it can be read again.
+pub(crate) fn text_again<F: FileSource>(
+    files: &F,
+    alloc: Global,
+    name: &str,
+    options: Option<&Options<'_>>,
+) -> Option<Vec<u8>> {
+    let bytes = document_again(files, alloc, name)?;
+    match options {
+        Some(options) => document_text(alloc, &bytes, options).ok(),
+        None => Some(bytes),
+    }
+}
+
+/// The document in the file of this name, with what was asked, if it can be read again and isn't refused.
 pub(crate) fn spec_again<F: FileSource>(
     files: &F,
     alloc: Global,
     name: &str,
-    asks: Option<&Asks<'_>>,
+    options: Option<&Options<'_>>,
 ) -> Option<Spec> {
-    let bytes = document_again(files, alloc, name, asks)?;
-    Spec::read(alloc, &bytes).ok()
+    let bytes = document_again(files, alloc, name)?;
+    match options {
+        Some(options) => Spec::read_with_options(alloc, &bytes, options).ok(),
+        None => Spec::read(alloc, &bytes).ok(),
+    }
 }
 
 /// The bytes of the stream in the file of this name, if they can be read again, and one more than a stream may have at

@@ -1,17 +1,17 @@
 //! Judges a session whose streams come by connections.
 ghost use Rattle.pd_arguments.specs.Arguments.{port_limit};
-ghost use Rattle.pd_asked.specs.Views.{asks_view};
-ghost use Rattle.pd_cli.specs.FileSources.{AreAsked};
+ghost use Rattle.pd_cli.specs.FileSources.{IsReadOf, ReadLeaves};
 ghost use Rattle.pd_cli.specs.Faults.{is_out_of_memory, judgement_ending, service_ending};
 ghost use Rattle.pd_cli.specs.declared.service_fault.ServiceFault.TheVariants as faults;
 ghost use Rattle.pd_fail_on.specs.Conditions.{Condition};
-ghost use Rattle.pd_format.specs.Documents.{IsDocument};
+ghost use Rattle.pd_format.specs.Documents.{IsDocument, inquiry_of};
 ghost use Rattle.pd_judgement.specs.Headline.{is_judged};
-ghost use Rattle.pd_arguments.specs.Statuses.{FilesJudgementLeaves, HoldsAsked, ServiceLeaves, ServiceMayFail};
+ghost use Rattle.pd_arguments.specs.Statuses.{LeavesOf, MayBeUnread, OfConnections, OfStreams, ServiceMayFail};
 ghost use Rattle.pd_arguments.specs.Views.{keep_view};
 ghost use Rattle.pd_report.specs.Views.{report_view};
-ghost use Rattle.pd_spec.specs.Views.{IsFaultOf, document_view};
-ghost use Rattle.std.specs.Prelude.{◌≡◌, ◌≢◌, ◌⊎◌, ◌↔◌, ◌+◌, ◌<◌, ◌≤◌, ℕ, All, List, Option, Err, IfErr, IfOk, IfSome, IsOk, IsSome, MatchResult, None, Ok, Some, [], false, length, map, true};
+ghost use Rattle.pd_sessions.specs.Inquiries.{inquiry_view};
+ghost use Rattle.pd_spec.specs.Views.{IsFaultOf, document_view, options_view};
+ghost use Rattle.std.specs.Prelude.{◌≡◌, ◌≢◌, ◌⊎◌, ◌↔◌, ◌+◌, ◌<◌, ◌≤◌, ◌∷◌, ℕ, All, List, Option, Err, IfErr, IfOk, IfSome, IsOk, IsSome, MatchResult, None, Ok, Some, [], false, length, map, true};
 
 use super::file_source::FileSource;
 use super::host::Host;
@@ -20,7 +20,7 @@ use super::kept_session::{begin_keeping, end_keeping};
 use super::network::Network;
 use super::service_fault::ServiceFault;
 use super::service_notices::ServiceNotices;
-use super::session_files::read_asked;
+use super::session_files::read_document;
 use super::watchers::Watchers;
 use pd_arguments::Workers;
 use pd_engine::{
@@ -114,7 +114,7 @@ fn accept_stream<'a, F, N: Network, W: Write + Drop, T: Notices>(
     notices: &'a T,
 ) -> Result<HeardSource<'a, N::Connection, W, T>, ServiceFault>
     ensures given { IfOk result (λ stream. (port : ℕ) → N.is_on listener.now port
-        → N.may_give host.now.network.now port (N.Connection.remaining stream.source)) }
+        → N.may_give host.now.network.now port (N.Connection.left stream.source)) }
     ensures open { IfOk result (λ stream. N.Connection.has_ended stream.source ≡ false) }
     ensures sure { end ≡ None → N.never_fails ≡ true → IsOk result }
     ensures err { IfErr result (λ fault. (fault ≡ faults.Network) ⊎ (fault ≡ faults.Late)
@@ -146,7 +146,7 @@ fn accept_streams<'a, F, N: Network, W: Write + Drop, T: Notices>(
 ) -> Result<Vec<HeardSource<'a, N::Connection, W, T>>, ServiceFault>
     ensures count { IfOk result (λ streams. length streams.items ≡ count) }
     ensures given { IfOk result (λ streams. (port : ℕ) → N.is_on listener port
-        → All (λ stream. N.may_give host.now.network.now port (N.Connection.remaining stream.source))
+        → All (λ stream. N.may_give host.now.network.now port (N.Connection.left stream.source))
         streams.items) }
     ensures open { IfOk result (λ streams.
         All (λ stream. N.Connection.has_ended stream.source ≡ false) streams.items) }
@@ -212,7 +212,7 @@ fn service_end(end: Result<Report, EngineFault>) -> Result<Report, ServiceFault>
     }
 }
 
-/// Judges a document's bytes, with what is asked beside them, and the streams while the observer runs, writes the
+/// Judges a document, with what is asked, and the streams while the observer runs, writes the
 /// report, and flushes the output. It gives the report.
 ///
 /// # Errors
@@ -227,15 +227,15 @@ fn judge_accepted<
 >(
     rt: &S,
     host: &Host<'_, F, N>,
-    inquiry: Inquiry<'_>,
+    inquiry: Inquiry<'_, '_, '_>,
     streams: Vec<R>,
     observer: &B,
     output: &mut O,
 ) -> Result<Report, EngineFault>
     requires { All (λ stream. R.has_ended stream ≡ false) streams.items }
-    ensures written { (fail_on : List Condition) → FilesJudgementLeaves inquiry.entry.beyond_width fail_on
-        (Some inquiry.entry.document.now) (map R.remaining streams.items) R.never_fails ⊥
-        (judgement_ending fail_on result) (O.contents output.old) (O.contents output.new) }
+    ensures written { (fail_on : List Condition) → ReadLeaves (OfStreams (map R.left streams.items) fail_on
+        (inquiry_view inquiry.entry)) (judgement_ending fail_on result) (O.contents output.old)
+        (O.contents output.new) }
     ensures err { IfErr result (λ fault. (fault ≡ EngineFault.Memory) ⊎ (fault ≡ EngineFault.Write)) }
 {
     let crew = Crew::new(rt, host.service.workers.count(), host.gate);
@@ -260,17 +260,16 @@ fn serve_session<
 >(
     rt: &S,
     host: &Host<'_, F, N>,
-    inquiry: Inquiry<'_>,
+    inquiry: Inquiry<'_, '_, '_>,
     spec: &Spec,
     output: &mut O,
 ) -> Result<Report, ServiceFault>
-    requires document { IsDocument inquiry.document.now (document_view spec.now) }
+    requires document { IsDocument (inquiry_view inquiry) (document_view spec.now) }
     requires port { host.now.service.now.port ≤ port_limit }
-    ensures written { (fail_on : List Condition) → ServiceLeaves inquiry.entry.beyond_width fail_on
-        (Some inquiry.entry.document.now) (N.may_give host.now.network.now host.now.service.now.port)
-        N.Connection.never_fails ⊥ (ServiceMayFail host.now.service.now.wait N.never_fails)
-        (keep_view host.now.service.now.keep ≢ None) (service_ending fail_on result) (O.contents output.old)
-        (O.contents output.new) }
+    ensures written { (fail_on : List Condition) → ReadLeaves (OfConnections
+        (N.may_give host.now.network.now host.now.service.now.port)
+        (ServiceMayFail host.now.service.now.wait N.never_fails) (keep_view host.now.service.now.keep ≢ None) fail_on
+        (inquiry_view inquiry.entry)) (service_ending fail_on result) (O.contents output.old) (O.contents output.new) }
     ensures err { IfErr result (λ fault. (fault ≡ faults.Network) ⊎ (fault ≡ faults.Late)
         ⊎ ((fault ≡ faults.Unkept) × (keep_view host.now.service.now.keep ≢ None))
         ⊎ (fault ≡ faults.Engine EngineFault.Memory) ⊎ (fault ≡ faults.Engine EngineFault.Write)) }
@@ -287,26 +286,25 @@ fn serve_session<
         alloc: host.alloc,
     };
     let notices = ServiceNotices { host, spec };
-    let kept = begin_keeping(host, inquiry.document, spec, &notices)?;
+    let kept = begin_keeping(host, inquiry, spec, &notices)?;
     notices.listens();
     let count = spec.names().processes();
     let streams = accept_streams(host, listener, count, end, kept, &notices)?;
     service_end(judge_accepted(rt, host, inquiry, streams, &watchers, output))
 }
 
-/// Judges a document's bytes and no streams, writes the report, and flushes the output.
+/// Judges a document, with what is asked, and no streams, writes the report, and flushes the output.
 ///
 /// # Errors
 /// As `judge_read`.
 fn judge_no_streams<S: RandomSource + Threads + Wait + Sync, N: Network, O: Write>(
     rt: &S,
     alloc: Global,
-    inquiry: Inquiry<'_>,
+    inquiry: Inquiry<'_, '_, '_>,
     output: &mut O,
 ) -> Result<Report, EngineFault>
-    ensures written { (fail_on : List Condition) → FilesJudgementLeaves inquiry.entry.beyond_width fail_on
-        (Some inquiry.entry.document.now) [] N.Connection.never_fails ⊥ (judgement_ending fail_on result)
-        (O.contents output.old) (O.contents output.new) }
+    ensures written { (fail_on : List Condition) → ReadLeaves (OfStreams [] fail_on (inquiry_view inquiry.entry))
+        (judgement_ending fail_on result) (O.contents output.old) (O.contents output.new) }
     ensures err { IfErr result (λ fault. (fault ≡ EngineFault.Memory) ⊎ (fault ≡ EngineFault.Write)) }
 {
     judge_read(
@@ -347,16 +345,15 @@ fn is_out_of_memory(fault: &SpecFault) -> bool
 fn refuse_document<S: RandomSource + Threads + Wait + Sync, F, N: Network, O: Write>(
     rt: &S,
     host: &Host<'_, F, N>,
-    inquiry: Inquiry<'_>,
+    inquiry: Inquiry<'_, '_, '_>,
     fault: &SpecFault,
     output: &mut O,
 ) -> Result<Report, ServiceFault>
-    requires { IsFaultOf inquiry.document.now fault.now }
+    requires { IsFaultOf (inquiry_view inquiry) fault.now }
     ensures written { (port : ℕ) (fail_on : List Condition) (wait : Option ℕ)
-        (keep : Option (List ℕ)) → ServiceLeaves inquiry.entry.beyond_width fail_on
-        (Some inquiry.entry.document.now) (N.may_give host.now.network.now port) N.Connection.never_fails ⊥
-        (ServiceMayFail wait N.never_fails) (keep ≢ None) (service_ending fail_on result) (O.contents output.old)
-        (O.contents output.new) }
+        (keep : Option (List ℕ)) → ReadLeaves (OfConnections (N.may_give host.now.network.now port)
+        (ServiceMayFail wait N.never_fails) (keep ≢ None) fail_on (inquiry_view inquiry.entry))
+        (service_ending fail_on result) (O.contents output.old) (O.contents output.new) }
     // Its refusal is the report that is written whole, or the call fails.
     ensures refused { IfOk result (λ report. is_judged (report_view report) ≡ false) }
     ensures err { IfErr result (λ fault. (fault ≡ faults.Engine EngineFault.Memory)
@@ -402,24 +399,23 @@ fn report_of(end: &Result<Report, ServiceFault>) -> Option<&Report> {
 fn serve_kept<S: RandomSource + Threads + Wait + Sync, F: FileSource, N: Network + Sync, O: Write>(
     rt: &S,
     host: &Host<'_, F, N>,
-    inquiry: Inquiry<'_>,
+    inquiry: Inquiry<'_, '_, '_>,
     spec: &Spec,
     output: &mut O,
 ) -> Result<Report, ServiceFault>
-    requires document { IsDocument inquiry.document.now (document_view spec.now) }
+    requires document { IsDocument (inquiry_view inquiry) (document_view spec.now) }
     requires port { host.now.service.now.port ≤ port_limit }
-    ensures { (fail_on : List Condition) → ServiceLeaves inquiry.entry.beyond_width fail_on
-        (Some inquiry.entry.document.now) (N.may_give host.now.network.now host.now.service.now.port)
-        N.Connection.never_fails ⊥ (ServiceMayFail host.now.service.now.wait N.never_fails)
-        (keep_view host.now.service.now.keep ≢ None) (service_ending fail_on result) (O.contents output.old)
-        (O.contents output.new) }
+    ensures { (fail_on : List Condition) → ReadLeaves (OfConnections
+        (N.may_give host.now.network.now host.now.service.now.port)
+        (ServiceMayFail host.now.service.now.wait N.never_fails) (keep_view host.now.service.now.keep ≢ None) fail_on
+        (inquiry_view inquiry.entry)) (service_ending fail_on result) (O.contents output.old) (O.contents output.new) }
 {
     let end = serve_session(rt, host, inquiry, spec, output);
     let is_kept = end_keeping(host, report_of(&end));
     kept_end(end, is_kept)
 }
 
-/// Judges a document's bytes and the streams that come, or reports why the document is refused.
+/// Judges a document, with what is asked, and the streams that come, or reports why the document is refused.
 ///
 /// # Errors
 /// As `serve`, but for `Read`.
@@ -430,41 +426,43 @@ fn serve_document<
     O: Write,
 >(rt: &S, host: &Host<'_, F, N>, document: &[u8], output: &mut O) -> Result<Report, ServiceFault>
     requires { host.now.service.now.port ≤ port_limit }
-    ensures { (fail_on : List Condition) → ServiceLeaves host.now.service.now.beyond_width fail_on (Some document.now)
-        (N.may_give host.now.network.now host.now.service.now.port) N.Connection.never_fails ⊥
-        (ServiceMayFail host.now.service.now.wait N.never_fails) (keep_view host.now.service.now.keep ≢ None)
-        (service_ending fail_on result) (O.contents output.old) (O.contents output.new) }
+    ensures { (fail_on : List Condition) → ReadLeaves (OfConnections
+        (N.may_give host.now.network.now host.now.service.now.port)
+        (ServiceMayFail host.now.service.now.wait N.never_fails) (keep_view host.now.service.now.keep ≢ None) fail_on
+        (inquiry_of (options_view host.now.service.now.options) document.now)) (service_ending fail_on result)
+        (O.contents output.old) (O.contents output.new) }
 {
     let inquiry = Inquiry {
         document,
-        beyond_width: host.service.beyond_width,
+        options: &host.service.options,
     };
-    match Spec::read(host.alloc, inquiry.document) {
+    match Spec::read_with_options(host.alloc, document, &host.service.options) {
         Ok(spec) => serve_kept(rt, host, inquiry, &spec, output),
         Err(fault) => refuse_document(rt, host, inquiry, &fault, output),
     }
 }
 
-/// Opens and reads the document of a server's session, with what is asked in place of what it says.
+/// Opens and reads the document of a server's session.
 ///
 /// # Errors
 /// `Read`, if it can't be opened or read, and `Memory`.
 fn read_service<F: FileSource, N>(host: &Host<'_, F, N>) -> Result<Vec<u8>, EngineFault>
-    ensures document { IfOk result (λ bytes. AreAsked (asks_view host.now.service.now.asks)
-        (F.bytes_of host.now.files.now host.now.service.now.spec.now) bytes.items) }
-    ensures unread { result ≡ Err EngineFault.Read → F.always_opens ≡ true → F.File.never_fails ≡ true → ⊥ }
+    ensures document { IfOk result (λ bytes. IsReadOf bytes.items
+        (F.file_of host.now.files.now host.now.service.now.spec.now).source) }
+    ensures unread { result ≡ Err EngineFault.Read → MayBeUnread
+        (F.file_of host.now.files.now host.now.service.now.spec.now ∷ [])
+        (F.file_of host.now.files.now host.now.service.now.spec.now ∷ []) }
     ensures err { IfErr result (λ fault. (fault ≡ EngineFault.Memory) ⊎ (fault ≡ EngineFault.Read)) }
 {
     let file = host.files.open(host.service.spec)?;
-    let document = read_asked(host.alloc, file, &host.service.asks)?;
+    let document = read_document(host.alloc, file)?;
     Ok(document)
 }
 
-/// Opens and reads the document of a session; binds the ports, unless the document, with what is asked in place of what
-/// it says, is refused; accepts a stream for each process; judges the document and the streams, writes the report, and
-/// flushes the output. It gives the report, and notes for the host's peers who sends each stream. Meanwhile the
-/// watchers are accepted, and each is shown how far the streams are read; it returns once all of them have come, or one
-/// can't be accepted.
+/// Opens and reads the document of a session; binds the ports, unless the document, with what is asked, is refused;
+/// accepts a stream for each process; judges the document and the streams, writes the report, and flushes the output.
+/// It gives the report, and notes for the host's peers who sends each stream. Meanwhile the watchers are accepted, and
+/// each is shown how far the streams are read; it returns once all of them have come, or one can't be accepted.
 ///
 /// # Errors
 /// `Read`, if the document can't be opened or read, `Network`, if a port can't be bound or a stream not be accepted,
@@ -479,13 +477,13 @@ pub(crate) fn serve<
 >(rt: &S, host: &Host<'_, F, N>, output: &mut O) -> Result<Report, ServiceFault>
     requires { host.now.service.now.port ≤ port_limit }
     // This is said for all answers on which the run may be to fail.
-    ensures { (fail_on : List Condition) → HoldsAsked (asks_view host.now.service.now.asks)
-        (F.bytes_of host.now.files.now host.now.service.now.spec.now)
-        (λ d. ServiceLeaves host.now.service.now.beyond_width fail_on (Some d)
-        (N.may_give host.now.network.now host.now.service.now.port) N.Connection.never_fails
-        (F.always_opens ≡ true → F.File.never_fails ≡ true → ⊥)
-        (ServiceMayFail host.now.service.now.wait N.never_fails) (keep_view host.now.service.now.keep ≢ None)
-        (service_ending fail_on result) (O.contents output.old) (O.contents output.new)) }
+    ensures { (fail_on : List Condition) → LeavesOf (options_view host.now.service.now.options)
+        (F.file_of host.now.files.now host.now.service.now.spec.now)
+        (MayBeUnread (F.file_of host.now.files.now host.now.service.now.spec.now ∷ [])
+        (F.file_of host.now.files.now host.now.service.now.spec.now ∷ []))
+        (OfConnections (N.may_give host.now.network.now host.now.service.now.port)
+        (ServiceMayFail host.now.service.now.wait N.never_fails) (keep_view host.now.service.now.keep ≢ None) fail_on)
+        (service_ending fail_on result) (O.contents output.old) (O.contents output.new) }
 {
     match read_service(host) {
         Ok(document) => serve_document(rt, host, &document, output),

@@ -1,12 +1,12 @@
 //! Opens and reads the files of a session.
-ghost use Rattle.pd_asked.specs.Views.{asks_view};
-ghost use Rattle.pd_cli.specs.FileSources.{AreAsked, HasWholeFile, IsReadOf};
+ghost use Rattle.pd_arguments.specs.Statuses.{MayBeUnread, sources_of};
+ghost use Rattle.pd_arguments.specs.Views.{session_view};
+ghost use Rattle.pd_cli.specs.FileSources.{IsReadOf, Knows};
 ghost use Rattle.std.specs.List.{AllZip};
-ghost use Rattle.std.specs.Prelude.{◌≡◌, ◌⊎◌, All, Err, IfErr, IfOk, false, map, true};
+ghost use Rattle.std.specs.Prelude.{◌≡◌, ◌≢◌, ◌⊎◌, ◌∷◌, [], All, Err, IfErr, IfOk, Some, false, map, true};
 
 use super::file_source::FileSource;
 use pd_arguments::SessionNames;
-use pd_asked::{Asks, asked_document};
 use pd_engine::ByteSource;
 use pd_format::DOCUMENT_BYTE_LIMIT;
 use pd_sessions::{EngineFault, read_upto};
@@ -21,10 +21,11 @@ pub(crate) fn open_streams<F: FileSource>(
     alloc: Global,
     names: &[&str],
 ) -> Result<Vec<F::File>, EngineFault>
-    ensures whole { IfOk result (λ streams. AllZip HasWholeFile
-        (map (λ name. F.bytes_of files.now name.now) names.now) (map F.File.remaining streams.items)) }
+    ensures known { IfOk result (λ streams. AllZip Knows
+        (map (λ name. (F.file_of files.now name.now).source) names.now) (map F.File.left streams.items)) }
     ensures open { IfOk result (λ streams. All (λ stream. F.File.has_ended stream ≡ false) streams.items) }
-    ensures sure { F.always_opens ≡ true → IfErr result (λ fault. fault ≡ EngineFault.Memory) }
+    ensures sure { All (λ name. (F.file_of files.now name.now).opens ≡ true) names.now
+        → result ≡ Err EngineFault.Read → ⊥ }
     ensures err { IfErr result (λ fault. (fault ≡ EngineFault.Memory) ⊎ (fault ≡ EngineFault.Read)) }
 {
     let mut streams = Vec::new(alloc);
@@ -44,33 +45,14 @@ pub(crate) fn read_document<R: ByteSource + Drop>(
     reader: R,
 ) -> Result<Vec<u8>, EngineFault>
     requires { R.has_ended reader ≡ false }
-    ensures read { IfOk result (λ bytes. IsReadOf bytes.items (R.remaining reader)) }
-    ensures sure { R.never_fails ≡ true → IfErr result (λ fault. fault ≡ EngineFault.Memory) }
+    ensures read { IfOk result (λ bytes. IsReadOf bytes.items (R.left reader)) }
+    ensures cause { result ≡ Err EngineFault.Read → (R.left reader).fails ≢ Some false }
     ensures err { IfErr result (λ fault. (fault ≡ EngineFault.Memory) ⊎ (fault ≡ EngineFault.Read)) }
 {
     read_upto(alloc, reader, DOCUMENT_BYTE_LIMIT)
 }
 
-/// The bytes of a session document with what is asked in place of what it says.
-///
-/// # Errors
-/// `Read`, if a read fails, and `Memory`.
-pub(crate) fn read_asked<R: ByteSource + Drop>(
-    alloc: Global,
-    reader: R,
-    asks: &Asks<'_>,
-) -> Result<Vec<u8>, EngineFault>
-    requires { R.has_ended reader ≡ false }
-    ensures asked { IfOk result (λ bytes. AreAsked (asks_view asks.now) (R.remaining reader) bytes.items) }
-    ensures sure { R.never_fails ≡ true → IfErr result (λ fault. fault ≡ EngineFault.Memory) }
-    ensures err { IfErr result (λ fault. (fault ≡ EngineFault.Memory) ⊎ (fault ≡ EngineFault.Read)) }
-{
-    let document = read_document(alloc, reader)?;
-    let asked = asked_document(alloc, document, asks)?;
-    Ok(asked)
-}
-
-/// The bytes of a session's document, with what is asked, and its streams, which are open and unread.
+/// The bytes of a session's document and its streams, which are open and unread.
 #[derive(Drop)]
 pub(crate) struct SessionFiles<R: Drop> {
     pub(crate) document: Vec<u8>,
@@ -87,17 +69,18 @@ pub(crate) fn read_session<F: FileSource>(
     alloc: Global,
     names: &SessionNames<'_>,
 ) -> Result<SessionFiles<F::File>, EngineFault>
-    ensures document { IfOk result (λ read. AreAsked (asks_view names.now.asks)
-        (F.bytes_of files.now names.now.spec.now) read.document.items) }
-    ensures streams { IfOk result (λ read. AllZip HasWholeFile
-        (map (λ name. F.bytes_of files.now name.now) names.now.streams.items)
-        (map F.File.remaining read.streams.items)) }
+    ensures document { IfOk result (λ read. IsReadOf read.document.items
+        (F.file_of files.now names.now.spec.now).source) }
+    ensures streams { IfOk result (λ read. AllZip Knows
+        (sources_of (map (F.file_of files.now) (session_view names.now).1)) (map F.File.left read.streams.items)) }
     ensures open { IfOk result (λ read. All (λ stream. F.File.has_ended stream ≡ false) read.streams.items) }
-    ensures unread { result ≡ Err EngineFault.Read → F.always_opens ≡ true → F.File.never_fails ≡ true → ⊥ }
+    ensures unread { result ≡ Err EngineFault.Read → MayBeUnread
+        (F.file_of files.now names.now.spec.now ∷ map (F.file_of files.now) (session_view names.now).1)
+        (F.file_of files.now names.now.spec.now ∷ []) }
     ensures err { IfErr result (λ fault. (fault ≡ EngineFault.Memory) ⊎ (fault ≡ EngineFault.Read)) }
 {
     let spec = files.open(names.spec)?;
     let streams = open_streams(files, alloc, &names.streams)?;
-    let document = read_asked(alloc, spec, &names.asks)?;
+    let document = read_document(alloc, spec)?;
     Ok(SessionFiles { document, streams })
 }

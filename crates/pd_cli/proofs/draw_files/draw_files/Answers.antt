@@ -1,32 +1,39 @@
 -- What a run that draws leaves by the files of these names.
-use Rattle.std.proofs.Common.{List, ℕ, Some, Err, ap, map, refl, subst, sym}
-use Rattle.pd_arguments.specs.Statuses.{of_any}
-use Rattle.pd_asked.specs.Views.{asks_view}
-use Rattle.pd_wish.specs.Wishes.{wish_view}
+use Rattle.std.proofs.Common.{List, ℕ, Err, ap, map, subst, sym}
+use Rattle.pd_arguments.specs.Statuses.{UnreadClaim, sources_of}
+use Rattle.pd_arguments.specs.Views.{session_view}
 use Rattle.pd_judgement.specs.Writes.{IsWholeInput}
-use Rattle.pd_cli.specs.FileSources.{AreAsked}
+use Rattle.pd_spec.specs.Views.{options_view}
+use Rattle.pd_wish.specs.Wishes.{wish_view}
+use Rattle.pd_cli.specs.Drawings.{OfDrawing}
+use Rattle.pd_cli.specs.FileSources.{IsReadOf}
 use Rattle.pd_cli.proofs.DrawingsRead.{drawn_of_files}
-use Rattle.pd_cli.proofs.FilesRead.{holds_asked}
 use Rattle.pd_cli.proofs.UnreadFiles.{unread_drawing}
 use Rattle.pd_cli.proofs.draw_files.draw_files.Goals as goal
 
 pub returns-in-Ok : goal.returns-in-Ok
 returns-in-Ok g c =
-    let asks = asks_view c.args.names.now.asks in
-    let file = g.F.FileSource.bytes_of c.args.files.now c.args.names.now.spec.now in
-    let report_file = g.F.FileSource.bytes_of c.args.files.now c.args.report.now in
-    let asked : AreAsked asks file c.deref.result.now =
-    subst (λ (read : List ℕ). AreAsked asks file read) (sym c.deref.ensures.value) c.in-Ok.ensures.document in
-    let claimed : IsWholeInput report_file c.deref-in-Ok.result.now =
-    subst (λ (read : List ℕ). IsWholeInput report_file read) (sym c.deref-in-Ok.ensures.value) c.in-Ok.ensures.report in
-    holds_asked asks file c.deref.result.now _ asked
-    (drawn_of_files (Some c.deref.result.now) report_file c.deref.result.now c.deref-in-Ok.result.now _
-    (map g.F.File.ByteSource.remaining c.in-Ok.read.streams.items) g.F.File.ByteSource.never_fails _
+    let options = options_view c.args.names.now.options in
+    let files = g.F.FileSource.file_of c.args.files.now in
+    let document = files c.args.names.now.spec.now in
+    let report = (files c.args.report.now).source in
+    let sources = sources_of (map files (session_view c.args.names.now).1) in
+    let lefts = map g.F.File.ByteSource.left c.in-Ok.read.streams.items in
+    let read : IsReadOf c.deref.result.now document.source =
+    subst (λ (bytes : List ℕ). IsReadOf bytes document.source) (sym c.deref.ensures.value) c.in-Ok.ensures.document in
+    let claimed : IsWholeInput report c.deref-in-Ok.result.now =
+    subst (λ (bytes : List ℕ). IsWholeInput report bytes) (sym c.deref-in-Ok.ensures.value) c.in-Ok.ensures.report in
+    drawn_of_files options document c.deref.result.now report c.deref-in-Ok.result.now sources lefts
+    (UnreadClaim files c.args.names.now.spec.now c.args.report.now (session_view c.args.names.now).1)
     (wish_view c.args.wish.now) (g.O.Write.contents c.args.output.now) (g.O.Write.contents c.draw_read.new.output)
-    refl claimed c.in-Ok.ensures.streams c.draw_read.result c.draw_read.ensures)
+    read claimed c.in-Ok.ensures.streams c.draw_read.result c.draw_read.ensures
 
 pub returns-in-Err : goal.returns-in-Err
 returns-in-Err g c =
-    of_any (unread_drawing _ g.F.File.ByteSource.never_fails _ (g.O.Write.contents c.args.output.now)
-    (g.F.FileSource.bytes_of c.args.files.now c.args.report.now) (wish_view c.args.wish.now) c.in-Err.fault
-    c.in-Err.ensures.err (λ e. c.in-Err.ensures.unread (ap Err e)))
+    let files = g.F.FileSource.file_of c.args.files.now in
+    let streams = (session_view c.args.names.now).1 in
+    unread_drawing (options_view c.args.names.now.options) (files c.args.names.now.spec.now)
+    (UnreadClaim files c.args.names.now.spec.now c.args.report.now streams)
+    (OfDrawing (files c.args.report.now).source (sources_of (map files streams)) (wish_view c.args.wish.now))
+    (g.O.Write.contents c.args.output.now) c.in-Err.fault c.in-Err.ensures.err
+    (λ e. c.in-Err.ensures.unread (ap Err e))

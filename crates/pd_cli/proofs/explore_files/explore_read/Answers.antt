@@ -13,30 +13,24 @@ pub returns-then-is_err : goal.returns-then-is_err
 returns-then-is_err g c =
     let asked = inquiry_view c.args.inquiry in
     let files = files_view c.args.sources.now in
-    let inputs = map g.R.ByteSource.remaining c.args.streams.items in
-    let never_fails = g.R.ByteSource.never_fails in
+    let inputs = map g.R.ByteSource.left c.args.streams.items in
     let judged = judged_as (Ok c.in_ok-refusal.refusal) in
-    record {
-      document_bytes = c.args.inquiry.document.now;
-      whole_document = refl;
-      holds = flushed_up_to (IsOwed asked files inputs never_fails judged)
-          (IsOwedWith (λ (all : List StreamFile). all ≡ files) asked inputs never_fails None)
-          (g.O.Write.contents c.args.output.now) (g.O.Write.contents c.explore.new.writer)
-          (g.O.Write.contents c.flush.new.self)
-          (λ text owed. (files, refl, unsaid_of_owed asked files inputs never_fails judged text owed))
-          c.in_ok-refusal.ensures.written c.flush.ensures.bytes;
-    }
+    flushed_up_to (IsOwed asked files inputs judged)
+    (IsOwedWith (λ (all : List StreamFile). all ≡ files) asked inputs None) (g.O.Write.contents c.args.output.now)
+    (g.O.Write.contents c.explore.new.writer) (g.O.Write.contents c.flush.new.self)
+    (λ text owed. (files, refl, unsaid_of_owed asked files inputs judged text owed)) c.in_ok-refusal.ensures.written
+    c.flush.ensures.bytes
 
 pub returns-in_err-refusal : goal.returns-in_err-refusal
 returns-in_err-refusal g c =
-    explored_fails c.args.inquiry.beyond_width c.args.inquiry.document.now (files_view c.args.sources.now)
-    (map g.R.ByteSource.remaining c.args.streams.items) g.R.ByteSource.never_fails c.from_residual.result
-    c.in_err-refusal.field-0.0 (g.O.Write.contents c.args.output.now) (g.O.Write.contents c.explore.new.writer)
-    c.from_residual.ensures.1 c.in_err-refusal.ensures.written c.in_err-refusal.ensures.err
+    explored_fails (inquiry_view c.args.inquiry) (files_view c.args.sources.now)
+    (map g.R.ByteSource.left c.args.streams.items) c.from_residual.result c.in_err-refusal.field-0.0
+    (g.O.Write.contents c.args.output.now) (g.O.Write.contents c.explore.new.writer) c.from_residual.ensures.1
+    c.in_err-refusal.ensures.written c.in_err-refusal.ensures.err
 
 pub returns : goal.returns
 returns g c =
-    explored_ends c.args.inquiry.beyond_width c.args.inquiry.document.now (files_view c.args.sources.now)
-    (map g.R.ByteSource.remaining c.args.streams.items) g.R.ByteSource.never_fails c.in_ok-refusal.refusal
-    (g.O.Write.contents c.args.output.now) (g.O.Write.contents c.explore.new.writer)
-    (g.O.Write.contents c.flush.new.self) c.in_ok-refusal.ensures.written c.flush.ensures.bytes
+    explored_ends (inquiry_view c.args.inquiry) (files_view c.args.sources.now)
+    (map g.R.ByteSource.left c.args.streams.items) c.in_ok-refusal.refusal (g.O.Write.contents c.args.output.now)
+    (g.O.Write.contents c.explore.new.writer) (g.O.Write.contents c.flush.new.self) c.in_ok-refusal.ensures.written
+    c.flush.ensures.bytes

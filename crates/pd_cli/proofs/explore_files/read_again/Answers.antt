@@ -4,20 +4,21 @@ use Rattle.std.specs.Global.{Global}
 use Rattle.std.specs.Prelude.{IfSome, Vec}
 use Rattle.std.proofs.lemmas.Result.{IfOk-weaker}
 use Rattle.pd_explore.specs.Sources.{stream_bytes}
-use Rattle.pd_cli.specs.FileSources.{HasWholeFile}
-use Rattle.pd_cli.proofs.FilesAgain.{of_file}
+use Rattle.pd_judgement.specs.Writes.{Source}
+use Rattle.pd_cli.specs.FileSources.{Knows}
+use Rattle.pd_cli.proofs.FilesRead.{of_known_bytes}
 use Rattle.pd_cli.proofs.explore_files.read_again.Goals as goal
 
-found_again : (found : Option (Vec ℕ Global)) (file left : Option (List ℕ)) → HasWholeFile file left
-    → IfSome found (λ bytes. IfSome left (λ all. bytes.items ≡ stream_bytes all))
-    → IfSome found (λ bytes. IfSome file (λ all. bytes.items ≡ stream_bytes all))
-found_again None file left has all = tt
-found_again (Some bytes) file left has all =
-    of_file file left (λ (held : List ℕ). bytes.items ≡ stream_bytes held) has all
+found_again : (found : Option (Vec ℕ Global)) (file left : Source) → Knows file left
+    → IfSome found (λ bytes. IfSome left.bytes (λ all. bytes.items ≡ stream_bytes all))
+    → IfSome found (λ bytes. IfSome file.bytes (λ all. bytes.items ≡ stream_bytes all))
+found_again None file left knows all = tt
+found_again (Some bytes) file left knows all =
+    of_known_bytes file left (λ (held : List ℕ). bytes.items ≡ stream_bytes held) knows all
 
 pub returns-in-Ok : goal.returns-in-Ok
 returns-in-Ok g c =
-    let file = g.F.FileSource.bytes_of c.args.files.now c.args.name.now in
-    let left = g.F.File.ByteSource.remaining c.in-Ok.file in
+    let file = (g.F.FileSource.file_of c.args.files.now c.args.name.now).source in
+    let left = g.F.File.ByteSource.left c.in-Ok.file in
     IfOk-weaker c.stream_left.result _ _ (λ found all. found_again found file left c.in-Ok.ensures.file all)
     c.stream_left.ensures

@@ -2,9 +2,10 @@
 use Rattle.std.proofs.Common.{map, take}
 use Rattle.pd_explore.specs.FileViews.{files_view}
 use Rattle.pd_explore.specs.Sources.{AreFilesOf}
+use Rattle.pd_cli.specs.FileSources.{bytes_in}
 use Rattle.pd_cli.proofs.explore_files.stream_files.Given as goal
 
 abbrev pub invariant-loop-name : goal.invariant-loop-name
 invariant-loop-name g l =
-    AreFilesOf (g.F.FileSource.bytes_of l.files) (map (λ name. name.now) (take l.name-index l.names))
+    AreFilesOf (bytes_in (g.F.FileSource.file_of l.files)) (map (λ name. name.now) (take l.name-index l.names))
     (files_view l.found.items)

@@ -1,26 +1,17 @@
 -- A flush changes nothing of what is written.
 use Rattle.std.proofs.Common.{map}
-use Rattle.pd_judgement.specs.Judgements.{ended_streams}
 use Rattle.pd_sessions.specs.Inquiries.{inquiry_view}
-use Rattle.pd_cli.proofs.FlushedTexts.{flushed_truth, judged_ends, unflushed_ends}
+use Rattle.pd_cli.proofs.FlushedTexts.{judged_ends, unflushed_ends}
 use Rattle.pd_cli.proofs.judge_files.judge_read.Goals as goal
 
 pub returns-then-is_err-clause-written : goal.returns-then-is_err-clause-written
 returns-then-is_err-clause-written g c =
-    unflushed_ends (inquiry_view c.args.inquiry) (map g.R.ByteSource.remaining c.args.streams.items)
-    g.R.ByteSource.never_fails c.in_ok-report.report (g.O.Write.contents c.args.output.now)
-    (g.O.Write.contents c.judge_inquiry.new.writer) (g.O.Write.contents c.flush.new.self)
-    c.in_ok-report.ensures.written c.flush.ensures.bytes
+    unflushed_ends (inquiry_view c.args.inquiry) (map g.R.ByteSource.left c.args.streams.items)
+    c.in_ok-report.report (g.O.Write.contents c.args.output.now) (g.O.Write.contents c.judge_inquiry.new.writer)
+    (g.O.Write.contents c.flush.new.self) c.in_ok-report.ensures.written c.flush.ensures.bytes
 
 pub returns-clause-written : goal.returns-clause-written
 returns-clause-written g c =
-    judged_ends (inquiry_view c.args.inquiry) (map g.R.ByteSource.remaining c.args.streams.items)
-    g.R.ByteSource.never_fails c.in_ok-report.report (g.O.Write.contents c.args.output.now)
-    (g.O.Write.contents c.judge_inquiry.new.writer) (g.O.Write.contents c.flush.new.self)
-    c.in_ok-report.ensures.written c.flush.ensures.bytes
-
-pub returns-clause-headline : goal.returns-clause-headline
-returns-clause-headline g c sure known are =
-    flushed_truth (inquiry_view c.args.inquiry) (ended_streams known) _ _ (g.O.Write.contents c.args.output.now)
-    (g.O.Write.contents c.judge_inquiry.new.writer) (g.O.Write.contents c.flush.new.self) (λ judged. judged)
-    (c.in_ok-report.ensures.headline sure known are) c.flush.ensures.bytes
+    judged_ends (inquiry_view c.args.inquiry) (map g.R.ByteSource.left c.args.streams.items)
+    c.in_ok-report.report (g.O.Write.contents c.args.output.now) (g.O.Write.contents c.judge_inquiry.new.writer)
+    (g.O.Write.contents c.flush.new.self) c.in_ok-report.ensures.written c.flush.ensures.bytes

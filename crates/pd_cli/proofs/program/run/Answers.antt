@@ -2,7 +2,6 @@
 use Rattle.std.proofs.Common.{ℕ, List, String, arith, inl, map, drop, ap, sym, ◌∙◌, subst}
 use Rattle.std.specs.Global.{Global}
 use Rattle.std.proofs.lemmas.List.{drop-map}
-use Rattle.pd_arguments.specs.Statuses.{reliance}
 use Rattle.pd_cli.specs.Drawings.{RunsAsAsked}
 use Rattle.pd_cli.specs.Explained.{Explained}
 use Rattle.pd_cli.proofs.BundleEnds.{as_asked_by_none, none_left, truth_of_status}
@@ -13,10 +12,9 @@ returns-then-len-le1-clause-ends g c = record {
   start = c.run_bundle.ensures.start;
   explanation = c.run_bundle.ensures.explanation;
   reported = inl (as_asked_by_none _
-      (reliance g.I.ByteSource.never_fails g.F.FileSource.always_opens g.F.File.ByteSource.never_fails
-      g.N.Network.never_fails g.N.Connection.ByteSource.never_fails)
-      (g.I.ByteSource.remaining c.args.input) (g.F.FileSource.bytes_of c.args.files.now)
-      (g.N.Network.may_give c.args.network.now) c.run_bundle.result (g.O.Write.contents c.args.output.now)
+      (g.I.ByteSource.left c.args.input) (g.F.FileSource.file_of c.args.files.now)
+      (g.N.Network.may_give c.args.network.now) g.N.Network.never_fails c.run_bundle.result
+      (g.O.Write.contents c.args.output.now)
       (g.O.Write.contents c.run_bundle.new.output)
       c.run_bundle.ensures.start (g.E.Write.contents c.run_bundle.new.errors)
       (none_left _ c.args.arguments.items (omega (arith, c.args.arguments.ok.0, c.len.ensures, c.if-len-le1.true)))
@@ -27,10 +25,8 @@ pub returns-clause-ends : goal.returns-clause-ends
 returns-clause-ends g c =
     let bytes : String Global → List ℕ = λ argument. argument.bytes.items in
     subst (λ (arguments : List (List ℕ)). Explained c.args.explain (λ start. RunsAsAsked arguments
-    (reliance g.I.ByteSource.never_fails g.F.FileSource.always_opens g.F.File.ByteSource.never_fails
-    g.N.Network.never_fails g.N.Connection.ByteSource.never_fails)
-    (g.I.ByteSource.remaining c.args.input)
-    (g.F.FileSource.bytes_of c.args.files.now) (g.N.Network.may_give c.args.network.now) c.run_arguments.result
+    (g.I.ByteSource.left c.args.input) (g.F.FileSource.file_of c.args.files.now)
+    (g.N.Network.may_give c.args.network.now) g.N.Network.never_fails c.run_arguments.result
     (g.O.Write.contents c.args.output.now) (g.O.Write.contents c.run_arguments.new.output)
     start (g.E.Write.contents c.run_arguments.new.errors)) (g.E.Write.contents c.args.errors.now))
     (ap (λ (arguments : List (String Global)). map bytes arguments)
@@ -39,6 +35,6 @@ returns-clause-ends g c =
 
 pub returns-then-len-le1-clause-headline : goal.returns-then-len-le1-clause-headline
 returns-then-len-le1-clause-headline g c few success =
-    truth_of_status (g.I.ByteSource.remaining c.args.input) g.I.ByteSource.never_fails c.run_bundle.result
+    truth_of_status (g.I.ByteSource.left c.args.input) c.run_bundle.result
     (g.O.Write.contents c.args.output.now) (g.O.Write.contents c.run_bundle.new.output)
     c.run_bundle.ensures.start (g.E.Write.contents c.run_bundle.new.errors) c.run_bundle.ensures.reported success

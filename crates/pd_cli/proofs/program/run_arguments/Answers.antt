@@ -1,15 +1,11 @@
 -- What is done is what the arguments ask for.
-use Rattle.std.proofs.Common.{◌≡◌, ◌⊎◌, inl, inr, map, subst, true, List, ℕ, Option, Some, Bor}
-use Rattle.pd_arguments.specs.Statuses.{CheckFiles, CheckLeaves, Ends, FilesJudgementLeaves, HoldsAsked, IsLongReport, JudgeFiles, ServeStreams, reliance}
+use Rattle.std.proofs.Common.{inl, inr, map, subst}
+use Rattle.pd_arguments.specs.Statuses.{CheckFiles, JudgeFiles, ServeStreams}
 use Rattle.pd_cli.proofs.Explanations.{unexplained}
-use Rattle.pd_cli.proofs.FilesRead.{files_of_names}
 use Rattle.clap.specs.Values.{kind_of}
 use Rattle.pd_wish.specs.Wishes.{wish_view}
-use Rattle.pd_asked.specs.Views.{asks_view}
 use Rattle.pd_fail_on.specs.Views.{fail_on_view}
-use Rattle.pd_cli.specs.Drawings.{EndsDrawn}
-use Rattle.pd_cli.specs.Explorations.{ExploreLeaves}
-use Rattle.pd_explore.specs.Sources.{AreFilesOf}
+use Rattle.pd_spec.specs.Views.{options_view}
 use Rattle.pd_arguments.specs.Views.{IsAsked, keep_view, session_view}
 use Rattle.pd_arguments.proofs.ParserEnds.{error_as_asked}
 use Rattle.pd_arguments.proofs.ServicePorts.{port_of_service}
@@ -38,20 +34,11 @@ returns-in-Ok-Judge g c = record {
       ending = c.run_files.ensures.reported.ending;
       is_status = c.run_files.ensures.reported.is_status;
       output = inr (
-        JudgeFiles c.in-Ok-Judge.judgement.beyond_width (fail_on_view c.in-Ok-Judge.judgement.fail_on)
-            (asks_view c.in-Ok-Judge.judgement.names.asks)
+        JudgeFiles (options_view c.in-Ok-Judge.judgement.names.options) (fail_on_view c.in-Ok-Judge.judgement.fail_on)
             (session_view c.in-Ok-Judge.judgement.names).0 (session_view c.in-Ok-Judge.judgement.names).1,
         subst (IsAsked (map (λ argument. argument.bytes.items) c.args.arguments.now)) c.in-Ok-Judge.field-0-is
             c.in-Ok-Judge.ensures.asked,
-        (subst (λ (streams : List (Option (List ℕ))). HoldsAsked (asks_view c.in-Ok-Judge.judgement.names.asks)
-            (g.F.FileSource.bytes_of c.args.files.now c.in-Ok-Judge.judgement.names.spec.now)
-            (λ d. FilesJudgementLeaves c.in-Ok-Judge.judgement.beyond_width
-            (fail_on_view c.in-Ok-Judge.judgement.fail_on) (Some d) streams g.F.File.ByteSource.never_fails
-            (g.F.FileSource.always_opens ≡ true → g.F.File.ByteSource.never_fails ≡ true → ⊥)
-            c.run_files.ensures.reported.ending (g.O.Write.contents c.args.output.now)
-            (g.O.Write.contents c.run_files.new.output)))
-            (files_of_names (g.F.FileSource.bytes_of c.args.files.now) (λ (name : Bor (List ℕ)). name.now)
-            c.in-Ok-Judge.judgement.names.streams.items) c.run_files.ensures.reported.output),
+        c.run_files.ensures.reported.output,
       );
       errors = c.run_files.ensures.reported.errors;
     });
@@ -67,20 +54,11 @@ returns-in-Ok-Check g c = record {
       ending = c.run_check.ensures.reported.ending;
       is_status = c.run_check.ensures.reported.is_status;
       output = inr (
-        CheckFiles (asks_view c.in-Ok-Check.names.asks) (session_view c.in-Ok-Check.names).0
+        CheckFiles (options_view c.in-Ok-Check.names.options) (session_view c.in-Ok-Check.names).0
             c.in-Ok-Check.report.now (session_view c.in-Ok-Check.names).1,
         subst (IsAsked (map (λ argument. argument.bytes.items) c.args.arguments.now)) c.in-Ok-Check.field-0-is
             c.in-Ok-Check.ensures.asked,
-        (subst (λ (streams : List (Option (List ℕ))). HoldsAsked (asks_view c.in-Ok-Check.names.asks)
-            (g.F.FileSource.bytes_of c.args.files.now c.in-Ok-Check.names.spec.now) (λ d. CheckLeaves (Some d)
-            (g.F.FileSource.bytes_of c.args.files.now c.in-Ok-Check.report.now) streams
-            g.F.File.ByteSource.never_fails
-            ((g.F.FileSource.always_opens ≡ true → g.F.File.ByteSource.never_fails ≡ true → ⊥)
-            ⊎ IsLongReport (g.F.FileSource.bytes_of c.args.files.now c.in-Ok-Check.report.now))
-            c.run_check.ensures.reported.ending (g.O.Write.contents c.args.output.now)
-            (g.O.Write.contents c.run_check.new.output)))
-            (files_of_names (g.F.FileSource.bytes_of c.args.files.now) (λ (name : Bor (List ℕ)). name.now)
-            c.in-Ok-Check.names.streams.items) c.run_check.ensures.reported.output),
+        c.run_check.ensures.reported.output,
       );
       errors = c.run_check.ensures.reported.errors;
     });
@@ -96,11 +74,9 @@ returns-in-Ok-Serve g c = record {
       ending = c.run_service.ensures.reported.ending;
       is_status = c.run_service.ensures.reported.is_status;
       output = inr (
-        ServeStreams c.in-Ok-Serve.service.beyond_width (fail_on_view c.in-Ok-Serve.service.fail_on)
-            (asks_view c.in-Ok-Serve.service.asks)
+        ServeStreams (options_view c.in-Ok-Serve.service.options) (fail_on_view c.in-Ok-Serve.service.fail_on)
             c.in-Ok-Serve.service.spec.now c.in-Ok-Serve.service.port c.in-Ok-Serve.service.watchers
-            c.in-Ok-Serve.service.wait
-            (keep_view c.in-Ok-Serve.service.keep),
+            c.in-Ok-Serve.service.wait (keep_view c.in-Ok-Serve.service.keep),
         subst (IsAsked (map (λ argument. argument.bytes.items) c.args.arguments.now)) c.in-Ok-Serve.field-0-is
             c.in-Ok-Serve.ensures.asked,
         c.run_service.ensures.reported.output,
@@ -116,24 +92,14 @@ returns-in-Ok-Draw g c = record {
     start = c.run_draw.ensures.start;
     explanation = c.run_draw.ensures.explanation;
     reported = inr (inl (record {
-      asks = asks_view c.in-Ok-Draw.names.asks;
+      options = options_view c.in-Ok-Draw.names.options;
       document = (session_view c.in-Ok-Draw.names).0;
       report = c.in-Ok-Draw.report.now;
       streams = (session_view c.in-Ok-Draw.names).1;
       wish = wish_view c.in-Ok-Draw.wish;
       asked = subst (IsAsked (map (λ argument. argument.bytes.items) c.args.arguments.now)) c.in-Ok-Draw.field-0-is
           c.in-Ok-Draw.ensures.asked;
-      ends = subst (λ (streams : List (Option (List ℕ))). EndsDrawn (asks_view c.in-Ok-Draw.names.asks)
-          (g.F.FileSource.bytes_of c.args.files.now c.in-Ok-Draw.names.spec.now)
-          (g.F.FileSource.bytes_of c.args.files.now c.in-Ok-Draw.report.now) streams
-          g.F.File.ByteSource.never_fails
-          ((g.F.FileSource.always_opens ≡ true → g.F.File.ByteSource.never_fails ≡ true → ⊥)
-          ⊎ IsLongReport (g.F.FileSource.bytes_of c.args.files.now c.in-Ok-Draw.report.now))
-          (wish_view c.in-Ok-Draw.wish)
-          c.run_draw.result (g.O.Write.contents c.args.output.now) (g.O.Write.contents c.run_draw.new.output)
-          c.run_draw.ensures.start (g.E.Write.contents c.run_draw.new.errors))
-          (files_of_names (g.F.FileSource.bytes_of c.args.files.now) (λ (name : Bor (List ℕ)). name.now)
-          c.in-Ok-Draw.names.streams.items) c.run_draw.ensures.reported;
+      ends = c.run_draw.ensures.reported;
     }));
   };
 }
@@ -144,23 +110,12 @@ returns-in-Ok-Explore g c = record {
     start = c.run_explore.ensures.start;
     explanation = c.run_explore.ensures.explanation;
     reported = inr (inr (record {
-      beyond_width = c.in-Ok-Explore.exploration.beyond_width;
-      asks = asks_view c.in-Ok-Explore.exploration.names.asks;
+      options = options_view c.in-Ok-Explore.exploration.names.options;
       document = (session_view c.in-Ok-Explore.exploration.names).0;
       streams = (session_view c.in-Ok-Explore.exploration.names).1;
       asked = subst (IsAsked (map (λ argument. argument.bytes.items) c.args.arguments.now)) c.in-Ok-Explore.field-0-is
           c.in-Ok-Explore.ensures.asked;
-      ends = subst (λ (streams : List (Option (List ℕ))). Ends (λ ending. HoldsAsked
-          (asks_view c.in-Ok-Explore.exploration.names.asks)
-          (g.F.FileSource.bytes_of c.args.files.now c.in-Ok-Explore.exploration.names.spec.now)
-          (λ d. ExploreLeaves c.in-Ok-Explore.exploration.beyond_width (Some d)
-          (AreFilesOf (g.F.FileSource.bytes_of c.args.files.now)
-          (session_view c.in-Ok-Explore.exploration.names).1) streams g.F.File.ByteSource.never_fails
-          (g.F.FileSource.always_opens ≡ true → g.F.File.ByteSource.never_fails ≡ true → ⊥) ending
-          (g.O.Write.contents c.args.output.now) (g.O.Write.contents c.run_explore.new.output))) c.run_explore.result
-          c.run_explore.ensures.start (g.E.Write.contents c.run_explore.new.errors))
-          (files_of_names (g.F.FileSource.bytes_of c.args.files.now) (λ (name : Bor (List ℕ)). name.now)
-          c.in-Ok-Explore.exploration.names.streams.items) c.run_explore.ensures.reported;
+      ends = c.run_explore.ensures.reported;
     }));
   };
 }
@@ -170,13 +125,11 @@ returns-in-Err g c = record {
   ends = record {
     start = g.E.Write.contents c.args.errors.now;
     explanation = unexplained c.args.explain (g.E.Write.contents c.args.errors.now);
-    reported = inl (error_as_asked _
-        (reliance g.I.ByteSource.never_fails g.F.FileSource.always_opens g.F.File.ByteSource.never_fails
-        g.N.Network.never_fails g.N.Connection.ByteSource.never_fails)
-        (g.I.ByteSource.remaining c.args.input) (g.F.FileSource.bytes_of c.args.files.now)
-        (g.N.Network.may_give c.args.network.now) c.report_parser_error.result (g.O.Write.contents c.args.output.now)
-        (g.O.Write.contents c.report_parser_error.new.output) (g.E.Write.contents c.args.errors.now)
-        (g.E.Write.contents c.report_parser_error.new.errors) (kind_of c.in-Err.error) c.in-Err.ensures.refused
+    reported = inl (error_as_asked _ (g.I.ByteSource.left c.args.input) (g.F.FileSource.file_of c.args.files.now)
+        (g.N.Network.may_give c.args.network.now) g.N.Network.never_fails c.report_parser_error.result
+        (g.O.Write.contents c.args.output.now) (g.O.Write.contents c.report_parser_error.new.output)
+        (g.E.Write.contents c.args.errors.now) (g.E.Write.contents c.report_parser_error.new.errors)
+        (kind_of c.in-Err.error) c.in-Err.ensures.refused
         (record {
           memory = c.report_parser_error.ensures.memory;
           help = c.report_parser_error.ensures.help;

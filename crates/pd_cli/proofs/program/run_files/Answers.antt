@@ -10,7 +10,7 @@ returns g c = record {
   reported = record {
     ending = judgement_ending (fail_on_view c.args.judgement.now.fail_on) c.judge_files-end.result;
     is_status = c.report_judgement.ensures.status;
-    output = c.judge_files-end.ensures.written (fail_on_view c.args.judgement.now.fail_on);
+    output = c.judge_files-end.ensures (fail_on_view c.args.judgement.now.fail_on);
     errors = c.report_judgement.ensures.errors;
   };
 }

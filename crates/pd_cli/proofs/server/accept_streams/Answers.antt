@@ -17,9 +17,9 @@ loop-place-preserved g c =
       count = ap length pushed ∙ (length_push held stream ∙ ap (λ (n : ℕ). n + 1) c.loop-place.invariant.count);
       given = λ port on.
           subst (All (λ found. g.N.Network.may_give c.args.host.now.network.now port
-          (g.N.Connection.ByteSource.remaining found.source))) (sym pushed)
+          (g.N.Connection.ByteSource.left found.source))) (sym pushed)
           (All-push (λ found. g.N.Network.may_give c.args.host.now.network.now port
-          (g.N.Connection.ByteSource.remaining found.source)) held stream (c.loop-place.invariant.given port on)
+          (g.N.Connection.ByteSource.left found.source)) held stream (c.loop-place.invariant.given port on)
           (c.in-Ok.ensures.given port on));
       unended = subst (All Open) (sym pushed)
           (All-push Open held stream c.loop-place.invariant.unended c.in-Ok.ensures.open);

@@ -1,39 +1,36 @@
 -- A refused document has no streams.
 use Rattle.std.proofs.Common.{◌≡◌, ◌≢◌, [], ◌∙◌, None, false, subst, sym}
-use Rattle.std.specs.Prelude.{Some}
 use Rattle.pd_judgement.specs.Headline.{is_judged}
 use Rattle.pd_report.specs.Views.{report_view}
-use Rattle.pd_arguments.specs.Statuses.{Ending, ServiceLeaves, ServiceMayFail}
+use Rattle.pd_arguments.specs.Statuses.{Ending, OfConnections, ServiceMayFail}
+use Rattle.pd_sessions.specs.Inquiries.{inquiry_view}
 use Rattle.pd_cli.proofs.Accepted.{accepted_of_refused, refused_outcome, refused_unless_memory, service_faults, service_of_judgement, service_outcome}
 use Rattle.pd_cli.specs.Faults.{judgement_ending}
+use Rattle.pd_cli.specs.FileSources.{ReadLeaves}
 use Rattle.pd_cli.proofs.server.refuse_document.Goals as goal
 
 pub returns-clause-written : goal.returns-clause-written
 returns-clause-written g c port fail_on wait keep =
-    let document = c.args.inquiry.document.now in
+    let document = inquiry_view c.args.inquiry in
     let G = g.N.Network.may_give c.args.host.now.network.now port in
     let refused = refused_unless_memory document c.args.fault.now
     (sym c.is_out_of_memory.ensures ∙ c.if-is_out_of_memory.false) c.requires in
-    subst (λ (e : Ending). ServiceLeaves c.args.inquiry.beyond_width fail_on (Some document) G
-    g.N.Connection.ByteSource.never_fails
-    ⊥ (ServiceMayFail wait g.N.Network.never_fails) (keep ≢ None) e (g.O.Write.contents c.args.output.now)
-    (g.O.Write.contents c.judge_no_streams.new.output)) (sym (c.service_end.ensures.ending fail_on))
-    (service_of_judgement c.args.inquiry.beyond_width fail_on document G [] g.N.Connection.ByteSource.never_fails _ _
-    (judgement_ending fail_on c.judge_no_streams.result)
+    subst (λ (e : Ending). ReadLeaves (OfConnections G (ServiceMayFail wait g.N.Network.never_fails) (keep ≢ None)
+    fail_on document) e (g.O.Write.contents c.args.output.now) (g.O.Write.contents c.judge_no_streams.new.output))
+    (sym (c.service_end.ensures.ending fail_on))
+    (service_of_judgement fail_on document G [] (ServiceMayFail wait g.N.Network.never_fails) (keep ≢ None)
     (g.O.Write.contents c.args.output.now) (g.O.Write.contents c.judge_no_streams.new.output)
     (accepted_of_refused document G refused.0 c.one_document.ensures.not_refused refused.1)
-    (c.judge_no_streams.ensures.written fail_on))
+    (judgement_ending fail_on c.judge_no_streams.result) (c.judge_no_streams.ensures.written fail_on))
 
 pub returns-clause-refused : goal.returns-clause-refused
 returns-clause-refused g c =
-    let document = c.args.inquiry.document.now in
+    let document = inquiry_view c.args.inquiry in
     let refused = refused_unless_memory document c.args.fault.now
     (sym c.is_out_of_memory.ensures ∙ c.if-is_out_of_memory.false) c.requires in
     service_outcome c.judge_no_streams.result c.service_end.result (λ report. is_judged (report_view report) ≡ false)
     c.service_end.ensures.same
-    (refused_outcome c.args.inquiry.beyond_width document [] g.N.Connection.ByteSource.never_fails
-    c.judge_no_streams.result
-    (g.O.Write.contents c.args.output.now)
+    (refused_outcome document [] c.judge_no_streams.result (g.O.Write.contents c.args.output.now)
     (g.O.Write.contents c.judge_no_streams.new.output) refused.0 c.one_document.ensures.not_refused refused.1
     (c.judge_no_streams.ensures.written []))
 

@@ -2,6 +2,7 @@
 use Rattle.std.proofs.Common.{◌≢◌, None}
 use Rattle.pd_arguments.specs.Views.{keep_view}
 use Rattle.pd_arguments.specs.Statuses.{ServiceMayFail}
+use Rattle.pd_sessions.specs.Inquiries.{inquiry_view}
 use Rattle.pd_cli.proofs.Accepted.{kept_service}
 use Rattle.pd_cli.proofs.server.serve_kept.Goals as goal
 
@@ -9,9 +10,8 @@ pub returns : goal.returns
 returns g c fail_on =
     let service = c.args.host.now.service.now in
     let network = c.args.host.now.network.now in
-    kept_service c.args.inquiry.beyond_width fail_on c.args.inquiry.document.now
-    (g.N.Network.may_give network service.port) g.N.Connection.ByteSource.never_fails
-    (ServiceMayFail service.wait g.N.Network.never_fails) (keep_view service.keep ≢ None)
-    c.serve_session-end.result c.kept_end.result c.end_keeping-is_kept.result
+    kept_service (inquiry_view c.args.inquiry) (g.N.Network.may_give network service.port)
+    (ServiceMayFail service.wait g.N.Network.never_fails) (keep_view service.keep ≢ None) fail_on
     (g.O.Write.contents c.args.output.now) (g.O.Write.contents c.serve_session-end.new.output)
-    c.kept_end.ensures.kept c.kept_end.ensures.unkept (c.serve_session-end.ensures.written fail_on)
+    c.serve_session-end.result c.kept_end.result c.end_keeping-is_kept.result c.kept_end.ensures.kept
+    c.kept_end.ensures.unkept (c.serve_session-end.ensures.written fail_on)

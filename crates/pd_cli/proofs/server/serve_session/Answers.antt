@@ -1,13 +1,15 @@
 -- The streams are as many as the document has processes, and each was accepted on the port.
-use Rattle.std.proofs.Common.{◌≡◌, ◌≢◌, ◌∙◌, None, ℕ, List, Option, ap, length, map, subst, sym}
+use Rattle.std.proofs.Common.{◌≡◌, ◌≢◌, ◌∙◌, None, List, ap, length, map, subst, sym}
 use Rattle.std.proofs.lemmas.List.{length-map}
 use Rattle.std.proofs.lemmas.List.Elements.{All-map}
 use Rattle.pd_format.specs.Names.{ProcessNames}
 use Rattle.pd_arguments.specs.Views.{keep_view}
-use Rattle.pd_arguments.specs.Statuses.{Ending, ServiceLeaves, ServiceMayFail}
-use Rattle.std.specs.Prelude.{Some}
+use Rattle.pd_arguments.specs.Statuses.{Ending, OfConnections, ServiceMayFail}
+use Rattle.pd_judgement.specs.Writes.{Source}
+use Rattle.pd_sessions.specs.Inquiries.{inquiry_view}
 use Rattle.pd_cli.proofs.Accepted.{accepted_of_read, service_of_judgement}
 use Rattle.pd_cli.specs.Faults.{judgement_ending}
+use Rattle.pd_cli.specs.FileSources.{ReadLeaves}
 use Rattle.pd_cli.specs.declared.service_notices.ServiceNotices.{ServiceNotices}
 use Rattle.pd_peers.specs.declared.heard_source.HeardSource.{HeardSource}
 use Rattle.pd_spec.specs.Views.{document_view}
@@ -18,24 +20,22 @@ returns-clause-written g c fail_on =
     let service = c.args.host.now.service.now in
     let port = service.port in
     let G = g.N.Network.may_give c.args.host.now.network.now port in
-    let remaining : HeardSource g.row.N-Connection.Denot g.row.F-Sink.Denot
-    (ServiceNotices g.row.F.Denot g.row.N.Denot) → Option (List ℕ) =
-    λ stream. g.N.Connection.ByteSource.remaining stream.source in
+    let left : HeardSource g.row.N-Connection.Denot g.row.F-Sink.Denot
+    (ServiceNotices g.row.F.Denot g.row.N.Denot) → Source =
+    λ stream. g.N.Connection.ByteSource.left stream.source in
     let streams = c.in_ok-streams.streams.items in
-    let document = c.args.inquiry.document.now in
-    let count : length (map remaining streams) ≡ length (document_view c.args.spec.now).names =
-    length-map streams remaining ∙ (c.in_ok-streams.ensures.count ∙ (c.processes-count.ensures
+    let document = inquiry_view c.args.inquiry in
+    let MayNotServe = ServiceMayFail service.wait g.N.Network.never_fails in
+    let IsKept = keep_view service.keep ≢ None in
+    let count : length (map left streams) ≡ length (document_view c.args.spec.now).names =
+    length-map streams left ∙ (c.in_ok-streams.ensures.count ∙ (c.processes-count.ensures
     ∙ ap (λ (names : List ProcessNames). length names) c.names.ensures)) in
-    let given = All-map G remaining streams (c.in_ok-streams.ensures.given port c.in_ok-listener.ensures.on) in
-    let are = accepted_of_read document G (map remaining streams) (document_view c.args.spec.now)
+    let given = All-map G left streams (c.in_ok-streams.ensures.given port c.in_ok-listener.ensures.on) in
+    let are = accepted_of_read document G (map left streams) (document_view c.args.spec.now)
     c.one_document.ensures.single c.one_document.ensures.not_refused c.requires.document given count in
-    subst (λ (e : Ending). ServiceLeaves c.args.inquiry.beyond_width fail_on (Some document) G
-    g.N.Connection.ByteSource.never_fails
-    ⊥ (ServiceMayFail service.wait g.N.Network.never_fails) (keep_view service.keep ≢ None) e
-    (g.O.Write.contents c.args.output.now)
-    (g.O.Write.contents c.judge_accepted.new.output)) (sym (c.service_end.ensures.ending fail_on))
-    (service_of_judgement c.args.inquiry.beyond_width fail_on document G (map remaining streams)
-    g.N.Connection.ByteSource.never_fails _ _
-    (judgement_ending fail_on c.judge_accepted.result)
+    subst (λ (e : Ending). ReadLeaves (OfConnections G MayNotServe IsKept fail_on document) e
+    (g.O.Write.contents c.args.output.now) (g.O.Write.contents c.judge_accepted.new.output))
+    (sym (c.service_end.ensures.ending fail_on))
+    (service_of_judgement fail_on document G (map left streams) MayNotServe IsKept
     (g.O.Write.contents c.args.output.now) (g.O.Write.contents c.judge_accepted.new.output) are
-    (c.judge_accepted.ensures.written fail_on))
+    (judgement_ending fail_on c.judge_accepted.result) (c.judge_accepted.ensures.written fail_on))
