@@ -47,11 +47,9 @@ impl<'a, F: Drop, R: Clock + Eprint> Drop for ShownFile<'a, F, R> {
 }
 
 impl<'a, F: ByteSource + Drop, R: Clock + Eprint> ByteSource for ShownFile<'a, F, R> {
-    ghost remaining = { λ shown. F.remaining shown.file };
+    ghost left = { λ shown. F.left shown.file };
 
     ghost has_ended = { λ shown. F.has_ended shown.file };
-
-    ghost never_fails = { F.never_fails };
 
     fn read_next(&mut self, piece: &mut [u8]) -> io::Result<usize> {
         if !self.is_begun {

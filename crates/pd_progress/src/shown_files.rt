@@ -29,9 +29,7 @@ impl<'a, F: FileSource, R: Clock + Eprint + Sync> FileSource for ShownFiles<'a, 
 
     type Sink = F::Sink;
 
-    ghost bytes_of = { λ shown. F.bytes_of shown.files.now };
-
-    ghost always_opens = { F.always_opens };
+    ghost file_of = { λ shown. F.file_of shown.files.now };
 
     fn open(&self, name: &str) -> Result<ShownFile<'a, F::File, R>, EngineFault> {
         let size = self.files.size(name);
