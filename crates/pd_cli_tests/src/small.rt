@@ -72,15 +72,13 @@ impl Write for Kept {
 pub(crate) struct Files;
 
 impl FileSource for Files {
-    ghost use Rattle.std.specs.Prelude.{None, false};
+    ghost use Rattle.pd_cli.specs.FileSources.{unknown_file};
 
     type File = &'static [u8];
 
     type Sink = Kept;
 
-    ghost bytes_of = { λ _ _. None };
-
-    ghost always_opens = { false };
+    ghost file_of = { λ _ _. unknown_file };
 
     fn open(&self, name: &str) -> Result<&'static [u8], EngineFault> {
         match name {

@@ -2,7 +2,7 @@
 use super::readers::{Reader, Signs, both};
 use super::sessions::{OF_A, OF_B, REPORT};
 use super::writers::{Full, ROOM, Writer};
-use pd_engine::{Inquiry, NoGate, Report, judge_inquiry};
+use pd_engine::{Inquiry, NoGate, Options, Report, judge_inquiry};
 use std::alloc::Global;
 use std::random::RandomSource;
 use std::sync::Wait;
@@ -32,9 +32,14 @@ fn is_answered<S: RandomSource + Threads + Wait + Sync>(
         Reader::new(OF_B, &of_second),
     )?;
     let mut writer = Writer::new(alloc, ROOM, Full::Fails)?;
+    let options = Options {
+        width: None,
+        predicates: Vec::new(alloc),
+        beyond_width,
+    };
     let inquiry = Inquiry {
         document: NARROW.as_bytes(),
-        beyond_width,
+        options: &options,
     };
     let end = judge_inquiry(rt, alloc, inquiry, readers, 1, &NoGate, &mut writer);
     Ok(matches!(end, Ok(Report::Judged { .. })) && writer.has_taken(report, ROOM))
