@@ -1,6 +1,6 @@
 #!/usr/bin/env python3
-"""The page of `monitor explore`, put together from the files in crates/pd_page/page: its text before the data, and the
-texts after it, one a script, as the program has them in crates/pd_page/src/text_*.rt.
+"""The page of `monitor explore`, put together from the files in crates/out_page/page: its text before the data, and the
+texts after it, one a script, as the program has them in crates/out_page/src/text_*.rt.
 
 `explore_page.py` says whether the program's texts are those of the files, with the hashes of the page's policy, and
 `explore_page.py --write` writes them. `explore_page.py --page DATA` prints the page with this data, for a look at it.
@@ -10,7 +10,7 @@ import hashlib
 import pathlib
 import sys
 
-CRATE = pathlib.Path(__file__).resolve().parent.parent / "crates" / "pd_page"
+CRATE = pathlib.Path(__file__).resolve().parent.parent / "crates" / "out_page"
 PAGE = CRATE / "page"
 SCRIPTS = ["run.js", "diagram.js", "panel.js", "main.js"]
 COLUMNS = 116

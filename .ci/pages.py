@@ -72,7 +72,7 @@ def look_at_code():
 
 def look_at_limits():
     rows = [row for row in read(LIMITED).split("\n") if row.startswith("| ")]
-    for name, number in re.findall(r"^(\w+) = (\d+)$", read("crates/pd_format/specs/Limits.antt"), re.M):
+    for name, number in re.findall(r"^(\w+) = (\d+)$", read("crates/def_format/specs/Limits.antt"), re.M):
         if not any(f"`{name}`" in row and re.search(rf"(?<![\d,]){int(number):,}(?!,?\d)", row) for row in rows):
             wrong(f"{name} is {int(number):,}, and {LIMITED} has no such row")
 

@@ -26,7 +26,7 @@ import listening
 
 HERE = os.path.dirname(os.path.abspath(__file__))
 PAGE = os.path.join(HERE, "..", "docs", "EXPLANATIONS.md")
-SPECS = os.path.join(HERE, "..", "crates", "pd_format", "specs", "RefusalWords.antt")
+SPECS = os.path.join(HERE, "..", "crates", "def_format", "specs", "RefusalWords.antt")
 SECONDS = 60
 FIXED = ("read", "write", "memory", "network", "bundle too long")
 COLUMNS = 116

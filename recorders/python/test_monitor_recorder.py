@@ -261,7 +261,7 @@ class Limits(unittest.TestCase):
              "name_byte_limit": ("NAME_BYTE_LIMIT", "NameByteLimit"), "id_byte_limit": ("ID_BYTE_LIMIT", "IDByteLimit")}
 
     def setUp(self):
-        with open(os.path.join(FOLDER, "..", "..", "crates", "pd_format", "specs", "Limits.antt"),
+        with open(os.path.join(FOLDER, "..", "..", "crates", "def_format", "specs", "Limits.antt"),
                   encoding="utf-8") as file:
             self.limits = {name: int(number) for name, number in re.findall(r"^(\w+) = (\d+)$", file.read(), re.M)}
 

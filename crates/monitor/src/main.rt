@@ -2,7 +2,7 @@
 //! which runs it.
 #![tactic(auto)]
 
-use pd_progress::{Cleared, Screen, ShownFile, ShownFiles};
+use app_progress::{Cleared, Screen, ShownFile, ShownFiles};
 use std::io::{IsTerminal, Write};
 use std::process::ExitCode;
 use std::{env, io};

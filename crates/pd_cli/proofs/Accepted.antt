@@ -1,32 +1,32 @@
 -- What is left written of streams that were accepted, by what is left written of streams with these bytes.
 use Rattle.std.proofs.Common.{◌≡◌, ℕ, List, [], length, refl, sym, ap, subst, ◌∙◌, Some, None, Option, true, false, arith, inl, inr}
 use Rattle.std.specs.Prelude.{◌⊎◌, All, Bool, IfErr, IfOk, MatchOption, MatchResult, Result, Ok, Err}
-use Rattle.pd_format.specs.Documents.{Document, DocumentFault, IsDocument, IsRefusedDocument, Inquiry, Options, inquiry_of}
-use Rattle.pd_judgement.specs.OneReport.{DocumentNotRefused, OneDocument}
-use Rattle.pd_format.specs.Reports as formats
-use Rattle.pd_format.specs.Reports.{Report}
-use Rattle.pd_judgement.specs.Headline.{is_judged}
-use Rattle.pd_judgement.specs.Judgements.{IsJudgement, RawStream, of_read, of_refused}
-use Rattle.pd_arguments.specs.Statuses.{Ending, Success, Negative, Alarm, NoPredicate, Misuse, Failed, ComesTo, File, MemoryFailure, ReadFailure, WriteFailure, BundleFailure, NetworkFailure, IsTextOfAccepted, LeavesOf, OfConnections, OfReport, OfStreams}
-use Rattle.pd_judgement.specs.Writes.{Source, Whole, IsAnyReport, IsRefused, IsTextOfStreams}
-use Rattle.pd_judgement.proofs.TextsOwed.{weaker_said}
-use Rattle.pd_judgement.proofs.Writing.{writes_weaker}
+use Rattle.def_format.specs.Documents.{Document, DocumentFault, IsDocument, IsRefusedDocument, Inquiry, Options, inquiry_of}
+use Rattle.def_judgement.specs.OneReport.{DocumentNotRefused, OneDocument}
+use Rattle.def_format.specs.Reports as formats
+use Rattle.def_format.specs.Reports.{Report}
+use Rattle.def_judgement.specs.Headline.{is_judged}
+use Rattle.def_judgement.specs.Judgements.{IsJudgement, RawStream, of_read, of_refused}
+use Rattle.app_arguments.specs.Statuses.{Ending, Success, Negative, Alarm, NoPredicate, Misuse, Failed, ComesTo, File, MemoryFailure, ReadFailure, WriteFailure, BundleFailure, NetworkFailure, IsTextOfAccepted, LeavesOf, OfConnections, OfReport, OfStreams}
+use Rattle.def_judgement.specs.Writes.{Source, Whole, IsAnyReport, IsRefused, IsTextOfStreams}
+use Rattle.def_judgement.proofs.TextsOwed.{weaker_said}
+use Rattle.def_judgement.proofs.Writing.{writes_weaker}
 use Rattle.pd_pred.specs.Views.{predicate_fault_view}
-use Rattle.pd_format.specs.Documents as faults
-use Rattle.pd_format.specs.PredicateTexts.{PredicateFault}
+use Rattle.def_format.specs.Documents as faults
+use Rattle.def_format.specs.PredicateTexts.{PredicateFault}
 use Rattle.pd_spec.specs.Views.{IsFaultOf}
 use Rattle.pd_spec.specs.declared.fault.SpecFault.{SpecFault}
 use Rattle.pd_spec.specs.declared.fault.SpecFault.TheVariants as kinds
-use Rattle.pd_fail_on.specs.Conditions as conditions
-use Rattle.pd_fail_on.specs.Conditions.{Condition, Conclusion, conclusion}
+use Rattle.app_arguments.specs.Conditions as conditions
+use Rattle.app_arguments.specs.Conditions.{Condition, Conclusion, conclusion}
 use Rattle.pd_report.specs.Views.{report_view}
 use Rattle.pd_report.specs.declared.report.Report as programs
 use Rattle.pd_report.specs.declared.report.Report.TheVariants.{Judged, Refused}
 use Rattle.pd_cli.specs.Faults.{concluded_ending, is_out_of_memory, judgement_ending, service_ending}
 use Rattle.pd_cli.specs.declared.service_fault.ServiceFault.{ServiceFault}
 use Rattle.pd_cli.specs.declared.service_fault.ServiceFault.TheVariants.{Engine, Unkept}
-use Rattle.pd_sessions.specs.declared.fault.EngineFault.{EngineFault}
-use Rattle.pd_sessions.specs.declared.fault.EngineFault.TheVariants.{Memory, Write}
+use Rattle.judge_session.specs.declared.fault.EngineFault.{EngineFault}
+use Rattle.judge_session.specs.declared.fault.EngineFault.TheVariants.{Memory, Write}
 use Rattle.pd_cli.specs.FileSources.{IsReadOf, ReadLeaves, SameOutline}
 use Rattle.pd_cli.proofs.DocumentPrefixes.{same_document, same_refusal, same_report_text}
 use Rattle.pd_cli.proofs.FilesRead.{leaves_of_read, report_weaker}

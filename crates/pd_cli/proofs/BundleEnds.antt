@@ -2,11 +2,11 @@
 use Rattle.std.proofs.Common.{◌≡◌, ◌≤◌, ℕ, List, [], ◌∷◌, drop, map, length, refl, sym, subst, arith, Option, inr}
 use Rattle.std.specs.Prelude.{Bool}
 use Rattle.clap.specs.Walk.{Text}
-use Rattle.pd_arguments.specs.Statuses.{Ending, Success, Negative, Alarm, NoPredicate, Misuse, Failed, MemoryFailure, ReadFailure, WriteFailure, BundleFailure, NetworkFailure, Ends, EndsAsAsked, JudgeInput, JudgementLeaves, File, status_of}
-use Rattle.pd_judgement.specs.Writes.{IsJudged, IsRefused, Source, WritesTruthOfBundle}
-use Rattle.pd_judgement.proofs.TextsOwed.{truth_of_bundle_text}
-use Rattle.pd_arguments.specs.Arguments.{AsksFor, of_input}
-use Rattle.pd_arguments.proofs.Parsed.{nothing_is_no_command, nothing_is_taken}
+use Rattle.app_arguments.specs.Statuses.{Ending, Success, Negative, Alarm, NoPredicate, Misuse, Failed, MemoryFailure, ReadFailure, WriteFailure, BundleFailure, NetworkFailure, Ends, EndsAsAsked, JudgeInput, JudgementLeaves, File, status_of}
+use Rattle.def_judgement.specs.Writes.{IsJudged, IsRefused, Source, WritesTruthOfBundle}
+use Rattle.def_judgement.proofs.TextsOwed.{truth_of_bundle_text}
+use Rattle.app_arguments.specs.Arguments.{AsksFor, of_input}
+use Rattle.app_arguments.proofs.Parsed.{nothing_is_no_command, nothing_is_taken}
 
 none_asks : AsksFor [] JudgeInput
 none_asks = of_input nothing_is_taken (λ found. let is = found.1 in let none = nothing_is_no_command in cc)

@@ -1,15 +1,15 @@
 -- Documents with one outline have one report; so have two that are too long.
 use Rattle.std.proofs.Common.{◌≡◌, ℕ, ◌<◌, List, length, refl, sym, ◌∙◌, Err, lt-ltb}
 use Rattle.std.specs.Prelude.{Option, Bool}
-use Rattle.pd_format.specs.Documents.{Document, DocumentFault, Long, Json, Shape, Processes, Name, NameTwice, Vars, Predicates, Width, OtherVersion, InPredicate, Options, IsDocument, IsRefusedDocument, inquiry_of, outline_of_inquiry}
-use Rattle.pd_format.specs.Limits.{document_byte_limit}
-use Rattle.pd_judgement.specs.Judgements.{IsJudgement, of_refused, of_read, RawStream}
-use Rattle.pd_format.specs.Readings.{Trace}
-use Rattle.pd_format.specs.OtherTexts.{Finding}
-use Rattle.pd_format.specs.Reports.{Report}
-use Rattle.pd_judgement.specs.Findings.{IsFinding, IsSessionOf, of_unread, of_refused_session, of_refusal, of_session}
-use Rattle.pd_judgement.specs.Headline.{HoldsSession, IsTrueReport}
-use Rattle.pd_judgement.specs.Writes.{IsFindingTextOf, IsTextOfStreams, Source}
+use Rattle.def_format.specs.Documents.{Document, DocumentFault, Long, Json, Shape, Processes, Name, NameTwice, Vars, Predicates, Width, OtherVersion, InPredicate, Options, IsDocument, IsRefusedDocument, inquiry_of, outline_of_inquiry}
+use Rattle.def_format.specs.Limits.{document_byte_limit}
+use Rattle.def_judgement.specs.Judgements.{IsJudgement, of_refused, of_read, RawStream}
+use Rattle.def_format.specs.Readings.{Trace}
+use Rattle.def_format.specs.OtherTexts.{Finding}
+use Rattle.def_format.specs.Reports.{Report}
+use Rattle.def_judgement.specs.Findings.{IsFinding, IsSessionOf, of_unread, of_refused_session, of_refusal, of_session}
+use Rattle.def_judgement.specs.Headline.{HoldsSession, IsTrueReport}
+use Rattle.def_judgement.specs.Writes.{IsFindingTextOf, IsTextOfStreams, Source}
 use Rattle.pd_cli.specs.FileSources.{SameOutline}
 
 -- ---- bytes with one outline

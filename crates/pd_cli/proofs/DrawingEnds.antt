@@ -2,17 +2,17 @@
 use Rattle.std.proofs.Common.{◌≡◌, ◌≤◌, ◌⊎◌, ◌∙◌, ℕ, List, length, sym, subst, Some, None, Option, Ok, Err, inl, inr}
 use Rattle.std.specs.Prelude.{Result}
 use Rattle.std.specs.Io.KnownBytes.{Keeps}
-use Rattle.pd_format.specs.Documents.{Inquiry}
-use Rattle.pd_format.specs.Limits.{report_byte_limit}
-use Rattle.pd_arguments.specs.Statuses.{OfClaim}
-use Rattle.pd_judgement.specs.Writes.{Source, whole_source}
+use Rattle.def_format.specs.Documents.{Inquiry}
+use Rattle.def_format.specs.Limits.{report_byte_limit}
+use Rattle.app_arguments.specs.Statuses.{OfClaim}
+use Rattle.def_judgement.specs.Writes.{Source, whole_source}
 use Rattle.pd_cli.proofs.FilesRead.{whole_is_whole}
-use Rattle.pd_wish.specs.Wishes.{Wished}
-use Rattle.pd_claims.specs.Drawings.{ShowsEnd, WritesPicture}
-use Rattle.pd_claims.specs.declared.drawings.DrawOutcome.{DrawOutcome}
-use Rattle.pd_claims.specs.declared.drawings.DrawOutcome.TheVariants.{Written, CycleWritten, Refused, NoPredicate, NoEvidence}
-use Rattle.pd_sessions.specs.declared.fault.EngineFault.{EngineFault}
-use Rattle.pd_sessions.specs.declared.fault.EngineFault.TheVariants.{Memory, Write, Read, BundleLong}
+use Rattle.out_picture.specs.Wishes.{Wished}
+use Rattle.judge_draw.specs.Drawings.{ShowsEnd, WritesPicture}
+use Rattle.judge_draw.specs.declared.drawings.DrawOutcome.{DrawOutcome}
+use Rattle.judge_draw.specs.declared.drawings.DrawOutcome.TheVariants.{Written, CycleWritten, Refused, NoPredicate, NoEvidence}
+use Rattle.judge_session.specs.declared.fault.EngineFault.{EngineFault}
+use Rattle.judge_session.specs.declared.fault.EngineFault.TheVariants.{Memory, Write, Read, BundleLong}
 use Rattle.pd_cli.specs.Drawings.{DrawReadLeaves, Finishes, IsNoticeOf, OfDrawing}
 use Rattle.pd_cli.proofs.WrittenSoFar.{appends_kept}
 

@@ -2,16 +2,16 @@
 use Rattle.std.proofs.Common.{ℕ, List, Option, Ok, Err, inl, inr}
 use Rattle.std.specs.Prelude.{Result}
 use Rattle.std.specs.List.{AllZip}
-use Rattle.pd_arguments.specs.Statuses.{File, OfDocument}
-use Rattle.pd_format.specs.Documents.{Options, inquiry_of}
-use Rattle.pd_judgement.specs.Writes.{IsWholeInput, Source, Whole, whole_source}
-use Rattle.pd_judgement.proofs.Writing.{writes_weaker}
-use Rattle.pd_wish.specs.Wishes.{Wished}
-use Rattle.pd_claims.specs.Drawings.{IsAnyTextOf, IsCycleTextOf, IsDrawingTextOf, LacksKind, LacksPredicate}
-use Rattle.pd_claims.specs.declared.drawings.DrawOutcome.{DrawOutcome}
-use Rattle.pd_claims.specs.declared.drawings.DrawOutcome.TheVariants.{Written, CycleWritten, Refused, NoPredicate, NoEvidence}
-use Rattle.pd_sessions.specs.declared.fault.EngineFault.{EngineFault}
-use Rattle.pd_sessions.specs.declared.fault.EngineFault.TheVariants.{Memory, Write, Read, BundleLong}
+use Rattle.app_arguments.specs.Statuses.{File, OfDocument}
+use Rattle.def_format.specs.Documents.{Options, inquiry_of}
+use Rattle.def_judgement.specs.Writes.{IsWholeInput, Source, Whole, whole_source}
+use Rattle.def_judgement.proofs.Writing.{writes_weaker}
+use Rattle.out_picture.specs.Wishes.{Wished}
+use Rattle.judge_draw.specs.Drawings.{IsAnyTextOf, IsCycleTextOf, IsDrawingTextOf, LacksKind, LacksPredicate}
+use Rattle.judge_draw.specs.declared.drawings.DrawOutcome.{DrawOutcome}
+use Rattle.judge_draw.specs.declared.drawings.DrawOutcome.TheVariants.{Written, CycleWritten, Refused, NoPredicate, NoEvidence}
+use Rattle.judge_session.specs.declared.fault.EngineFault.{EngineFault}
+use Rattle.judge_session.specs.declared.fault.EngineFault.TheVariants.{Memory, Write, Read, BundleLong}
 use Rattle.pd_cli.specs.Drawings.{DrawLeaves, DrawReadLeaves, IsNoticeOf, OfDrawing}
 use Rattle.pd_cli.specs.FileSources.{IsReadOf, Knows, SameOutline}
 use Rattle.pd_cli.proofs.DocumentPrefixes.{same_document, same_finding, same_session}

@@ -3,18 +3,18 @@ use Rattle.std.proofs.Common.{◌≡◌, ℕ, Bool, true, false, List, refl, sym
 use Rattle.std.specs.Prelude.{◌⊎◌, IsErrAnd, Result}
 use Rattle.std.specs.List.{AllZip}
 use Rattle.std.specs.Io.KnownBytes.{Keeps}
-use Rattle.pd_format.specs.Documents.{Inquiry, Options, inquiry_of}
-use Rattle.pd_arguments.specs.Statuses.{Alarm, BundleFailure, Ending, Failed, MemoryFailure, Misuse, Negative, NetworkFailure, NoPredicate, ReadFailure, Success, WriteFailure}
-use Rattle.pd_format.specs.Reports as reports
-use Rattle.pd_judgement.specs.Writes.{IsAnyReport, IsJudged, Partial, Source, Whole, Writes}
-use Rattle.pd_judgement.proofs.Writing.{writes_weaker}
+use Rattle.def_format.specs.Documents.{Inquiry, Options, inquiry_of}
+use Rattle.app_arguments.specs.Statuses.{Alarm, BundleFailure, Ending, Failed, MemoryFailure, Misuse, Negative, NetworkFailure, NoPredicate, ReadFailure, Success, WriteFailure}
+use Rattle.def_format.specs.Reports as reports
+use Rattle.def_judgement.specs.Writes.{IsAnyReport, IsJudged, Partial, Source, Whole, Writes}
+use Rattle.def_judgement.proofs.Writing.{writes_weaker}
 use Rattle.pd_report.specs.declared.report.Report.{Report}
-use Rattle.pd_sessions.specs.Ends.{fault_end}
-use Rattle.pd_sessions.specs.declared.fault.EngineFault.{EngineFault}
-use Rattle.pd_sessions.specs.declared.fault.EngineFault.TheVariants.{BundleLong, Memory, Read, Write}
-use Rattle.pd_explore.specs.Explored.{IsCycle, IsOtherRefusal, IsOwed, IsPageOfInputs, judged_as}
-use Rattle.pd_explore.specs.Sources.{StreamFile}
-use Rattle.pd_explore.proofs.Written.{page_weaker}
+use Rattle.judge_session.specs.Ends.{fault_end}
+use Rattle.judge_session.specs.declared.fault.EngineFault.{EngineFault}
+use Rattle.judge_session.specs.declared.fault.EngineFault.TheVariants.{BundleLong, Memory, Read, Write}
+use Rattle.judge_explore.specs.Explored.{IsCycle, IsOtherRefusal, IsOwed, IsPageOfInputs, judged_as}
+use Rattle.judge_explore.specs.Sources.{StreamFile}
+use Rattle.judge_explore.proofs.Written.{page_weaker}
 use Rattle.pd_cli.specs.Explorations.{IsOwedWith, OfPage}
 use Rattle.pd_cli.specs.Faults.{exploration_ending}
 use Rattle.pd_cli.specs.FileSources.{Knows, ReadLeaves, SameOutline}

@@ -6,17 +6,17 @@ use Rattle.std.specs.List.{AllZip, slice_index_or}
 use Rattle.std.proofs.Math.Seq.{take-suc}
 use Rattle.std.proofs.lemmas.Bool.{cases_lt}
 use Rattle.std.proofs.lemmas.List.{map-append, take_all}
-use Rattle.pd_model.proofs.ListPrefixes.{whole_input}
-use Rattle.pd_format.specs.Documents.{Inquiry, Options, inquiry_of}
-use Rattle.pd_format.specs.Limits.{document_byte_limit}
-use Rattle.pd_format.specs.Reports.{Report}
-use Rattle.pd_judgement.specs.Judgements.{RawStream}
-use Rattle.pd_judgement.specs.Writes.{IsAnyReport, IsFindingTextOf, IsGivenAs, IsRefused, IsTextOfStreams, IsWholeInput, Partial, Source, Whole, whole_source}
-use Rattle.pd_judgement.proofs.Writing.{writes_weaker}
-use Rattle.pd_arguments.specs.Statuses.{Ending, Success, Negative, Alarm, NoPredicate, Misuse, Failed, ComesTo, File, MemoryFailure, ReadFailure, WriteFailure, BundleFailure, NetworkFailure, LeavesOf, OfClaim, OfDocument, OfFinding, OfReport, OfStreams, WritesUpTo, sources_of}
-use Rattle.pd_fail_on.specs.Conditions as conditions
-use Rattle.pd_fail_on.specs.Conditions.{Condition}
-use Rattle.pd_sessions.specs.declared.fault.EngineFault.{EngineFault}
+use Rattle.def_model.proofs.ListPrefixes.{whole_input}
+use Rattle.def_format.specs.Documents.{Inquiry, Options, inquiry_of}
+use Rattle.def_format.specs.Limits.{document_byte_limit}
+use Rattle.def_format.specs.Reports.{Report}
+use Rattle.def_judgement.specs.Judgements.{RawStream}
+use Rattle.def_judgement.specs.Writes.{IsAnyReport, IsFindingTextOf, IsGivenAs, IsRefused, IsTextOfStreams, IsWholeInput, Partial, Source, Whole, whole_source}
+use Rattle.def_judgement.proofs.Writing.{writes_weaker}
+use Rattle.app_arguments.specs.Statuses.{Ending, Success, Negative, Alarm, NoPredicate, Misuse, Failed, ComesTo, File, MemoryFailure, ReadFailure, WriteFailure, BundleFailure, NetworkFailure, LeavesOf, OfClaim, OfDocument, OfFinding, OfReport, OfStreams, WritesUpTo, sources_of}
+use Rattle.app_arguments.specs.Conditions as conditions
+use Rattle.app_arguments.specs.Conditions.{Condition}
+use Rattle.judge_session.specs.declared.fault.EngineFault.{EngineFault}
 use Rattle.pd_cli.specs.FileSources.{IsReadOf, Knows, ReadLeaves, SameOutline}
 use Rattle.pd_cli.proofs.DocumentPrefixes.{both_long, same_report_text, same_text}
 

@@ -3,20 +3,20 @@ use Rattle.std.proofs.Common.{◌≡◌, ◌≤◌, ◌∙◌, ℕ, List, ap, le
 use Rattle.std.specs.Prelude.{Bool, if◌then◌else◌}
 use Rattle.std.specs.List.{list_any}
 use Rattle.std.specs.Io.KnownBytes.{Keeps}
-use Rattle.pd_format.specs.Documents.{Inquiry}
-use Rattle.pd_format.specs.Limits.{report_byte_limit}
-use Rattle.pd_format.specs.Reports as formats
-use Rattle.pd_judgement.specs.Headline.{is_judged}
-use Rattle.pd_arguments.specs.Statuses.{ComesTo, JudgementLeaves, OfFinding, OfStreams, WritesUpTo}
-use Rattle.pd_judgement.specs.Writes.{Source, Whole, Writes, IsAnyReport, IsFindingTextOf, IsJudged, IsRefused, IsTextOfBundle, IsTextOfStreams, whole_source}
-use Rattle.pd_judgement.proofs.TextsOwed.{weaker_said_of_bundle, weaker_said_of_streams}
+use Rattle.def_format.specs.Documents.{Inquiry}
+use Rattle.def_format.specs.Limits.{report_byte_limit}
+use Rattle.def_format.specs.Reports as formats
+use Rattle.def_judgement.specs.Headline.{is_judged}
+use Rattle.app_arguments.specs.Statuses.{ComesTo, JudgementLeaves, OfFinding, OfStreams, WritesUpTo}
+use Rattle.def_judgement.specs.Writes.{Source, Whole, Writes, IsAnyReport, IsFindingTextOf, IsJudged, IsRefused, IsTextOfBundle, IsTextOfStreams, whole_source}
+use Rattle.def_judgement.proofs.TextsOwed.{weaker_said_of_bundle, weaker_said_of_streams}
 use Rattle.pd_cli.proofs.FilesRead.{whole_is_whole}
 use Rattle.pd_report.specs.Views.{report_view}
 use Rattle.pd_report.specs.declared.report.Report.{Report}
-use Rattle.pd_sessions.specs.declared.fault.EngineFault.TheVariants.{Write}
+use Rattle.judge_session.specs.declared.fault.EngineFault.TheVariants.{Write}
 use Rattle.pd_engine.specs.Ends.{IsGiven}
-use Rattle.pd_fail_on.specs.Conditions as conditions
-use Rattle.pd_fail_on.specs.Conditions.{Conclusion, Condition, conclusion, is_met, lacks_predicate}
+use Rattle.app_arguments.specs.Conditions as conditions
+use Rattle.app_arguments.specs.Conditions.{Conclusion, Condition, conclusion, is_met, lacks_predicate}
 use Rattle.pd_cli.specs.Faults.{concluded_ending, ending_view, judged_ending, judgement_ending, report_ending}
 use Rattle.pd_cli.specs.FileSources.{ReadLeaves}
 use Rattle.pd_cli.proofs.WrittenSoFar.{appends_kept}

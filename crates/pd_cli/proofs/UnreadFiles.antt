@@ -2,13 +2,13 @@
 use Rattle.std.proofs.Common.{◌≡◌, ◌⊎◌, ℕ, suc, zero, List, [], ◌∷◌, map, Option, None, Some, Ok, Err, refl, inl, inr, true, false, arith}
 use Rattle.std.specs.Prelude.{All, Bool, IsErrAnd, Result}
 use Rattle.std.specs.Io.KnownBytes.{Keeps}
-use Rattle.pd_fail_on.specs.Conditions.{Condition}
-use Rattle.pd_format.specs.Documents.{Inquiry, Options}
-use Rattle.pd_arguments.specs.Statuses.{Ending, File, IsLongReport, LeavesOf}
-use Rattle.pd_judgement.specs.Writes.{Source}
-use Rattle.pd_sessions.specs.declared.fault.EngineFault.{EngineFault}
-use Rattle.pd_sessions.specs.declared.fault.EngineFault.TheVariants.{BundleLong, Memory, Read, Write}
-use Rattle.pd_claims.specs.declared.drawings.DrawOutcome.{DrawOutcome}
+use Rattle.app_arguments.specs.Conditions.{Condition}
+use Rattle.def_format.specs.Documents.{Inquiry, Options}
+use Rattle.app_arguments.specs.Statuses.{Ending, File, IsLongReport, LeavesOf}
+use Rattle.def_judgement.specs.Writes.{Source}
+use Rattle.judge_session.specs.declared.fault.EngineFault.{EngineFault}
+use Rattle.judge_session.specs.declared.fault.EngineFault.TheVariants.{BundleLong, Memory, Read, Write}
+use Rattle.judge_draw.specs.declared.drawings.DrawOutcome.{DrawOutcome}
 use Rattle.pd_cli.specs.declared.service_fault.ServiceFault.TheVariants.{Engine}
 use Rattle.pd_cli.specs.Drawings.{DrawLeaves}
 use Rattle.pd_cli.specs.FileSources.{Knows}

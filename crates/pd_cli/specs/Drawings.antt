@@ -2,16 +2,16 @@
 use Rattle.std.specs.Prelude.{◌≡◌, ◌⊎◌, ℕ, Bool, List, [], ◌++◌, codes, map, Option, Result, Ok, Err, IsOkAnd}
 use Rattle.std.specs.Io.KnownBytes.{Keeps}
 use Rattle.clap.specs.Words.{Text}
-use Rattle.pd_format.specs.Documents.{Inquiry, Options}
-use Rattle.pd_arguments.specs.Statuses.{EndsAsAsked, File, OfClaim, OfDocument, UnreadClaim, WritesUpTo, line_of_failure, sources_of, status_of_failure}
-use Rattle.pd_judgement.specs.Writes.{Source, Whole, Writes}
-use Rattle.pd_wish.specs.Wishes.{Wished}
-use Rattle.pd_claims.specs.Drawings.{IsAnyTextOf, IsCycleTextOf, IsDrawingTextOf, IsRefusalTextOf, LacksKind, LacksPredicate}
-use Rattle.pd_claims.specs.declared.drawings.DrawOutcome.{DrawOutcome}
-use Rattle.pd_claims.specs.declared.drawings.DrawOutcome.TheVariants.{Written, CycleWritten, Refused, NoPredicate, NoEvidence}
-use Rattle.pd_sessions.specs.declared.fault.EngineFault.{EngineFault}
-use Rattle.pd_sessions.specs.declared.fault.EngineFault.TheVariants.{Memory, Write, Read, BundleLong}
-use Rattle.pd_arguments.specs.Arguments.{AsksFor, AsksToDraw}
+use Rattle.def_format.specs.Documents.{Inquiry, Options}
+use Rattle.app_arguments.specs.Statuses.{EndsAsAsked, File, OfClaim, OfDocument, UnreadClaim, WritesUpTo, line_of_failure, sources_of, status_of_failure}
+use Rattle.def_judgement.specs.Writes.{Source, Whole, Writes}
+use Rattle.out_picture.specs.Wishes.{Wished}
+use Rattle.judge_draw.specs.Drawings.{IsAnyTextOf, IsCycleTextOf, IsDrawingTextOf, IsRefusalTextOf, LacksKind, LacksPredicate}
+use Rattle.judge_draw.specs.declared.drawings.DrawOutcome.{DrawOutcome}
+use Rattle.judge_draw.specs.declared.drawings.DrawOutcome.TheVariants.{Written, CycleWritten, Refused, NoPredicate, NoEvidence}
+use Rattle.judge_session.specs.declared.fault.EngineFault.{EngineFault}
+use Rattle.judge_session.specs.declared.fault.EngineFault.TheVariants.{Memory, Write, Read, BundleLong}
+use Rattle.app_arguments.specs.Arguments.{AsksFor, AsksToDraw}
 use Rattle.pd_cli.specs.Explorations.{ExploresAsAsked}
 use Rattle.pd_cli.specs.Faults.{failure_view}
 

@@ -1,12 +1,12 @@
 -- What a run that explores leaves on its output.
 use Rattle.std.specs.Prelude.{ℕ, Bool, true, false, List, Option, Some, None}
 use Rattle.clap.specs.Words.{Text}
-use Rattle.pd_format.specs.Documents.{Inquiry, Options}
-use Rattle.pd_arguments.specs.Statuses.{Alarm, BundleFailure, Ending, Ends, Failed, File, MemoryFailure, Misuse, Negative, NetworkFailure, NoPredicate, ReadFailure, SessionLeaves, Success, WriteFailure, WritesUpTo}
-use Rattle.pd_judgement.specs.Writes.{Source, Whole, Writes}
-use Rattle.pd_explore.specs.Explored.{IsOwed}
-use Rattle.pd_explore.specs.Sources.{StreamFile, AreFilesOf}
-use Rattle.pd_arguments.specs.Arguments.{AsksToExplore}
+use Rattle.def_format.specs.Documents.{Inquiry, Options}
+use Rattle.app_arguments.specs.Statuses.{Alarm, BundleFailure, Ending, Ends, Failed, File, MemoryFailure, Misuse, Negative, NetworkFailure, NoPredicate, ReadFailure, SessionLeaves, Success, WriteFailure, WritesUpTo}
+use Rattle.def_judgement.specs.Writes.{Source, Whole, Writes}
+use Rattle.judge_explore.specs.Explored.{IsOwed}
+use Rattle.judge_explore.specs.Sources.{StreamFile, AreFilesOf}
+use Rattle.app_arguments.specs.Arguments.{AsksToExplore}
 use Rattle.pd_cli.specs.FileSources.{bytes_in}
 
 -- the text that is owed of a session with some files of which this holds

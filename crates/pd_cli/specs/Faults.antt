@@ -1,17 +1,17 @@
 -- The engine's faults and results, as ends of a run.
 use Rattle.std.specs.Prelude.{◌≡◌, ℕ, Bool, true, false, List, codes, Option, Some, None, Result, Ok, Err}
-use Rattle.pd_judgement.specs.Headline.{is_judged}
-use Rattle.pd_arguments.specs.Statuses.{Failure, MemoryFailure, ReadFailure, WriteFailure, BundleFailure, NetworkFailure, Ending, Success, Negative, Alarm, NoPredicate, Failed}
-use Rattle.pd_fail_on.specs.Conditions as conditions
-use Rattle.pd_fail_on.specs.Conditions.{Condition, Conclusion, conclusion}
+use Rattle.def_judgement.specs.Headline.{is_judged}
+use Rattle.app_arguments.specs.Statuses.{Failure, MemoryFailure, ReadFailure, WriteFailure, BundleFailure, NetworkFailure, Ending, Success, Negative, Alarm, NoPredicate, Failed}
+use Rattle.app_arguments.specs.Conditions as conditions
+use Rattle.app_arguments.specs.Conditions.{Condition, Conclusion, conclusion}
 use Rattle.pd_cli.specs.declared.service_fault.ServiceFault.{ServiceFault}
 use Rattle.pd_cli.specs.declared.service_fault.ServiceFault.TheVariants.{Engine, Late, Network, Unkept}
 use Rattle.pd_report.specs.Views.{report_view}
 use Rattle.pd_report.specs.declared.report.Report.{Report}
-use Rattle.pd_sessions.specs.declared.fault.EngineFault.{EngineFault}
+use Rattle.judge_session.specs.declared.fault.EngineFault.{EngineFault}
 use Rattle.pd_spec.specs.declared.fault.SpecFault.{SpecFault}
 use Rattle.pd_spec.specs.declared.fault.SpecFault.TheVariants as spec_faults
-use Rattle.pd_sessions.specs.declared.fault.EngineFault.TheVariants.{Memory, Write, Read, BundleLong}
+use Rattle.judge_session.specs.declared.fault.EngineFault.TheVariants.{Memory, Write, Read, BundleLong}
 
 abbrev pub failure_view : EngineFault → Failure
 failure_view Memory = MemoryFailure

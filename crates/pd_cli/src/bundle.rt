@@ -1,11 +1,11 @@
 //! Judges the bundle on the input.
 ghost use Rattle.pd_cli.specs.Faults.{report_ending};
-ghost use Rattle.pd_arguments.specs.Statuses.{JudgementLeaves};
+ghost use Rattle.app_arguments.specs.Statuses.{JudgementLeaves};
 ghost use Rattle.std.specs.Prelude.{◌≡◌, false};
 
-use pd_arguments::Workers;
+use app_arguments::Workers;
+use judge_session::EngineFault;
 use pd_engine::{ByteSource, Gate, Report, write_bundle_report};
-use pd_sessions::EngineFault;
 use std::alloc::Global;
 use std::io::Write;
 use std::random::RandomSource;

@@ -1,20 +1,20 @@
 //! Checks a report against the session in files.
-ghost use Rattle.pd_arguments.specs.Statuses.{LeavesOf, OfFinding, UnreadClaim, sources_of};
-ghost use Rattle.pd_arguments.specs.Views.{session_view};
+ghost use Rattle.app_arguments.specs.Statuses.{LeavesOf, OfFinding, UnreadClaim, sources_of};
+ghost use Rattle.app_arguments.specs.Views.{session_view};
 ghost use Rattle.pd_cli.specs.Faults.{ending_view};
 ghost use Rattle.pd_cli.specs.FileSources.{ReadLeaves};
-ghost use Rattle.pd_format.specs.Limits.{report_byte_limit};
-ghost use Rattle.pd_judgement.specs.Writes.{whole_source};
-ghost use Rattle.pd_sessions.specs.Inquiries.{inquiry_view};
+ghost use Rattle.def_format.specs.Limits.{report_byte_limit};
+ghost use Rattle.def_judgement.specs.Writes.{whole_source};
+ghost use Rattle.judge_session.specs.Inquiries.{inquiry_view};
 ghost use Rattle.pd_spec.specs.Views.{options_view};
 ghost use Rattle.std.specs.Prelude.{◌≡◌, ◌≤◌, All, false, length, map};
 
 use super::claim_files::read_claim;
 use super::file_source::FileSource;
-use pd_arguments::SessionNames;
-use pd_claims::check_inquiry;
+use app_arguments::SessionNames;
+use judge_draw::check_inquiry;
+use judge_session::EngineFault;
 use pd_engine::{ByteSource, Inquiry};
-use pd_sessions::EngineFault;
 use std::alloc::Global;
 use std::io::Write;
 use std::random::RandomSource;

@@ -1,18 +1,18 @@
 //! The files of a report and of the session that it is said to be of.
-ghost use Rattle.pd_arguments.specs.Statuses.{IsLongReport, UnreadClaim, sources_of};
-ghost use Rattle.pd_arguments.specs.Views.{session_view};
+ghost use Rattle.app_arguments.specs.Statuses.{IsLongReport, UnreadClaim, sources_of};
+ghost use Rattle.app_arguments.specs.Views.{session_view};
 ghost use Rattle.pd_cli.specs.FileSources.{IsReadOf, Knows};
-ghost use Rattle.pd_format.specs.Limits.{report_byte_limit};
-ghost use Rattle.pd_judgement.specs.Writes.{IsWholeInput};
+ghost use Rattle.def_format.specs.Limits.{report_byte_limit};
+ghost use Rattle.def_judgement.specs.Writes.{IsWholeInput};
 ghost use Rattle.std.specs.List.{AllZip};
 ghost use Rattle.std.specs.Prelude.{◌≡◌, ◌≤◌, ◌⊎◌, All, Err, IfErr, IfOk, Some, false, map, vec_len};
 
 use super::file_source::FileSource;
 use super::session_files::{open_streams, read_document};
-use pd_arguments::SessionNames;
+use app_arguments::SessionNames;
+use def_format::REPORT_BYTE_LIMIT;
+use judge_session::{EngineFault, read_upto};
 use pd_engine::{ByteSource, within_limit};
-use pd_format::REPORT_BYTE_LIMIT;
-use pd_sessions::{EngineFault, read_upto};
 use std::alloc::Global;
 
 /// The bytes of a document and of a report, and the streams, which are open and unread.

@@ -1,23 +1,23 @@
 //! Draws a report with the session in files.
-ghost use Rattle.pd_arguments.specs.Statuses.{UnreadClaim, WritesUpTo, sources_of};
-ghost use Rattle.pd_arguments.specs.Views.{session_view};
+ghost use Rattle.app_arguments.specs.Statuses.{UnreadClaim, WritesUpTo, sources_of};
+ghost use Rattle.app_arguments.specs.Views.{session_view};
 ghost use Rattle.pd_cli.specs.Drawings.{DrawLeaves, DrawReadLeaves, Finishes, OfDrawing, draw_notice, draw_status, refusal_heading};
-ghost use Rattle.pd_format.specs.Limits.{report_byte_limit};
-ghost use Rattle.pd_judgement.specs.Writes.{whole_source};
-ghost use Rattle.pd_sessions.specs.Inquiries.{inquiry_view};
+ghost use Rattle.def_format.specs.Limits.{report_byte_limit};
+ghost use Rattle.def_judgement.specs.Writes.{whole_source};
+ghost use Rattle.judge_session.specs.Inquiries.{inquiry_view};
 ghost use Rattle.pd_spec.specs.Views.{options_view};
-ghost use Rattle.pd_wish.specs.Wishes.{wish_view};
+ghost use Rattle.out_picture.specs.Wishes.{wish_view};
 ghost use Rattle.std.specs.Prelude.{◌≡◌, ◌≤◌, ◌++◌, All, IfOk, false, length, map};
 
 use super::claim_files::read_claim;
 use super::file_source::FileSource;
 use super::line::write_line;
 use super::status::{MISUSED, REFUSED, SUCCESS, report_fault};
-use pd_arguments::SessionNames;
-use pd_claims::{DrawOutcome, draw};
+use app_arguments::SessionNames;
+use judge_draw::{DrawOutcome, draw};
+use judge_session::EngineFault;
+use out_picture::Wish;
 use pd_engine::{ByteSource, Inquiry};
-use pd_sessions::EngineFault;
-use pd_wish::Wish;
 use std::alloc::{AllocError, Global};
 use std::io::Write;
 use std::random::RandomSource;

@@ -3,16 +3,15 @@ use super::check_files::check_files;
 use super::explained_refusals::put_refusal;
 use super::file_source::FileSource;
 use super::second_look::{Seen, can_be_checked_again, report_again, spec_again};
-use pd_arguments::{Exploration, Judgement, SessionNames};
-use pd_claims::DrawOutcome;
-use pd_explain::{
+use app_arguments::{Conclusion, Exploration, FailOn, Judgement, SessionNames};
+use app_explain::{
     Judged, Source, Widest, explain_answers, explain_bundle_fault, explain_file, explain_finding,
     explain_long_report, explain_memory, explain_no_file, explain_no_picture, explain_no_predicate,
     explain_output, explain_unread_finding, in_rows,
 };
-use pd_fail_on::{Conclusion, FailOn};
+use judge_draw::DrawOutcome;
+use judge_session::EngineFault;
 use pd_report::Report;
-use pd_sessions::EngineFault;
 use pd_spec::Options;
 use std::alloc::{AllocError, Global};
 use std::random::RandomSource;

@@ -3,7 +3,7 @@ use super::file_source::FileSource;
 use super::second_look::{
     Seen, document_again, process_again, spec_again, stream_again, stream_of, text_again,
 };
-use pd_explain::{
+use app_explain::{
     EventName, Others, PredicateFault, Source, StreamFault, advise_absent, advise_cycle,
     advise_messages, explain_absent, explain_cycle, explain_document, explain_document_word,
     explain_message, explain_predicate, explain_predicate_word, explain_stream,

@@ -6,7 +6,7 @@ use super::network::Network;
 use super::second_look::{Seen, spec_again};
 use super::senders::{known_senders, senders};
 use super::service_fault::ServiceFault;
-use pd_explain::{
+use app_explain::{
     Sender, StreamFault, explain_connection, explain_port, explain_sent_stream, explain_unkept,
     explain_wait,
 };

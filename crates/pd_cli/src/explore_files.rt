@@ -1,23 +1,23 @@
 //! Explores the session in files.
-ghost use Rattle.pd_arguments.specs.Statuses.{SessionLeaves};
-ghost use Rattle.pd_arguments.specs.Views.{session_view};
+ghost use Rattle.app_arguments.specs.Statuses.{SessionLeaves};
+ghost use Rattle.app_arguments.specs.Views.{session_view};
 ghost use Rattle.pd_cli.specs.Explorations.{OfPage};
 ghost use Rattle.pd_cli.specs.Faults.{exploration_ending};
 ghost use Rattle.pd_cli.specs.FileSources.{ReadLeaves, bytes_in};
-ghost use Rattle.pd_explore.specs.FileViews.{file_view, files_view};
-ghost use Rattle.pd_explore.specs.Sources.{AreFilesOf, IsFileOf, stream_bytes};
-ghost use Rattle.pd_sessions.specs.Inquiries.{inquiry_view};
+ghost use Rattle.judge_explore.specs.FileViews.{file_view, files_view};
+ghost use Rattle.judge_explore.specs.Sources.{AreFilesOf, IsFileOf, stream_bytes};
+ghost use Rattle.judge_session.specs.Inquiries.{inquiry_view};
 ghost use Rattle.pd_spec.specs.Views.{options_view};
 ghost use Rattle.std.specs.Prelude.{◌≡◌, All, IfOk, IfSome, false, map};
 
 use super::file_source::FileSource;
 use super::level_gate::LevelGate;
 use super::session_files::read_session;
-use pd_arguments::{Exploration, Workers};
+use app_arguments::{Exploration, Workers};
+use def_format::STREAM_BYTE_LIMIT;
+use judge_explore::{StreamFile, explore};
+use judge_session::{EngineFault, read_upto};
 use pd_engine::{ByteSource, Gate, Inquiry, Report};
-use pd_explore::{StreamFile, explore};
-use pd_format::STREAM_BYTE_LIMIT;
-use pd_sessions::{EngineFault, read_upto};
 use std::alloc::{AllocError, Global};
 use std::io::Write;
 use std::random::RandomSource;

@@ -1,6 +1,6 @@
 //! Where files are read, and those of a session that is kept are written; and what hears how far a walk has come.
+use judge_session::EngineFault;
 use pd_engine::{ByteSource, Reached};
-use pd_sessions::EngineFault;
 use std::alloc::{AllocError, Global};
 use std::io::{ErrorKind, Read, Write};
 use std::os::unix::fs::FileTypeExt;
@@ -21,9 +21,9 @@ fn system_name(name: &str) -> &str {
 /// Opens files by their names. What each holds may be known, as it is in proofs over files that are made up; of the
 /// system's files nothing is known.
 pub trait FileSource: Sync {
-    ghost use Rattle.pd_arguments.specs.Statuses.{File};
+    ghost use Rattle.app_arguments.specs.Statuses.{File};
     ghost use Rattle.pd_cli.specs.FileSources.{Knows};
-    ghost use Rattle.pd_sessions.specs.declared.fault.EngineFault.TheVariants as faults;
+    ghost use Rattle.judge_session.specs.declared.fault.EngineFault.TheVariants as faults;
     ghost use Rattle.std.specs.Prelude.{◌≡◌, IfOk, IsOk, IsOkUnless, ℕ, List, false, true};
 
     type File: ByteSource + Send + Drop;
@@ -74,7 +74,7 @@ pub trait FileSource: Sync {
     }
 
     /// Hears that a walk over a session in these files has come to this level.
-    fn hear_level(&self, _level: Reached) {}
+    fn on_level(&self, _level: Reached) {}
 
     /// Whether the output is a pipe or a connection: a write to it fails only once whoever reads it has ended.
     fn output_is_read(&self) -> bool {

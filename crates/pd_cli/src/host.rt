@@ -1,7 +1,7 @@
 //! What a server works with.
 use super::level_gate::LevelGate;
-use pd_arguments::Service;
-use pd_peers::Peers;
+use app_arguments::Service;
+use app_peers::Peers;
 use std::alloc::Global;
 
 /// What the steps of a server's run work with, besides the session.

@@ -1,18 +1,18 @@
 //! Judges the session in files.
-ghost use Rattle.pd_arguments.specs.Statuses.{OfStreams, SessionLeaves};
-ghost use Rattle.pd_arguments.specs.Views.{session_view};
+ghost use Rattle.app_arguments.specs.Statuses.{OfStreams, SessionLeaves};
+ghost use Rattle.app_arguments.specs.Views.{session_view};
 ghost use Rattle.pd_cli.specs.Faults.{judgement_ending};
 ghost use Rattle.pd_cli.specs.FileSources.{ReadLeaves};
-ghost use Rattle.pd_fail_on.specs.Conditions.{Condition};
-ghost use Rattle.pd_sessions.specs.Inquiries.{inquiry_view};
+ghost use Rattle.app_arguments.specs.Conditions.{Condition};
+ghost use Rattle.judge_session.specs.Inquiries.{inquiry_view};
 ghost use Rattle.pd_spec.specs.Views.{options_view};
 ghost use Rattle.std.specs.Prelude.{◌≡◌, ◌⊎◌, List, All, IfErr, false, map};
 
 use super::file_source::FileSource;
 use super::session_files::read_session;
-use pd_arguments::{Judgement, Workers};
+use app_arguments::{Judgement, Workers};
+use judge_session::EngineFault;
 use pd_engine::{ByteSource, Gate, Inquiry, Report, judge_inquiry};
-use pd_sessions::EngineFault;
 use std::alloc::Global;
 use std::io::Write;
 use std::random::RandomSource;

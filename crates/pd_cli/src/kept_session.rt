@@ -1,14 +1,14 @@
 //! Keeps the session of a server as files of a folder.
-ghost use Rattle.pd_arguments.specs.Views.{keep_view};
+ghost use Rattle.app_arguments.specs.Views.{keep_view};
 ghost use Rattle.pd_cli.specs.declared.service_fault.ServiceFault.TheVariants as faults;
 ghost use Rattle.std.specs.Prelude.{◌≡◌, ◌≢◌, ◌⊎◌, IfErr, None, true};
 
 use super::file_source::FileSource;
 use super::host::Host;
 use super::service_fault::ServiceFault;
+use app_peers::{Keeping, Notices};
+use judge_session::EngineFault;
 use pd_engine::{Inquiry, Report, Spec, text};
-use pd_peers::{Keeping, Notices};
-use pd_sessions::EngineFault;
 use pd_spec::document_text;
 use std::alloc::{AllocError, Global};
 use std::io;

@@ -1,7 +1,7 @@
 //! The gate of a walk over a session in files.
 use super::file_source::FileSource;
+use app_explain::Widest;
 use pd_engine::{Gate, Reached};
-use pd_explain::Widest;
 use std::sync::atomic::{AtomicU64, Ordering};
 
 /// Lets each block pass, says where the files are how far the walk has come, and keeps the widest level for an
@@ -43,6 +43,6 @@ impl<'a, F: FileSource> Gate for LevelGate<'a, F> {
             self.number.store(level.number, Ordering::SeqCst);
             self.cuts.store(level.cuts, Ordering::SeqCst);
         }
-        self.files.hear_level(level);
+        self.files.on_level(level);
     }
 }

@@ -2,7 +2,7 @@
 //!
 //! With no argument beyond the program's name a bundle is read from the input, judged, and its report written to the
 //! output. If the status is 0 or 1, what was written is the text of the report that the input's bytes make: judged at
-//! 0, refused at 1. Further arguments go to the command line's parser (`pd_arguments`). `judge` with the names of files
+//! 0, refused at 1. Further arguments go to the command line's parser (`app_arguments`). `judge` with the names of files
 //! does the same with a session document and streams that stand in files. `check` with the names of files checks a
 //! report's evidence: at status 0 nothing that it found is bad, and at 1 something is. `draw` with the names of files
 //! draws a report: at status 0 the picture is written, and at 1 something that a check finds stands against it. `serve`
@@ -11,7 +11,7 @@
 //! page of a causal cycle.
 //! Whatever fails is reported in one line on the errors, after an explanation if one is wanted. What each status says
 //! stands in `specs/Drawings.antt` for `draw`, in `specs/Explorations.antt` for `explore`, and for the others in
-//! `pd_arguments/specs/Statuses.antt`.
+//! `app_arguments/specs/Statuses.antt`.
 //!
 //! - `program`: one run of the program, from its arguments to its exit status
 //! - `parser_error`: reports what the command line's parser has to say

@@ -1,5 +1,5 @@
 //! Writes a line to the errors.
-ghost use Rattle.pd_arguments.specs.Statuses.{WritesUpTo};
+ghost use Rattle.app_arguments.specs.Statuses.{WritesUpTo};
 ghost use Rattle.std.specs.Io.KnownBytes.{Appends, Keeps};
 ghost use Rattle.std.specs.Prelude.{◌≡◌, ◌≤◌, IfSome, None, length, take};
 

@@ -12,7 +12,7 @@ const PAUSE: u64 = 10;
 /// Accepts connections to ports. What a connection has to give may be known, as it is in proofs over a network that is
 /// made up; of the system's network nothing is known.
 pub trait Network {
-    ghost use Rattle.pd_judgement.specs.Writes.{Source};
+    ghost use Rattle.def_judgement.specs.Writes.{Source};
     ghost use Rattle.std.specs.Prelude.{◌≡◌, Bool, IfOk, IfSome, IsOk, IsSome, ℕ, None, false, true};
 
     /// A port that is bound.

@@ -1,15 +1,15 @@
 //! One run of the program.
-ghost use Rattle.pd_arguments.specs.Arguments.{port_limit};
+ghost use Rattle.app_arguments.specs.Arguments.{port_limit};
 ghost use Rattle.pd_cli.specs.Drawings.{EndsDrawn, RunsAsAsked};
 ghost use Rattle.pd_cli.specs.FileSources.{bytes_in};
 ghost use Rattle.pd_cli.specs.Explained.{Explained};
 ghost use Rattle.pd_cli.specs.Explorations.{OfPage};
-ghost use Rattle.pd_explore.specs.Sources.{AreFilesOf};
-ghost use Rattle.pd_wish.specs.Wishes.{wish_view};
-ghost use Rattle.pd_fail_on.specs.Views.{fail_on_view};
-ghost use Rattle.pd_arguments.specs.Statuses.{Ends, JudgementLeaves, LeavesOf, MayBeUnread, OfConnections, OfFinding, OfStreams, ServiceMayFail, SessionLeaves, UnreadClaim, sources_of};
-ghost use Rattle.pd_arguments.specs.Views.{keep_view, session_view};
-ghost use Rattle.pd_judgement.specs.Writes.{WritesTruthOfBundle};
+ghost use Rattle.judge_explore.specs.Sources.{AreFilesOf};
+ghost use Rattle.out_picture.specs.Wishes.{wish_view};
+ghost use Rattle.app_arguments.specs.ConditionViews.{fail_on_view};
+ghost use Rattle.app_arguments.specs.Statuses.{Ends, JudgementLeaves, LeavesOf, MayBeUnread, OfConnections, OfFinding, OfStreams, ServiceMayFail, SessionLeaves, UnreadClaim, sources_of};
+ghost use Rattle.app_arguments.specs.Views.{keep_view, session_view};
+ghost use Rattle.def_judgement.specs.Writes.{WritesTruthOfBundle};
 ghost use Rattle.pd_spec.specs.Views.{options_view};
 ghost use Rattle.std.specs.Prelude.{◌≡◌, ◌≢◌, ◌≤◌, ◌∷◌, [], drop, false, length, map, vec_len, None};
 
@@ -32,10 +32,10 @@ use super::server::serve;
 use super::status::{
     report_bundle, report_end, report_exploration, report_judgement, report_service_end,
 };
-use pd_arguments::{Exploration, Judgement, Request, Service, SessionNames, parse};
+use app_arguments::{Exploration, Judgement, Request, Service, SessionNames, parse};
+use app_peers::Peers;
+use out_picture::Wish;
 use pd_engine::ByteSource;
-use pd_peers::Peers;
-use pd_wish::Wish;
 use std::alloc::Global;
 use std::io::Write;
 use std::random::RandomSource;

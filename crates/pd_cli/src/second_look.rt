@@ -1,11 +1,11 @@
 //! Reads the files of a session again, for an explanation.
 use super::file_source::FileSource;
 use super::session_files::read_document;
-use pd_arguments::SessionNames;
+use app_arguments::SessionNames;
+use app_explain::{Widest, joined_name};
+use def_format::{REPORT_BYTE_LIMIT, STREAM_BYTE_LIMIT};
+use judge_session::read_upto;
 use pd_engine::Spec;
-use pd_explain::{Widest, joined_name};
-use pd_format::{REPORT_BYTE_LIMIT, STREAM_BYTE_LIMIT};
-use pd_sessions::read_upto;
 use pd_spec::{Options, document_text};
 use std::alloc::{AllocError, Global};
 

@@ -1,6 +1,6 @@
 //! Who sent the streams of a server, for an explanation.
-use pd_explain::{Sender, joined_name};
-use pd_peers::Peers;
+use app_explain::{Sender, joined_name};
+use app_peers::Peers;
 use std::alloc::{AllocError, Global};
 
 /// What is known of who sent a stream.

@@ -1,15 +1,15 @@
 //! Judges a session whose streams come by connections.
-ghost use Rattle.pd_arguments.specs.Arguments.{port_limit};
+ghost use Rattle.app_arguments.specs.Arguments.{port_limit};
 ghost use Rattle.pd_cli.specs.FileSources.{IsReadOf, ReadLeaves};
 ghost use Rattle.pd_cli.specs.Faults.{is_out_of_memory, judgement_ending, service_ending};
 ghost use Rattle.pd_cli.specs.declared.service_fault.ServiceFault.TheVariants as faults;
-ghost use Rattle.pd_fail_on.specs.Conditions.{Condition};
-ghost use Rattle.pd_format.specs.Documents.{IsDocument, inquiry_of};
-ghost use Rattle.pd_judgement.specs.Headline.{is_judged};
-ghost use Rattle.pd_arguments.specs.Statuses.{LeavesOf, MayBeUnread, OfConnections, OfStreams, ServiceMayFail};
-ghost use Rattle.pd_arguments.specs.Views.{keep_view};
+ghost use Rattle.app_arguments.specs.Conditions.{Condition};
+ghost use Rattle.def_format.specs.Documents.{IsDocument, inquiry_of};
+ghost use Rattle.def_judgement.specs.Headline.{is_judged};
+ghost use Rattle.app_arguments.specs.Statuses.{LeavesOf, MayBeUnread, OfConnections, OfStreams, ServiceMayFail};
+ghost use Rattle.app_arguments.specs.Views.{keep_view};
 ghost use Rattle.pd_report.specs.Views.{report_view};
-ghost use Rattle.pd_sessions.specs.Inquiries.{inquiry_view};
+ghost use Rattle.judge_session.specs.Inquiries.{inquiry_view};
 ghost use Rattle.pd_spec.specs.Views.{IsFaultOf, document_view, options_view};
 ghost use Rattle.std.specs.Prelude.{◌≡◌, ◌≢◌, ◌⊎◌, ◌↔◌, ◌+◌, ◌<◌, ◌≤◌, ◌∷◌, ℕ, All, List, Option, Err, IfErr, IfOk, IfSome, IsOk, IsSome, MatchResult, None, Ok, Some, [], false, length, map, true};
 
@@ -22,13 +22,13 @@ use super::service_fault::ServiceFault;
 use super::service_notices::ServiceNotices;
 use super::session_files::read_document;
 use super::watchers::Watchers;
-use pd_arguments::Workers;
+use app_arguments::Workers;
+use app_peers::{Keeping, Notices, Peer, RecordingSource};
+use def_judgement::one_document;
+use judge_session::EngineFault;
 use pd_engine::{
     ByteSource, Crew, Inquiry, NoGate, Observer, Report, Spec, SpecFault, judge_inquiry_watched,
 };
-use pd_judgement::one_document;
-use pd_peers::{HeardSource, Keeping, Notices, Peer};
-use pd_sessions::EngineFault;
 use std::alloc::{AllocError, Global};
 use std::io::Write;
 use std::random::RandomSource;
@@ -112,7 +112,7 @@ fn accept_stream<'a, F, N: Network, W: Write + Drop, T: Notices>(
     place: usize,
     keeping: Option<Keeping<'a, W, T>>,
     notices: &'a T,
-) -> Result<HeardSource<'a, N::Connection, W, T>, ServiceFault>
+) -> Result<RecordingSource<'a, N::Connection, W, T>, ServiceFault>
     ensures given { IfOk result (λ stream. (port : ℕ) → N.is_on listener.now port
         → N.may_give host.now.network.now port (N.Connection.left stream.source)) }
     ensures open { IfOk result (λ stream. N.Connection.has_ended stream.source ≡ false) }
@@ -124,7 +124,7 @@ fn accept_stream<'a, F, N: Network, W: Write + Drop, T: Notices>(
         Ok(Some(connection)) => {
             note_address(host, &connection, host.peers.at(place));
             notices.has_connected(place);
-            Ok(HeardSource::new(host.alloc, connection, place, host.peers, keeping, notices))
+            Ok(RecordingSource::new(host.alloc, connection, place, host.peers, keeping, notices))
         }
         Ok(None) => Err(ServiceFault::Late),
         Err(_) => Err(ServiceFault::Network),
@@ -143,7 +143,7 @@ fn accept_streams<'a, F, N: Network, W: Write + Drop, T: Notices>(
     end: Option<Instant>,
     kept: Vec<Keeping<'a, W, T>>,
     notices: &'a T,
-) -> Result<Vec<HeardSource<'a, N::Connection, W, T>>, ServiceFault>
+) -> Result<Vec<RecordingSource<'a, N::Connection, W, T>>, ServiceFault>
     ensures count { IfOk result (λ streams. length streams.items ≡ count) }
     ensures given { IfOk result (λ streams. (port : ℕ) → N.is_on listener port
         → All (λ stream. N.may_give host.now.network.now port (N.Connection.left stream.source))
@@ -173,7 +173,7 @@ fn accept_streams<'a, F, N: Network, W: Write + Drop, T: Notices>(
 /// Notes of each of these streams how it begins, as far as it has come.
 fn note_starts<F, N: Network, W, T>(
     host: &Host<'_, F, N>,
-    streams: &[HeardSource<'_, N::Connection, W, T>],
+    streams: &[RecordingSource<'_, N::Connection, W, T>],
 ) {
     for (place, stream) in streams.iter().enumerate() {
         if let Some(peer) = host.peers.at(place) {

@@ -1,5 +1,5 @@
 //! Why a server gives no report.
-use pd_sessions::EngineFault;
+use judge_session::EngineFault;
 use std::alloc::{AllocError, AllocFailed};
 
 /// What kept a server from its report. None of these says anything about what was read.
@@ -28,7 +28,7 @@ impl From<EngineFault> for ServiceFault {
 
 impl From<AllocError> for ServiceFault {
     ghost use Rattle.pd_cli.specs.declared.service_fault.ServiceFault.TheVariants.{Engine};
-    ghost use Rattle.pd_sessions.specs.declared.fault.EngineFault.TheVariants.{Memory};
+    ghost use Rattle.judge_session.specs.declared.fault.EngineFault.TheVariants.{Memory};
     ghost use Rattle.std.specs.Prelude.{◌≡◌};
 
     ghost from_gives = { λ _ fault. fault ≡ Engine Memory };
@@ -40,7 +40,7 @@ impl From<AllocError> for ServiceFault {
 
 impl<T: Drop> From<AllocFailed<T>> for ServiceFault {
     ghost use Rattle.pd_cli.specs.declared.service_fault.ServiceFault.TheVariants.{Engine};
-    ghost use Rattle.pd_sessions.specs.declared.fault.EngineFault.TheVariants.{Memory};
+    ghost use Rattle.judge_session.specs.declared.fault.EngineFault.TheVariants.{Memory};
     ghost use Rattle.std.specs.Prelude.{◌≡◌};
 
     ghost from_gives = { λ _ fault. fault ≡ Engine Memory };

@@ -5,13 +5,13 @@ use super::host::Host;
 use super::kept_session::stream_names;
 use super::network::Network;
 use super::senders::{known_senders, senders};
-use pd_engine::{Spec, StreamFault};
-use pd_explain::{
+use app_explain::{
     StreamFault as NamedFault, joined_name, tell_connection, tell_ports, tell_refusal, tell_start,
     tell_stop,
 };
-use pd_peers::Notices;
-use pd_sessions::stream_word;
+use app_peers::Notices;
+use judge_session::stream_word;
+use pd_engine::{Spec, StreamFault};
 use std::alloc::{AllocError, Global};
 use std::io;
 use std::io::ErrorKind;

@@ -1,15 +1,15 @@
 //! Opens and reads the files of a session.
-ghost use Rattle.pd_arguments.specs.Statuses.{MayBeUnread, sources_of};
-ghost use Rattle.pd_arguments.specs.Views.{session_view};
+ghost use Rattle.app_arguments.specs.Statuses.{MayBeUnread, sources_of};
+ghost use Rattle.app_arguments.specs.Views.{session_view};
 ghost use Rattle.pd_cli.specs.FileSources.{IsReadOf, Knows};
 ghost use Rattle.std.specs.List.{AllZip};
 ghost use Rattle.std.specs.Prelude.{◌≡◌, ◌≢◌, ◌⊎◌, ◌∷◌, [], All, Err, IfErr, IfOk, Some, false, map, true};
 
 use super::file_source::FileSource;
-use pd_arguments::SessionNames;
+use app_arguments::SessionNames;
+use def_format::DOCUMENT_BYTE_LIMIT;
+use judge_session::{EngineFault, read_upto};
 use pd_engine::ByteSource;
-use pd_format::DOCUMENT_BYTE_LIMIT;
-use pd_sessions::{EngineFault, read_upto};
 use std::alloc::Global;
 
 /// Opens these files in their order.

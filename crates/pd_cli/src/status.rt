@@ -1,17 +1,17 @@
 //! Exit statuses, and what is reported on the errors.
 ghost use Rattle.pd_cli.specs.Faults.{concluded_ending, ending_view, exploration_ending, failure_view, judged_ending, judgement_ending, report_ending, service_ending};
-ghost use Rattle.pd_fail_on.specs.Conditions.{conclusion};
-ghost use Rattle.pd_fail_on.specs.Views.{conclusion_view, fail_on_view};
-ghost use Rattle.pd_judgement.specs.Headline.{is_judged};
-ghost use Rattle.pd_arguments.specs.Statuses.{IsLineOf, IsNoPredicateLine, NetworkFailure, Reports, WritesUpTo, line_of_failure, status_of, status_of_failure};
+ghost use Rattle.app_arguments.specs.Conditions.{conclusion};
+ghost use Rattle.app_arguments.specs.ConditionViews.{conclusion_view, fail_on_view};
+ghost use Rattle.def_judgement.specs.Headline.{is_judged};
+ghost use Rattle.app_arguments.specs.Statuses.{IsLineOf, IsNoPredicateLine, NetworkFailure, Reports, WritesUpTo, line_of_failure, status_of, status_of_failure};
 ghost use Rattle.pd_report.specs.Views.{report_view};
 ghost use Rattle.std.specs.Prelude.{◌≡◌};
 
 use super::line::write_line;
 use super::service_fault::ServiceFault;
+use app_arguments::{Conclusion, FailOn};
+use judge_session::EngineFault;
 use pd_engine::{Outcome, Report, report_outcome};
-use pd_fail_on::{Conclusion, FailOn};
-use pd_sessions::EngineFault;
 use std::io::Write;
 
 /// The session is judged and has no answer to fail on, nothing that a check found is bad, or the help that was asked

@@ -3,8 +3,8 @@ ghost use Rattle.pd_register.specs.Seats.{IsWatcherOf, watched_history};
 ghost use mathlib.Core.List.{IsPrefix};
 
 use super::network::Network;
+use judge_session::write_snapshot;
 use pd_engine::{Observer, Register, Spec, Watcher};
-use pd_sessions::write_snapshot;
 use std::alloc::Global;
 use std::io::Write;
 use std::sync::Wait;

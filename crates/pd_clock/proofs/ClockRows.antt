@@ -6,14 +6,14 @@ use Rattle.std.proofs.lemmas.Bool.{cases_lt, cases_eq}
 use Rattle.std.proofs.lemmas.List.{get_or_append_left, get_or-append-add, get_or_past, get_or-set_same, get_or-set_other}
 use Rattle.std.proofs.lemmas.Option.{slice_get_past, slice_get_read, same_Some}
 use Rattle.std.proofs.lemmas.Nat.{mul-add-lt}
-use Rattle.pd_model.specs.Events.{Computation, Place, place, IsEvent}
-use Rattle.pd_model.specs.Messages.{IsMessage}
-use Rattle.pd_model.specs.Order.{IsClock}
-use Rattle.pd_model.specs.Cuts.{one_more}
-use Rattle.pd_model.proofs.Consistency.{process_in_range}
-use Rattle.pd_model.proofs.Counts.{more_other}
+use Rattle.def_model.specs.Events.{Computation, Place, place, IsEvent}
+use Rattle.def_model.specs.Messages.{IsMessage}
+use Rattle.def_model.specs.Order.{IsClock}
+use Rattle.def_model.specs.Cuts.{one_more}
+use Rattle.def_model.proofs.Consistency.{process_in_range}
+use Rattle.def_model.proofs.Counts.{more_other}
 use Rattle.pd_clock.specs.Orders.{IsDone, IsOrdered, IsEmptyOrder, CanGo, HasClocks, HasRows, clocks_in, clocks_of, clock_at, count_of, next_of}
-use Rattle.pd_model.proofs.ClockSteps.{CountsWhere, IsUpToOwn, IsUpToSend, clock_step, own_clock, own_counted, none_own, send_counted, none_sent}
+use Rattle.def_model.proofs.ClockSteps.{CountsWhere, IsUpToOwn, IsUpToSend, clock_step, own_clock, own_counted, none_own, send_counted, none_sent}
 use Rattle.pd_clock.proofs.OrderSteps.{IsSendOf, send_event, next_event, go_within, more_here, old_or_next, order_more, zeros_at, no_cycle_in_order}
 
 pub clocks_none : (c : Computation) (n : ℕ) (done : List ℕ) (clocks : List (Vec ℕ Global)) → n ≡ length c

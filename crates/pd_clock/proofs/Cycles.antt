@@ -6,9 +6,9 @@ use Rattle.std.proofs.lemmas.Bool.Decides.{nat_tests}
 use Rattle.std.proofs.lemmas.List.{get_or-map, length-map}
 use Rattle.std.proofs.lemmas.List.Quantifiers.{position-Some}
 use Rattle.std.proofs.lemmas.List.Sums.{fails_before_first}
-use Rattle.pd_model.specs.Events.{Computation, place, IsEvent, event_count}
-use Rattle.pd_model.specs.Order.{IsStuck, IsFirstStuck}
-use Rattle.pd_model.proofs.StuckWay.{IsNew, stuck_event}
+use Rattle.def_model.specs.Events.{Computation, place, IsEvent, event_count}
+use Rattle.def_model.specs.Order.{IsStuck, IsFirstStuck}
+use Rattle.def_model.proofs.StuckWay.{IsNew, stuck_event}
 use Rattle.pd_clock.specs.Orders.{LeavesStuck, places_view}
 use Rattle.pd_match.specs.Views.{place_view}
 use Rattle.pd_match.specs.declared.place.Place.{Place}

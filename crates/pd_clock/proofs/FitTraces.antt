@@ -3,14 +3,14 @@ use Rattle.std.proofs.Common.{◌≡◌, ℕ, zero, suc, ◌≤◌, List, [], �
 use Rattle.std.specs.Prelude.{slice_get, slice_index_or, Vec}
 use Rattle.std.specs.Global.{Global}
 use Rattle.std.proofs.lemmas.List.{length-map}
-use Rattle.pd_model.specs.Events.{Event, events_of, event_count}
-use Rattle.pd_format.specs.Limits.{event_limit, process_limit}
-use Rattle.pd_format.specs.Names.{ProcessNames, vars_of}
-use Rattle.pd_format.specs.ReadingLaws.{FitsProcess}
-use Rattle.pd_traces.specs.InitialRows.{AreInitialRows}
-use Rattle.pd_traces.specs.SessionTraces.{AreTraces}
-use Rattle.pd_traces.specs.Views.{computation_view}
-use Rattle.pd_traces.specs.declared.event.Trace.{Trace}
+use Rattle.def_model.specs.Events.{Event, events_of, event_count}
+use Rattle.def_format.specs.Limits.{event_limit, process_limit}
+use Rattle.def_format.specs.Names.{ProcessNames, vars_of}
+use Rattle.def_format.specs.ReadingLaws.{FitsProcess}
+use Rattle.read_traces.specs.InitialRows.{AreInitialRows}
+use Rattle.read_traces.specs.SessionTraces.{AreTraces}
+use Rattle.read_traces.specs.Views.{computation_view}
+use Rattle.read_traces.specs.declared.event.Trace.{Trace}
 use Rattle.pd_clock.specs.Histories.{AreVars}
 use Rattle.pd_clock.specs.Computations.{FitsInitial, initial_view}
 use Rattle.pd_clock.specs.States.{values_at}

@@ -3,7 +3,7 @@ use Rattle.std.proofs.Common.{◌≡◌, ℕ, ℤ, ◌+◌, ◌<◌, List, ◌�
 use Rattle.std.specs.Prelude.{slice_get, slice_set}
 use Rattle.std.proofs.lemmas.List.{drop_more}
 use Rattle.std.proofs.lemmas.Option.{get_or_from_slice_get, slice_get_within, same_Some}
-use Rattle.pd_model.specs.Events.{Event}
+use Rattle.def_model.specs.Events.{Event}
 use Rattle.pd_clock.specs.Histories.{AreVars, row_after, rows_after}
 
 -- the rest of a list from an element on

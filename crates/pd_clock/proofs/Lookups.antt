@@ -5,13 +5,13 @@ use Rattle.std.specs.Global.{Global}
 use Rattle.std.proofs.lemmas.Bool.{cases_lt, lt-ltb, le-ltb}
 use Rattle.std.proofs.lemmas.Option.{slice_get-get_or, slice_get_past}
 use Rattle.std.proofs.Math.Nat.{mul-le-mul_right}
-use Rattle.pd_model.specs.Events.{event_count, events_of}
-use Rattle.pd_model.specs.Cuts.{FitsProcesses}
-use Rattle.pd_model.specs.Predicates.{last_set_if_there, state_at}
+use Rattle.def_model.specs.Events.{event_count, events_of}
+use Rattle.def_model.specs.Cuts.{FitsProcesses}
+use Rattle.def_model.specs.Predicates.{last_set_if_there, state_at}
 use Rattle.pd_clock.specs.Histories.{rows_after}
-use Rattle.pd_traces.specs.declared.event.Trace.{Trace}
+use Rattle.read_traces.specs.declared.event.Trace.{Trace}
 use Rattle.pd_clock.specs.Computations.{Keeps, initial_view}
-use Rattle.pd_traces.specs.Views.{computation_view}
+use Rattle.read_traces.specs.Views.{computation_view}
 use Rattle.std.proofs.lemmas.List.{length-map}
 use Rattle.pd_clock.specs.States.{IsLookedUp, values_at, value_at}
 use Rattle.pd_clock.proofs.Rows.{history-at, length-rows_after}

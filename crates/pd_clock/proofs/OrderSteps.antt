@@ -3,14 +3,14 @@ use Rattle.std.proofs.Common.{◌≡◌, ℕ, ◌+◌, ◌-◌, ◌<◌, ◌≤�
 use Rattle.std.specs.Prelude.{nat_lt, nat_le, ◌&&◌, Option, Some, None, Contains, IfSome}
 use Rattle.std.proofs.lemmas.Bool.{cases_lt, cases_eq, lt-ltb, le-ltb, le-leb, ltb-true, leb-true, and_from, and_parts}
 use Rattle.std.proofs.lemmas.List.{get_or-replicate, length-replicate, get_or_past}
-use Rattle.pd_model.specs.Events.{Send, Computation, Place, place, IsEvent, event_count}
-use Rattle.pd_model.specs.Messages.{IsMessage, IsMessageList}
-use Rattle.pd_model.specs.Order.{LeadsTo, HappenedBefore, IsStuck}
-use Rattle.pd_model.specs.Cuts.{Includes, one_more, full_cut, total}
-use Rattle.pd_model.proofs.Chains.{same_place, happens_elim, event_from_kind, events_of_step}
-use Rattle.pd_model.proofs.Consistency.{process_in_range}
-use Rattle.pd_model.proofs.Counts.{length_more, more_same, more_other, sum_more, sum_le, length_full, full_at}
-use Rattle.pd_model.proofs.Stuck.{stuck_exactly}
+use Rattle.def_model.specs.Events.{Send, Computation, Place, place, IsEvent, event_count}
+use Rattle.def_model.specs.Messages.{IsMessage, IsMessageList}
+use Rattle.def_model.specs.Order.{LeadsTo, HappenedBefore, IsStuck}
+use Rattle.def_model.specs.Cuts.{Includes, one_more, full_cut, total}
+use Rattle.def_model.proofs.Chains.{same_place, happens_elim, event_from_kind, events_of_step}
+use Rattle.def_model.proofs.Consistency.{process_in_range}
+use Rattle.def_model.proofs.Counts.{length_more, more_same, more_other, sum_more, sum_le, length_full, full_at}
+use Rattle.def_model.proofs.Stuck.{stuck_exactly}
 use Rattle.pd_clock.specs.Orders.{IsDone, IsOrdered, CanGo, Waits, LeavesStuck, next_of}
 
 -- the send of e's message, if it has one, is the one that was found

@@ -3,10 +3,10 @@ use Rattle.std.proofs.Common.{◌≡◌, ℕ, zero, suc, ◌<◌, ◌≤◌, Lis
 use Rattle.std.specs.Prelude.{slice_get, Vec}
 use Rattle.std.specs.Global.{Global}
 use Rattle.std.proofs.lemmas.Option.{slice_get_read, slice_get_past}
-use Rattle.pd_model.specs.Events.{events_of}
-use Rattle.pd_model.proofs.ListPrefixes.{get_push_before, get_push_last}
-use Rattle.pd_traces.specs.declared.event.Trace.{Trace}
-use Rattle.pd_traces.specs.Views.{computation_view}
+use Rattle.def_model.specs.Events.{events_of}
+use Rattle.def_model.proofs.ListPrefixes.{get_push_before, get_push_last}
+use Rattle.read_traces.specs.declared.event.Trace.{Trace}
+use Rattle.read_traces.specs.Views.{computation_view}
 use Rattle.pd_clock.specs.States.{values_at, values_in}
 
 pub got : {A : Type 0} (xs : List A) (p : ℕ) (x : A) → p < length xs → x ≡ get_or xs p x → slice_get xs p ≡ Some x

@@ -7,15 +7,15 @@ use Rattle.std.proofs.lemmas.Bool.Decides.{eqb_tells}
 use Rattle.std.proofs.lemmas.List.{get_or_past, get_or_read}
 use Rattle.std.proofs.lemmas.Nat.{mul-add-lt}
 use Rattle.std.proofs.Math.Nat.{mul-le-mul_right}
-use Rattle.pd_model.specs.Events.{Computation, Place, place, IsEvent, event_count}
-use Rattle.pd_model.specs.Order.{HasNoCycle, IsClock}
-use Rattle.pd_model.specs.Cuts.{FitsProcesses, IsConsistent, full_cut}
-use Rattle.pd_model.proofs.Chains.{same_place}
-use Rattle.pd_model.proofs.ClockLemmas.{clocks_decide}
-use Rattle.pd_model.proofs.Consistency.{process_in_range}
-use Rattle.pd_model.proofs.Counts.{full_at}
-use Rattle.pd_model.proofs.Stuck.{none_stuck}
-use Rattle.pd_model.proofs.ClockSteps.{own_count}
+use Rattle.def_model.specs.Events.{Computation, Place, place, IsEvent, event_count}
+use Rattle.def_model.specs.Order.{HasNoCycle, IsClock}
+use Rattle.def_model.specs.Cuts.{FitsProcesses, IsConsistent, full_cut}
+use Rattle.def_model.proofs.Chains.{same_place}
+use Rattle.def_model.proofs.ClockLemmas.{clocks_decide}
+use Rattle.def_model.proofs.Consistency.{process_in_range}
+use Rattle.def_model.proofs.Counts.{full_at}
+use Rattle.def_model.proofs.Stuck.{none_stuck}
+use Rattle.def_model.proofs.ClockSteps.{own_count}
 use Rattle.pd_clock.specs.Orders.{HasClocks, LeavesStuck, clock_at, clocks_in, clocks_of}
 use Rattle.pd_clock.specs.Pasts.{HasPast, HasPasts, Reach}
 use Rattle.pd_clock.proofs.Parts.{got}

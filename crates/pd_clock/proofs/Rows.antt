@@ -4,8 +4,8 @@ use Rattle.std.specs.Prelude.{nat_eq}
 use Rattle.std.proofs.lemmas.List.{length-set, get_or-set_same, get_or-set_other, get_or_append_left, get_or-append-add}
 use Rattle.std.proofs.lemmas.Bool.Decides.{eqb_tells}
 use Rattle.std.proofs.Common.{◌⊎◌, inl, inr, ◌≢◌}
-use Rattle.pd_model.specs.Events.{Event}
-use Rattle.pd_model.specs.Predicates.{after_sets, last_set}
+use Rattle.def_model.specs.Events.{Event}
+use Rattle.def_model.specs.Predicates.{after_sets, last_set}
 use Rattle.pd_clock.specs.Histories.{row_after, rows_after}
 
 pub length-row_after : (row : List ℤ) (sets : List (ℕ × ℤ)) → length (row_after row sets) ≡ length row

@@ -3,12 +3,12 @@ use Rattle.std.proofs.Common.{◌≡◌, ℕ, ◌+◌, ◌-◌, ◌*◌, ◌<◌
 use Rattle.std.specs.Prelude.{Vec}
 use Rattle.std.specs.Global.{Global}
 use Rattle.std.proofs.lemmas.Bool.{cases_eq}
-use Rattle.pd_model.specs.Events.{Computation, place, IsEvent, event_count}
-use Rattle.pd_model.specs.Order.{HappenedBefore, HasNoCycle, IsClock}
-use Rattle.pd_model.specs.Cuts.{IsConsistent, empty_cut, full_cut, one_less}
-use Rattle.pd_model.proofs.Counts.{empty_at, in_range, length_less, less_other, less_same}
-use Rattle.pd_model.proofs.Steps.{empty_consistent}
-use Rattle.pd_model.proofs.Undoing.{undo_at}
+use Rattle.def_model.specs.Events.{Computation, place, IsEvent, event_count}
+use Rattle.def_model.specs.Order.{HappenedBefore, HasNoCycle, IsClock}
+use Rattle.def_model.specs.Cuts.{IsConsistent, empty_cut, full_cut, one_less}
+use Rattle.def_model.proofs.Counts.{empty_at, in_range, length_less, less_other, less_same}
+use Rattle.def_model.proofs.Steps.{empty_consistent}
+use Rattle.def_model.proofs.Undoing.{undo_at}
 use Rattle.pd_clock.specs.Orders.{HasClocks, clock_at, clocks_of}
 use Rattle.pd_clock.specs.Pasts.{HasPasts, IsInNoPast}
 use Rattle.pd_clock.proofs.PastFacts.{consistent_exactly, is_clock}

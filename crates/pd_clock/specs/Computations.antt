@@ -1,13 +1,13 @@
 -- What the parts of a computation stand for.
 use Rattle.std.specs.Prelude.{◌≡◌, ℕ, ◌≤◌, ◌++◌, List, length, map, All, ℤ, Vec, slice_get, Some}
 use Rattle.std.specs.Global.{Global}
-use Rattle.pd_model.specs.Events.{Event, events_of, event_count}
-use Rattle.pd_format.specs.Limits.{event_limit, process_limit}
-use Rattle.pd_model.specs.Predicates.{Initial, Recorded}
+use Rattle.def_model.specs.Events.{Event, events_of, event_count}
+use Rattle.def_format.specs.Limits.{event_limit, process_limit}
+use Rattle.def_model.specs.Predicates.{Initial, Recorded}
 use Rattle.pd_clock.specs.States.{values_at}
 use Rattle.pd_clock.specs.Histories.{AreVars, rows_after}
-use Rattle.pd_traces.specs.Views.{computation_view}
-use Rattle.pd_traces.specs.declared.event.Trace.{Trace}
+use Rattle.read_traces.specs.Views.{computation_view}
+use Rattle.read_traces.specs.declared.event.Trace.{Trace}
 
 -- the initial values of each process
 abbrev pub initial_view : List (Vec ℤ Global) → Initial

@@ -1,6 +1,6 @@
 -- The values of a process's variables after each of its events.
 use Rattle.std.specs.Prelude.{ℕ, ◌<◌, List, [], ◌∷◌, ◌++◌, slice_set, All, ℤ}
-use Rattle.pd_model.specs.Events.{Event}
+use Rattle.def_model.specs.Events.{Event}
 
 -- the values after these settings, one after another
 abbrev pub row_after : List ℤ → List (ℕ × ℤ) → List ℤ

@@ -2,10 +2,10 @@
 -- the others.
 use Rattle.std.specs.Prelude.{◌≡◌, ◌↔◌, ◌⊎◌, ℕ, ◌+◌, ◌-◌, ◌*◌, ◌<◌, ◌≤◌, List, length, map, Option, Some, None, Vec, [], replicate, slice_get, slice_index}
 use Rattle.std.specs.Global.{Global}
-use Rattle.pd_model.specs.Events as events
-use Rattle.pd_model.specs.Events.{Computation, event_count, IsEvent}
-use Rattle.pd_model.specs.Messages.{IsMessage}
-use Rattle.pd_model.specs.Order.{IsClock, IsStuck, LeadsTo}
+use Rattle.def_model.specs.Events as events
+use Rattle.def_model.specs.Events.{Computation, event_count, IsEvent}
+use Rattle.def_model.specs.Messages.{IsMessage}
+use Rattle.def_model.specs.Order.{IsClock, IsStuck, LeadsTo}
 use Rattle.pd_clock.specs.declared.fault.BuildFault.{BuildFault}
 use Rattle.pd_clock.specs.declared.fault.BuildFault.TheVariants.{Cycle, Memory}
 use Rattle.pd_match.specs.Views.{place_view}

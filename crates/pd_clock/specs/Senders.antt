@@ -1,8 +1,8 @@
 -- The sends of the receipts, by their places.
 use Rattle.std.specs.Prelude.{◌≡◌, ◌↔◌, Option, Some, option_map}
-use Rattle.pd_model.specs.Events as events
-use Rattle.pd_model.specs.Events.{Computation}
-use Rattle.pd_model.specs.Messages.{IsMessage}
+use Rattle.def_model.specs.Events as events
+use Rattle.def_model.specs.Events.{Computation}
+use Rattle.def_model.specs.Messages.{IsMessage}
 use Rattle.pd_match.specs.Views.{place_view}
 use Rattle.pd_match.specs.declared.place.Place.{Place}
 

@@ -1,17 +1,17 @@
 //! A finished computation.
 ghost use Rattle.pd_clock.specs.Computations.{FitsInitial, Keeps, recorded_view};
-ghost use Rattle.pd_traces.specs.SessionTraces.{AreTraces};
-ghost use Rattle.pd_traces.specs.Views.{computation_view};
-ghost use Rattle.pd_format.specs.Limits.{event_limit, process_limit};
+ghost use Rattle.read_traces.specs.SessionTraces.{AreTraces};
+ghost use Rattle.read_traces.specs.Views.{computation_view};
+ghost use Rattle.def_format.specs.Limits.{event_limit, process_limit};
 ghost use Rattle.pd_clock.specs.Orders.{cycle_view};
 ghost use Rattle.pd_clock.specs.Senders.{IsSender};
 ghost use Rattle.pd_clock.specs.StateViews.{state_view};
-ghost use Rattle.pd_model.specs.Cuts.{FitsProcesses, IsConsistent, one_less, total};
+ghost use Rattle.def_model.specs.Cuts.{FitsProcesses, IsConsistent, one_less, total};
 ghost use Rattle.pd_match.specs.Views.{place_view};
-ghost use Rattle.pd_model.specs.Events.{IsEvent, event_count};
-ghost use Rattle.pd_model.specs.Messages.{IsMessageList};
-ghost use Rattle.pd_model.specs.Order.{HappenedBefore, HasNoCycle, IsClock, IsReportedCycle};
-ghost use Rattle.pd_model.specs.Predicates.{state_at};
+ghost use Rattle.def_model.specs.Events.{IsEvent, event_count};
+ghost use Rattle.def_model.specs.Messages.{IsMessageList};
+ghost use Rattle.def_model.specs.Order.{HappenedBefore, HasNoCycle, IsClock, IsReportedCycle};
+ghost use Rattle.def_model.specs.Predicates.{state_at};
 ghost use Rattle.std.specs.Prelude.{◌≡◌, ◌<◌, ◌≤◌, ◌*◌, ◌↔◌, ℕ, List, IfErr, IfOk, IfSome, IsTrue, length, slice_index};
 
 use super::clocks::{has_pasts, is_in_no_past};
@@ -21,7 +21,7 @@ use super::order::{Order, put_in_order};
 use super::state::value_in_history;
 use super::{BuildFault, Cut, State};
 use pd_match::{Matched, Place};
-use pd_traces::{InitialValues, Trace};
+use read_traces::{InitialValues, Trace};
 use std::alloc::{AllocError, Global};
 use std::marker::Model;
 
@@ -37,13 +37,13 @@ pub struct Computation<'a> {
 }
 
 impl<'a> Model for Computation<'a> {
-    ghost use Rattle.pd_model.specs.Predicates.{Recorded};
+    ghost use Rattle.def_model.specs.Predicates.{Recorded};
     ghost use Rattle.pd_clock.specs.Computations.{initial_view, recorded_view, Keeps};
-    ghost use Rattle.pd_traces.specs.Views.{computation_view};
+    ghost use Rattle.read_traces.specs.Views.{computation_view};
     ghost use Rattle.pd_clock.specs.Orders.{HasClocks};
-    ghost use Rattle.pd_model.specs.Messages.{IsMessageList};
-    ghost use Rattle.pd_model.specs.Cuts.{full_cut};
-    ghost use Rattle.pd_model.specs.Order.{HasNoCycle};
+    ghost use Rattle.def_model.specs.Messages.{IsMessageList};
+    ghost use Rattle.def_model.specs.Cuts.{full_cut};
+    ghost use Rattle.def_model.specs.Order.{HasNoCycle};
     ghost use Rattle.std.specs.Prelude.{length};
 
     ghost Value = { Recorded };

@@ -1,9 +1,9 @@
 //! Counts of events, one for each process.
 ghost use Rattle.std.specs.Prelude.{◌≡◌, ◌<◌, ◌≤◌, length, slice_index, IfOk, IsOk};
-ghost use Rattle.pd_format.specs.Limits.{process_limit};
-ghost use Rattle.pd_model.specs.Cuts.{one_less, one_more};
+ghost use Rattle.def_format.specs.Limits.{process_limit};
+ghost use Rattle.def_model.specs.Cuts.{one_less, one_more};
 
-use pd_format::PROCESS_LIMIT;
+use def_format::PROCESS_LIMIT;
 use smallvec::SmallVec;
 use std::alloc::{AllocError, Global};
 use std::marker::Model;

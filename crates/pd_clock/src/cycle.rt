@@ -1,15 +1,15 @@
 //! The causal cycle that is reported.
 ghost use Rattle.pd_clock.specs.Orders.{LeavesStuck, places_view};
-ghost use Rattle.pd_traces.specs.Views.{computation_view};
+ghost use Rattle.read_traces.specs.Views.{computation_view};
 ghost use Rattle.pd_match.specs.Views.{place_view};
-ghost use Rattle.pd_model.specs.Events as events;
-ghost use Rattle.pd_model.specs.Events.{place};
-ghost use Rattle.pd_model.specs.Messages.{IsMessageList};
-ghost use Rattle.pd_model.specs.Order.{GoesBackTo, HasNoCycle, IsFirstStuck, IsLeastStuck, IsReportedCycle, IsStuck};
+ghost use Rattle.def_model.specs.Events as events;
+ghost use Rattle.def_model.specs.Events.{place};
+ghost use Rattle.def_model.specs.Messages.{IsMessageList};
+ghost use Rattle.def_model.specs.Order.{GoesBackTo, HasNoCycle, IsFirstStuck, IsLeastStuck, IsReportedCycle, IsStuck};
 ghost use Rattle.std.specs.Prelude.{◌≡◌, ◌==◌, ◌<◌, ℕ, IfOk, IfNone, IfSome, drop, length, position};
 
 use pd_match::{Matched, Place};
-use pd_traces::Trace;
+use read_traces::Trace;
 use std::alloc::{AllocError, Global};
 
 /// The cycle that is reported, if there is one: `done` has for each process how many of its first events are not stuck

@@ -1,9 +1,9 @@
 //! The values of one process's variables after each of its events.
 ghost use Rattle.pd_clock.specs.Histories.{AreVars, row_after, rows_after};
-ghost use Rattle.pd_model.specs.Events.{Event};
+ghost use Rattle.def_model.specs.Events.{Event};
 ghost use Rattle.std.specs.Prelude.{◌≡◌, ◌++◌, ◌<◌, All, IfOk, length, slice_set};
 
-use pd_traces::{Events, Settings};
+use read_traces::{Events, Settings};
 use std::alloc::{AllocError, Global};
 
 /// The row of values before the first event, and the row after each event, one after another.

@@ -1,17 +1,17 @@
 //! An order of the events in which each comes after those that happened before it.
 ghost use Rattle.pd_clock.specs.Orders.{CanGo, HasClocks, HasRows, IsEmptyOrder, IsOrdered, LeavesStuck, Waits, count_of, next_of};
-ghost use Rattle.pd_traces.specs.Views.{computation_view};
-ghost use Rattle.pd_format.specs.Limits.{event_limit, process_limit};
+ghost use Rattle.read_traces.specs.Views.{computation_view};
+ghost use Rattle.def_format.specs.Limits.{event_limit, process_limit};
 ghost use Rattle.pd_match.specs.Views.{place_view};
-ghost use Rattle.pd_model.specs.Cuts.{Includes, one_more};
-ghost use Rattle.pd_model.specs.Events.{event_count};
-ghost use Rattle.pd_model.specs.Messages.{IsMessageList};
-ghost use Rattle.pd_model.specs.Order.{IsClock};
+ghost use Rattle.def_model.specs.Cuts.{Includes, one_more};
+ghost use Rattle.def_model.specs.Events.{event_count};
+ghost use Rattle.def_model.specs.Messages.{IsMessageList};
+ghost use Rattle.def_model.specs.Order.{IsClock};
 ghost use Rattle.std.specs.Prelude.{◌≡◌, ◌<◌, ◌≤◌, ℕ, IfNone, IfOk, IfSome, IsTrue, false, length, option_map, slice_index};
 
-use pd_format::PROCESS_LIMIT;
+use def_format::PROCESS_LIMIT;
 use pd_match::{Matched, Place};
-use pd_traces::Trace;
+use read_traces::Trace;
 use std::alloc::{AllocError, Global};
 
 /// How many of the first events of each process stand in the order, and the clocks of these.

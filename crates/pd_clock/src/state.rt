@@ -2,7 +2,7 @@
 ghost use Rattle.pd_clock.specs.States.{IsLookedUp, value_at, value_in};
 ghost use Rattle.std.specs.Prelude.{◌≡◌, ◌+◌, ◌*◌, ◌≤◌, length};
 
-use pd_model::Values;
+use def_model::Values;
 
 /// The state at a cut: each variable has the value last set by an event of its process in the cut, else its initial
 /// one. The value of a variable that isn't there is 0.

@@ -1,21 +1,21 @@
 //! The question and its answer.
-ghost use Rattle.pd_format.specs.Limits.{width_limit, worker_limit};
-ghost use Rattle.pd_lists.specs.Answers.{IsLeastRoot, IsPastFirst, definitely_answer_view};
-ghost use Rattle.pd_model.specs.Answers.{IsDefinitelyAnswer};
-ghost use Rattle.pd_model.specs.Cuts.{total};
-ghost use Rattle.pd_model.specs.Predicates.{test_of};
+ghost use Rattle.def_format.specs.Limits.{width_limit, worker_limit};
+ghost use Rattle.walk_back.specs.Answers.{IsLeastRoot, IsPastFirst, definitely_answer_view};
+ghost use Rattle.def_model.specs.Answers.{IsDefinitelyAnswer};
+ghost use Rattle.def_model.specs.Cuts.{total};
+ghost use Rattle.def_model.specs.Predicates.{test_of};
 ghost use Rattle.pd_pred.specs.Views.{predicate_view};
 ghost use Rattle.std.specs.Prelude.{◌+◌, ◌*◌, ◌≤◌, ℕ, IfOk};
 
 use pd_clock::Computation;
 use pd_expand::Crew;
 use pd_level::Gate;
-use pd_lists::{Count, DefinitelyAnswer};
 use pd_pred::Pred;
-use pd_walk::answer_one;
 use std::alloc::{AllocError, Global};
 use std::sync::Wait;
 use std::thread::Threads;
+use walk::answer_one;
+use walk_back::{Count, DefinitelyAnswer};
 
 /// The answer for a predicate over a computation, under a bound on the number of the avoiding cuts of a level. From 1
 /// to 16 workers share the work on a level that has enough cuts, each on a thread of its own. A worker calls the gate

@@ -2,15 +2,15 @@
 use Rattle.std.proofs.Common.{◌≡◌, ℕ, List, length, sym, ap, subst, Ok}
 use Rattle.std.specs.Prelude.{Result}
 use Rattle.std.specs.List.{AllZip}
-use Rattle.pd_model.specs.Cuts.{total}
-use Rattle.pd_model.specs.Predicates.{Recorded}
-use Rattle.pd_format.specs.Documents.{Document}
-use Rattle.pd_format.specs.Readings as readings
-use Rattle.pd_format.specs.Reports as reports
-use Rattle.pd_format.specs.Sessions.{SessionFault, StreamResult, session}
-use Rattle.pd_judgement.specs.Judgements.{IsAnswered, IsReportOfResults, IsReportOfSession, IsTracesReport, of_answers}
-use Rattle.pd_judgement.specs.Judgements as judgements
-use Rattle.pd_sessions.specs.Computations.{AreWellFormed}
+use Rattle.def_model.specs.Cuts.{total}
+use Rattle.def_model.specs.Predicates.{Recorded}
+use Rattle.def_format.specs.Documents.{Document}
+use Rattle.def_format.specs.Readings as readings
+use Rattle.def_format.specs.Reports as reports
+use Rattle.def_format.specs.Sessions.{SessionFault, StreamResult, session}
+use Rattle.def_judgement.specs.Judgements.{IsAnswered, IsReportOfResults, IsReportOfSession, IsTracesReport, of_answers}
+use Rattle.def_judgement.specs.Judgements as judgements
+use Rattle.judge_session.specs.Computations.{AreWellFormed}
 
 -- the report with these answers
 pub answers_report : (document : Document) (traces : List readings.Trace) (recorded : Recorded) (count : ℕ)

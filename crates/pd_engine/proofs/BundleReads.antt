@@ -1,24 +1,24 @@
 -- The report of a bundle that was read part by part.
 use Rattle.std.proofs.Common.{◌≡◌, ℕ, List, [], ◌∷◌, refl, sym, subst, Option, Ok, Err}
 use Rattle.std.specs.Prelude.{IfErr, IfOk, IfSome, IsErrAnd, Result}
-use Rattle.pd_judgement.specs.Writes.{Source}
-use Rattle.pd_bundle.specs.PartsRead.{AreStreams}
-use Rattle.pd_bundle.specs.Steps.{AreParts}
-use Rattle.pd_bundle.specs.declared.fault.BundleFault.{BundleFault}
-use Rattle.pd_bundle.specs.declared.fault.BundleFault.TheVariants as bundles
-use Rattle.pd_format.specs.Documents.{Document, IsDocument, plain}
-use Rattle.pd_format.specs.Reports.{Report}
-use Rattle.pd_format.specs.Sessions.{StreamResult}
-use Rattle.pd_judgement.specs.Judgements.{IsJudgement, IsReportOfParts, IsReportOfResults, RawStream, ended_streams}
+use Rattle.def_judgement.specs.Writes.{Source}
+use Rattle.read_bundle.specs.PartsRead.{AreStreams}
+use Rattle.read_bundle.specs.Steps.{AreParts}
+use Rattle.read_bundle.specs.declared.fault.BundleFault.{BundleFault}
+use Rattle.read_bundle.specs.declared.fault.BundleFault.TheVariants as bundles
+use Rattle.def_format.specs.Documents.{Document, IsDocument, plain}
+use Rattle.def_format.specs.Reports.{Report}
+use Rattle.def_format.specs.Sessions.{StreamResult}
+use Rattle.def_judgement.specs.Judgements.{IsJudgement, IsReportOfParts, IsReportOfResults, RawStream, ended_streams}
 use Rattle.pd_report.specs.Views.{report_view}
 use Rattle.pd_report.specs.declared.report.Report.{Report as Judged}
-use Rattle.pd_sessions.specs.Faults.{engine_bundle_fault}
+use Rattle.judge_session.specs.Faults.{engine_bundle_fault}
 use Rattle.pd_engine.specs.SessionReports.{IsReportOfRead}
-use Rattle.pd_sessions.specs.Unanswered.{IsUnanswered, refused_report, settled_report}
-use Rattle.pd_sessions.specs.declared.fault.EngineFault.{EngineFault}
-use Rattle.pd_sessions.specs.declared.fault.EngineFault.TheVariants as engine
-use Rattle.pd_sessions.specs.declared.unanswered.Unanswered.{Unanswered}
-use Rattle.pd_sessions.proofs.SessionReports.{judged_of_results, of_given}
+use Rattle.judge_session.specs.Unanswered.{IsUnanswered, refused_report, settled_report}
+use Rattle.judge_session.specs.declared.fault.EngineFault.{EngineFault}
+use Rattle.judge_session.specs.declared.fault.EngineFault.TheVariants as engine
+use Rattle.judge_session.specs.declared.unanswered.Unanswered.{Unanswered}
+use Rattle.judge_session.proofs.SessionReports.{judged_of_results, of_given}
 
 -- the report of the streams that were read after the document
 pub streams_read : (input : Source) (bytes : List ℕ) (document : Document) (count : ℕ)

@@ -1,6 +1,6 @@
 -- The names of processes, one after another, and the path of some of them.
 use Rattle.std.proofs.Common.{◌≡◌, ℕ, zero, suc, ◌+◌, ◌<◌, List, [], ◌∷◌, ◌++◌, length, map, take, refl, ap, ◌∙◌, add-one, arith}
-use Rattle.pd_format.specs.Names.{name_of_process, ProcessNames}
+use Rattle.def_format.specs.Names.{name_of_process, ProcessNames}
 use Rattle.pd_report.specs.Steps.{name_at, names_at}
 
 abbrev name_of : ProcessNames → List ℕ

@@ -3,17 +3,17 @@ use Rattle.std.proofs.Common.{◌≡◌, ℕ, ◌<◌, ◌≤◌, ◌⊎◌, inl
 use Rattle.std.proofs.lemmas.Bool.{cases_lt}
 use Rattle.std.proofs.lemmas.List.{get_or_past, length-map, length-set, reverse-append}
 use Rattle.std.proofs.lemmas.List.Elements.{All-cons}
-use Rattle.pd_model.specs.Events.{Computation, Event}
-use Rattle.pd_model.specs.Cuts.{full_cut, one_less}
-use Rattle.pd_model.specs.Answers.{IsUndoing, IsPrintedPath, IsDefinitelyAnswer, IsExactDefinitely}
-use Rattle.pd_model.specs.Predicates.{Predicate, Recorded, test_of}
-use Rattle.pd_format.specs.Documents.{Document}
-use Rattle.pd_judgement.specs.Judgements.{AnswersDefinitely, definitely_beyond, definitely_within}
-use Rattle.pd_lists.specs.Answers.{definitely_answer_view}
-use Rattle.pd_lists.specs.declared.definitely_answer.DefinitelyAnswer.{DefinitelyAnswer}
-use Rattle.pd_lists.specs.declared.definitely_answer.DefinitelyAnswer.TheVariants.{Yes, No, Unknown}
+use Rattle.def_model.specs.Events.{Computation, Event}
+use Rattle.def_model.specs.Cuts.{full_cut, one_less}
+use Rattle.def_model.specs.Answers.{IsUndoing, IsPrintedPath, IsDefinitelyAnswer, IsExactDefinitely}
+use Rattle.def_model.specs.Predicates.{Predicate, Recorded, test_of}
+use Rattle.def_format.specs.Documents.{Document}
+use Rattle.def_judgement.specs.Judgements.{AnswersDefinitely, definitely_beyond, definitely_within}
+use Rattle.walk_back.specs.Answers.{definitely_answer_view}
+use Rattle.walk_back.specs.declared.definitely_answer.DefinitelyAnswer.{DefinitelyAnswer}
+use Rattle.walk_back.specs.declared.definitely_answer.DefinitelyAnswer.TheVariants.{Yes, No, Unknown}
 use Rattle.pd_engine.specs.Paths.{HasProcessesBelow}
-use Rattle.pd_sessions.proofs.RefusedPlaces.{all_ahead, all_after}
+use Rattle.judge_session.proofs.RefusedPlaces.{all_ahead, all_after}
 
 -- a process with a count is there
 counted_process : (cut : List ℕ) (p : ℕ) → 0 < get_or cut p 0 → p < length cut

@@ -2,21 +2,21 @@
 use Rattle.std.proofs.Common.{◌≡◌, ℕ, ◌≤◌, true, List, length, sym, subst, ap, ◌∙◌, inl, inr, Ok, Err}
 use Rattle.std.specs.Prelude.{◌⊎◌, Option, IfErr, IfOk, Result}
 use Rattle.std.specs.List.{AllZip}
-use Rattle.pd_format.specs.Documents.{Inquiry, plain}
-use Rattle.pd_format.specs.Limits.{bundle_byte_limit}
-use Rattle.pd_format.specs.Reports as formats
-use Rattle.pd_judgement.specs.Headline.{is_judged}
-use Rattle.pd_judgement.specs.Judgements.{IsJudgement, IsReportOfBundle, IsReportOfParts, RawStream, ended_streams}
-use Rattle.pd_judgement.specs.Writes.{IsKnownAs, IsReportTextOf, IsTextOfBundle, IsTextOfStreams, IsWholeInput, Source, Writes, WritesTruth, WritesTruthOfBundle}
-use Rattle.pd_judgement.proofs.TextsOwed.{parts_are_some, report_text_of, truth_of_bundle_text, truth_of_text}
-use Rattle.pd_judgement.proofs.Writing.{writes_weaker}
+use Rattle.def_format.specs.Documents.{Inquiry, plain}
+use Rattle.def_format.specs.Limits.{bundle_byte_limit}
+use Rattle.def_format.specs.Reports as formats
+use Rattle.def_judgement.specs.Headline.{is_judged}
+use Rattle.def_judgement.specs.Judgements.{IsJudgement, IsReportOfBundle, IsReportOfParts, RawStream, ended_streams}
+use Rattle.def_judgement.specs.Writes.{IsKnownAs, IsReportTextOf, IsTextOfBundle, IsTextOfStreams, IsWholeInput, Source, Writes, WritesTruth, WritesTruthOfBundle}
+use Rattle.def_judgement.proofs.TextsOwed.{parts_are_some, report_text_of, truth_of_bundle_text, truth_of_text}
+use Rattle.def_judgement.proofs.Writing.{writes_weaker}
 use Rattle.pd_report.specs.Views.{report_view}
 use Rattle.pd_report.specs.declared.report.Report.{Report}
 use Rattle.pd_engine.specs.Ends.{IsGiven, IsTextAs}
-use Rattle.pd_sessions.specs.Ends.{call_end}
-use Rattle.pd_sessions.specs.SessionReports.{IsReportOfInputs}
-use Rattle.pd_sessions.specs.declared.fault.EngineFault.{EngineFault}
-use Rattle.pd_sessions.specs.declared.fault.EngineFault.TheVariants.{BundleLong, Memory, Read, Write}
+use Rattle.judge_session.specs.Ends.{call_end}
+use Rattle.judge_session.specs.SessionReports.{IsReportOfInputs}
+use Rattle.judge_session.specs.declared.fault.EngineFault.{EngineFault}
+use Rattle.judge_session.specs.declared.fault.EngineFault.TheVariants.{BundleLong, Memory, Read, Write}
 use Rattle.pd_engine.proofs.SessionReports.{IsReportOfWhole}
 
 -- ---- what is owed

@@ -2,16 +2,16 @@
 use Rattle.std.proofs.Common.{◌≡◌, ℕ, List, sym, subst, Ok, Err}
 use Rattle.std.specs.Prelude.{IfSome, IsErrAnd, Result}
 use Rattle.std.specs.List.{AllZip}
-use Rattle.pd_format.specs.Documents.{Inquiry}
-use Rattle.pd_format.specs.Reports.{Report}
-use Rattle.pd_judgement.specs.Judgements.{IsJudgement, RawStream, ended_streams}
-use Rattle.pd_judgement.specs.Writes.{IsKnownAs, Source}
-use Rattle.pd_judgement.proofs.WholeStreams.{given_whole}
+use Rattle.def_format.specs.Documents.{Inquiry}
+use Rattle.def_format.specs.Reports.{Report}
+use Rattle.def_judgement.specs.Judgements.{IsJudgement, RawStream, ended_streams}
+use Rattle.def_judgement.specs.Writes.{IsKnownAs, Source}
+use Rattle.def_judgement.proofs.WholeStreams.{given_whole}
 use Rattle.pd_report.specs.declared.report.Report.{Report as Judged}
-use Rattle.pd_sessions.specs.SessionReports.{IsReportOfInputs}
-use Rattle.pd_sessions.specs.Unanswered.{IsUnanswered, given_report, refused_report}
-use Rattle.pd_sessions.specs.declared.unanswered.Unanswered.{Unanswered}
-use Rattle.pd_sessions.proofs.SessionReports.{of_given}
+use Rattle.judge_session.specs.SessionReports.{IsReportOfInputs}
+use Rattle.judge_session.specs.Unanswered.{IsUnanswered, given_report, refused_report}
+use Rattle.judge_session.specs.declared.unanswered.Unanswered.{Unanswered}
+use Rattle.judge_session.proofs.SessionReports.{of_given}
 
 -- what holds of a refusal, if it is the report
 pub refusal_reported : (result : Result Judged Unanswered) (unanswered : Unanswered) (P Q : Report → Type 0)

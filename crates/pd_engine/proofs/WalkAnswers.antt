@@ -5,17 +5,17 @@ use Rattle.std.proofs.lemmas.List.{get_or_append_left, get_or_default}
 use Rattle.std.proofs.Math.Seq.{get_or-append_seam}
 use Rattle.pd_engine.specs.Early.{AreEarly, GoesOn, IsDefinitelyOf, IsEarly, IsEarlyDefinitely, IsEarlyPossibly, IsLeft, IsPossiblyOf}
 use Rattle.pd_engine.specs.declared.early.Early.{Early}
-use Rattle.pd_format.specs.Documents.{Document}
-use Rattle.pd_judgement.specs.Judgements.{AnswersDefinitely, AnswersPossibly, definitely_beyond, definitely_within, possibly_beyond, possibly_within}
-use Rattle.pd_lists.specs.Answers.{AreAnswers, definitely_answer_view, possibly_answer_view}
-use Rattle.pd_lists.specs.declared.answers.Answers.{Answers}
-use Rattle.pd_lists.specs.declared.definitely_answer.DefinitelyAnswer.{DefinitelyAnswer}
-use Rattle.pd_lists.specs.declared.possibly_answer.PossiblyAnswer.{PossiblyAnswer}
-use Rattle.pd_model.specs.Predicates.{Recorded, test_of}
+use Rattle.def_format.specs.Documents.{Document}
+use Rattle.def_judgement.specs.Judgements.{AnswersDefinitely, AnswersPossibly, definitely_beyond, definitely_within, possibly_beyond, possibly_within}
+use Rattle.walk_back.specs.Answers.{AreAnswers, definitely_answer_view, possibly_answer_view}
+use Rattle.walk_back.specs.declared.answers.Answers.{Answers}
+use Rattle.walk_back.specs.declared.definitely_answer.DefinitelyAnswer.{DefinitelyAnswer}
+use Rattle.walk_back.specs.declared.possibly_answer.PossiblyAnswer.{PossiblyAnswer}
+use Rattle.def_model.specs.Predicates.{Recorded, test_of}
 use Rattle.pd_pred.specs.Views.{predicate_view}
 use Rattle.pd_pred.specs.declared.predicate.Pred.{Pred}
 use Rattle.pd_spec.specs.declared.named.NamedPred.{NamedPred}
-use Rattle.pd_walk.specs.Stages.{AllAnswered}
+use Rattle.walk.specs.Stages.{AllAnswered}
 
 -- an element of a list that isn't empty
 element : {A : Type 0} (xs : List A) → 0 < length xs → A

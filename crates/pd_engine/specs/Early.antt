@@ -2,14 +2,14 @@
 use Rattle.std.specs.Borrow.{Bor}
 use Rattle.std.specs.Prelude.{◌≡◌, ◌⊎◌, ℕ, ◌<◌, true, List, ◌++◌, length, slice_index_or, Option, Some, None}
 use Rattle.pd_engine.specs.declared.early.Early.{Early}
-use Rattle.pd_format.specs.Documents.{Document}
-use Rattle.pd_lists.specs.Answers.{definitely_answer_view, possibly_answer_view}
-use Rattle.pd_lists.specs.declared.answers.Answers.{Answers}
-use Rattle.pd_lists.specs.declared.definitely_answer.DefinitelyAnswer.{DefinitelyAnswer}
-use Rattle.pd_lists.specs.declared.possibly_answer.PossiblyAnswer.{PossiblyAnswer}
-use Rattle.pd_model.specs.Answers.{IsExactDefinitely, IsExactPossibly}
-use Rattle.pd_model.specs.Decided.{DecidesDefinitely, DecidesPossibly}
-use Rattle.pd_model.specs.Predicates.{Predicate, Recorded, test_of}
+use Rattle.def_format.specs.Documents.{Document}
+use Rattle.walk_back.specs.Answers.{definitely_answer_view, possibly_answer_view}
+use Rattle.walk_back.specs.declared.answers.Answers.{Answers}
+use Rattle.walk_back.specs.declared.definitely_answer.DefinitelyAnswer.{DefinitelyAnswer}
+use Rattle.walk_back.specs.declared.possibly_answer.PossiblyAnswer.{PossiblyAnswer}
+use Rattle.def_model.specs.Answers.{IsExactDefinitely, IsExactPossibly}
+use Rattle.def_model.specs.Decided.{DecidesDefinitely, DecidesPossibly}
+use Rattle.def_model.specs.Predicates.{Predicate, Recorded, test_of}
 use Rattle.pd_pred.specs.Views.{predicate_view}
 use Rattle.pd_pred.specs.declared.predicate.Pred.{Pred}
 use Rattle.pd_spec.specs.declared.named.NamedPred.{NamedPred}

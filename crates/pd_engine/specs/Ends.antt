@@ -1,11 +1,11 @@
 -- What the answer of a call of the engine says of the report that it owes.
 use Rattle.std.specs.Prelude.{◌≡◌, ⊤, ℕ, List, Bool, true, false, Result, Ok, Err}
-use Rattle.pd_format.specs.Reports.{report_text}
-use Rattle.pd_format.specs.Reports as formats
-use Rattle.pd_judgement.specs.Headline.{is_judged}
+use Rattle.def_format.specs.Reports.{report_text}
+use Rattle.def_format.specs.Reports as formats
+use Rattle.def_judgement.specs.Headline.{is_judged}
 use Rattle.pd_report.specs.Views.{report_view}
 use Rattle.pd_report.specs.declared.report.Report.{Report}
-use Rattle.pd_sessions.specs.declared.fault.EngineFault.{EngineFault}
+use Rattle.judge_session.specs.declared.fault.EngineFault.{EngineFault}
 use Rattle.pd_engine.specs.declared.outcome.Outcome.{Outcome}
 use Rattle.pd_engine.specs.declared.outcome.Outcome.TheVariants.{Judged, Refused}
 

@@ -1,15 +1,15 @@
 -- What a call that judges streams comes to.
 use Rattle.std.specs.Prelude.{◌≡◌, ◌⊎◌, ℕ, true, List, Option, Result, Err, IfErr, IfOk}
-use Rattle.pd_format.specs.Documents.{Inquiry}
-use Rattle.pd_judgement.specs.Headline.{is_judged}
-use Rattle.pd_judgement.specs.Judgements.{ended_streams}
+use Rattle.def_format.specs.Documents.{Inquiry}
+use Rattle.def_judgement.specs.Headline.{is_judged}
+use Rattle.def_judgement.specs.Judgements.{ended_streams}
 use Rattle.std.specs.List.{AllZip}
-use Rattle.pd_judgement.specs.Writes.{IsBrokenOff, IsKnownAs, IsReportTextOf, IsTextOfBundle, IsTextOfStreams, IsTooLong, Writes, WritesTruth, WritesTruthOfBundle, Source}
+use Rattle.def_judgement.specs.Writes.{IsBrokenOff, IsKnownAs, IsReportTextOf, IsTextOfBundle, IsTextOfStreams, IsTooLong, Writes, WritesTruth, WritesTruthOfBundle, Source}
 use Rattle.pd_report.specs.Views.{report_view}
 use Rattle.pd_report.specs.declared.report.Report.{Report}
-use Rattle.pd_sessions.specs.Ends.{call_end}
-use Rattle.pd_sessions.specs.declared.fault.EngineFault.{EngineFault}
-use Rattle.pd_sessions.specs.declared.fault.EngineFault.TheVariants.{BundleLong, Memory, Read, Write}
+use Rattle.judge_session.specs.Ends.{call_end}
+use Rattle.judge_session.specs.declared.fault.EngineFault.{EngineFault}
+use Rattle.judge_session.specs.declared.fault.EngineFault.TheVariants.{BundleLong, Memory, Read, Write}
 use Rattle.pd_engine.specs.Ends.{IsGiven, IsOutcomeOf}
 use Rattle.pd_engine.specs.declared.outcome.Outcome.{Outcome}
 

@@ -1,7 +1,7 @@
 -- An observation whose processes have names.
 use Rattle.std.specs.Prelude.{ℕ, ◌<◌, All}
-use Rattle.pd_lists.specs.declared.definitely_answer.DefinitelyAnswer.{DefinitelyAnswer}
-use Rattle.pd_lists.specs.declared.definitely_answer.DefinitelyAnswer.TheVariants.{Yes, No, Unknown}
+use Rattle.walk_back.specs.declared.definitely_answer.DefinitelyAnswer.{DefinitelyAnswer}
+use Rattle.walk_back.specs.declared.definitely_answer.DefinitelyAnswer.TheVariants.{Yes, No, Unknown}
 
 -- each process of the observation is one of this many
 abbrev pub HasProcessesBelow : ℕ → DefinitelyAnswer → Type 0

@@ -1,8 +1,8 @@
 //! The answers of a session.
 ghost use Rattle.pd_engine.specs.Paths.{HasProcessesBelow};
-ghost use Rattle.pd_format.specs.Names.{name_of_process};
-ghost use Rattle.pd_judgement.specs.Judgements.{AnswersDefinitely, AnswersPossibly, IsAnswered, printed_definitely, printed_possibly};
-ghost use Rattle.pd_lists.specs.Answers.{definitely_answer_view, possibly_answer_view};
+ghost use Rattle.def_format.specs.Names.{name_of_process};
+ghost use Rattle.def_judgement.specs.Judgements.{AnswersDefinitely, AnswersPossibly, IsAnswered, printed_definitely, printed_possibly};
+ghost use Rattle.walk_back.specs.Answers.{definitely_answer_view, possibly_answer_view};
 ghost use Rattle.pd_pred.specs.Views.{predicate_view};
 ghost use Rattle.pd_report.specs.Steps.{names_view};
 ghost use Rattle.pd_report.specs.Views as views;
@@ -15,14 +15,14 @@ use super::early::all_early;
 use pd_clock::Computation;
 use pd_expand::Crew;
 use pd_level::Gate;
-use pd_lists::{DefinitelyAnswer, PossiblyAnswer};
 use pd_pred::Names;
 use pd_report::{Answer, Definitely, Path, Possibly};
 use pd_spec::{NamedPred, Spec};
-use pd_walk::answer_all;
 use std::alloc::{AllocError, Global};
 use std::sync::Wait;
 use std::thread::Threads;
+use walk::answer_all;
+use walk_back::{DefinitelyAnswer, PossiblyAnswer};
 
 /// The answer for each predicate: those that are decided whatever the width, if the document asks for them, and the
 /// others by one walk, whose lists of cuts the workers share.

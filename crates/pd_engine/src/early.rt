@@ -1,16 +1,16 @@
 //! What is decided of each predicate before the walk.
-ghost use Rattle.pd_decided.specs.Found.{IsPathIfKnown};
+ghost use Rattle.wide.specs.Found.{IsPathIfKnown};
 ghost use Rattle.pd_engine.specs.Early.{AreEarly, GoesOn, IsDefinitelyOf, IsEarly, IsEarlyDefinitely, IsEarlyPossibly, IsPossiblyOf};
 ghost use Rattle.pd_pred.specs.Views.{predicate_view};
 ghost use Rattle.pd_spec.specs.Views.{document_view};
 ghost use Rattle.std.specs.Prelude.{◌≡◌, ◌<◌, IfOk, None, length};
 
 use pd_clock::Computation;
-use pd_decided::{Decided, decide};
-use pd_lists::{Answers, DefinitelyAnswer, PossiblyAnswer};
 use pd_pred::Pred;
 use pd_spec::{NamedPred, Spec};
 use std::alloc::{AllocError, Global};
+use walk_back::{Answers, DefinitelyAnswer, PossiblyAnswer};
+use wide::{Decided, decide};
 
 /// The answers for a predicate that are decided whatever the width, if the document asks for them. What isn't is left
 /// to the walk.

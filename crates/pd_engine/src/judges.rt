@@ -1,22 +1,22 @@
 //! Judges a session, and writes its report.
 ghost use Rattle.pd_engine.specs.Ends.{IsTextAs};
 ghost use Rattle.pd_engine.specs.Judging.{JudgesStreams, JudgesToOutcome};
-ghost use Rattle.pd_format.specs.Documents.{plain};
-ghost use Rattle.pd_format.specs.Limits.{worker_limit};
-ghost use Rattle.pd_judgement.specs.Writes.{Writes};
+ghost use Rattle.def_format.specs.Documents.{plain};
+ghost use Rattle.def_format.specs.Limits.{worker_limit};
+ghost use Rattle.def_judgement.specs.Writes.{Writes};
 ghost use Rattle.pd_report.specs.Views.{report_view};
-ghost use Rattle.pd_sessions.specs.Ends.{call_end};
-ghost use Rattle.pd_sessions.specs.Inquiries.{inquiry_view};
+ghost use Rattle.judge_session.specs.Ends.{call_end};
+ghost use Rattle.judge_session.specs.Inquiries.{inquiry_view};
 ghost use Rattle.std.specs.Prelude.{◌≡◌, ◌⊎◌, ◌≤◌, All, IfErr, false, map};
 
 use super::Outcome;
 use super::outcome::outcome_of;
 use super::reports::streams_report;
+use judge_session::{EngineFault, Inquiry};
 use pd_expand::Crew;
 use pd_gather::{ByteSource, NoObserver, Observer};
 use pd_level::Gate;
 use pd_report::{Report, write};
-use pd_sessions::{EngineFault, Inquiry};
 use pd_spec::Options;
 use std::alloc::Global;
 use std::io::Write;

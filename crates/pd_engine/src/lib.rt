@@ -1,7 +1,7 @@
 //! The engine: a session's document and streams in, its report out.
 //!
 //! It goes a straight way: the document is read, its streams are read each on its own thread and make a session, the
-//! session's traces make a computation (`pd_sessions`), each predicate is answered, and the answers are the report.
+//! session's traces make a computation (`judge_session`), each predicate is answered, and the answers are the report.
 //! What is written is exactly the text that the definitions give, whole, or the call fails. If no level is over the
 //! width, it tells the truth of each predicate; and if that is asked for, it does so of each that is decided without
 //! levels, however wide the session is. What is reported as out of memory is a refused allocation, or a number that has
@@ -27,6 +27,7 @@ mod reports;
 
 pub use answers::answers_of;
 pub use bundle_judges::{judge_bundle, write_bundle_report};
+pub use judge_session::{EngineFault, Inquiry, read_upto, write_snapshot};
 pub use judges::{judge, judge_inquiry, judge_inquiry_watched, judge_watched, write_report};
 pub use outcome::{Outcome, report_outcome};
 pub use pd_expand::Crew;
@@ -34,6 +35,5 @@ pub use pd_gather::{ByteSource, NoObserver, Observer, StreamFault, within_limit}
 pub use pd_level::{Gate, NoGate, Reached};
 pub use pd_register::{Register, Row, RowState, Snapshot, Watcher};
 pub use pd_report::{Answer, Definitely, Possibly, Refusal, Report, text};
-pub use pd_sessions::{EngineFault, Inquiry, read_upto, write_snapshot};
 pub use pd_spec::{Options, Spec, SpecFault};
 pub use reports::report_of;

@@ -1,11 +1,11 @@
 //! How a session was judged.
 ghost use Rattle.pd_engine.specs.Ends.{IsOutcomeOf, outcome_view};
-ghost use Rattle.pd_judgement.specs.Headline.{is_judged};
+ghost use Rattle.def_judgement.specs.Headline.{is_judged};
 ghost use Rattle.pd_report.specs.Views.{report_view};
 ghost use Rattle.std.specs.Prelude.{◌≡◌};
 
+use judge_session::EngineFault;
 use pd_report::Report;
-use pd_sessions::EngineFault;
 
 /// How a session was judged.
 #[derive(Clone, Copy, Debug, PartialEq, Eq)]

@@ -1,26 +1,26 @@
 //! The report of a session.
-ghost use Rattle.pd_sessions.specs.Inquiries.{inquiry_view};
-ghost use Rattle.pd_sessions.specs.SessionReports.{IsReportOfInputs};
-ghost use Rattle.pd_sessions.specs.Unanswered.{given_report};
-ghost use Rattle.pd_format.specs.Limits.{worker_limit};
-ghost use Rattle.pd_format.specs.Readings as readings;
-ghost use Rattle.pd_format.specs.Sessions.{session};
+ghost use Rattle.judge_session.specs.Inquiries.{inquiry_view};
+ghost use Rattle.judge_session.specs.SessionReports.{IsReportOfInputs};
+ghost use Rattle.judge_session.specs.Unanswered.{given_report};
+ghost use Rattle.def_format.specs.Limits.{worker_limit};
+ghost use Rattle.def_format.specs.Readings as readings;
+ghost use Rattle.def_format.specs.Sessions.{session};
 ghost use Rattle.pd_gather.specs.Views.{ReadingFits, results_view};
-ghost use Rattle.pd_judgement.specs.Headline.{IsNarrow, ReportAgrees, TellsDecided, TellsTruth};
-ghost use Rattle.pd_judgement.specs.Judgements.{IsReportOfResults, events_of_traces};
-ghost use Rattle.pd_model.specs.Order.{IsWellFormed};
+ghost use Rattle.def_judgement.specs.Headline.{IsNarrow, ReportAgrees, TellsDecided, TellsTruth};
+ghost use Rattle.def_judgement.specs.Judgements.{IsReportOfResults, events_of_traces};
+ghost use Rattle.def_model.specs.Order.{IsWellFormed};
 ghost use Rattle.pd_report.specs.Views.{report_view};
 ghost use Rattle.pd_spec.specs.Views.{document_view};
 ghost use Rattle.std.specs.Prelude.{◌≡◌, ◌≤◌, All, IfOk, IfSome, IsOkUnless, List, Ok, false, map, true};
 
 use super::answers::answers_of;
+use judge_session::{
+    EngineFault, Inquiry, Unanswered, computation_of, read_inquiry, settled, traces_of,
+};
 use pd_expand::Crew;
 use pd_gather::{ByteSource, Gathered, Observer, read_streams_watched};
 use pd_level::Gate;
 use pd_report::Report;
-use pd_sessions::{
-    EngineFault, Inquiry, Unanswered, computation_of, read_inquiry, settled, traces_of,
-};
 use pd_spec::Spec;
 use std::alloc::Global;
 use std::random::RandomSource;
@@ -103,9 +103,9 @@ pub fn report_of<S: RandomSource + Threads + Wait + Sync, G: Gate + Sync>(
     ensures agrees { IfOk result (λ report. ReportAgrees (report_view report)) }
     ensures err { IsOkUnless result EngineFault.Memory }
 {
-    pd_judgement::headline();
-    pd_judgement::headline_beyond_width();
-    pd_judgement::reports_agree();
+    def_judgement::headline();
+    def_judgement::headline_beyond_width();
+    def_judgement::reports_agree();
     report_by(&Crew::new(rt, workers, gate), alloc, spec, gathered)
 }
 

@@ -7,8 +7,8 @@ use Rattle.std.specs.List.{list_any, list_all}
 use Rattle.serde_json.specs.Data.{member, no_members}
 use Rattle.serde_json.specs.View.{view, members_view}
 use Rattle.serde_json.specs.declared.value.Value.{Value}
-use Rattle.pd_format.specs.Records.{has_only}
-use Rattle.pd_format.proofs.ListTests.{list_any-map}
+use Rattle.def_format.specs.Records.{has_only}
+use Rattle.def_format.proofs.ListTests.{list_any-map}
 
 -- each field is one of these variables, as the program finds it
 pub has_only_vars-entries : (vars : List (String Global)) (entries : List (String Global × Value))

@@ -5,12 +5,12 @@ use Rattle.std.specs.List.{list_all}
 use Rattle.json.specs.Token.{Token}
 use Rattle.json.specs.Lex.{tokens}
 use Rattle.serde_json.specs.Data.{string, object, Members, no_members, put}
-use Rattle.pd_model.specs.Events.{Kind, Local, Send, Receive}
-use Rattle.pd_format.specs.Lists.{first_that_applies, unless}
-use Rattle.pd_format.specs.Names.{ProcessNames, vars_of}
-use Rattle.pd_format.specs.Records.{RecordFault, Happens, MessageId, SaysEvent, UnknownVar, Value, event_record, has_only, id_fits, record_of, sets_from, statement_of, values, whole_number}
-use Rattle.pd_format.proofs.JsonFacts.{json_value-some}
-use Rattle.pd_traces.specs.Columns.{event_with}
+use Rattle.def_model.specs.Events.{Kind, Local, Send, Receive}
+use Rattle.def_format.specs.Lists.{first_that_applies, unless}
+use Rattle.def_format.specs.Names.{ProcessNames, vars_of}
+use Rattle.def_format.specs.Records.{RecordFault, Happens, MessageId, SaysEvent, UnknownVar, Value, event_record, has_only, id_fits, record_of, sets_from, statement_of, values, whole_number}
+use Rattle.def_format.proofs.JsonFacts.{json_value-some}
+use Rattle.read_traces.specs.Columns.{event_with}
 use Rattle.pd_events.specs.Parts.{event_due, sets_due}
 use Rattle.pd_events.specs.Plain.{AreSets, GivesFields, GoesOn, line_fields, settings_or_none}
 use Rattle.pd_events.proofs.PlainReading.{ends, goes_on_and_on, goes_on_from_here, object_goes_in, text_goes_in, whole_object}

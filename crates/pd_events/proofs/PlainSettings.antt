@@ -13,8 +13,8 @@ use Rattle.serde_json.specs.Data.{Data, Num, number, Members, no_members, member
 use Rattle.serde_json.specs.Find.{as_i64, get_member}
 use Rattle.serde_json.specs.Read.{number_of}
 use Rattle.serde_json.proofs.Views.{get_member-put, get_member-put_other}
-use Rattle.pd_format.specs.Lists.{is_one_of}
-use Rattle.pd_format.specs.Records.{has_only, keys, values, sets_from, whole_number}
+use Rattle.def_format.specs.Lists.{is_one_of}
+use Rattle.def_format.specs.Records.{has_only, keys, values, sets_from, whole_number}
 use Rattle.pd_events.specs.Parts.{sets_due}
 use Rattle.pd_events.specs.Plain.{GivesFields, GoesOn, row_sets, text_number}
 use Rattle.pd_events.proofs.PlainReading.{ends, goes_on_and_on, goes_on_from_here, number_goes_in}

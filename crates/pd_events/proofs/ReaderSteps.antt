@@ -1,12 +1,12 @@
 -- Which reading a trace reader stands for after a piece, the end, or a failed read.
 use Rattle.std.proofs.Common.{◌≡◌, ℕ, ◌+◌, false, true, List, [], ◌++◌, refl, sym, ◌∙◌, ap, append-nil}
 use Rattle.std.specs.Prelude.{Option, Some, None}
-use Rattle.pd_format.specs.Lines.{Line, FrameFault, has_line_feed, fault_after, frame_fault, open_lines, finished_lines, line_count, line_number, IsBatch}
-use Rattle.pd_format.specs.LineLaws.{PartGoesOn, PartIsFaulty}
-use Rattle.pd_format.specs.Laws.{ClosedStays}
-use Rattle.pd_format.specs.ReadingLaws.{OpenIsSound, ReadingGoesOn, ReadingEnds, ReadingFails, stopped_by, read_on}
-use Rattle.pd_format.specs.Names.{ProcessNames}
-use Rattle.pd_format.specs.Readings.{Ending, Open, Ended, Failed, Stop, NothingMore, EndLine, Fault, StreamKind, Unended, ReadFailed, IsClosed, by_end_line, by_fault, Reading, stop_at_end, stop_or, with_end, reading}
+use Rattle.def_format.specs.Lines.{Line, FrameFault, has_line_feed, fault_after, frame_fault, open_lines, finished_lines, line_count, line_number, IsBatch}
+use Rattle.def_format.specs.LineLaws.{PartGoesOn, PartIsFaulty}
+use Rattle.def_format.specs.Laws.{ClosedStays}
+use Rattle.def_format.specs.ReadingLaws.{OpenIsSound, ReadingGoesOn, ReadingEnds, ReadingFails, stopped_by, read_on}
+use Rattle.def_format.specs.Names.{ProcessNames}
+use Rattle.def_format.specs.Readings.{Ending, Open, Ended, Failed, Stop, NothingMore, EndLine, Fault, StreamKind, Unended, ReadFailed, IsClosed, by_end_line, by_fault, Reading, stop_at_end, stop_or, with_end, reading}
 use Rattle.pd_frames.specs.State.{State, Stands, line_to_come}
 use Rattle.pd_frames.specs.Views.{frame_faults_view}
 use Rattle.pd_frames.specs.declared.line.FrameFault.{FrameFault as Reported}

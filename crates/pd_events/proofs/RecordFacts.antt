@@ -6,9 +6,9 @@ use Rattle.std.specs.declared.alloc.Global.{Global}
 use Rattle.std.specs.BTreeMap.{BTreeMap}
 use Rattle.serde_json.specs.declared.value.Value.{Value}
 use Rattle.serde_json.specs.Data.{Data, no_members}
-use Rattle.pd_format.specs.Names.{ProcessNames}
-use Rattle.pd_format.specs.Records.{json_value, statement_of, sets_from, record_of_shape, record_of_value, record_of, Json}
-use Rattle.pd_format.specs.Records as records
+use Rattle.def_format.specs.Names.{ProcessNames}
+use Rattle.def_format.specs.Records.{json_value, statement_of, sets_from, record_of_shape, record_of_value, record_of, Json}
+use Rattle.def_format.specs.Records as records
 use Rattle.pd_events.specs.Parts.{sets_due}
 use Rattle.pd_events.specs.Statements.{settings_view}
 

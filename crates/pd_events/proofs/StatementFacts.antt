@@ -4,8 +4,8 @@ use Rattle.std.specs.Prelude.{Option, None}
 use Rattle.serde_json.specs.Data.{Data, null, boolean, number, string, array, object, Members, member}
 use Rattle.serde_json.specs.View.{view, members_view}
 use Rattle.serde_json.specs.declared.value.Value.{Value}
-use Rattle.pd_format.specs.Lists.{first_some}
-use Rattle.pd_format.specs.Records.{Statement, join_statement, end_statement}
+use Rattle.def_format.specs.Lists.{first_some}
+use Rattle.def_format.specs.Records.{Statement, join_statement, end_statement}
 
 abbrev lone_statement : Members → Option Statement
 lone_statement fields = first_some (join_statement fields) (end_statement fields)

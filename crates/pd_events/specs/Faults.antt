@@ -1,6 +1,6 @@
 -- Why a line has no record.
 use Rattle.std.specs.Prelude.{Option, Some, None}
-use Rattle.pd_format.specs.Records as records
+use Rattle.def_format.specs.Records as records
 use Rattle.pd_events.specs.declared.fault.RecordFault.{RecordFault}
 use Rattle.pd_events.specs.declared.fault.RecordFault.TheVariants as faults
 

@@ -3,15 +3,15 @@ use Rattle.std.specs.Prelude.{◌≡◌, ◌&&◌, ℕ, nat_le, not, List, [], �
 use Rattle.std.specs.Global.{Global}
 use Rattle.std.specs.List.{list_all}
 use Rattle.serde_json.specs.Data.{Members}
-use Rattle.pd_model.specs.Events.{Kind}
-use Rattle.pd_format.specs.Lists.{first_that_applies, unless}
-use Rattle.pd_format.specs.Limits.{id_byte_limit}
-use Rattle.pd_format.specs.Records.{has_only, id_fits, sets_from, values, whole_number, UnknownVar, Value, MessageId}
-use Rattle.pd_format.specs.Records as records
-use Rattle.pd_traces.specs.Columns.{event_with}
+use Rattle.def_model.specs.Events.{Kind}
+use Rattle.def_format.specs.Lists.{first_that_applies, unless}
+use Rattle.def_format.specs.Limits.{id_byte_limit}
+use Rattle.def_format.specs.Records.{has_only, id_fits, sets_from, values, whole_number, UnknownVar, Value, MessageId}
+use Rattle.def_format.specs.Records as records
+use Rattle.read_traces.specs.Columns.{event_with}
 use Rattle.pd_events.specs.Faults.{record_fault_view}
-use Rattle.pd_traces.specs.Views.{kind_view}
-use Rattle.pd_traces.specs.declared.event.EventKind.{EventKind}
+use Rattle.read_traces.specs.Views.{kind_view}
+use Rattle.read_traces.specs.declared.event.EventKind.{EventKind}
 use Rattle.pd_events.specs.declared.fault.RecordFault.{RecordFault}
 
 -- the answer is the value due, as this view shows it, or the fault due, or that memory ran out

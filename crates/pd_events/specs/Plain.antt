@@ -6,7 +6,7 @@ use Rattle.json.specs.Json.{members, value}
 use Rattle.serde_json.specs.Data.{string, object, Members, no_members, member}
 use Rattle.serde_json.specs.Find.{as_i64}
 use Rattle.serde_json.specs.Read.{converted, number_of, of_members}
-use Rattle.pd_model.specs.Events.{Kind, Local, Send, Receive}
+use Rattle.def_model.specs.Events.{Kind, Local, Send, Receive}
 use Rattle.pd_events.specs.Parts.{sets_due}
 
 -- the whole number of 64 bits that a number's text is, if it is one

@@ -1,8 +1,8 @@
 -- What the progress of a stream stands for.
 use Rattle.std.specs.Prelude.{ℕ, List, Option, Some, None, option_map}
-use Rattle.pd_model.specs.Events as events
-use Rattle.pd_format.specs.Records as records
-use Rattle.pd_format.specs.Readings.{Reading, Stop, NothingMore, EndLine, Fault, InRecord, StreamKind}
+use Rattle.def_model.specs.Events as events
+use Rattle.def_format.specs.Records as records
+use Rattle.def_format.specs.Readings.{Reading, Stop, NothingMore, EndLine, Fault, InRecord, StreamKind}
 use Rattle.pd_events.specs.Views.{stream_kind_view}
 use Rattle.pd_events.specs.declared.fault.StreamFault.{StreamFault}
 use Rattle.pd_events.specs.declared.progress.Join.{Join}

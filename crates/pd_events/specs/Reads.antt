@@ -1,7 +1,7 @@
 -- Which reading a trace reader stands for.
 use Rattle.std.specs.Prelude.{◌≡◌, ℕ, false, List, Option, Some, None}
-use Rattle.pd_format.specs.Names.{ProcessNames}
-use Rattle.pd_format.specs.Readings.{Ending, Reading, Stop, NothingMore, Fault, LineTooLong, StreamTooLong, reading}
+use Rattle.def_format.specs.Names.{ProcessNames}
+use Rattle.def_format.specs.Readings.{Ending, Reading, Stop, NothingMore, Fault, LineTooLong, StreamTooLong, reading}
 use Rattle.pd_frames.specs.State.{State, Stands}
 use Rattle.pd_frames.specs.declared.line.FrameFault.{FrameFault}
 use Rattle.pd_frames.specs.declared.line.FrameFault.TheVariants as faults

@@ -6,8 +6,8 @@ use Rattle.std.specs.BTreeMap.{BTreeMap}
 use Rattle.serde_json.specs.declared.value.Value.{Value}
 use Rattle.serde_json.specs.Data.{Members, no_members}
 use Rattle.serde_json.specs.View.{members_view}
-use Rattle.pd_model.specs.Events as events
-use Rattle.pd_format.specs.Records as records
+use Rattle.def_model.specs.Events as events
+use Rattle.def_format.specs.Records as records
 use Rattle.pd_events.specs.declared.statement.Said.{Said}
 use Rattle.pd_events.specs.declared.statement.Said.TheVariants.{Local, Send, Recv}
 use Rattle.pd_events.specs.declared.statement.Statement.{Statement}

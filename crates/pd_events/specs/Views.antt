@@ -1,9 +1,9 @@
 -- What the program's records and faults stand for.
 use Rattle.std.specs.Prelude.{◌≡◌, Result, Ok, Err, MatchResult, MatchOption}
-use Rattle.pd_format.specs.Records as records
-use Rattle.pd_format.specs.Readings as readings
-use Rattle.pd_traces.specs.Views.{event_view, trace_view}
-use Rattle.pd_traces.specs.declared.event.Trace.{Trace}
+use Rattle.def_format.specs.Records as records
+use Rattle.def_format.specs.Readings as readings
+use Rattle.read_traces.specs.Views.{event_view, trace_view}
+use Rattle.read_traces.specs.declared.event.Trace.{Trace}
 use Rattle.pd_events.specs.Faults.{record_fault_view}
 use Rattle.pd_events.specs.declared.line_record.LineRecord.{LineRecord}
 use Rattle.pd_events.specs.declared.line_record.LineRecord.TheVariants as says

@@ -5,7 +5,7 @@ ghost use Rattle.std.specs.List.{list_any, list_all};
 ghost use Rattle.std.specs.BTreeMap.{keys};
 ghost use Rattle.serde_json.specs.Data.{member, no_members};
 ghost use Rattle.serde_json.specs.View.{view, members_view};
-ghost use Rattle.pd_format.specs.Records.{has_only};
+ghost use Rattle.def_format.specs.Records.{has_only};
 
 use serde_json::{Map, Value};
 

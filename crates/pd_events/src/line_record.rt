@@ -1,5 +1,5 @@
 //! What a line says.
-use pd_traces::Event;
+use read_traces::Event;
 
 /// What a line says.
 #[derive(Debug, PartialEq, Eq, Drop)]

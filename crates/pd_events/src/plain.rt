@@ -3,17 +3,17 @@
 ghost use Rattle.std.specs.Prelude.{◌≡◌, ◌≢◌, ◌<◌, None, ℕ, List, [], ◌∷◌, length, All, AllPairs, map, string_bytes, Option, Some, Ok, IfNone, IfOk, IfSome, IsTrue, OnOk, slice_index_or, slice_set};
 ghost use Rattle.json.specs.Token.{key};
 ghost use Rattle.serde_json.specs.Data.{Members, no_members};
-ghost use Rattle.pd_format.specs.Records.{record_of};
-ghost use Rattle.pd_tokens.specs.Runs.{IsPlain};
-ghost use Rattle.pd_traces.specs.Columns.{seen_kind_view};
+ghost use Rattle.def_format.specs.Records.{record_of};
+ghost use Rattle.read_tokens.specs.Runs.{IsPlain};
+ghost use Rattle.read_traces.specs.Columns.{seen_kind_view};
 ghost use Rattle.pd_events.specs.Parts.{event_due, sets_due};
 ghost use Rattle.pd_events.specs.Plain.{GivesFields, GoesOn, line_fields, row_sets, settings_or_none};
 
 use super::record::vars_of;
 use super::room::{Hint, Room};
 use pd_pred::Names;
-use pd_tokens::{Key, Tokens};
-use pd_traces::Kind;
+use read_tokens::{Key, Tokens};
+use read_traces::Kind;
 use std::alloc::{AllocError, Global};
 
 /// Whether the variable at this place has this name.

@@ -1,13 +1,13 @@
 //! How far the lines of a stream have been read.
 ghost use Rattle.std.specs.Prelude.{◌≡◌, List, length, option_map, take, Ok, Some, IfNone, IfOk, IfSome, OnErr, OnOk};
-ghost use Rattle.pd_model.specs.Events as events;
+ghost use Rattle.def_model.specs.Events as events;
 ghost use Rattle.pd_frames.specs.Views.{line_view, lines_view};
-ghost use Rattle.pd_format.specs.Readings.{IsClosed, NothingMore, with_end};
+ghost use Rattle.def_format.specs.Readings.{IsClosed, NothingMore, with_end};
 ghost use Rattle.std.specs.Bool.{OnFalse, OnTrue};
-ghost use Rattle.pd_format.specs.ReadingLaws.{after_record, read_line, read_on, unless_stopped};
-ghost use Rattle.pd_format.specs.Records.{Happens, id_fits};
+ghost use Rattle.def_format.specs.ReadingLaws.{after_record, read_line, read_on, unless_stopped};
+ghost use Rattle.def_format.specs.Records.{Happens, id_fits};
 ghost use Rattle.pd_spec.specs.Views.{document_view};
-ghost use Rattle.pd_traces.specs.Columns.{event_with, seen_kind_view};
+ghost use Rattle.read_traces.specs.Columns.{event_with, seen_kind_view};
 ghost use Rattle.pd_events.specs.Faults.{record_fault_view};
 ghost use Rattle.pd_events.specs.Parts.{event_due};
 ghost use Rattle.pd_events.specs.Progress.{in_record, join_view, joined_of, joined_view, open_reading, reading_view, stop_of, stop_of_fault};
@@ -17,11 +17,11 @@ use super::plain::plain_event;
 use super::record::read_record;
 use super::room::Room;
 use super::{LineRecord, RecordFault, StreamFault, StreamKind};
-use pd_format::{EVENT_LIMIT, ID_BYTE_LIMIT};
+use def_format::{EVENT_LIMIT, ID_BYTE_LIMIT};
 use pd_frames::Line;
 use pd_pred::Names;
 use pd_spec::Spec;
-use pd_traces::{Events, Kind, seen};
+use read_traces::{Events, Kind, seen};
 use std::alloc::{AllocError, Global};
 
 /// The join of a stream's process.

@@ -1,21 +1,21 @@
 //! The reader of a stream.
 ghost use Rattle.std.specs.Bool.{OnFalse, OnTrue};
 ghost use Rattle.std.specs.Prelude.{◌≡◌, ℕ, false, List, [], ◌++◌, length, IfOk, IsOk, OnErr, OnOk, Ok, Some};
-ghost use Rattle.pd_format.specs.Lines.{has_line_feed};
-ghost use Rattle.pd_format.specs.Names.{ProcessNames};
-ghost use Rattle.pd_format.specs.Readings.{Ending, Ended, Failed, IsClosed, NothingMore, Open, result_of, state};
-ghost use Rattle.pd_format.specs.ReadingLaws.{FitsSession, process_of};
+ghost use Rattle.def_format.specs.Lines.{has_line_feed};
+ghost use Rattle.def_format.specs.Names.{ProcessNames};
+ghost use Rattle.def_format.specs.Readings.{Ending, Ended, Failed, IsClosed, NothingMore, Open, result_of, state};
+ghost use Rattle.def_format.specs.ReadingLaws.{FitsSession, process_of};
 ghost use Rattle.pd_spec.specs.Views.{document_view};
 ghost use Rattle.pd_events.specs.Progress.{stop_of_fault};
 ghost use Rattle.pd_events.specs.Reads.{Reads, stop_of_frame};
-ghost use Rattle.pd_traces.specs.Views.{trace_view};
+ghost use Rattle.read_traces.specs.Views.{trace_view};
 ghost use Rattle.pd_events.specs.Views.{result_view, state_view};
 
 use super::progress::{Phase, Progress};
 use super::{StreamFault, StreamKind, StreamState};
 use pd_frames::{FrameFault, Framer, has_line_feed};
 use pd_spec::Spec;
-use pd_traces::{Events, Trace};
+use read_traces::{Events, Trace};
 use std::alloc::{AllocError, Global};
 use std::marker::Model;
 
@@ -69,7 +69,7 @@ impl<'spec> Model for TraceReader<'spec> {
     } };
 
     ghost use Rattle.std.specs.Prelude.{◌≡◌, false};
-    ghost use Rattle.pd_format.specs.Readings.{NothingMore};
+    ghost use Rattle.def_format.specs.Readings.{NothingMore};
     ghost use Rattle.pd_events.specs.Progress.{stop_of};
 
     ghost invariant = { λ r. stop_of r.progress.phase ≡ NothingMore → r.framer.finished ≡ false };
@@ -136,8 +136,8 @@ impl<'spec> TraceReader<'spec> {
         ensures stays { IsClosed self.old.reading.stop → self.new ≡ self.old }
         ensures err { OnErr result (self.new ≡ self.old) }
     {
-        pd_format::closed_stays();
-        pd_format::readings_go_on();
+        def_format::closed_stays();
+        def_format::readings_go_on();
         if self.is_closed() {
             return Ok(());
         }
@@ -159,8 +159,8 @@ impl<'spec> TraceReader<'spec> {
             Reads self.old names Open bytes → Reads self.new names Open (bytes ++ piece.now)) }
         ensures err { OnErr result (self.new ≡ self.old) }
     {
-        pd_format::lines_grow();
-        pd_format::readings_go_on();
+        def_format::lines_grow();
+        def_format::readings_go_on();
         let batch = self.framer.feed(piece)?;
         self.progress.end_by(faults_of(batch.fault));
         Ok(())
@@ -179,8 +179,8 @@ impl<'spec> TraceReader<'spec> {
         ensures stays { IsClosed self.old.reading.stop → self.new ≡ self.old }
         ensures err { OnErr result (self.new ≡ self.old) }
     {
-        pd_format::closed_stays();
-        pd_format::readings_go_on();
+        def_format::closed_stays();
+        def_format::readings_go_on();
         if self.is_closed() {
             return Ok(());
         }
@@ -204,8 +204,8 @@ impl<'spec> TraceReader<'spec> {
         ensures closes { IsClosed self.new.reading.stop }
         ensures stays { IsClosed self.old.reading.stop → self.new ≡ self.old }
     {
-        pd_format::closed_stays();
-        pd_format::readings_go_on();
+        def_format::closed_stays();
+        def_format::readings_go_on();
         if self.is_closed() {
             return;
         }
@@ -226,7 +226,7 @@ impl<'spec> TraceReader<'spec> {
         ensures fits { IfOk result (λ trace. (names : List ProcessNames) (ending : Ending) (bytes : List ℕ) →
             Reads self.entry names ending bytes → FitsSession names (trace_view trace)) }
     {
-        pd_format::traces_fit();
+        def_format::traces_fit();
         let Progress { phase, events } = self.progress;
         match phase {
             Phase::Ended(join) => Ok(Trace {

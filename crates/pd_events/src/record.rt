@@ -2,8 +2,8 @@
 ghost use Rattle.std.specs.Prelude.{◌≡◌, map, string_bytes, option_and_then, IfOk};
 ghost use Rattle.serde_json.specs.Find.{get_member};
 ghost use Rattle.serde_json.specs.View.{members_view};
-ghost use Rattle.pd_format.specs.Names.{vars_of};
-ghost use Rattle.pd_format.specs.Records.{event_record, record_of, record_of_statement, sets_from, whole_number};
+ghost use Rattle.def_format.specs.Names.{vars_of};
+ghost use Rattle.def_format.specs.Records.{event_record, record_of, record_of_statement, sets_from, whole_number};
 ghost use Rattle.pd_spec.specs.Views.{document_view};
 ghost use Rattle.pd_events.specs.Parts.{IsId, IsKind, IsSets};
 ghost use Rattle.pd_events.specs.Statements.{kind_said, settings_view, statement_view};
@@ -14,7 +14,7 @@ use super::statement::{Said, Statement, has_id_length, statement_of};
 use super::{LineRecord, RecordFault};
 use pd_pred::Names;
 use pd_spec::{Spec, are_whole, json_value, value_at};
-use pd_traces::{Event, EventKind};
+use read_traces::{Event, EventKind};
 use serde_json::{Map, Value};
 use std::alloc::{AllocError, Global};
 

@@ -1,5 +1,5 @@
 //! What is kept from line to line.
-use pd_tokens::Key;
+use read_tokens::Key;
 use std::alloc::Global;
 
 /// What a member of an earlier `set` set.

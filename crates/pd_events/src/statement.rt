@@ -1,9 +1,9 @@
 //! What a line of right shape says.
 ghost use Rattle.std.specs.Prelude.{◌≡◌, ◌&&◌, length, nat_le, option_map};
 ghost use Rattle.serde_json.specs.View.{view, members_view};
-ghost use Rattle.pd_format.specs.Limits.{id_byte_limit};
-ghost use Rattle.pd_format.specs.Lists.{first_some};
-ghost use Rattle.pd_format.specs.Records.{end_statement, event_statement, join_statement, kind_by_fields, settings_of, statement_of};
+ghost use Rattle.def_format.specs.Limits.{id_byte_limit};
+ghost use Rattle.def_format.specs.Lists.{first_some};
+ghost use Rattle.def_format.specs.Records.{end_statement, event_statement, join_statement, kind_by_fields, settings_of, statement_of};
 ghost use Rattle.pd_events.specs.Statements.{kind_said, settings_view, statement_view};
 
 use super::fields::only_field;
@@ -25,7 +25,7 @@ pub enum Said<'a> {
 pub fn has_id_length(id: &str) -> bool
     ensures { result ≡ (nat_le 1 (length id.now) && nat_le (length id.now) id_byte_limit) }
 {
-    !id.is_empty() && id.len() <= pd_format::ID_BYTE_LIMIT
+    !id.is_empty() && id.len() <= def_format::ID_BYTE_LIMIT
 }
 
 /// What a line says, before its names and values are looked at.

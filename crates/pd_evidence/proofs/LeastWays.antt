@@ -2,18 +2,18 @@
 use Rattle.std.proofs.Common.{◌≡◌, ℕ, suc, ◌+◌, ◌-◌, ◌<◌, ◌≤◌, Bool, false, List, [], ◌∷◌, ◌++◌, length, get_or, sum, Contains, refl, sym, ap, ◌∙◌, subst, inl, inr, ◌⊎◌, arith, append_assoc}
 use Rattle.std.proofs.lemmas.Bool.{cases_eq, cases_lt}
 use Rattle.std.proofs.lemmas.List.{append-nil}
-use Rattle.pd_model.specs.Answers.{cuts_along}
-use Rattle.pd_model.specs.Cuts.{IsConsistent, IsOfLevel, empty_cut, full_cut, one_more}
-use Rattle.pd_model.specs.Events.{Computation, IsEvent}
-use Rattle.pd_model.specs.Lattice.{IsWithin}
-use Rattle.pd_model.specs.Laws.{CutBetween}
-use Rattle.pd_model.specs.Observations.{IsObservation}
-use Rattle.pd_model.specs.Order.{HasNoCycle}
-use Rattle.pd_model.specs.Paths.{AvoidsFrom}
-use Rattle.pd_model.proofs.AvoidingPaths.{avoids_on, avoids_ended}
-use Rattle.pd_model.proofs.Chains.{events_of_happens}
-use Rattle.pd_model.proofs.Counts.{in_range, length_more, more_same, more_other, sum_more, sum_le, same_or_below, same_from_sum, full_at, length_full}
-use Rattle.pd_model.proofs.Steps.{empty_consistent}
+use Rattle.def_model.specs.Answers.{cuts_along}
+use Rattle.def_model.specs.Cuts.{IsConsistent, IsOfLevel, empty_cut, full_cut, one_more}
+use Rattle.def_model.specs.Events.{Computation, IsEvent}
+use Rattle.def_model.specs.Lattice.{IsWithin}
+use Rattle.def_model.specs.Laws.{CutBetween}
+use Rattle.def_model.specs.Observations.{IsObservation}
+use Rattle.def_model.specs.Order.{HasNoCycle}
+use Rattle.def_model.specs.Paths.{AvoidsFrom}
+use Rattle.def_model.proofs.AvoidingPaths.{avoids_on, avoids_ended}
+use Rattle.def_model.proofs.Chains.{events_of_happens}
+use Rattle.def_model.proofs.Counts.{in_range, length_more, more_same, more_other, sum_more, sum_le, same_or_below, same_from_sum, full_at, length_full}
+use Rattle.def_model.proofs.Steps.{empty_consistent}
 use Rattle.pd_evidence.specs.Ways.{GoesUp, IsLeastWay, IsThrough}
 use Rattle.pd_evidence.specs.Steps.{AddsWay, IsOnWay}
 

@@ -1,8 +1,8 @@
 -- A tool of proofs: how far a least way has come.
 use Rattle.std.specs.Prelude.{◌≡◌, ℕ, List, ◌++◌}
-use Rattle.pd_model.specs.Cuts.{IsConsistent}
-use Rattle.pd_model.specs.Events.{Computation}
-use Rattle.pd_model.specs.Lattice.{IsWithin}
+use Rattle.def_model.specs.Cuts.{IsConsistent}
+use Rattle.def_model.specs.Events.{Computation}
+use Rattle.def_model.specs.Lattice.{IsWithin}
 use Rattle.pd_evidence.specs.Ways.{IsLeastWay}
 
 -- A least way from one cut up to another was put at the end of a path.

@@ -1,7 +1,7 @@
 -- An observation through a cut, in which each step is one of the least process that can take it.
 use Rattle.std.specs.Prelude.{◌≡◌, ℕ, ◌<◌, List, [], ◌∷◌, ◌++◌, slice_index}
-use Rattle.pd_model.specs.Cuts.{IsConsistent, empty_cut, full_cut, one_more}
-use Rattle.pd_model.specs.Events.{Computation}
+use Rattle.def_model.specs.Cuts.{IsConsistent, empty_cut, full_cut, one_more}
+use Rattle.def_model.specs.Events.{Computation}
 
 -- The cut that is gone up to has the next event of process p, and that event, added, gives a consistent cut.
 abbrev pub GoesUp : Computation → List ℕ → List ℕ → ℕ → Type 0

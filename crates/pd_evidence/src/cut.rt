@@ -1,6 +1,6 @@
 //! A cut as evidence that some cut satisfies.
-ghost use Rattle.pd_model.specs.Cuts.{FitsProcesses, IsConsistent};
-ghost use Rattle.pd_model.specs.Predicates.{test_of};
+ghost use Rattle.def_model.specs.Cuts.{FitsProcesses, IsConsistent};
+ghost use Rattle.def_model.specs.Predicates.{test_of};
 ghost use Rattle.pd_pred.specs.Views.{predicate_view};
 ghost use Rattle.std.specs.Prelude.{◌≡◌, ◌↔◌, IsTrue, true};
 

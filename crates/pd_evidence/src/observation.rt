@@ -1,11 +1,11 @@
 //! An observation through a cut.
 ghost use Rattle.pd_evidence.specs.Steps.{AddsWay};
 ghost use Rattle.pd_evidence.specs.Ways.{GoesUp, IsThrough};
-ghost use Rattle.pd_model.specs.Answers.{cuts_along};
-ghost use Rattle.pd_model.specs.Cuts.{IsConsistent, empty_cut, full_cut, one_more};
-ghost use Rattle.pd_model.specs.Events.{event_count};
-ghost use Rattle.pd_model.specs.Lattice.{IsWithin};
-ghost use Rattle.pd_model.specs.Observations.{IsObservation};
+ghost use Rattle.def_model.specs.Answers.{cuts_along};
+ghost use Rattle.def_model.specs.Cuts.{IsConsistent, empty_cut, full_cut, one_more};
+ghost use Rattle.def_model.specs.Events.{event_count};
+ghost use Rattle.def_model.specs.Lattice.{IsWithin};
+ghost use Rattle.def_model.specs.Observations.{IsObservation};
 ghost use Rattle.std.specs.Prelude.{◌≡◌, ◌<◌, ◌↔◌, ℕ, Contains, IfNone, IfOk, IfSome, IsTrue, OnOk, length, slice_index};
 
 use super::path::no_events;
@@ -81,7 +81,7 @@ fn go_up(
     ensures way { OnOk result (AddsWay computation.now.events here.old to.now path.old.items path.new.items) }
 {
     // the laws that the proof uses
-    pd_model::lattice();
+    def_model::lattice();
     computation.limits();
     while let Some(p) = least_up(computation, here, to) {
         path.push(p)?;

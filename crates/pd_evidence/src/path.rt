@@ -1,8 +1,8 @@
 //! A path as evidence that some observation has no satisfying cut.
-ghost use Rattle.pd_model.specs.Paths.{IsAvoidingCut};
-ghost use Rattle.pd_model.specs.Answers.{IsAvoidingObservation};
-ghost use Rattle.pd_model.specs.Cuts.{FitsProcesses, empty_cut, full_cut, one_more};
-ghost use Rattle.pd_model.specs.Predicates.{test_of};
+ghost use Rattle.def_model.specs.Paths.{IsAvoidingCut};
+ghost use Rattle.def_model.specs.Answers.{IsAvoidingObservation};
+ghost use Rattle.def_model.specs.Cuts.{FitsProcesses, empty_cut, full_cut, one_more};
+ghost use Rattle.def_model.specs.Predicates.{test_of};
 ghost use Rattle.pd_pred.specs.Views.{predicate_view};
 ghost use Rattle.std.specs.Prelude.{◌≡◌, ◌<◌, ◌↔◌, IfOk, IsTrue, Ok, length, true};
 

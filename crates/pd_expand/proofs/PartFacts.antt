@@ -10,10 +10,10 @@ use Rattle.std.proofs.lemmas.List.Elements.{All-append, All-contains, All-nil, A
 use Rattle.std.proofs.lemmas.List.Sums.{sum_by-append, sum_by-cons}
 use Rattle.std.proofs.lemmas.List.Sorted.{All-permutation, IsPermutation-map, sum_by-IsPermutation}
 use Rattle.std.specs.List.Sorted.{IsPermutation}
-use Rattle.pd_model.specs.Events.{Computation, Linked}
-use Rattle.pd_model.proofs.OneAnswer.{ascending_rest, below_rest, lex_transitive}
-use Rattle.pd_model.specs.Cuts.{IsConsistent, IsNextOf}
-use Rattle.pd_model.specs.Answers.{IsListOf, LexBelow}
+use Rattle.def_model.specs.Events.{Computation, Linked}
+use Rattle.def_model.proofs.OneAnswer.{ascending_rest, below_rest, lex_transitive}
+use Rattle.def_model.specs.Cuts.{IsConsistent, IsNextOf}
+use Rattle.def_model.specs.Answers.{IsListOf, LexBelow}
 use Rattle.pd_level.specs.Levels.{IsBetween, IsInEither, Levelled}
 use Rattle.pd_expand.specs.ClaimRule.{times}
 use Rattle.pd_expand.specs.Claims.{AreWhole, drawn, times_in_all}

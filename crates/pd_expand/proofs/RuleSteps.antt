@@ -9,7 +9,7 @@ use Rattle.atomic_table.specs.Table.{State, Me, step, keeps, opening, Allows, Sp
 use mathlib.Core.Option.{none}
 use native.Mathlib.Decide.{dec_le}
 use Rattle.atomic_table.proofs.Lists.{at_set, at_snoc, set_else}
-use Rattle.pd_format.specs.Limits.{worker_limit}
+use Rattle.def_format.specs.Limits.{worker_limit}
 use Rattle.pd_expand.specs.declared.view.View.{View}
 use Rattle.pd_expand.specs.ClaimRule.{view, times, past, once_below, IsFair, Kept, Draws}
 

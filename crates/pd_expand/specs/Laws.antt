@@ -1,8 +1,8 @@
 -- What holds of the blocks of each level.
 use Rattle.std.specs.Prelude.{◌≡◌, ℕ, ◌<◌, List, length}
-use Rattle.pd_model.specs.Answers.{LexBelow}
-use Rattle.pd_model.specs.Cuts.{IsNextOf}
-use Rattle.pd_model.specs.Events.{Computation, Linked}
+use Rattle.def_model.specs.Answers.{LexBelow}
+use Rattle.def_model.specs.Cuts.{IsNextOf}
+use Rattle.def_model.specs.Events.{Computation, Linked}
 use Rattle.pd_expand.specs.Parts.{AreBlocksOf, IsInBlock}
 
 -- each cut of the next level lies in a block

@@ -1,8 +1,8 @@
 -- Blocks of a level, and the parts of the next level that come of them.
 use Rattle.std.specs.Prelude.{◌≡◌, ℕ, ◌+◌, ◌*◌, ◌<◌, ◌≤◌, List, All, Contains, map, min}
-use Rattle.pd_model.specs.Answers.{IsListOf}
-use Rattle.pd_model.specs.Cuts.{IsConsistent, IsNextOf}
-use Rattle.pd_model.specs.Events.{Computation}
+use Rattle.def_model.specs.Answers.{IsListOf}
+use Rattle.def_model.specs.Cuts.{IsConsistent, IsNextOf}
+use Rattle.def_model.specs.Events.{Computation}
 use Rattle.pd_level.specs.Levels.{IsBetween, Levelled}
 use Rattle.pd_expand.specs.ClaimRule.{times}
 use Rattle.pd_expand.specs.Limits.{block_length}

@@ -1,7 +1,7 @@
 //! The blocks of a level.
 ghost use Rattle.pd_expand.specs.Limits.{block_length};
 ghost use Rattle.pd_expand.specs.Parts.{AreBlocksOf, IsPartOf};
-ghost use Rattle.pd_model.specs.Cuts.{IsConsistent};
+ghost use Rattle.def_model.specs.Cuts.{IsConsistent};
 ghost use Rattle.std.specs.Prelude.{◌≡◌, ◌*◌, ◌<◌, All, IfOk, length};
 
 use crate::part::Part;

@@ -1,6 +1,6 @@
 //! The blocks of a level, handed out to workers by one shared word.
 ghost use Rattle.std.specs.Prelude.{◌≡◌, ◌^◌, ◌<◌, ◌≤◌, [], ◌∷◌, ◌++◌, IfOk, All, length};
-ghost use Rattle.pd_format.specs.Limits.{worker_limit};
+ghost use Rattle.def_format.specs.Limits.{worker_limit};
 
 use crate::claim_seat::ClaimSeat;
 use crate::rule::{ClaimRule, Collects, Deals, DrawsNext};

@@ -1,8 +1,8 @@
 //! Several workers that share the work on a level.
-ghost use Rattle.pd_format.specs.Limits.{worker_limit};
-ghost use Rattle.pd_model.specs.Answers.{IsListOf, MoreThan};
-ghost use Rattle.pd_model.specs.Cuts.{IsConsistent, IsNextOf};
-ghost use Rattle.pd_model.specs.Predicates.{test_of};
+ghost use Rattle.def_format.specs.Limits.{worker_limit};
+ghost use Rattle.def_model.specs.Answers.{IsListOf, MoreThan};
+ghost use Rattle.def_model.specs.Cuts.{IsConsistent, IsNextOf};
+ghost use Rattle.def_model.specs.Predicates.{test_of};
 ghost use Rattle.pd_pred.specs.Views.{predicate_view};
 ghost use Rattle.std.specs.Prelude.{◌≡◌, ◌+◌, ◌≤◌, All, Err, IfOk, length, map, min};
 

@@ -1,7 +1,7 @@
 //! The next level, by several workers.
-ghost use Rattle.pd_format.specs.Limits.{worker_limit};
-ghost use Rattle.pd_model.specs.Answers.{IsListOf, MoreThan};
-ghost use Rattle.pd_model.specs.Cuts.{IsConsistent, IsNextOf};
+ghost use Rattle.def_format.specs.Limits.{worker_limit};
+ghost use Rattle.def_model.specs.Answers.{IsListOf, MoreThan};
+ghost use Rattle.def_model.specs.Cuts.{IsConsistent, IsNextOf};
 ghost use Rattle.std.specs.Prelude.{◌≡◌, ◌+◌, ◌<◌, ◌≤◌, All, IfOk, length, min};
 
 use crate::blocks::block_count;

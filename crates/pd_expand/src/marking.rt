@@ -1,6 +1,6 @@
 //! Which cuts of a level satisfy a predicate.
-ghost use Rattle.pd_model.specs.Cuts.{IsConsistent};
-ghost use Rattle.pd_model.specs.Predicates.{test_of};
+ghost use Rattle.def_model.specs.Cuts.{IsConsistent};
+ghost use Rattle.def_model.specs.Predicates.{test_of};
 ghost use Rattle.pd_pred.specs.Views.{predicate_view};
 ghost use Rattle.std.specs.Prelude.{◌≡◌, ◌<◌, All, IfOk, IfSome, length, map, slice_get};
 

@@ -1,7 +1,7 @@
 //! The parts of a level put together.
 ghost use Rattle.pd_expand.specs.Parts.{AreBlocksOf, ArePartsOf, IsPartOf, IsUnionOf, next_number};
-ghost use Rattle.pd_model.specs.Answers.{IsListOf};
-ghost use Rattle.pd_model.specs.Cuts.{IsNextOf};
+ghost use Rattle.def_model.specs.Answers.{IsListOf};
+ghost use Rattle.def_model.specs.Cuts.{IsNextOf};
 ghost use Rattle.std.specs.Prelude.{◌≡◌, All, IfOk, length};
 
 use crate::part::Part;

@@ -2,7 +2,7 @@
 ghost use Rattle.pd_expand.specs.Claims.{IsDone, IsSeatOf, block_count, drawn, times_in_all, worker_count};
 ghost use Rattle.pd_expand.specs.ClaimRule.{times};
 ghost use Rattle.pd_expand.specs.Parts.{AreBlocksOf, ArePartsOf};
-ghost use Rattle.pd_model.specs.Cuts.{IsConsistent};
+ghost use Rattle.def_model.specs.Cuts.{IsConsistent};
 ghost use Rattle.std.specs.Prelude.{◌≡◌, ◌++◌, ℕ, List, [], ◌∷◌, All, IfOk, IsOk, length};
 ghost use Rattle.std.specs.Thread.{IsSync};
 

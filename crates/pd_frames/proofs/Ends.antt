@@ -1,8 +1,8 @@
 -- Which bytes a framer stands for after a fault.
 use Rattle.std.proofs.Common.{◌≡◌, ℕ, false, List, [], refl, sym, ◌∙◌, append-nil}
 use Rattle.std.specs.Prelude.{Option, Some, None, IsSome}
-use Rattle.pd_format.specs.Lines.{FrameFault, open_lines, IsBatch}
-use Rattle.pd_format.specs.Laws.{FaultStays}
+use Rattle.def_format.specs.Lines.{FrameFault, open_lines, IsBatch}
+use Rattle.def_format.specs.Laws.{FaultStays}
 use Rattle.pd_frames.specs.State.{State, Stands}
 
 -- there is the fault alone

@@ -7,26 +7,8 @@ use Rattle.std.proofs.Math.Seq.{take-length}
 use Rattle.std.specs.Prelude.{Option, Some, None, is_some}
 use Rattle.std.proofs.lemmas.List.Folds.{list_any_at}
 use Rattle.memchr.specs.Find.{IsFirstByte, is_byte}
-use Rattle.pd_format.specs.Lines.{has_line_feed}
-
-not_true : (b : Bool) → (b ≡ true → ⊥) → b ≡ false
-not_true true h = absurd (h refl)
-not_true false h = refl
-
-both_false : (a b : Bool) → a ≡ false → b ≡ false → (a || b) ≡ false
-both_false true b e f = absurd (cc)
-both_false false b e f = f
-
-pub no_feed_below : (xs : List ℕ) (k : ℕ) → ((j : ℕ) → j < k → (get_or xs j 0 == 10) ≡ true → ⊥)
-    → has_line_feed (take k xs) ≡ false
-no_feed_below xs zero h = refl
-no_feed_below [] (suc k) h = refl
-no_feed_below (x ∷ xs) (suc k) h =
-    both_false (x == 10) (has_line_feed (take k xs)) (not_true (x == 10) (λ e. h 0 (omega arith) e))
-    (no_feed_below xs k (λ j below e. h (suc j) (omega arith) e))
-
-pub no_feed : (xs : List ℕ) → ((j : ℕ) → j < length xs → (get_or xs j 0 == 10) ≡ true → ⊥) → has_line_feed xs ≡ false
-no_feed xs h = ap has_line_feed (sym (take-length xs)) ∙ no_feed_below xs (length xs) h
+use Rattle.def_format.specs.Lines.{has_line_feed}
+use Rattle.def_format.proofs.FeedPlaces.{no_feed}
 
 -- a list around its element at k
 pub around_feed : (xs : List ℕ) (k : ℕ) → k < length xs → (get_or xs k 0 == 10) ≡ true

@@ -2,9 +2,9 @@
 use Rattle.std.proofs.Common.{◌≡◌, ℕ, ◌+◌, ◌<◌, ◌≤◌, true, false, List, [], ◌∷◌, ◌++◌, length, refl, sym, ◌∙◌, ap, append_assoc, length-append, add_assoc, arith, append-nil}
 use Rattle.std.specs.Prelude.{Option, Some, None, IfSome, IfNone, nat_le}
 use Rattle.std.proofs.lemmas.Bool.Decides.{nat_tests}
-use Rattle.pd_format.specs.Limits.{line_byte_limit, stream_byte_limit}
-use Rattle.pd_format.specs.Lines.{Line, FrameFault, LineTooLong, StreamTooLong, line_feed, has_line_feed, unended_line, numbered_from, fault_of_byte, frame_fault, open_lines, IsBatch}
-use Rattle.pd_format.specs.LineLaws.{ShortPartIsSound, LongLineIsFaulty, LongStreamIsFaulty, PartGoesOn, FeedEndsLine, PartIsFaulty, FeedIsFaulty, LengthensRest, EndsLine}
+use Rattle.def_format.specs.Limits.{line_byte_limit, stream_byte_limit}
+use Rattle.def_format.specs.Lines.{Line, FrameFault, LineTooLong, StreamTooLong, line_feed, has_line_feed, unended_line, numbered_from, fault_of_byte, frame_fault, open_lines, IsBatch}
+use Rattle.def_format.specs.LineLaws.{ShortPartIsSound, LongLineIsFaulty, LongStreamIsFaulty, PartGoesOn, FeedEndsLine, PartIsFaulty, FeedIsFaulty, LengthensRest, EndsLine}
 use Rattle.pd_frames.specs.Views.{frame_fault_view, frame_faults_view}
 use Rattle.pd_frames.specs.declared.line.FrameFault.{FrameFault as Fault}
 use Rattle.pd_frames.specs.Cuts.{IsOpen, Faces, FacesEnd, Cuts}

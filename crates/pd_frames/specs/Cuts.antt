@@ -1,8 +1,8 @@
 -- What is known of a stream's bytes from the line that hasn't ended and two numbers.
 use Rattle.std.specs.Prelude.{◌≡◌, ℕ, ◌+◌, ◌≤◌, List, [], ◌∷◌, ◌++◌, length, Option, None}
 use Rattle.std.specs.Prelude.{false}
-use Rattle.pd_format.specs.Limits.{line_byte_limit, stream_byte_limit}
-use Rattle.pd_format.specs.Lines.{Line, FrameFault, line_feed, has_line_feed, unended_line, line_number, frame_fault, open_lines, IsBatch}
+use Rattle.def_format.specs.Limits.{line_byte_limit, stream_byte_limit}
+use Rattle.def_format.specs.Lines.{Line, FrameFault, line_feed, has_line_feed, unended_line, line_number, frame_fault, open_lines, IsBatch}
 
 -- the bytes have no fault; this is their rest, the number of its line, and how many they are
 pub record IsOpen (rest : List ℕ) (line total : ℕ) (bytes : List ℕ) : Type 0 where

@@ -1,6 +1,6 @@
 -- What a framer shows of itself, and which bytes it stands for.
 use Rattle.std.specs.Prelude.{◌≡◌, ℕ, ◌+◌, Bool, true, false, if◌then◌else◌, List, Option, Some, None}
-use Rattle.pd_format.specs.Lines.{FrameFault, frame_fault, line_number, line_count}
+use Rattle.def_format.specs.Lines.{FrameFault, frame_fault, line_number, line_count}
 use Rattle.pd_frames.specs.Views.{fault_line}
 use Rattle.pd_frames.specs.Cuts.{IsOpen}
 

@@ -1,7 +1,7 @@
 -- What the program's lines and faults stand for.
 use Rattle.std.specs.Cow.{cow_slice_items}
 use Rattle.std.specs.Prelude.{◌≡◌, ℕ, List, [], map, Option, option_map}
-use Rattle.pd_format.specs.Lines as lines
+use Rattle.def_format.specs.Lines as lines
 use Rattle.pd_frames.specs.declared.line.Batch.{Batch}
 use Rattle.pd_frames.specs.declared.line.Line.{Line}
 use Rattle.pd_frames.specs.declared.line.FrameFault.{FrameFault}

@@ -1,14 +1,14 @@
 //! Takes the lines that end off a piece.
-ghost use Rattle.pd_format.specs.Lines.{IsBatch, has_line_feed, is_blank as is_blank_line, numbered_from};
-ghost use Rattle.pd_format.specs.Limits.{line_byte_limit, stream_byte_limit};
+ghost use Rattle.def_format.specs.Lines.{IsBatch, has_line_feed, is_blank as is_blank_line, numbered_from};
+ghost use Rattle.def_format.specs.Limits.{line_byte_limit, stream_byte_limit};
 ghost use Rattle.pd_frames.specs.Cuts.{Faces, FacesEnd, Fits, IsOpen};
 ghost use Rattle.pd_frames.specs.Views.{frame_fault_view, frame_faults_view, lines_view};
 ghost use Rattle.std.specs.Cow.{cow_slice_items};
 ghost use Rattle.std.specs.Prelude.{◌≡◌, ◌+◌, ◌*◌, ◌<◌, ◌≤◌, false, List, ℕ, [], ◌∷◌, ◌++◌, length, Some, IfSome, IfNone, IfOk, OnOk, MatchOption};
 
 use super::line::{FrameFault, Line};
+use def_format::{LINE_BYTE_LIMIT, STREAM_BYTE_LIMIT};
 use memchr::memchr;
-use pd_format::{LINE_BYTE_LIMIT, STREAM_BYTE_LIMIT};
 use std::alloc::{AllocError, Global};
 use std::borrow::CowSlice;
 
@@ -103,8 +103,8 @@ pub fn part_fault(kept: &[u8], line: u64, total: u64, part: &[u8]) -> Option<Fra
         × (total + length part.now ≤ stream_byte_limit)) }
     ensures faulty { IfSome result (λ fault. Faces kept.now line total part.now (Some (frame_fault_view fault))) }
 {
-    pd_format::faults_of_parts();
-    pd_format::lines_grow();
+    def_format::faults_of_parts();
+    def_format::lines_grow();
     let line_room = LINE_BYTE_LIMIT - kept.len();
     let stream_room = STREAM_BYTE_LIMIT - total;
     if part.len() > line_room && line_room as u64 <= stream_room {
@@ -123,8 +123,8 @@ fn ended_fault(kept: &[u8], line: u64, total: u64, part: &[u8]) -> Option<FrameF
         × (total + length part.now < stream_byte_limit)) }
     ensures faulty { IfSome result (λ fault. FacesEnd kept.now line total part.now (Some (frame_fault_view fault))) }
 {
-    pd_format::faults_of_parts();
-    pd_format::lines_grow();
+    def_format::faults_of_parts();
+    def_format::lines_grow();
     match part_fault(kept, line, total, part) {
         Some(fault) => Some(fault),
         None if total + part.len() as u64 == STREAM_BYTE_LIMIT => Some(FrameFault::StreamTooLong(
@@ -152,8 +152,8 @@ pub fn take_lines<'kept, 'piece>(
         (Fits (length cut.kept.now + length cut.tail.now) cut.line (cut.total + length cut.tail.now))) }
     ensures kept { IfOk result (λ cut. 0 < length cut.kept.now → cut.kept.now ≡ kept.now) }
 {
-    pd_format::faults_of_parts();
-    pd_format::lines_grow();
+    def_format::faults_of_parts();
+    def_format::lines_grow();
     let mut lines = Vec::new(alloc);
     let mut tail = piece;
     'lines: while let Some((part, following)) = split_line(tail) {

@@ -1,5 +1,5 @@
 //! The framer itself.
-ghost use Rattle.pd_format.specs.Lines.{IsBatch, finished_lines, frame_fault, open_lines};
+ghost use Rattle.def_format.specs.Lines.{IsBatch, finished_lines, frame_fault, open_lines};
 ghost use Rattle.pd_frames.specs.State.{Stands, finished_state, line_to_come};
 ghost use Rattle.pd_frames.specs.Views.{IsFaultAlone, frame_faults_view, lines_view};
 ghost use Rattle.std.specs.Bool.{OnTrue, OnFalse};
@@ -121,7 +121,7 @@ impl Framer {
         ensures stays { IsSome self.old.fault → self.new ≡ self.old }
         ensures unfinished { self.new.finished ≡ false }
     {
-        pd_format::fault_stays();
+        def_format::fault_stays();
         if self.fault.is_some() {
             return Ok(Batch {
                 lines: Vec::new(self.alloc),
@@ -174,7 +174,7 @@ impl Framer {
         ensures empty { length self.old.rest ≡ 0 → IsOkAnd result (λ batch. batch.lines.items ≡ []) }
         ensures moved { (IsSome self.old.fault ⊎ (length self.old.rest ≡ 0)) → self.new ≡ finished_state self.old }
     {
-        pd_format::rest_is_last();
+        def_format::rest_is_last();
         let mut lines = Vec::new(self.alloc);
         if self.has_last_line() {
             push_line(self.alloc, &mut lines, self.line, &self.rest, &[])?;

@@ -7,13 +7,13 @@ use Rattle.std.specs.List.{AllZip}
 use Rattle.std.specs.declared.alloc.AllocError.{AllocError}
 use Rattle.std.proofs.lemmas.List.{map-append}
 use Rattle.std.proofs.lemmas.List.Elements.{All-nil, All-append}
-use Rattle.pd_traces.specs.declared.event.Trace.{Trace}
+use Rattle.read_traces.specs.declared.event.Trace.{Trace}
 use Rattle.pd_events.specs.declared.fault.StreamFault.{StreamFault}
-use Rattle.pd_format.specs.Names.{ProcessNames}
+use Rattle.def_format.specs.Names.{ProcessNames}
 use Rattle.pd_register.specs.Seats.{IsSeatOf, posted_row, seen_history, stream_of}
 use Rattle.pd_register.specs.declared.register.Register.{Register}
 use Rattle.pd_register.specs.declared.seat.Seat.{Seat}
-use Rattle.pd_judgement.specs.Writes.{Source}
+use Rattle.def_judgement.specs.Writes.{Source}
 use Rattle.pd_gather.specs.Gathering.{AreSameSeats, HasGathered, KeepsSeen, LeavesSeats}
 use Rattle.pd_gather.specs.ReadStreams.{LeavesRow}
 use Rattle.pd_gather.specs.Views.{ReadingFits, results_view}

@@ -1,12 +1,12 @@
 -- What one input more does to a stream.
 use Rattle.std.proofs.Common.{◌≡◌, ℕ, zero, suc, Bool, true, false, eqb, List, [], ◌∷◌, ◌++◌, refl, sym, ◌∙◌, ap, subst, append_assoc, arith}
 use Rattle.std.specs.Prelude.{Some, slice_get, slice_set}
-use Rattle.pd_format.specs.Names.{ProcessNames}
-use Rattle.pd_format.specs.Readings.{Ending, Open, Ended, Failed, IsClosed, Reading}
-use Rattle.pd_format.specs.Sessions.{Input, Piece, AtEnd, Broken, Interleaving, inputs_of, joined_pieces, ending_of_inputs, bytes_of, ending_of}
+use Rattle.def_format.specs.Names.{ProcessNames}
+use Rattle.def_format.specs.Readings.{Ending, Open, Ended, Failed, IsClosed, Reading}
+use Rattle.def_format.specs.Sessions.{Input, Piece, AtEnd, Broken, Interleaving, inputs_of, joined_pieces, ending_of_inputs, bytes_of, ending_of}
 use Rattle.pd_events.specs.Reads.{ReaderState, Reads}
 use Rattle.pd_gather.specs.Taken.{HasTaken, Takes}
-use Rattle.pd_judgement.proofs.StreamResults.{ended_closed}
+use Rattle.def_judgement.proofs.StreamResults.{ended_closed}
 
 -- ---- inputs after others
 

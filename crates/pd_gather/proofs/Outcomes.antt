@@ -3,16 +3,16 @@ use Rattle.std.proofs.Common.{◌≡◌, ℕ, zero, suc, ◌+◌, ◌<◌, List,
 use Rattle.std.specs.Prelude.{Some, Result, Ok, Err, IfOk, slice_get}
 use Rattle.std.specs.List.{AllZip}
 use Rattle.std.proofs.lemmas.List.Elements.{All-cons}
-use Rattle.pd_format.specs.Names.{ProcessNames}
-use Rattle.pd_format.specs.Readings.{Ending, Reading, result_of, reading}
-use Rattle.pd_format.specs.ReadingLaws.{FitsSession}
-use Rattle.pd_format.specs.Sessions.{Interleaving, bytes_of, ending_of}
-use Rattle.pd_judgement.specs.Judgements.{RawStream, AreResultsOf}
-use Rattle.pd_judgement.specs.StreamResults.{OneListOfResults}
+use Rattle.def_format.specs.Names.{ProcessNames}
+use Rattle.def_format.specs.Readings.{Ending, Reading, result_of, reading}
+use Rattle.def_format.specs.ReadingLaws.{FitsSession}
+use Rattle.def_format.specs.Sessions.{Interleaving, bytes_of, ending_of}
+use Rattle.def_judgement.specs.Judgements.{RawStream, AreResultsOf}
+use Rattle.def_judgement.specs.StreamResults.{OneListOfResults}
 use Rattle.pd_events.specs.Reads.{ReaderState, Reads}
-use Rattle.pd_traces.specs.Views.{trace_view}
+use Rattle.read_traces.specs.Views.{trace_view}
 use Rattle.pd_events.specs.Views.{result_view}
-use Rattle.pd_traces.specs.declared.event.Trace.{Trace}
+use Rattle.read_traces.specs.declared.event.Trace.{Trace}
 use Rattle.pd_events.specs.declared.fault.StreamFault.{StreamFault}
 use Rattle.pd_gather.specs.Taken.{HasTaken, OrderDoesntMatter, raw_streams, raw_streams_from, raw_stream_of}
 use Rattle.pd_gather.specs.Views.{ReadingFits, results_view}

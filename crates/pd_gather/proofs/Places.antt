@@ -8,12 +8,12 @@ use Rattle.std.proofs.lemmas.List.Recursion.{found_at, found_nowhere}
 use Rattle.std.proofs.lemmas.List.Quantifiers.{position-Some}
 use Rattle.std.proofs.lemmas.List.Sums.{fails_before_first}
 use Rattle.std.proofs.Math.Seq.{take-suc}
-use Rattle.pd_format.specs.Names.{ProcessNames}
-use Rattle.pd_format.specs.Readings as readings
-use Rattle.pd_format.specs.Sessions.{SessionFault, Absent, StreamResult, has_joined, stream_fault, fault_or, first_stream_fault, trace_of, traces_from}
-use Rattle.pd_traces.specs.Views.{trace_view}
+use Rattle.def_format.specs.Names.{ProcessNames}
+use Rattle.def_format.specs.Readings as readings
+use Rattle.def_format.specs.Sessions.{SessionFault, Absent, StreamResult, has_joined, stream_fault, fault_or, first_stream_fault, trace_of, traces_from}
+use Rattle.read_traces.specs.Views.{trace_view}
 use Rattle.pd_events.specs.Views.{result_view}
-use Rattle.pd_traces.specs.declared.event.Trace.{Trace}
+use Rattle.read_traces.specs.declared.event.Trace.{Trace}
 use Rattle.pd_events.specs.declared.fault.StreamFault.{StreamFault}
 use Rattle.pd_gather.specs.Views.{is_trace_of, results_view, traces_view}
 

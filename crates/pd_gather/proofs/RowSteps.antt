@@ -2,18 +2,18 @@
 use Rattle.std.proofs.Common.{◌≡◌, ℕ, ◌+◌, ◌≤◌, Bool, true, false, cond, List, [], ◌∷◌, ◌++◌, length, refl, sym, ◌∙◌, ap, subst, inl, inr, length-append, arith}
 use Rattle.std.specs.Prelude.{◌≢◌, Option, Some, None, nat_lt, Result, Ok, Err}
 use Rattle.std.proofs.lemmas.Bool.Decides.{nat_tests}
-use Rattle.pd_model.specs.Events.{Event}
-use Rattle.pd_format.specs.Lines.{Line, FrameFault, as_line, frame_fault, line_count, line_number, numbered_from, unended_line}
-use Rattle.pd_format.specs.Lines as lines
-use Rattle.pd_format.specs.Histories.{Row, fresh_row}
-use Rattle.pd_format.specs.Limits.{event_limit}
-use Rattle.pd_format.specs.Names.{ProcessNames}
-use Rattle.pd_format.specs.Records.{RecordFault, Join, LineRecord, Joins, Happens, Ends, record_of}
-use Rattle.pd_format.specs.Readings.{Ending, Open, Ended, Failed, Stop, NothingMore, EndLine, Fault, InRecord, TooManyEvents, Unended, ReadFailed, Reading, reading, reading_of_lines, lines_of, stop_at_end, stop_or, with_end, StreamState, Fresh, Joined, HasEnded, Faulted, state}
-use Rattle.pd_format.specs.ReadingLaws.{after_record, process_of, read_on, stopped_by}
-use Rattle.pd_format.proofs.LineFacts.{lines_go_on_lem}
-use Rattle.pd_format.proofs.PartFacts.{sound_finishes}
-use Rattle.pd_format.proofs.ReadingSteps.{from_start, open_is_sound, reading_goes_on, reading_ends, reading_fails}
+use Rattle.def_model.specs.Events.{Event}
+use Rattle.def_format.specs.Lines.{Line, FrameFault, as_line, frame_fault, line_count, line_number, numbered_from, unended_line}
+use Rattle.def_format.specs.Lines as lines
+use Rattle.def_format.specs.Histories.{Row, fresh_row}
+use Rattle.def_format.specs.Limits.{event_limit}
+use Rattle.def_format.specs.Names.{ProcessNames}
+use Rattle.def_format.specs.Records.{RecordFault, Join, LineRecord, Joins, Happens, Ends, record_of}
+use Rattle.def_format.specs.Readings.{Ending, Open, Ended, Failed, Stop, NothingMore, EndLine, Fault, InRecord, TooManyEvents, Unended, ReadFailed, Reading, reading, reading_of_lines, lines_of, stop_at_end, stop_or, with_end, StreamState, Fresh, Joined, HasEnded, Faulted, state}
+use Rattle.def_format.specs.ReadingLaws.{after_record, process_of, read_on, stopped_by}
+use Rattle.def_format.proofs.LineFacts.{lines_go_on_lem}
+use Rattle.def_format.proofs.PartFacts.{sound_finishes}
+use Rattle.def_format.proofs.ReadingSteps.{from_start, open_is_sound, reading_goes_on, reading_ends, reading_fails}
 use Rattle.pd_gather.specs.Rows.{GoesOnTo, HasPosted, IsLater, IsStreamRow, row, row_of_reading}
 
 abbrev reading_with : Option (ℕ × ℕ) → List Event → Stop → Reading

@@ -1,8 +1,8 @@
 -- Seats that threads leave are still all seats of the register, and what they have seen grows.
 use mathlib.Core.List.{IsPrefix}
 use Rattle.std.proofs.Common.{◌≡◌, ℕ, zero, suc, List, [], ◌∷◌, ◌++◌, length, take, append-nil, append_assoc, refl, sym, ◌∙◌, ap, arith}
-use Rattle.pd_model.specs.Cuts.{indices_from}
-use Rattle.pd_format.specs.Histories.{Post}
+use Rattle.def_model.specs.Cuts.{indices_from}
+use Rattle.def_format.specs.Histories.{Post}
 use Rattle.pd_register.specs.Seats.{AreSeats}
 use Rattle.pd_register.specs.declared.register.Register.{Register}
 use Rattle.pd_register.specs.declared.seat.Seat.{Seat}

@@ -4,16 +4,16 @@ use Rattle.std.specs.Prelude.{◌⊎◌, nat_lt, IfSome, Option, None, Some, Err
 use Rattle.std.specs.List.{AllZip}
 use Rattle.std.proofs.lemmas.Bool.Decides.{nat_tests}
 use Rattle.std.proofs.lemmas.Slice.Zip.{AllZip-long}
-use Rattle.pd_format.specs.Limits.{stream_count_limit}
-use Rattle.pd_format.specs.Names.{ProcessNames}
-use Rattle.pd_format.specs.Histories.{Row}
-use Rattle.pd_format.specs.Readings.{Ending, Open, Ended, Failed, IsClosed, reading, result_of}
-use Rattle.pd_format.specs.Sessions.{StreamResult, session, TooManyStreams}
-use Rattle.pd_format.proofs.ReadingFacts.{closed_stays_lem}
-use Rattle.pd_judgement.specs.Judgements.{AreResultsOf, IsResultOf, RawStream}
-use Rattle.pd_judgement.specs.Writes.{FailsAfter, IsGivenAs, IsGivenBy, Source}
-use Rattle.pd_judgement.proofs.StreamResults.{ended_have_results, given_ended}
-use Rattle.pd_judgement.proofs.WholeStreams.{all_given, all_given_by, all_left_unread, all_of, all_unread_given}
+use Rattle.def_format.specs.Limits.{stream_count_limit}
+use Rattle.def_format.specs.Names.{ProcessNames}
+use Rattle.def_format.specs.Histories.{Row}
+use Rattle.def_format.specs.Readings.{Ending, Open, Ended, Failed, IsClosed, reading, result_of}
+use Rattle.def_format.specs.Sessions.{StreamResult, session, TooManyStreams}
+use Rattle.def_format.proofs.ReadingFacts.{closed_stays_lem}
+use Rattle.def_judgement.specs.Judgements.{AreResultsOf, IsResultOf, RawStream}
+use Rattle.def_judgement.specs.Writes.{FailsAfter, IsGivenAs, IsGivenBy, Source}
+use Rattle.def_judgement.proofs.StreamResults.{ended_have_results, given_ended}
+use Rattle.def_judgement.proofs.WholeStreams.{all_given, all_given_by, all_left_unread, all_of, all_unread_given}
 use Rattle.pd_gather.specs.ReadStreams.{AreReadOf, ComesTo, IsOwnEnd}
 
 -- ---- too many streams

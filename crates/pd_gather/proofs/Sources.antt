@@ -3,10 +3,10 @@ use Rattle.std.proofs.Common.{◌≡◌, ℕ, List, [], ◌++◌, true, refl, �
 use Rattle.std.specs.Prelude.{◌≢◌, IfSome, Option, Some, None}
 use Rattle.std.specs.Io.KnownBytes.{Consumes, IsAtEnd}
 use Rattle.std.proofs.KnownBytes.{Consumes-all, Consumes-trans, Consumes-whole}
-use Rattle.pd_format.specs.Names.{ProcessNames}
-use Rattle.pd_format.specs.Readings.{Open, Ended, Failed}
-use Rattle.pd_judgement.specs.Judgements.{ended_stream}
-use Rattle.pd_judgement.specs.Writes.{FailsAfter, IsGivenBy, Source}
+use Rattle.def_format.specs.Names.{ProcessNames}
+use Rattle.def_format.specs.Readings.{Open, Ended, Failed}
+use Rattle.def_judgement.specs.Judgements.{ended_stream}
+use Rattle.def_judgement.specs.Writes.{FailsAfter, IsGivenBy, Source}
 use Rattle.pd_gather.specs.ReadStreams.{IsOwnEnd}
 
 -- ---- its bytes

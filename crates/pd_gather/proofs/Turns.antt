@@ -6,27 +6,27 @@ use Rattle.std.specs.Io.KnownBytes.{Consumes, IsAtEnd, Keeps, ReadConsumes}
 use Rattle.std.proofs.KnownBytes.{Consumes-kept, Consumes-nil, Consumes-trans}
 use Rattle.std.proofs.lemmas.Bool.Decides.{nat_tests}
 use Rattle.std.proofs.lemmas.List.{length-take-le, map-append}
-use Rattle.pd_model.specs.Events.{Event}
-use Rattle.pd_format.specs.Limits.{stream_byte_limit}
-use Rattle.pd_format.specs.Lines.{FrameFault, LineTooLong, StreamTooLong, fault_of_byte, fault_after, line_number}
-use Rattle.pd_format.specs.Laws.{ClosedStays}
-use Rattle.pd_format.specs.ReadingLaws.{OpenIsSound}
-use Rattle.pd_format.specs.Names.{ProcessNames}
-use Rattle.pd_format.specs.Readings.{Ending, Open, Ended, Failed, Stop, NothingMore, EndLine, Fault, IsClosed, by_end_line, by_fault, Reading, reading, result_by_stop}
-use Rattle.pd_format.specs.Sessions.{Input, Piece, AtEnd, Broken, StreamResult}
-use Rattle.pd_judgement.specs.Judgements.{RawStream, IsResultOf, ended_stream}
+use Rattle.def_model.specs.Events.{Event}
+use Rattle.def_format.specs.Limits.{stream_byte_limit}
+use Rattle.def_format.specs.Lines.{FrameFault, LineTooLong, StreamTooLong, fault_of_byte, fault_after, line_number}
+use Rattle.def_format.specs.Laws.{ClosedStays}
+use Rattle.def_format.specs.ReadingLaws.{OpenIsSound}
+use Rattle.def_format.specs.Names.{ProcessNames}
+use Rattle.def_format.specs.Readings.{Ending, Open, Ended, Failed, Stop, NothingMore, EndLine, Fault, IsClosed, by_end_line, by_fault, Reading, reading, result_by_stop}
+use Rattle.def_format.specs.Sessions.{Input, Piece, AtEnd, Broken, StreamResult}
+use Rattle.def_judgement.specs.Judgements.{RawStream, IsResultOf, ended_stream}
 use Rattle.pd_events.specs.Reads.{ReaderState, Reads}
 use Rattle.pd_events.specs.Views.{result_view}
-use Rattle.pd_traces.specs.declared.event.Trace.{Trace}
+use Rattle.read_traces.specs.declared.event.Trace.{Trace}
 use Rattle.pd_events.specs.declared.fault.StreamFault.{StreamFault}
 use Rattle.pd_gather.specs.ReadStreams.{AreReadOf, IsReadFrom, IsReadInPart, IsReadOf, IsOwnEnd, StopsWhenClosed, read_byte_limit, row_of_stream}
-use Rattle.pd_judgement.proofs.StreamResults.{ended_closed}
-use Rattle.pd_judgement.specs.Writes.{FailsAfter, IsGivenBy, Source}
+use Rattle.def_judgement.proofs.StreamResults.{ended_closed}
+use Rattle.def_judgement.specs.Writes.{FailsAfter, IsGivenBy, Source}
 use Rattle.pd_gather.specs.Sources.{KeepsFate}
 use Rattle.pd_gather.proofs.Sources.{consumes_none, ended_end, ended_given, failed_end, failed_given, open_end}
 use Rattle.pd_gather.specs.ReadSoFar.{HasRead, ReadsOn, so_far, to_the_end, input_of_read}
 use Rattle.pd_gather.specs.Rows.{GoesOnTo, HasPosted, row_of_reading}
-use Rattle.pd_format.specs.Histories.{Row, fresh_row}
+use Rattle.def_format.specs.Histories.{Row, fresh_row}
 use Rattle.pd_gather.proofs.RowSteps.{piece_goes_on, end_goes_on, failure_goes_on, open_posted, posted_from_start}
 use Rattle.pd_gather.specs.Taken.{Takes}
 use Rattle.pd_gather.specs.Views.{ReadingFits}

@@ -2,14 +2,14 @@
 use mathlib.Core.List.{IsPrefix}
 use Rattle.std.specs.Prelude.{◌≡◌, Bool, false, List, All, Result, length, map}
 use Rattle.std.specs.List.{AllZip}
-use Rattle.pd_traces.specs.declared.event.Trace.{Trace}
+use Rattle.read_traces.specs.declared.event.Trace.{Trace}
 use Rattle.pd_events.specs.declared.fault.StreamFault.{StreamFault}
-use Rattle.pd_format.specs.Histories.{fresh_row}
-use Rattle.pd_format.specs.Names.{ProcessNames}
+use Rattle.def_format.specs.Histories.{fresh_row}
+use Rattle.def_format.specs.Names.{ProcessNames}
 use Rattle.pd_register.specs.Seats.{IsSeatOf, posted_row, seen_history, stream_of}
 use Rattle.pd_register.specs.declared.register.Register.{Register}
 use Rattle.pd_register.specs.declared.seat.Seat.{Seat}
-use Rattle.pd_judgement.specs.Writes.{Source}
+use Rattle.def_judgement.specs.Writes.{Source}
 use Rattle.pd_gather.specs.ReadStreams.{AreReadOf, LeavesRow}
 use Rattle.pd_gather.specs.Views.{ReadingFits, results_view}
 

@@ -1,14 +1,14 @@
 -- What a source has given its stream so far.
 use Rattle.std.specs.Prelude.{◌≡◌, ℕ, ◌≤◌, ◌==◌, if◌then◌else◌, List, length, take, Result, Ok, Err}
 use Rattle.std.specs.Io.KnownBytes.{Consumes}
-use Rattle.pd_format.specs.Names.{ProcessNames}
-use Rattle.pd_format.specs.Readings.{Open}
-use Rattle.pd_judgement.specs.Judgements.{RawStream}
-use Rattle.pd_format.specs.Sessions.{Input, Piece, AtEnd, Broken}
+use Rattle.def_format.specs.Names.{ProcessNames}
+use Rattle.def_format.specs.Readings.{Open}
+use Rattle.def_judgement.specs.Judgements.{RawStream}
+use Rattle.def_format.specs.Sessions.{Input, Piece, AtEnd, Broken}
 use Rattle.pd_events.specs.Reads.{ReaderState, Reads}
 use Rattle.pd_gather.specs.ReadStreams.{IsOwnEnd, StopsWhenClosed}
 use Rattle.pd_gather.specs.Rows.{GoesOnTo, row_of_reading}
-use Rattle.pd_judgement.specs.Writes.{IsGivenBy, Source}
+use Rattle.def_judgement.specs.Writes.{IsGivenBy, Source}
 
 -- what a read into these bytes gives
 abbrev pub input_of_read : {E : Type 0} → Result ℕ E → List ℕ → Input

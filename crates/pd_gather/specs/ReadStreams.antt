@@ -2,12 +2,12 @@
 use Rattle.std.specs.Prelude.{◌≡◌, ◌≢◌, ℕ, ◌≤◌, ◌⊎◌, true, List, ◌++◌, length, map, Some}
 use Rattle.std.specs.List.{AllZip}
 use Rattle.std.specs.Io.KnownBytes.{Consumes}
-use Rattle.pd_format.specs.Histories.{Row, fresh_row}
-use Rattle.pd_format.specs.Names.{ProcessNames}
-use Rattle.pd_format.specs.Readings.{Ended, Failed, Open, NothingMore, IsClosed, reading}
-use Rattle.pd_format.specs.Sessions.{StreamResult, session}
-use Rattle.pd_judgement.specs.Judgements.{RawStream, IsResultOf, AreResultsOf}
-use Rattle.pd_judgement.specs.Writes.{FailsAfter, IsGivenBy, Source}
+use Rattle.def_format.specs.Histories.{Row, fresh_row}
+use Rattle.def_format.specs.Names.{ProcessNames}
+use Rattle.def_format.specs.Readings.{Ended, Failed, Open, NothingMore, IsClosed, reading}
+use Rattle.def_format.specs.Sessions.{StreamResult, session}
+use Rattle.def_judgement.specs.Judgements.{RawStream, IsResultOf, AreResultsOf}
+use Rattle.def_judgement.specs.Writes.{FailsAfter, IsGivenBy, Source}
 use Rattle.pd_gather.specs.Rows.{HasPosted, row_of_reading}
 
 -- the most bytes that one read asks for

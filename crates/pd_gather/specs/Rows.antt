@@ -1,9 +1,9 @@
 -- The rows of streams in a register, by their readings, and how an open stream's row goes on.
 use Rattle.std.specs.Prelude.{◌≡◌, ℕ, ◌≤◌, ◌⊎◌, length, Option, Some, None}
-use Rattle.pd_format.specs.Histories.{Row}
-use Rattle.pd_format.specs.Limits.{event_limit}
-use Rattle.pd_format.specs.ReadingLaws.{process_of}
-use Rattle.pd_format.specs.Readings.{Reading, StreamState, Fresh, Joined, HasEnded, Faulted, state}
+use Rattle.def_format.specs.Histories.{Row}
+use Rattle.def_format.specs.Limits.{event_limit}
+use Rattle.def_format.specs.ReadingLaws.{process_of}
+use Rattle.def_format.specs.Readings.{Reading, StreamState, Fresh, Joined, HasEnded, Faulted, state}
 
 abbrev pub row : Option ℕ → ℕ → StreamState → Row
 row process events state = record { process = process; events = events; state = state }

@@ -1,6 +1,6 @@
 -- What a read of a source does to what is known of it.
 use Rattle.std.specs.Prelude.{◌≡◌, ◌≢◌, ◌<◌, ℕ, true, List, [], length, Some, Result, Ok, Err}
-use Rattle.pd_judgement.specs.Writes.{FailsAfter, Source}
+use Rattle.def_judgement.specs.Writes.{FailsAfter, Source}
 
 -- What is known of whether a read fails stays as it was while bytes come. The end comes only if no read is known to
 -- fail, and a read fails only as is known: no byte is left then.

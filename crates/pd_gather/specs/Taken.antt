@@ -1,9 +1,9 @@
 -- What the readers of all streams stand for.
 use Rattle.std.specs.Prelude.{◌≡◌, ℕ, ◌<◌, suc, zero, List, [], ◌∷◌, ◌++◌, Some, slice_get}
-use Rattle.pd_format.specs.Names.{ProcessNames}
-use Rattle.pd_format.specs.Readings.{IsClosed, Open}
-use Rattle.pd_format.specs.Sessions.{Input, Interleaving, StreamResult, bytes_of, ending_of, ending_of_inputs, joined_pieces}
-use Rattle.pd_judgement.specs.Judgements.{RawStream, AreResultsOf}
+use Rattle.def_format.specs.Names.{ProcessNames}
+use Rattle.def_format.specs.Readings.{IsClosed, Open}
+use Rattle.def_format.specs.Sessions.{Input, Interleaving, StreamResult, bytes_of, ending_of, ending_of_inputs, joined_pieces}
+use Rattle.def_judgement.specs.Judgements.{RawStream, AreResultsOf}
 use Rattle.pd_events.specs.Reads.{ReaderState, Reads}
 
 -- each stream's reader stands for the reading of what the steps gave of that stream

@@ -1,13 +1,13 @@
 -- What the program's inputs, readings, traces and faults stand for.
 use Rattle.std.specs.Prelude.{◌≡◌, ℕ, Bool, false, ◌==◌, List, map, Option, Some, None, Result, Ok, Err, IfOk, MatchResult, MatchOption, Vec}
 use Rattle.std.specs.Global.{Global}
-use Rattle.pd_format.specs.Names.{ProcessNames}
-use Rattle.pd_format.specs.Readings as readings
-use Rattle.pd_format.specs.ReadingLaws.{FitsSession}
-use Rattle.pd_format.specs.Sessions as sessions
-use Rattle.pd_traces.specs.Views.{trace_view}
+use Rattle.def_format.specs.Names.{ProcessNames}
+use Rattle.def_format.specs.Readings as readings
+use Rattle.def_format.specs.ReadingLaws.{FitsSession}
+use Rattle.def_format.specs.Sessions as sessions
+use Rattle.read_traces.specs.Views.{trace_view}
 use Rattle.pd_events.specs.Views.{result_view, stream_fault_view}
-use Rattle.pd_traces.specs.declared.event.Trace.{Trace}
+use Rattle.read_traces.specs.declared.event.Trace.{Trace}
 use Rattle.pd_events.specs.declared.fault.StreamFault.{StreamFault}
 use Rattle.pd_gather.specs.declared.input.Input.{Input}
 use Rattle.pd_gather.specs.declared.input.Input.TheVariants as inputs

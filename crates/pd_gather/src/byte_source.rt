@@ -10,7 +10,7 @@ pub trait ByteSource {
     ghost use Rattle.std.specs.Io.KnownBytes.{ReadConsumes};
     ghost use Rattle.std.specs.Io.{ReadsAtMost};
     ghost use Rattle.pd_gather.specs.Sources.{KeepsFate};
-    ghost use Rattle.pd_judgement.specs.Writes.{Source};
+    ghost use Rattle.def_judgement.specs.Writes.{Source};
 
     // What is known of what it has left: the bytes that it will give from here on, and whether a read fails after them.
     ghost left: { Self → Source };
@@ -33,7 +33,7 @@ pub trait ByteSource {
 
     /// Hears, as soon as that is certain, that the stream which the bytes make has this fault: no more of them are
     /// wanted.
-    fn hear_fault(&self, _fault: StreamFault) {}
+    fn on_fault(&self, _fault: StreamFault) {}
 }
 
 impl<R: Read> ByteSource for R {

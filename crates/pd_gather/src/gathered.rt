@@ -1,6 +1,6 @@
 //! The readings of all streams.
 use pd_events::StreamFault;
-use pd_traces::Trace;
+use read_traces::Trace;
 
 /// What the streams of a session gave.
 #[derive(Drop)]

@@ -1,5 +1,5 @@
 //! The streams of a session, each read on its own thread.
-ghost use Rattle.pd_format.specs.Histories.{fresh_row};
+ghost use Rattle.def_format.specs.Histories.{fresh_row};
 ghost use Rattle.pd_gather.specs.Gathering.{AreReady, AreSameSeats, HasGathered, KeepsSeen, LeavesSeats};
 ghost use Rattle.pd_gather.specs.ReadStreams.{AreReadOf};
 ghost use Rattle.pd_gather.specs.Views.{ReadingFits, results_view};
@@ -15,7 +15,7 @@ use super::readers::read_from;
 use pd_events::StreamFault;
 use pd_register::{Register, Seat};
 use pd_spec::Spec;
-use pd_traces::Trace;
+use read_traces::Trace;
 use std::alloc::{AllocError, Global};
 use std::sync::Wait;
 use std::thread::{Threads, join_mut};

@@ -1,7 +1,7 @@
 //! Reads a source up to a limit.
 ghost use Rattle.std.specs.Prelude.{◌≡◌, ◌≢◌, ◌+◌, ◌≤◌, ◌<◌, ◌++◌, true, false, List, [], ℕ, Some, Err, length, take, IfOk, IfSome, IsOkUnless, OnErr, vec_len};
-ghost use Rattle.pd_format.specs.Limits.{report_byte_limit};
-ghost use Rattle.pd_judgement.specs.Writes.{FailsAfter};
+ghost use Rattle.def_format.specs.Limits.{report_byte_limit};
+ghost use Rattle.def_judgement.specs.Writes.{FailsAfter};
 ghost use Rattle.pd_gather.specs.declared.read_fault.ReadFault.{ReadFault};
 ghost use Rattle.std.specs.Io.KnownBytes.{Consumes, IsAtEnd};
 

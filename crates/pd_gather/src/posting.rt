@@ -1,8 +1,8 @@
 //! The posts of a stream that is read: its seat's row is brought up to what its reader shows.
 ghost use mathlib.Core.List.{IsPrefix};
 ghost use Rattle.pd_events.specs.Views.{state_view};
-ghost use Rattle.pd_format.specs.Readings.{Fresh, Joined};
-ghost use Rattle.pd_format.specs.Limits.{event_limit};
+ghost use Rattle.def_format.specs.Readings.{Fresh, Joined};
+ghost use Rattle.def_format.specs.Limits.{event_limit};
 ghost use Rattle.pd_gather.specs.Rows.{CanStop, GoesOnTo, HasPosted, IsJoinedWith, row, row_of_reading};
 ghost use Rattle.pd_register.specs.Seats.{IsSameSeat, IsSeatOf, posted_row, seen_history};
 ghost use Rattle.std.specs.Prelude.{◌≡◌, ◌≤◌, ◌⊎◌, None, Some, OnErr, OnOk};

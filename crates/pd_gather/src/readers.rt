@@ -1,14 +1,14 @@
 //! A stream that is read from a source, while its steps are posted.
 ghost use mathlib.Core.List.{IsPrefix};
 ghost use Rattle.pd_events.specs.Views.{result_view};
-ghost use Rattle.pd_format.specs.Histories.{fresh_row};
-ghost use Rattle.pd_format.specs.Names.{ProcessNames};
-ghost use Rattle.pd_format.specs.Readings.{NothingMore};
+ghost use Rattle.def_format.specs.Histories.{fresh_row};
+ghost use Rattle.def_format.specs.Names.{ProcessNames};
+ghost use Rattle.def_format.specs.Readings.{NothingMore};
 ghost use Rattle.pd_gather.specs.ReadSoFar.{HasRead, ReadsOn, input_of_read};
 ghost use Rattle.pd_gather.specs.ReadStreams.{IsReadFrom, IsReadInPart, IsReadOf, read_byte_limit};
 ghost use Rattle.pd_gather.specs.Rows.{row_of_reading};
 ghost use Rattle.pd_gather.specs.Views.{ReadingFits, input_view};
-ghost use Rattle.pd_judgement.specs.Writes.{Source};
+ghost use Rattle.def_judgement.specs.Writes.{Source};
 ghost use Rattle.pd_register.specs.Seats.{IsSameSeat, IsSeatOf, posted_row, seen_history};
 ghost use Rattle.pd_spec.specs.Views.{document_view};
 ghost use Rattle.std.specs.Prelude.{◌≡◌, ◌<◌, ◌≤◌, ◌+◌, ℕ, false, List, IfOk, OnErr, OnOk, length, vec_len};
@@ -17,11 +17,11 @@ use super::Input;
 use super::byte_source::ByteSource;
 use super::posting::post_records;
 use super::streams::take_input;
+use def_format::STREAM_BYTE_LIMIT;
 use pd_events::{StreamFault, TraceReader};
-use pd_format::STREAM_BYTE_LIMIT;
 use pd_register::{Register, Seat};
 use pd_spec::Spec;
-use pd_traces::Trace;
+use read_traces::Trace;
 use std::alloc::{AllocError, Global};
 use std::io;
 use std::sync::Wait;
@@ -102,8 +102,8 @@ pub(super) fn read_from<T: Wait, R: ByteSource>(
     ensures refused { OnErr result (IsReadInPart (document_view spec.now).names
         (R.left reader.old) (R.left reader.new) (posted_row seat.new)) }
 {
-    pd_format::closed_stays();
-    pd_format::readings_go_on();
+    def_format::closed_stays();
+    def_format::readings_go_on();
     let mut piece = new_piece(alloc, READ_BYTE_LIMIT)?;
     let mut stream = TraceReader::new(alloc, spec);
     'reads: for _ in 0..READS {
@@ -115,7 +115,7 @@ pub(super) fn read_from<T: Wait, R: ByteSource>(
     }
     let outcome = stream.outcome();
     if let Err(fault) = &outcome {
-        reader.hear_fault(*fault);
+        reader.on_fault(*fault);
     }
     Ok(outcome)
 }

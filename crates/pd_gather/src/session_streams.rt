@@ -1,8 +1,8 @@
 //! The streams of a session at one place: too many of them are not read.
 ghost use Rattle.pd_gather.specs.ReadStreams.{ComesTo};
 ghost use Rattle.pd_gather.specs.Views.{ReadingFits, results_view};
-ghost use Rattle.pd_judgement.specs.Judgements.{RawStream};
-ghost use Rattle.pd_judgement.specs.Writes.{IsGivenAs};
+ghost use Rattle.def_judgement.specs.Judgements.{RawStream};
+ghost use Rattle.def_judgement.specs.Writes.{IsGivenAs};
 ghost use Rattle.pd_spec.specs.Views.{document_view};
 ghost use Rattle.std.specs.List.{AllZip};
 ghost use Rattle.std.specs.Prelude.{◌≡◌, false, List, All, IfOk, map};

@@ -1,10 +1,10 @@
 //! The streams while they are read.
 ghost use Rattle.pd_events.specs.Reads.{ReaderState, Reads};
-ghost use Rattle.pd_judgement.specs.Judgements.{AreResultsOf};
-ghost use Rattle.pd_format.specs.Limits.{stream_count_limit};
-ghost use Rattle.pd_format.specs.Names.{ProcessNames};
-ghost use Rattle.pd_format.specs.Readings.{IsClosed};
-ghost use Rattle.pd_format.specs.Sessions.{Broken, Interleaving};
+ghost use Rattle.def_judgement.specs.Judgements.{AreResultsOf};
+ghost use Rattle.def_format.specs.Limits.{stream_count_limit};
+ghost use Rattle.def_format.specs.Names.{ProcessNames};
+ghost use Rattle.def_format.specs.Readings.{IsClosed};
+ghost use Rattle.def_format.specs.Sessions.{Broken, Interleaving};
 ghost use Rattle.pd_gather.specs.Taken.{HasClosed, HasTaken, OrderDoesntMatter, Takes, raw_streams};
 ghost use Rattle.pd_gather.specs.Views.{ReadingFits, input_view, results_view};
 ghost use Rattle.pd_spec.specs.Views.{document_view};
@@ -14,7 +14,7 @@ ghost use Rattle.std.specs.Prelude.{◌≡◌, ◌<◌, ◌≤◌, ◌++◌, ◌
 use super::{Gathered, Input};
 use pd_events::{StreamFault, TraceReader};
 use pd_spec::Spec;
-use pd_traces::Trace;
+use read_traces::Trace;
 use std::alloc::{AllocError, Global};
 use std::marker::Model;
 
@@ -41,7 +41,7 @@ impl<'a> Model for Core<'a> {
 pub fn order_doesnt_matter()
     ensures { OrderDoesntMatter }
 {
-    pd_judgement::one_list_of_results();
+    def_judgement::one_list_of_results();
 }
 
 /// Takes one input of the reader's stream.

@@ -1,22 +1,22 @@
 //! The traces of a session.
-ghost use Rattle.pd_traces.specs.SessionTraces.{AreTraces};
-ghost use Rattle.pd_traces.specs.Views.{trace_view};
+ghost use Rattle.read_traces.specs.SessionTraces.{AreTraces};
+ghost use Rattle.read_traces.specs.Views.{trace_view};
 ghost use Rattle.pd_events.specs.Views.{result_view};
-ghost use Rattle.pd_format.specs.Limits.{stream_count_limit};
-ghost use Rattle.pd_format.specs.Names.{ProcessNames};
-ghost use Rattle.pd_format.specs.ReadingLaws.{FitsSession};
-ghost use Rattle.pd_format.specs.Sessions as sessions;
+ghost use Rattle.def_format.specs.Limits.{stream_count_limit};
+ghost use Rattle.def_format.specs.Names.{ProcessNames};
+ghost use Rattle.def_format.specs.ReadingLaws.{FitsSession};
+ghost use Rattle.def_format.specs.Sessions as sessions;
 ghost use Rattle.pd_gather.specs.Views.{IsSession, ReadingFits, is_trace_of, results_view, session_fault_view, traces_view};
 ghost use Rattle.pd_spec.specs.Views.{document_view};
 ghost use Rattle.std.specs.List.{list_any, position};
 ghost use Rattle.std.specs.Prelude.{◌≡◌, ◌<◌, ℕ, [], List, All, IfOk, IfSome, IsOk, MatchOption, Some, Ok, Err, option_map};
 
 use super::{Gathered, SessionFault};
+use def_format::STREAM_COUNT_LIMIT;
 use pd_events::StreamFault;
-use pd_format::STREAM_COUNT_LIMIT;
 use pd_pred::Names;
 use pd_spec::Spec;
-use pd_traces::Trace;
+use read_traces::Trace;
 use std::alloc::{AllocError, Global};
 
 /// The traces of a session with this document, one for each process, in their order. Memory is taken for the traces

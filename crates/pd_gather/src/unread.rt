@@ -1,9 +1,9 @@
 //! Streams that are too many to be read.
-ghost use Rattle.pd_format.specs.Limits.{stream_count_limit};
+ghost use Rattle.def_format.specs.Limits.{stream_count_limit};
 ghost use Rattle.std.specs.Prelude.{◌≡◌, ◌<◌, ◌≤◌, [], MatchOption};
 
 use super::gathered::Gathered;
-use pd_format::STREAM_COUNT_LIMIT;
+use def_format::STREAM_COUNT_LIMIT;
 use std::alloc::Global;
 
 /// What this many streams give if they are too many: their number alone, since none of them is read.

@@ -1,6 +1,6 @@
 //! The streams of a session, each read on its own thread, while an observer watches them on one more.
 ghost use mathlib.Core.List.{IsPrefix};
-ghost use Rattle.pd_format.specs.Histories.{fresh_row};
+ghost use Rattle.def_format.specs.Histories.{fresh_row};
 ghost use Rattle.pd_gather.specs.Gathering.{AreReady, AreSameSeats, HasGathered, KeepsSeen, LeavesSeats};
 ghost use Rattle.pd_gather.specs.ReadStreams.{AreReadOf};
 ghost use Rattle.pd_gather.specs.Views.{ReadingFits, results_view};

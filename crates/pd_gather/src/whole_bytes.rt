@@ -22,7 +22,7 @@ impl<'a> WholeBytes<'a> {
 
 impl<'a> ByteSource for WholeBytes<'a> {
     ghost use Rattle.std.specs.Prelude.{false};
-    ghost use Rattle.pd_judgement.specs.Writes.{whole_source};
+    ghost use Rattle.def_judgement.specs.Writes.{whole_source};
 
     ghost left = { λ s. whole_source s.rest.now };
 

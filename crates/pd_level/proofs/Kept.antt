@@ -3,7 +3,7 @@ use Rattle.std.proofs.Common.{◌≡◌, ℕ, zero, suc, ◌+◌, ◌^◌, ◌<�
 use Rattle.std.specs.Prelude.{slice_set}
 use Rattle.std.specs.Bool.{beq}
 use Rattle.std.proofs.lemmas.List.{drop_more, take_more_set, drop-set-lt, drop-drop, drop_all, get_or-drop, length-set}
-use Rattle.pd_keys.specs.Keys.{count_base, Ascending, AreKeys}
+use Rattle.walk_keys.specs.Keys.{count_base, Ascending, AreKeys}
 use Rattle.pd_level.specs.Levels.{kept_by}
 use Rattle.pd_level.proofs.Merges.{contains_at, contains_get}
 

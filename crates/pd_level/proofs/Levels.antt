@@ -3,15 +3,15 @@ use Rattle.std.proofs.Common.{◌≡◌, Bool, true, false, ℕ, zero, suc, ◌^
 use Rattle.std.specs.Prelude.{All, slice_get}
 use Rattle.std.proofs.lemmas.Bool.{cases_lt, cases_order}
 use Rattle.std.proofs.lemmas.List.{length-map, get_or-map}
-use Rattle.pd_format.specs.Limits.{event_limit, process_limit}
-use Rattle.pd_model.specs.Events.{Computation, Linked, event_count}
-use Rattle.pd_model.specs.Cuts.{IsConsistent, IsNextOf, one_more}
-use Rattle.pd_model.specs.Answers.{LexBelow, IsListOf}
-use Rattle.pd_keys.specs.Keys.{count_base, key_of, digits, AreDigits, AreKeys}
+use Rattle.def_format.specs.Limits.{event_limit, process_limit}
+use Rattle.def_model.specs.Events.{Computation, Linked, event_count}
+use Rattle.def_model.specs.Cuts.{IsConsistent, IsNextOf, one_more}
+use Rattle.def_model.specs.Answers.{LexBelow, IsListOf}
+use Rattle.walk_keys.specs.Keys.{count_base, key_of, digits, AreDigits, AreKeys}
 use Rattle.pd_level.specs.MoreCuts.{AreCuts, IsInRange, IsMoreBy, IsMoreBySome}
 use Rattle.pd_level.specs.Levels.{FitsKind, IsBetween, IsKept, cuts_of}
-use Rattle.pd_model.proofs.OneAnswer.{lex_asymmetric, lex_irreflexive}
-use Rattle.pd_keys.proofs.Keys.{get_or_same, digits-key, key-digits, digits_are, length-digits, lex-digits, weight_pos}
+use Rattle.def_model.proofs.OneAnswer.{lex_asymmetric, lex_irreflexive}
+use Rattle.walk_keys.proofs.Keys.{get_or_same, digits-key, key-digits, digits_are, length-digits, lex-digits, weight_pos}
 use Rattle.pd_level.proofs.Merges.{contains_at}
 use Rattle.pd_level.proofs.Steps.{cut_digits, cut_below}
 

@@ -4,10 +4,10 @@ use Rattle.std.specs.Prelude.{IfOk}
 use Rattle.std.specs.declared.alloc.AllocError.{AllocError}
 use Rattle.std.proofs.lemmas.Bool.{cases_lt}
 use Rattle.std.proofs.lemmas.List.{get_or-drop, get_or-take, length-drop, length-take-le}
-use Rattle.pd_model.specs.Events.{Computation}
-use Rattle.pd_model.specs.Cuts.{one_more}
-use Rattle.pd_keys.specs.Keys.{Ascending, count_base, digits, key_of}
-use Rattle.pd_keys.proofs.Keys.{more_is}
+use Rattle.def_model.specs.Events.{Computation}
+use Rattle.def_model.specs.Cuts.{one_more}
+use Rattle.walk_keys.specs.Keys.{Ascending, count_base, digits, key_of}
+use Rattle.walk_keys.proofs.Keys.{more_is}
 use Rattle.pd_level.specs.MoreCuts.{AreCuts, IsInRange, IsMoreBy, IsMoreBySome, piece}
 use Rattle.pd_level.proofs.Merges.{contains_at, contains_get}
 

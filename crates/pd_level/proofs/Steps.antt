@@ -1,11 +1,11 @@
 -- The cuts that one more event makes.
 use Rattle.std.proofs.Common.{◌≡◌, ℕ, ◌+◌, ◌-◌, ◌^◌, ◌<◌, ◌≤◌, List, [], ◌∷◌, ◌++◌, length, get_or, take, Contains, refl, sym, ap, ◌∙◌, subst, inl, inr, ◌⊎◌, ◌↔◌, arith}
-use Rattle.pd_format.specs.Limits.{event_limit}
-use Rattle.pd_model.specs.Events.{Computation, event_count}
-use Rattle.pd_model.specs.Cuts.{IsConsistent, one_more}
-use Rattle.pd_keys.specs.Keys.{count_base, key_of, digits, AreDigits, Ascending}
+use Rattle.def_format.specs.Limits.{event_limit}
+use Rattle.def_model.specs.Events.{Computation, event_count}
+use Rattle.def_model.specs.Cuts.{IsConsistent, one_more}
+use Rattle.walk_keys.specs.Keys.{count_base, key_of, digits, AreDigits, Ascending}
 use Rattle.pd_level.specs.MoreCuts.{AreCuts, IsMoreBy}
-use Rattle.pd_keys.proofs.Keys.{more_is, get_or_same, key_below}
+use Rattle.walk_keys.proofs.Keys.{more_is, get_or_same, key_below}
 use Rattle.pd_level.proofs.Merges.{prefix_more, push_iff, ascending_push}
 
 -- consistent counts are digits

@@ -1,10 +1,10 @@
 -- Two levels as one.
 use Rattle.std.proofs.Common.{◌≡◌, ℕ, ◌^◌, ◌<◌, List, length, get_or, Contains, subst, inl, inr, ◌⊎◌, ◌↔◌}
 use Rattle.std.specs.Prelude.{All}
-use Rattle.pd_model.specs.Events.{Computation}
-use Rattle.pd_model.specs.Cuts.{IsConsistent}
-use Rattle.pd_model.specs.Answers.{IsListOf}
-use Rattle.pd_keys.specs.Keys.{count_base, digits, Ascending, AreKeys}
+use Rattle.def_model.specs.Events.{Computation}
+use Rattle.def_model.specs.Cuts.{IsConsistent}
+use Rattle.def_model.specs.Answers.{IsListOf}
+use Rattle.walk_keys.specs.Keys.{count_base, digits, Ascending, AreKeys}
 use Rattle.pd_level.specs.Levels.{IsInEither, cuts_of}
 use Rattle.pd_level.proofs.Levels.{contains_cuts, cuts_ascend, cuts_contain, cuts_same}
 use Rattle.pd_level.proofs.Merges.{contains_at, contains_get}

@@ -3,10 +3,10 @@ use Rattle.std.specs.Prelude.{ℕ, ◌<◌, ◌≤◌, ◌⊎◌, Bool, false, t
 use Rattle.std.specs.Bool.{MatchBool, beq}
 use Rattle.pd_level.specs.declared.keys.Keys.{Keys}
 use Rattle.pd_level.specs.declared.keys.Keys.TheVariants as kind
-use Rattle.pd_keys.specs.Pairs.{single_limit}
-use Rattle.pd_format.specs.Limits.{process_limit}
-use Rattle.pd_keys.specs.Keys.{AreKeys, digits}
-use Rattle.pd_model.specs.Answers.{LexBelow}
+use Rattle.walk_keys.specs.Pairs.{single_limit}
+use Rattle.def_format.specs.Limits.{process_limit}
+use Rattle.walk_keys.specs.Keys.{AreKeys, digits}
+use Rattle.def_model.specs.Answers.{LexBelow}
 
 -- the number of a level, from 0, and its cuts as counts
 pub record Levelled : Type 0 where

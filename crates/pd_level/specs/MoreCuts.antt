@@ -1,8 +1,8 @@
 -- Ascending numbers whose digits are cuts, and the cuts that one more event makes of those.
 use Rattle.std.specs.Prelude.{◌≡◌, ℕ, ◌+◌, ◌-◌, ◌<◌, ◌≤◌, ◌↔◌, List, length, slice_index, Contains, take, drop}
-use Rattle.pd_keys.specs.Keys.{AreKeys, Ascending, count_base, digits, key_of}
-use Rattle.pd_model.specs.Events.{Computation}
-use Rattle.pd_model.specs.Cuts.{IsConsistent, one_more}
+use Rattle.walk_keys.specs.Keys.{AreKeys, Ascending, count_base, digits, key_of}
+use Rattle.def_model.specs.Events.{Computation}
+use Rattle.def_model.specs.Cuts.{IsConsistent, one_more}
 
 -- ascending numbers whose digits are cuts
 pub record AreCuts (c : Computation) (keys : List ℕ) : Type 0 where

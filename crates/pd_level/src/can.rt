@@ -1,10 +1,10 @@
 //! Whether one more event leaves a cut.
-ghost use Rattle.pd_keys.specs.Keys.{count_base, digits};
-ghost use Rattle.pd_model.specs.Cuts.{IsConsistent, one_more};
+ghost use Rattle.walk_keys.specs.Keys.{count_base, digits};
+ghost use Rattle.def_model.specs.Cuts.{IsConsistent, one_more};
 ghost use Rattle.std.specs.Prelude.{◌^◌, ◌<◌, ◌≤◌, ◌↔◌, IsTrue, length};
 
 use pd_clock::{Computation, Place};
-use pd_keys::Key;
+use walk_keys::Key;
 
 /// Whether one more event of process `p` leaves a cut: if there is one, and it is no receipt or its send is in the cut.
 pub(crate) fn can_add<K: Key>(computation: &Computation<'_>, key: K, p: usize) -> bool

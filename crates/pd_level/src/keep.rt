@@ -3,7 +3,7 @@ ghost use Rattle.pd_level.specs.Levels.{kept_by};
 ghost use Rattle.std.specs.Prelude.{◌≡◌, length};
 
 use super::list::KeyList;
-use pd_keys::Key;
+use walk_keys::Key;
 
 /// Keeps the keys whose mark is the one that is wanted, in their order. There is one mark for each key.
 pub(crate) fn keep_marked<K: Key>(keys: &mut KeyList<K>, marks: &[bool], wanted: bool)

@@ -1,13 +1,13 @@
 //! The keys of a level, of the kind that has room for its processes.
-ghost use Rattle.pd_keys.specs.Keys.{Ascending};
+ghost use Rattle.walk_keys.specs.Keys.{Ascending};
 ghost use Rattle.pd_level.specs.Levels.{FitsKind, is_single, kept_by, numbers};
 ghost use Rattle.std.specs.Prelude.{◌≡◌, ◌<◌, ◌↔◌, ◌⊎◌, ℕ, [], ◌∷◌, ◌++◌, Contains, IfOk, length};
 
 use super::keep::keep_marked;
 use super::list::KeyList;
 use super::merge::joined;
-use pd_keys::{Key, Pair, SINGLE_LIMIT};
 use std::alloc::{AllocError, Global};
+use walk_keys::{Key, Pair, SINGLE_LIMIT};
 
 /// The keys of a level: one number each if it has room for the counts of all processes, and else a pair of numbers.
 #[derive(Drop)]

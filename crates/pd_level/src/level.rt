@@ -1,7 +1,7 @@
 //! A level: the consistent cuts with one number of events.
-ghost use Rattle.pd_model.specs.Answers.{IsListOf, MoreThan};
-ghost use Rattle.pd_model.specs.Cuts.{IsConsistent, IsNextOf, empty_cut};
-ghost use Rattle.pd_model.specs.Predicates.{test_of};
+ghost use Rattle.def_model.specs.Answers.{IsListOf, MoreThan};
+ghost use Rattle.def_model.specs.Cuts.{IsConsistent, IsNextOf, empty_cut};
+ghost use Rattle.def_model.specs.Predicates.{test_of};
 ghost use Rattle.pd_level.specs.Levels.{HasRoom, IsBetween, IsInEither, IsKept, cuts_of, kept_by, numbers};
 ghost use Rattle.pd_pred.specs.Views.{predicate_view};
 ghost use Rattle.std.specs.Prelude.{◌≡◌, ◌+◌, ◌<◌, ◌≤◌, ◌==◌, ◌↔◌, All, Contains, IfErr, IfOk, IfSome, IsTrue, [], ◌∷◌, Some, length, min, slice_get};

@@ -5,7 +5,7 @@ ghost use Rattle.std.specs.Prelude.{◌≡◌, map};
 use super::keys::Keys;
 use super::level::Level;
 use super::list::KeyList;
-use pd_keys::{Key, Pair};
+use walk_keys::{Key, Pair};
 
 /// A key of which levels are made.
 pub trait LevelKey: Key {

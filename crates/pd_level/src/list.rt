@@ -1,9 +1,9 @@
 //! A list of keys, which contracts see as the list of their numbers.
 ghost use Rattle.std.specs.Prelude.{◌≡◌, ◌<◌, ◌≤◌, List, [], ◌∷◌, ◌++◌, IfOk, drop, length, map, slice_index, slice_set, take};
 
-use pd_keys::Key;
 use std::alloc::{AllocError, Global};
 use std::marker::Model;
+use walk_keys::Key;
 
 /// A list of keys, which contracts see as the list of their numbers.
 #[derive(Drop)]

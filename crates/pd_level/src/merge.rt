@@ -1,10 +1,10 @@
 //! Two ascending lists of keys as one.
-ghost use Rattle.pd_keys.specs.Keys.{Ascending};
+ghost use Rattle.walk_keys.specs.Keys.{Ascending};
 ghost use Rattle.std.specs.Prelude.{◌<◌, ◌↔◌, ◌⊎◌, ℕ, Contains, IfOk, IsTrue};
 
 use super::list::KeyList;
-use pd_keys::Key;
 use std::alloc::{AllocError, Global};
+use walk_keys::Key;
 
 /// The keys that stand in one of the two ascending lists or in both, each once and ascending.
 pub(crate) fn merge<K: Key>(

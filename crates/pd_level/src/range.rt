@@ -1,10 +1,10 @@
 //! Which of some ascending keys come to lie between two of them once an event is added.
-ghost use Rattle.pd_keys.specs.Keys.{AreKeys, count_base};
+ghost use Rattle.walk_keys.specs.Keys.{AreKeys, count_base};
 ghost use Rattle.pd_level.specs.MoreCuts.{HaveRoom};
 ghost use Rattle.std.specs.Prelude.{◌+◌, ◌-◌, ◌^◌, ◌<◌, ◌≤◌, ℕ, length, slice_index};
 
 use super::list::KeyList;
-use pd_keys::Key;
+use walk_keys::Key;
 
 /// The index of the first of the keys, of `n` counts each, from the index `start` on that is not below the bound once
 /// an event of process `p` is added.

@@ -1,18 +1,18 @@
 //! What is read of one key of a list.
-ghost use Rattle.pd_format.specs.Limits.{process_limit};
-ghost use Rattle.pd_keys.specs.Keys.{AreDigits, Ascending, count_base, digits, key_of};
-ghost use Rattle.pd_model.specs.Cuts.{FitsProcesses};
-ghost use Rattle.pd_model.specs.Predicates.{test_of};
+ghost use Rattle.def_format.specs.Limits.{process_limit};
+ghost use Rattle.walk_keys.specs.Keys.{AreDigits, Ascending, count_base, digits, key_of};
+ghost use Rattle.def_model.specs.Cuts.{FitsProcesses};
+ghost use Rattle.def_model.specs.Predicates.{test_of};
 ghost use Rattle.pd_pred.specs.Views.{predicate_view};
 ghost use Rattle.std.specs.Prelude.{◌≡◌, ◌^◌, ◌<◌, ◌≤◌, ◌↔◌, ℕ, Contains, IsTrue, length, slice_index};
 
 use super::list::KeyList;
 use super::state::KeyState;
+use def_format::PROCESS_LIMIT;
 use pd_clock::{Computation, Cut};
-use pd_format::PROCESS_LIMIT;
-use pd_keys::Key;
 use pd_pred::Pred;
 use std::alloc::Global;
+use walk_keys::Key;
 
 /// The cut whose `n` counts are the digits of a key. It takes no memory.
 pub(crate) fn cut_of<K: Key>(alloc: Global, key: K, n: usize) -> Cut

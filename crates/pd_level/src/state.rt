@@ -1,12 +1,12 @@
 //! The state at a cut that is a key.
-ghost use Rattle.pd_keys.specs.Keys.{count_base, digits};
-ghost use Rattle.pd_model.specs.Cuts.{FitsProcesses};
-ghost use Rattle.pd_model.specs.Predicates.{state_at};
+ghost use Rattle.walk_keys.specs.Keys.{count_base, digits};
+ghost use Rattle.def_model.specs.Cuts.{FitsProcesses};
+ghost use Rattle.def_model.specs.Predicates.{state_at};
 ghost use Rattle.std.specs.Prelude.{◌≡◌, ◌^◌, ◌<◌, ◌≤◌};
 
 use pd_clock::Computation;
-use pd_keys::Key;
 use pd_pred::Values;
+use walk_keys::Key;
 
 /// The state at the cut whose counts are the digits of a key. Its values are looked up with no copy of the counts.
 #[derive(Drop)]

@@ -1,8 +1,8 @@
 //! The cuts that have one event more than those of a list.
-ghost use Rattle.pd_format.specs.Limits.{event_limit};
-ghost use Rattle.pd_keys.specs.Keys.{Ascending};
+ghost use Rattle.def_format.specs.Limits.{event_limit};
+ghost use Rattle.walk_keys.specs.Keys.{Ascending};
 ghost use Rattle.pd_level.specs.MoreCuts.{AreCuts, IsInRange, IsMoreBy, IsMoreBySome, piece};
-ghost use Rattle.pd_model.specs.Events.{event_count};
+ghost use Rattle.def_model.specs.Events.{event_count};
 ghost use Rattle.std.specs.Prelude.{◌<◌, ◌≤◌, ◌↔◌, ℕ, Contains, IfOk, length};
 
 use super::can::can_add;
@@ -10,8 +10,8 @@ use super::list::KeyList;
 use super::merge::merge;
 use super::range::{range_end, range_start};
 use pd_clock::Computation;
-use pd_keys::Key;
 use std::alloc::{AllocError, Global};
+use walk_keys::Key;
 
 /// The cuts that one more event of process `p` makes of those from the index `start` on and before `end`, ascending as
 /// they do.

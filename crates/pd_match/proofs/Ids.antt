@@ -6,9 +6,9 @@ use Rattle.std.proofs.lemmas.Slice.Eq.{bytes_eq-Decides}
 use Rattle.std.proofs.lemmas.Option.{same_Some}
 use Rattle.std.proofs.lemmas.Bool.{false≢true}
 use Rattle.indexmap.specs.IndexMap.{IndexMap, IsEmpty, get_by}
-use Rattle.pd_model.specs.Events.{Kind, Computation, IsBefore, kind_at, event_count}
-use Rattle.pd_model.specs.Events as events
-use Rattle.pd_model.proofs.Chains.{event_from_kind}
+use Rattle.def_model.specs.Events.{Kind, Computation, IsBefore, kind_at, event_count}
+use Rattle.def_model.specs.Events as events
+use Rattle.def_model.proofs.Chains.{event_from_kind}
 use Rattle.pd_match.specs.declared.place.Place.{Place}
 use Rattle.pd_match.specs.Views.{place_view}
 use Rattle.pd_match.specs.Noted.{event_place, place_noted, HasBefore, HasAll}

@@ -12,9 +12,9 @@ use Rattle.std.proofs.lemmas.List.Sums.{sum_by-set}
 use Rattle.std.proofs.lemmas.Option.{same_Some}
 use Rattle.std.proofs.lemmas.Slice.Eq.{bytes_eq-Decides}
 use Rattle.indexmap.specs.IndexMap.{IndexMap, index_of_by}
-use Rattle.pd_model.specs.Events.{Receive, Computation, IsBefore, kind_at, event_count}
-use Rattle.pd_model.specs.Events as events
-use Rattle.pd_model.proofs.Chains.{event_from_kind}
+use Rattle.def_model.specs.Events.{Receive, Computation, IsBefore, kind_at, event_count}
+use Rattle.def_model.specs.Events as events
+use Rattle.def_model.proofs.Chains.{event_from_kind}
 use Rattle.pd_match.specs.declared.place.Place.{Place}
 use Rattle.pd_match.specs.Noted.{HasReceived, IsReceivedBefore, event_place, last_receiver, mark_at, sends_marked}
 use Rattle.pd_match.proofs.Places.{before_more, before_next, before_next_process, before_process_end, here_before_next, none_before_first}

@@ -5,12 +5,12 @@ use Rattle.std.specs.Global.{Global}
 use Rattle.std.proofs.lemmas.Bool.{cases_lt}
 use Rattle.std.proofs.lemmas.List.Elements.{Contains-append_left, Contains-append_right, Contains-get_or, Contains-push, Contains-push_cases}
 use Rattle.std.proofs.lemmas.Option.{slice_get_past, same_Some}
-use Rattle.pd_model.specs.Events.{Computation, Receive, IsBefore, IsEvent, Linked, event_count, place}
-use Rattle.pd_model.specs.Events as events
-use Rattle.pd_model.specs.Messages.{IsMessage, IsMessageList}
-use Rattle.pd_model.proofs.Chains.{event_from_kind}
-use Rattle.pd_model.proofs.Consistency.{process_in_range}
-use Rattle.pd_model.proofs.ListPrefixes.{get_push_before, get_push_last}
+use Rattle.def_model.specs.Events.{Computation, Receive, IsBefore, IsEvent, Linked, event_count, place}
+use Rattle.def_model.specs.Events as events
+use Rattle.def_model.specs.Messages.{IsMessage, IsMessageList}
+use Rattle.def_model.proofs.Chains.{event_from_kind}
+use Rattle.def_model.proofs.Consistency.{process_in_range}
+use Rattle.def_model.proofs.ListPrefixes.{get_push_before, get_push_last}
 use Rattle.pd_match.specs.declared.sender.Sender.{Sender}
 use Rattle.pd_match.specs.Noted.{event_place, items_in, kept, pairs_from, pairs_in, row_at, send_in, sender_at, sender_view}
 use Rattle.pd_match.specs.Progress.{PairsBefore, RowTells, RowsTell}

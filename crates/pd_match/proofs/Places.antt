@@ -1,9 +1,9 @@
 -- The order of places, and the places before one.
 use Rattle.std.proofs.Common.{◌≡◌, ℕ, suc, ◌<◌, ◌≤◌, length, refl, inl, inr, ◌⊎◌, arith}
 use Rattle.std.proofs.lemmas.Bool.{cases_lt}
-use Rattle.pd_model.specs.Events.{Computation, Place, IsBefore, IsEvent, event_count}
-use Rattle.pd_model.proofs.Chains.{same_place}
-use Rattle.pd_model.proofs.Consistency.{process_in_range}
+use Rattle.def_model.specs.Events.{Computation, Place, IsBefore, IsEvent, event_count}
+use Rattle.def_model.proofs.Chains.{same_place}
+use Rattle.def_model.proofs.Consistency.{process_in_range}
 use Rattle.pd_match.specs.Noted.{event_place}
 
 pub not_before_itself : (d : Place) → ¬ IsBefore d d

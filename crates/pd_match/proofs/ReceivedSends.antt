@@ -4,9 +4,9 @@ use Rattle.std.specs.Prelude.{nat_eq}
 use Rattle.std.proofs.Math.Dec.{eqb-suc-zero}
 use Rattle.std.proofs.lemmas.Bool.{cases_order}
 use Rattle.std.proofs.lemmas.Option.{same_Some}
-use Rattle.pd_model.specs.Events.{Send, Receive, Computation, Place, IsBefore, Linked, kind_at, event_count}
-use Rattle.pd_model.specs.Messages.{Version, IsMessage, IsMessageList, AreReceived, HasMessages, self_message}
-use Rattle.pd_model.proofs.Chains.{event_from_kind, same_place}
+use Rattle.def_model.specs.Events.{Send, Receive, Computation, Place, IsBefore, Linked, kind_at, event_count}
+use Rattle.def_model.specs.Messages.{Version, IsMessage, IsMessageList, AreReceived, HasMessages, self_message}
+use Rattle.def_model.proofs.Chains.{event_from_kind, same_place}
 use Rattle.pd_match.specs.Noted.{CountsSends, HasReceived, NoneBadBefore, event_place}
 use Rattle.pd_match.specs.Progress.{SendsBefore}
 use Rattle.pd_match.proofs.Places.{before_more, before_next, before_next_process, before_process_end, before_transitive, each_before_end, here_before_next, none_before_first}

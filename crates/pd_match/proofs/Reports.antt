@@ -4,9 +4,9 @@ use Rattle.std.specs.Prelude.{not, is_some, true, false, IfSome}
 use Rattle.std.proofs.Math.Dec.{eqb-suc-zero, eqb-zero-suc}
 use Rattle.std.proofs.lemmas.Bool.{eqb-false, eqb-true, false≢true}
 use Rattle.std.proofs.lemmas.Option.{same_Some}
-use Rattle.pd_model.specs.Events.{Send, Receive, Computation, Place, IsBefore, kind_at, event_count}
-use Rattle.pd_model.specs.Messages.{Version, One, Two, IsSameReceiver, Fault, SendTwice, Orphan, SelfMessage, ReceivedTwice, IsSentAgain, IsOrphan, IsSelfMessage, IsReceivedAgain, IsBadReceipt, orphan, self_message, received_again, IsReported, IsMessage, HasLawfulMessages}
-use Rattle.pd_model.proofs.Chains.{event_from_kind}
+use Rattle.def_model.specs.Events.{Send, Receive, Computation, Place, IsBefore, kind_at, event_count}
+use Rattle.def_model.specs.Messages.{Version, One, Two, IsSameReceiver, Fault, SendTwice, Orphan, SelfMessage, ReceivedTwice, IsSentAgain, IsOrphan, IsSelfMessage, IsReceivedAgain, IsBadReceipt, orphan, self_message, received_again, IsReported, IsMessage, HasLawfulMessages}
+use Rattle.def_model.proofs.Chains.{event_from_kind}
 use Rattle.pd_match.specs.declared.place.Place as matches
 use Rattle.pd_match.specs.Views.{place_view}
 use Rattle.pd_match.specs.Noted.{event_place, again, HasBefore, HasAll, HasReceived, IsReceivedBefore, NoneBadBefore, IsReportedOf}

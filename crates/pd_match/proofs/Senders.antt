@@ -3,8 +3,8 @@ use Rattle.std.proofs.Common.{◌≡◌, ℕ, zero, suc, ◌-◌, ◌<◌, ◌�
 use Rattle.std.specs.Prelude.{slice_get, Vec}
 use Rattle.std.specs.Global.{Global}
 use Rattle.std.proofs.lemmas.Option.{slice_get_past, slice_get_read}
-use Rattle.pd_model.specs.Events.{numbered}
-use Rattle.pd_model.specs.Events as events
+use Rattle.def_model.specs.Events.{numbered}
+use Rattle.def_model.specs.Events as events
 use Rattle.pd_match.specs.declared.sender.Sender.{Sender}
 use Rattle.pd_match.specs.Noted.{items_in, sender_at, sender_view}
 

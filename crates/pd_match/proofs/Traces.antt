@@ -3,13 +3,13 @@ use Rattle.std.proofs.Common.{◌≡◌, ℕ, zero, suc, ◌<◌, List, [], ◌�
 use Rattle.std.specs.Prelude.{slice_get}
 use Rattle.std.specs.Borrow.{Bor}
 use Rattle.std.proofs.lemmas.Option.{slice_get_read}
-use Rattle.pd_model.specs.Events.{events_of, event_count, kind_at}
-use Rattle.pd_model.specs.Events as events
-use Rattle.pd_traces.specs.declared.event.Trace.{Trace}
-use Rattle.pd_traces.specs.Views.{computation_view}
-use Rattle.pd_traces.specs.Columns.{seen_kind_view}
-use Rattle.pd_traces.specs.declared.kind.Kind.{Kind}
-use Rattle.pd_traces.specs.declared.kind.Kind.TheVariants as kinds
+use Rattle.def_model.specs.Events.{events_of, event_count, kind_at}
+use Rattle.def_model.specs.Events as events
+use Rattle.read_traces.specs.declared.event.Trace.{Trace}
+use Rattle.read_traces.specs.Views.{computation_view}
+use Rattle.read_traces.specs.Columns.{seen_kind_view}
+use Rattle.read_traces.specs.declared.kind.Kind.{Kind}
+use Rattle.read_traces.specs.declared.kind.Kind.TheVariants as kinds
 use Rattle.pd_match.specs.Noted.{event_place}
 
 got : {A : Type 0} (xs : List A) (p : ℕ) (x : A) → p < length xs → x ≡ get_or xs p x → slice_get xs p ≡ Some x

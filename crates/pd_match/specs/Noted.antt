@@ -4,10 +4,10 @@ use Rattle.std.specs.List.{count_by}
 use Rattle.std.specs.Borrow.{Bor}
 use Rattle.std.specs.declared.alloc.Global.{Global}
 use Rattle.indexmap.specs.IndexMap.{IndexMap, get_by, index_of_by}
-use Rattle.pd_model.specs.Events.{Kind, Receive, Computation, IsBefore, Linked, kind_at, numbered, place}
-use Rattle.pd_model.specs.Events as events
-use Rattle.pd_model.specs.Messages.{Version, One, Two, IsBadReceipt}
-use Rattle.pd_model.specs.Messages as messages
+use Rattle.def_model.specs.Events.{Kind, Receive, Computation, IsBefore, Linked, kind_at, numbered, place}
+use Rattle.def_model.specs.Events as events
+use Rattle.def_model.specs.Messages.{Version, One, Two, IsBadReceipt}
+use Rattle.def_model.specs.Messages as messages
 use Rattle.pd_match.specs.declared.place.Place.{Place}
 use Rattle.pd_match.specs.declared.sender.Sender.{Sender}
 use Rattle.pd_match.specs.Views.{place_view}

@@ -1,9 +1,9 @@
 -- How far the receipts have been matched.
 use Rattle.std.specs.Prelude.{◌≡◌, ◌++◌, ◌↔◌, ◌<◌, ℕ, List, Some, Contains, length, slice_get, Vec}
 use Rattle.std.specs.declared.alloc.Global.{Global}
-use Rattle.pd_model.specs.Events.{Computation, IsBefore, Linked, event_count}
-use Rattle.pd_model.specs.Events as events
-use Rattle.pd_model.specs.Messages.{IsMessage, Version}
+use Rattle.def_model.specs.Events.{Computation, IsBefore, Linked, event_count}
+use Rattle.def_model.specs.Events as events
+use Rattle.def_model.specs.Messages.{IsMessage, Version}
 use Rattle.pd_match.specs.declared.sender.Sender.{Sender}
 use Rattle.pd_match.specs.Noted.{HasReceived, NoneBadBefore, event_place, pairs_from, pairs_in, row_at, sender_view}
 

@@ -1,7 +1,7 @@
 -- What the program's places, messages and faults stand for.
 use Rattle.std.specs.Prelude.{List, Option, Some, None, map}
-use Rattle.pd_model.specs.Events as events
-use Rattle.pd_model.specs.Messages as messages
+use Rattle.def_model.specs.Events as events
+use Rattle.def_model.specs.Messages as messages
 use Rattle.pd_match.specs.declared.place.Place.{Place}
 use Rattle.pd_match.specs.declared.fault.MatchFault.{MatchFault}
 use Rattle.pd_match.specs.declared.fault.MatchFault.TheVariants as faults

@@ -1,11 +1,11 @@
 //! The kinds of events, by process and index.
-ghost use Rattle.pd_traces.specs.Columns.{seen_kind_view};
-ghost use Rattle.pd_traces.specs.Views.{computation_view};
+ghost use Rattle.read_traces.specs.Columns.{seen_kind_view};
+ghost use Rattle.read_traces.specs.Views.{computation_view};
 ghost use Rattle.pd_match.specs.Noted.{event_place};
-ghost use Rattle.pd_model.specs.Events.{event_count, kind_at};
+ghost use Rattle.def_model.specs.Events.{event_count, kind_at};
 ghost use Rattle.std.specs.Prelude.{◌≡◌, ◌<◌, ◌^◌, Some, length};
 
-use pd_traces::{Kind, Trace};
+use read_traces::{Kind, Trace};
 
 /// The kind of the event at index `n` of process `p`.
 pub(crate) fn kind_of<'a>(traces: &'a [Trace], p: usize, n: usize) -> Kind<'a>

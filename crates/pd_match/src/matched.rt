@@ -1,7 +1,7 @@
 //! The messages of a session.
 ghost use Rattle.pd_match.specs.Noted.{CountsSends, pairs_from, pairs_in, sender_at};
 ghost use Rattle.pd_match.specs.Views.{pairs_view, place_view};
-ghost use Rattle.pd_model.specs.Events as events;
+ghost use Rattle.def_model.specs.Events as events;
 ghost use Rattle.std.specs.Prelude.{◌≡◌, ◌↔◌, ◌++◌, ◌<◌, ◌^◌, Contains, IfOk, OnOk, Some, length, option_map};
 
 use super::Place;
@@ -20,7 +20,7 @@ pub struct Matched {
 
 impl Model for Matched {
     ghost use Rattle.std.specs.Prelude.{◌≡◌, ◌↔◌, List, Contains, Some};
-    ghost use Rattle.pd_model.specs.Events as events;
+    ghost use Rattle.def_model.specs.Events as events;
     ghost use Rattle.pd_match.specs.Noted.{CountsSends, pairs_in, sender_at};
 
     ghost Value = { List (events.Place × events.Place) };

@@ -1,18 +1,18 @@
 //! Matches sends and receipts.
-ghost use Rattle.pd_traces.specs.Views.{computation_view};
+ghost use Rattle.read_traces.specs.Views.{computation_view};
 ghost use Rattle.pd_match.specs.Noted.{HasAll, place_noted, sends_marked};
 ghost use Rattle.pd_match.specs.Views.{match_fault_view};
-ghost use Rattle.pd_format.specs.Versions.{version_view};
-ghost use Rattle.pd_model.specs.Events.{Send};
-ghost use Rattle.pd_model.specs.Messages.{HasLawfulMessages, IsMessageList, IsReported};
+ghost use Rattle.def_format.specs.Versions.{version_view};
+ghost use Rattle.def_model.specs.Events.{Send};
+ghost use Rattle.def_model.specs.Messages.{HasLawfulMessages, IsMessageList, IsReported};
 ghost use Rattle.std.specs.Prelude.{◌≡◌, IfErr, IfOk, IfSome};
 
 use super::receiving::senders_in;
 use super::sending::sends_of;
 use super::{MatchFault, Matched, Place};
+use def_format::Version;
 use indexmap::IndexMap;
-use pd_format::Version;
-use pd_traces::Trace;
+use read_traces::Trace;
 use std::alloc::Global;
 use std::hash::{BuildHasher, BuildHasherDefault, FoldHasher, RandomState};
 use std::random::RandomSource;

@@ -1,21 +1,21 @@
 //! The second pass, over the receipts.
 ghost use Rattle.indexmap.specs.IndexMap.{index_map_len};
-ghost use Rattle.pd_traces.specs.Views.{computation_view};
+ghost use Rattle.read_traces.specs.Views.{computation_view};
 ghost use Rattle.pd_match.specs.Noted.{HasAll, HasReceived, IsReportedOf, NoneBadBefore, again, event_place, last_receiver, place_noted, sends_marked};
 ghost use Rattle.pd_match.specs.Progress.{MatchedBefore, RowTells, SendsBefore};
 ghost use Rattle.pd_match.specs.Views.{match_fault_view, place_view};
-ghost use Rattle.pd_format.specs.Versions.{version_view};
-ghost use Rattle.pd_model.specs.Events as events;
-ghost use Rattle.pd_model.specs.Events.{Send, event_count};
-ghost use Rattle.pd_model.specs.Messages.{IsMessage, IsReported};
+ghost use Rattle.def_format.specs.Versions.{version_view};
+ghost use Rattle.def_model.specs.Events as events;
+ghost use Rattle.def_model.specs.Events.{Send, event_count};
+ghost use Rattle.def_model.specs.Messages.{IsMessage, IsReported};
 ghost use Rattle.std.specs.Prelude.{◌≡◌, ◌≢◌, ◌+◌, ◌-◌, ◌^◌, ◌<◌, ◌↔◌, ℕ, IfErr, IfOk, IfSome, List, OnOk, Some, bytes_eq, cond, false, length, nat_eq, option_map, suc};
 
 use super::kinds::kind_of;
 use super::sender::Sender;
 use super::{MatchFault, Place};
+use def_format::Version;
 use indexmap::IndexMap;
-use pd_format::Version;
-use pd_traces::{Kind, Trace};
+use read_traces::{Kind, Trace};
 use std::alloc::Global;
 use std::hash::BuildHasher;
 

@@ -1,16 +1,16 @@
 //! The first pass, over the sends.
-ghost use Rattle.pd_traces.specs.Views.{computation_view};
+ghost use Rattle.read_traces.specs.Views.{computation_view};
 ghost use Rattle.pd_match.specs.Noted.{HasAll, HasBefore, event_place, place_noted};
 ghost use Rattle.pd_match.specs.Views.{match_fault_view};
-ghost use Rattle.pd_model.specs.Events.{Send, event_count};
-ghost use Rattle.pd_model.specs.Messages.{IsReported, Version};
+ghost use Rattle.def_model.specs.Events.{Send, event_count};
+ghost use Rattle.def_model.specs.Messages.{IsReported, Version};
 ghost use Rattle.std.specs.Prelude.{◌<◌, IfErr, IfOk, IfSome, OnOk, length, suc};
 
 use super::kinds::kind_of;
 use super::noting::note;
 use super::{MatchFault, Place};
 use indexmap::IndexMap;
-use pd_traces::{Kind, Trace};
+use read_traces::{Kind, Trace};
 use std::alloc::Global;
 use std::hash::BuildHasher;
 

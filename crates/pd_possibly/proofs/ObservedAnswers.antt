@@ -1,9 +1,9 @@
 -- The answer in the wording of cuts is that in the wording of observations.
 use Rattle.std.proofs.Common.{Bool, List, ℕ}
-use Rattle.pd_model.specs.Answers.{IsPossiblyAnswer, PossiblyAnswer, PossiblyNo, PossiblyUnknown, PossiblyYes}
-use Rattle.pd_model.specs.Events.{Computation}
-use Rattle.pd_model.specs.Laws.{EveryCutIsObserved, PossiblyBothWays}
-use Rattle.pd_model.specs.Order.{HasNoCycle}
+use Rattle.def_model.specs.Answers.{IsPossiblyAnswer, PossiblyAnswer, PossiblyNo, PossiblyUnknown, PossiblyYes}
+use Rattle.def_model.specs.Events.{Computation}
+use Rattle.def_model.specs.Laws.{EveryCutIsObserved, PossiblyBothWays}
+use Rattle.def_model.specs.Order.{HasNoCycle}
 use Rattle.pd_possibly.specs.Observed.{IsObservedAnswer}
 
 pub observed_answer : (c : Computation) (test : List ℕ → Bool) (width : ℕ) (answer : PossiblyAnswer)

@@ -1,8 +1,8 @@
 //! The question and its answer.
-ghost use Rattle.pd_format.specs.Limits.{worker_limit};
-ghost use Rattle.pd_lists.specs.Answers.{possibly_answer_view};
-ghost use Rattle.pd_model.specs.Answers.{IsPossiblyAnswer};
-ghost use Rattle.pd_model.specs.Predicates.{test_of};
+ghost use Rattle.def_format.specs.Limits.{worker_limit};
+ghost use Rattle.walk_back.specs.Answers.{possibly_answer_view};
+ghost use Rattle.def_model.specs.Answers.{IsPossiblyAnswer};
+ghost use Rattle.def_model.specs.Predicates.{test_of};
 ghost use Rattle.pd_possibly.specs.Observed.{IsObservedAnswer};
 ghost use Rattle.pd_pred.specs.Views.{predicate_view};
 ghost use Rattle.std.specs.Prelude.{◌≤◌, IfOk};
@@ -10,12 +10,12 @@ ghost use Rattle.std.specs.Prelude.{◌≤◌, IfOk};
 use pd_clock::Computation;
 use pd_expand::Crew;
 use pd_level::Gate;
-use pd_lists::PossiblyAnswer;
 use pd_pred::Pred;
-use pd_walk::answer_possibly;
 use std::alloc::{AllocError, Global};
 use std::sync::Wait;
 use std::thread::Threads;
+use walk::answer_possibly;
+use walk_back::PossiblyAnswer;
 
 /// The answer for a predicate over a computation, under a bound on the width of the levels, from 1 on. From 1 to 16
 /// workers share the work on a level that has enough cuts, each on a thread of its own. A worker calls the gate before
@@ -44,7 +44,7 @@ pub fn possibly<T: Threads + Wait + Sync, G: Gate + Sync>(
         (test_of computation.now (predicate_view pred.now)) (possibly_answer_view answer)) }
 {
     // the laws that the proof uses
-    pd_model::observed();
+    def_model::observed();
     computation.limits();
     let crew = Crew::new(rt, workers, gate);
     let answer = answer_possibly(&crew, alloc, computation, pred, width)?;

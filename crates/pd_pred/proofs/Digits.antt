@@ -1,7 +1,7 @@
 -- What the digits of a number write, digit by digit.
 use Rattle.std.proofs.Common.{◌≡◌, ℕ, ◌+◌, ◌*◌, ◌-◌, ◌<◌, ◌≤◌, List, [], ◌∷◌, length, get_or, drop, arith}
 use Rattle.std.proofs.lemmas.List.{at_drop_more}
-use Rattle.pd_format.specs.Tokens.{number_from}
+use Rattle.def_format.specs.Tokens.{number_from}
 
 -- more digits make no smaller number
 pub number_from_grows : (n : ℕ) (digits : List ℕ) → n ≤ number_from n digits

@@ -1,13 +1,13 @@
 -- If no token is misplaced, each reference is known.
 use Rattle.std.proofs.Common.{◌≡◌, ℕ, true, List, [], ◌∷◌, ◌++◌, refl, sym, ◌∙◌, ap, append_assoc, inl, inr}
 use Rattle.std.specs.Prelude.{Option, Some, None, is_some, option_and_then}
-use Rattle.pd_format.specs.Names.{ProcessNames, process_named, var_named}
-use Rattle.pd_format.specs.Tokens.{Token, Placed, Word, Dot}
-use Rattle.pd_format.specs.PredicateTexts.{IsUnknownName, UnknownName, tokens_of}
-use Rattle.pd_format.specs.Grammar.{CanGoOn}
-use Rattle.pd_format.specs.PrefixWalk.{State, AtEnd, walk, start}
-use Rattle.pd_format.proofs.Prefixes.{walk-append}
-use Rattle.pd_format.proofs.Completions.{can_of_begins}
+use Rattle.def_format.specs.Names.{ProcessNames, process_named, var_named}
+use Rattle.def_format.specs.Tokens.{Token, Placed, Word, Dot}
+use Rattle.def_format.specs.PredicateTexts.{IsUnknownName, UnknownName, tokens_of}
+use Rattle.def_format.specs.Grammar.{CanGoOn}
+use Rattle.def_format.specs.PrefixWalk.{State, AtEnd, walk, start}
+use Rattle.def_format.proofs.Prefixes.{walk-append}
+use Rattle.def_format.proofs.Completions.{can_of_begins}
 use Rattle.pd_pred.specs.Building.{IsKnown}
 use Rattle.pd_pred.specs.Placement.{IsWellPlaced}
 

@@ -2,7 +2,7 @@
 use Rattle.std.proofs.Common.{◌≡◌, ℕ, ◌+◌, ◌<◌, ◌≤◌, List, [], ◌∷◌, ◌++◌, length, refl, sym, ◌∙◌, ap, subst, arith, length-append}
 use Rattle.std.specs.Prelude.{IsFalse}
 use Rattle.std.proofs.lemmas.List.{map_push, nil_from_length}
-use Rattle.pd_format.specs.Tokens.{Token, End, Placed, placed, Lexes, AreTokens, IsStray, BeginsNoToken, is_space}
+use Rattle.def_format.specs.Tokens.{Token, End, Placed, placed, Lexes, AreTokens, IsStray, BeginsNoToken, is_space}
 use Rattle.pd_pred.specs.Lexing.{IsFirstToken, SkipsSpaces}
 use Rattle.pd_pred.specs.Tokens.{token_view, placed_view, lexed_view}
 use Rattle.pd_pred.specs.declared.token.Placed.{Placed as Code}

@@ -4,13 +4,13 @@ use Rattle.std.specs.Prelude.{Option, Some, None, is_some, option_and_then}
 use Rattle.std.specs.Option.{option_map}
 use Rattle.std.proofs.lemmas.List.{reverse-append}
 use Rattle.std.proofs.lemmas.List.Quantifiers.{position-Some}
-use Rattle.pd_format.specs.Laws.{PrefixesAreWalked, WalksGoOn, DepthsAreHeights, StacksGoOn}
-use Rattle.pd_format.specs.Names.{ProcessNames, process_named, var_named}
-use Rattle.pd_format.specs.Tokens.{Token, Word, Dot, Placed}
-use Rattle.pd_format.specs.Grammar.{CanGoOn}
-use Rattle.pd_format.specs.PrefixWalk.{AfterName, AfterDot, State, Inside, AtEnd, step, walk, start}
-use Rattle.pd_format.specs.OpenerStack.{opened}
-use Rattle.pd_format.specs.PredicateTexts.{PredicateFault, Expected, UnknownName, Depth, IsFaulty, IsUnknownName, IsUnknownProcess, IsUnknownVar, tokens_of}
+use Rattle.def_format.specs.Laws.{PrefixesAreWalked, WalksGoOn, DepthsAreHeights, StacksGoOn}
+use Rattle.def_format.specs.Names.{ProcessNames, process_named, var_named}
+use Rattle.def_format.specs.Tokens.{Token, Word, Dot, Placed}
+use Rattle.def_format.specs.Grammar.{CanGoOn}
+use Rattle.def_format.specs.PrefixWalk.{AfterName, AfterDot, State, Inside, AtEnd, step, walk, start}
+use Rattle.def_format.specs.OpenerStack.{opened}
+use Rattle.def_format.specs.PredicateTexts.{PredicateFault, Expected, UnknownName, Depth, IsFaulty, IsUnknownName, IsUnknownProcess, IsUnknownVar, tokens_of}
 use Rattle.pd_pred.specs.Placement.{Position, process_of_word, process_of_any_word, process_after, IsInNames, Steps, IsFaultAt, IsWellPlaced, IsLastName, StandsAfter}
 use Rattle.pd_pred.specs.Views.{predicate_fault_view}
 use Rattle.pd_pred.specs.declared.error.PredErrorKind.{PredErrorKind}

@@ -1,10 +1,10 @@
 -- How a reader goes over all tokens.
 use Rattle.std.proofs.Common.{◌≡◌, ℕ, suc, ◌+◌, ◌<◌, List, [], ◌∷◌, ◌++◌, length, take, drop, get_or, refl, sym, ◌∙◌, ap, drop-cons}
 use Rattle.std.proofs.lemmas.List.{map-append, take_more, take-append-drop}
-use Rattle.pd_format.specs.Laws.{PrefixesAreWalked, WalksGoOn, DepthsAreHeights, StacksGoOn}
-use Rattle.pd_format.specs.Names.{ProcessNames}
-use Rattle.pd_format.specs.Tokens as format
-use Rattle.pd_format.specs.PredicateTexts.{tokens_of}
+use Rattle.def_format.specs.Laws.{PrefixesAreWalked, WalksGoOn, DepthsAreHeights, StacksGoOn}
+use Rattle.def_format.specs.Names.{ProcessNames}
+use Rattle.def_format.specs.Tokens as format
+use Rattle.def_format.specs.PredicateTexts.{tokens_of}
 use Rattle.pd_pred.specs.Placement.{Position, first_position, Steps, IsFaultAt, IsFirstMisplaced, IsSoundPlace}
 use Rattle.pd_pred.specs.Tokens.{token_view, placed_view, lexed_view}
 use Rattle.pd_pred.specs.declared.error.PredErrorKind.{PredErrorKind}

@@ -1,10 +1,10 @@
 -- The prefix of tokens and the rest after it.
 use Rattle.std.proofs.Common.{◌≡◌, ℕ, ◌+◌, List, [], ◌∷◌, ◌++◌, length, refl, sym, ◌∙◌, ap, append_assoc, length-append, arith}
 use Rattle.std.proofs.lemmas.List.{map-append}
-use Rattle.pd_format.specs.Names.{ProcessNames}
-use Rattle.pd_format.specs.Tokens.{Token, Word, Dot}
-use Rattle.pd_format.specs.Tokens as format
-use Rattle.pd_format.specs.PredicateTexts.{NumbersFit}
+use Rattle.def_format.specs.Names.{ProcessNames}
+use Rattle.def_format.specs.Tokens.{Token, Word, Dot}
+use Rattle.def_format.specs.Tokens as format
+use Rattle.def_format.specs.PredicateTexts.{NumbersFit}
 use Rattle.pd_pred.specs.Tokens.{placed_view, lexed_view, token_view}
 use Rattle.pd_pred.specs.Building.{tokens_view, Follows, AreReadable, IsKnown}
 use Rattle.pd_pred.specs.declared.token.Placed.{Placed}

@@ -1,8 +1,8 @@
 -- How many tokens a text has.
 use Rattle.std.proofs.Common.{ℕ, ◌+◌, ◌<◌, ◌≤◌, List, [], ◌∷◌, ◌++◌, length, ◌∙◌, ap, arith, length-append}
 use Rattle.std.proofs.lemmas.List.{length-map}
-use Rattle.pd_format.specs.Tokens.{Token, End, Placed, placed, Lexes, AreTokens, IsSpelling}
-use Rattle.pd_format.specs.Limits.{predicate_byte_limit}
+use Rattle.def_format.specs.Tokens.{Token, End, Placed, placed, Lexes, AreTokens, IsSpelling}
+use Rattle.def_format.specs.Limits.{predicate_byte_limit}
 use Rattle.pd_pred.specs.Tokens.{placed_view, lexed_view}
 use Rattle.pd_pred.specs.declared.token.Placed.{Placed as Code}
 use Rattle.pd_pred.proofs.Symbols.{not_empty}

@@ -1,11 +1,11 @@
 -- Predicates that are read from the prefix of tokens.
 use Rattle.std.proofs.Common.{◌≡◌, ℕ, suc, false, List, [], ◌∷◌, ◌++◌, length, sym, ◌∙◌, ap, subst, append_assoc, arith}
 use Rattle.std.specs.Prelude.{Some, codes}
-use Rattle.pd_model.specs.Predicates.{Term, Sign, Comparison, Predicate, Always, Never, Compare, Not, And, Or}
-use Rattle.pd_format.specs.Names.{ProcessNames}
-use Rattle.pd_format.specs.Tokens.{Token, Word, OpenParen, CloseParen, Relates, End}
-use Rattle.pd_format.specs.Grammar.{NamedBy, Rule, OrRule, AndRule, NotRule, word_or, word_and, word_not, Spells, either, no_or, both, no_and, negated, in_parens, always, never, compare, SpellsWhole}
-use Rattle.pd_format.specs.PrefixWalk.{OnLeft, OnRight, AtOperand, AtTerm, AfterTerm, AfterOperand, Inside, AtEnd, walk, start}
+use Rattle.def_model.specs.Predicates.{Term, Sign, Comparison, Predicate, Always, Never, Compare, Not, And, Or}
+use Rattle.def_format.specs.Names.{ProcessNames}
+use Rattle.def_format.specs.Tokens.{Token, Word, OpenParen, CloseParen, Relates, End}
+use Rattle.def_format.specs.Grammar.{NamedBy, Rule, OrRule, AndRule, NotRule, word_or, word_and, word_not, Spells, either, no_or, both, no_and, negated, in_parens, always, never, compare, SpellsWhole}
+use Rattle.def_format.specs.PrefixWalk.{OnLeft, OnRight, AtOperand, AtTerm, AfterTerm, AfterOperand, Inside, AtEnd, walk, start}
 use Rattle.pd_pred.specs.Tokens.{token_view}
 use Rattle.pd_pred.specs.Building.{tokens_view, Follows, begins_with_sign, begins_with_word, without_minus, Leads, GoesOn, IsSumRead, IsRead}
 use Rattle.pd_pred.specs.declared.token.Placed.{Placed}

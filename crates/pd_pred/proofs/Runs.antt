@@ -1,4 +1,4 @@
--- The longest run of bytes that pass a test, at the prefix of a text.
+-- The longest run of bytes that pass a test, at the front of a text.
 use Rattle.std.proofs.Common.{◌≡◌, ℕ, zero, suc, ◌+◌, ◌<◌, Bool, true, false, List, [], ◌∷◌, length, take, drop, get_or, refl, sym, ◌∙◌, ap, subst, arith}
 use Rattle.std.specs.List.{prefix_len, list_all}
 use Rattle.std.specs.Str.{IsUtf8, IsCharBoundary}
@@ -6,8 +6,8 @@ use Rattle.std.proofs.lemmas.List.{take-append-drop}
 use Rattle.std.proofs.lemmas.List.Sums.{prefix_len-le-length, prefix_len_passes}
 use Rattle.std.proofs.lemmas.Bool.Decides.{nat_tests}
 use Rattle.std.proofs.lemmas.Str.{IsCharBoundary-start, IsCharBoundary-after_ascii}
-use Rattle.pd_format.specs.Names.{is_letter, is_digit, is_in_word, is_word}
-use Rattle.pd_format.specs.Tokens.{Token, Word, Digits, number_from, is_digits, is_space, continues, IsLongest}
+use Rattle.def_format.specs.Names.{is_letter, is_digit, is_in_word, is_word}
+use Rattle.def_format.specs.Tokens.{Token, Word, Digits, number_from, is_digits, is_space, continues, IsLongest}
 use Rattle.pd_pred.specs.Lexing.{IsFirstToken, SkipsSpaces}
 
 run_more : (p : ℕ → Bool) (x : ℕ) (xs : List ℕ) → p x ≡ true → prefix_len p (x ∷ xs) ≡ suc (prefix_len p xs)

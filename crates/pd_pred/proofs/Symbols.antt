@@ -4,9 +4,9 @@ use Rattle.std.proofs.lemmas.Bool.{eqb-true}
 use Rattle.std.specs.Prelude.{◌&&◌, ◌==◌, Some, slice_get}
 use Rattle.std.specs.Str.{IsUtf8, IsCharBoundary}
 use Rattle.std.proofs.lemmas.Str.{IsCharBoundary-after_ascii}
-use Rattle.pd_model.specs.Predicates.{Plus, Minus, Equals, Differs, IsLess, IsAtMost, IsGreater, IsAtLeast}
-use Rattle.pd_format.specs.Names.{is_letter, is_digit}
-use Rattle.pd_format.specs.Tokens.{Token, Word, Digits, OpenParen, CloseParen, Relates, Signs, Star, Dot, End, IsSpelling, IsLongest, continues, BeginsNoToken}
+use Rattle.def_model.specs.Predicates.{Plus, Minus, Equals, Differs, IsLess, IsAtMost, IsGreater, IsAtLeast}
+use Rattle.def_format.specs.Names.{is_letter, is_digit}
+use Rattle.def_format.specs.Tokens.{Token, Word, Digits, OpenParen, CloseParen, Relates, Signs, Star, Dot, End, IsSpelling, IsLongest, continues, BeginsNoToken}
 use Rattle.pd_pred.specs.Lexing.{IsFirstToken, SpellsNoToken, BeginsNoDouble}
 
 -- a byte that begins no word and no number

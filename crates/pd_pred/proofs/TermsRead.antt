@@ -6,12 +6,12 @@ use Rattle.std.proofs.lemmas.Bool.Decides.{nat_tests}
 use Rattle.std.proofs.lemmas.List.Quantifiers.{position-Some}
 use Rattle.std.proofs.lemmas.Option.{slice_get-get_or}
 use Rattle.std.proofs.lemmas.Slice.Eq.{bytes_eq-Decides}
-use Rattle.pd_model.specs.Predicates.{Term, Number, Variable, Times, Sign, Plus, Minus}
-use Rattle.pd_format.specs.Names.{ProcessNames, process_named, var_named, is_keyword}
-use Rattle.pd_format.specs.Tokens.{Token, Word, Digits, Signs, Star, Dot}
-use Rattle.pd_format.specs.PredicateTexts.{NumbersFit, is_too_large, begins_with_star as star_follows}
-use Rattle.pd_format.specs.Grammar.{Naming, NamedBy, SpellsTerm, SpellsSigned, SpellsSum}
-use Rattle.pd_format.specs.PrefixWalk.{Side, OnLeft, OnRight, Mode, AtTerm, AfterStar, AfterName, AfterTerm, Inside, AtEnd, walk}
+use Rattle.def_model.specs.Predicates.{Term, Number, Variable, Times, Sign, Plus, Minus}
+use Rattle.def_format.specs.Names.{ProcessNames, process_named, var_named, is_keyword}
+use Rattle.def_format.specs.Tokens.{Token, Word, Digits, Signs, Star, Dot}
+use Rattle.def_format.specs.PredicateTexts.{NumbersFit, is_too_large, begins_with_star as star_follows}
+use Rattle.def_format.specs.Grammar.{Naming, NamedBy, SpellsTerm, SpellsSigned, SpellsSum}
+use Rattle.def_format.specs.PrefixWalk.{Side, OnLeft, OnRight, Mode, AtTerm, AfterStar, AfterName, AfterTerm, Inside, AtEnd, walk}
 use Rattle.pd_pred.specs.Tokens.{lexed_view, placed_view, token_view}
 use Rattle.pd_pred.specs.Building.{tokens_view, Follows, IsFirstSign, begins_with_sign, begins_with_star, without_minus, LeadsOnSide, AreReadable, IsKnown, IsTermRead, IsSumRead}
 use Rattle.pd_pred.specs.Trees.{terms_view, signed_term_view}

@@ -2,8 +2,8 @@
 use Rattle.std.proofs.Common.{◌≡◌, ℕ, ◌+◌, ◌<◌, ◌≤◌, Bool, true, false, List, [], ◌∷◌, ◌++◌, length, drop, get_or, refl, sym, ◌∙◌, ap, subst}
 use Rattle.std.proofs.lemmas.List.{at_drop_more, at_drop_all}
 use Rattle.std.specs.Prelude.{Option, Some, None, MatchOption, if◌then◌else◌}
-use Rattle.pd_format.specs.Tokens.{Placed}
-use Rattle.pd_format.specs.PredicateTexts.{is_too_large, IsTooLarge, NumbersFit}
+use Rattle.def_format.specs.Tokens.{Placed}
+use Rattle.def_format.specs.PredicateTexts.{is_too_large, IsTooLarge, NumbersFit}
 use Rattle.pd_pred.specs.Numbers.{IsFirstTooLarge}
 use Rattle.pd_pred.specs.Tokens.{token_view, lexed_view}
 use Rattle.pd_pred.specs.declared.token.Placed.{Placed as Code}

@@ -1,9 +1,9 @@
 -- Which tokens lead the walk to a name and to a dot.
 use Rattle.std.proofs.Common.{◌≡◌, ℕ, zero, suc, List, refl, subst}
 use Rattle.std.specs.Prelude.{Option, Some, None}
-use Rattle.pd_model.specs.Predicates.{Plus, Minus}
-use Rattle.pd_format.specs.Tokens.{Token, Word, Relates, Signs, Star, Dot, End}
-use Rattle.pd_format.specs.PrefixWalk.{WordKind, ANot, AJoin, ATruth, AName, word_kind, OnLeft, OnRight, Mode, AtOperand, AtSum, AtTerm, AfterNumber, AfterStar, AfterName, AfterDot, AfterTerm, AfterOperand, State, Inside, AtEnd, step, operand_word, if_name, if_join}
+use Rattle.def_model.specs.Predicates.{Plus, Minus}
+use Rattle.def_format.specs.Tokens.{Token, Word, Relates, Signs, Star, Dot, End}
+use Rattle.def_format.specs.PrefixWalk.{WordKind, ANot, AJoin, ATruth, AName, word_kind, OnLeft, OnRight, Mode, AtOperand, AtSum, AtTerm, AfterNumber, AfterStar, AfterName, AfterDot, AfterTerm, AfterOperand, State, Inside, AtEnd, step, operand_word, if_name, if_join}
 
 -- after a process's name
 abbrev pub IsAfterName : State → Type 0

@@ -2,11 +2,11 @@
 use Rattle.std.proofs.Common.{◌≡◌, ℕ, suc, false, List, [], ◌∷◌, refl, ap}
 use Rattle.std.specs.Prelude.{Some, option_and_then, codes}
 use Rattle.std.specs.Str.{bytes_eq}
-use Rattle.pd_model.specs.Predicates.{Plus, Minus}
-use Rattle.pd_format.specs.Names.{is_keyword}
-use Rattle.pd_format.specs.Tokens.{Token, Word, Digits, CloseParen, Signs, Star, Dot, End}
-use Rattle.pd_format.specs.PrefixWalk.{WordKind, ANot, AJoin, ATruth, AName, word_kind, Side, OnRight, Mode, AtSum, AtTerm, AfterNumber, AfterName, AfterDot, AfterTerm, AfterOperand, Inside, AtEnd, if_name, if_join, walk}
-use Rattle.pd_format.proofs.Prefixes.{IsKind, is_and, is_or, is_not, is_true, is_false, is_name, kind_of_word}
+use Rattle.def_model.specs.Predicates.{Plus, Minus}
+use Rattle.def_format.specs.Names.{is_keyword}
+use Rattle.def_format.specs.Tokens.{Token, Word, Digits, CloseParen, Signs, Star, Dot, End}
+use Rattle.def_format.specs.PrefixWalk.{WordKind, ANot, AJoin, ATruth, AName, word_kind, Side, OnRight, Mode, AtSum, AtTerm, AfterNumber, AfterName, AfterDot, AfterTerm, AfterOperand, Inside, AtEnd, if_name, if_join, walk}
+use Rattle.def_format.proofs.Prefixes.{IsKind, is_and, is_or, is_not, is_true, is_false, is_name, kind_of_word}
 use Rattle.pd_pred.specs.Building.{begins_with_word, begins_with_sign, begins_with_star, without_minus}
 
 -- ---- names

@@ -1,8 +1,8 @@
 -- How an operand begins.
 use Rattle.std.specs.Prelude.{List, codes}
-use Rattle.pd_format.specs.Tokens.{Word, OpenParen}
-use Rattle.pd_format.specs.Grammar.{word_not}
-use Rattle.pd_format.specs.PrefixWalk.{AtOperand, AtTerm, OnLeft}
+use Rattle.def_format.specs.Tokens.{Word, OpenParen}
+use Rattle.def_format.specs.Grammar.{word_not}
+use Rattle.def_format.specs.PrefixWalk.{AtOperand, AtTerm, OnLeft}
 use Rattle.pd_pred.specs.Building.{tokens_view, Follows, GoesOn, without_minus}
 use Rattle.pd_pred.specs.declared.token.Placed.{Placed}
 use Rattle.pd_pred.specs.declared.build.Beginning.{Beginning}

@@ -1,13 +1,13 @@
 -- What is read from the first tokens, and where a walk over them is then.
 use Rattle.std.specs.Prelude.{◌≡◌, ℕ, ◌<◌, ◌≤◌, ◌+◌, Bool, true, false, IsFalse, List, [], ◌∷◌, ◌++◌, length, Some}
 use Rattle.std.specs.Str.{bytes_eq}
-use Rattle.pd_model.specs.Predicates.{Term, Sign, Plus, Minus, Predicate}
-use Rattle.pd_format.specs.Names.{ProcessNames, process_named, var_named}
-use Rattle.pd_format.specs.Limits.{predicate_byte_limit}
-use Rattle.pd_format.specs.Tokens.{Token, Word, Digits, Relates, Dot, Signs}
-use Rattle.pd_format.specs.PredicateTexts.{tokens_of, NumbersFit, is_star}
-use Rattle.pd_format.specs.Grammar.{NamedBy, SpellsTerm, SpellsSum, Rule, Spells}
-use Rattle.pd_format.specs.PrefixWalk.{Side, Mode, AtTerm, AtOperand, AfterTerm, AfterOperand, Inside, AtEnd, walk}
+use Rattle.def_model.specs.Predicates.{Term, Sign, Plus, Minus, Predicate}
+use Rattle.def_format.specs.Names.{ProcessNames, process_named, var_named}
+use Rattle.def_format.specs.Limits.{predicate_byte_limit}
+use Rattle.def_format.specs.Tokens.{Token, Word, Digits, Relates, Dot, Signs}
+use Rattle.def_format.specs.PredicateTexts.{tokens_of, NumbersFit, is_star}
+use Rattle.def_format.specs.Grammar.{NamedBy, SpellsTerm, SpellsSum, Rule, Spells}
+use Rattle.def_format.specs.PrefixWalk.{Side, Mode, AtTerm, AtOperand, AfterTerm, AfterOperand, Inside, AtEnd, walk}
 use Rattle.pd_pred.specs.Tokens.{lexed_view, token_view}
 use Rattle.pd_pred.specs.declared.token.Placed.{Placed}
 

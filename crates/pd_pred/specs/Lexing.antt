@@ -1,6 +1,6 @@
 -- What the lexer finds, step by step, and what its errors mean.
 use Rattle.std.specs.Prelude.{◌≡◌, ℕ, List, [], ◌∷◌, ◌++◌, IsFalse}
-use Rattle.pd_format.specs.Tokens.{Token, IsStray, IsSpelling, IsLongest, AreSpaces, is_space}
+use Rattle.def_format.specs.Tokens.{Token, IsStray, IsSpelling, IsLongest, AreSpaces, is_space}
 use Rattle.pd_pred.specs.declared.lexer.LexError.{LexError}
 use Rattle.pd_pred.specs.declared.lexer.LexError.TheVariants.{Stray, Memory}
 

@@ -1,6 +1,6 @@
 -- What the names of the program stand for.
 use Rattle.std.specs.Prelude.{List, map, string_bytes}
-use Rattle.pd_format.specs.Names.{ProcessNames as Entry}
+use Rattle.def_format.specs.Names.{ProcessNames as Entry}
 use Rattle.pd_pred.specs.declared.names.ProcessNames.{ProcessNames}
 
 -- a process's names as bytes

@@ -1,6 +1,6 @@
 -- The stack of openers that the program's stack stands for.
 use Rattle.std.specs.Prelude.{List, map, reverse}
-use Rattle.pd_format.specs.OpenerStack as openers
+use Rattle.def_format.specs.OpenerStack as openers
 use Rattle.pd_pred.specs.declared.openers.Opener.{Opener}
 use Rattle.pd_pred.specs.declared.openers.Opener.TheVariants.{Paren, Negation}
 use Rattle.pd_pred.specs.declared.openers.Openers.{Openers}

@@ -1,13 +1,13 @@
 -- Where a reader of tokens is, and which token is misplaced.
 use Rattle.std.specs.Prelude.{◌≡◌, ℕ, ◌<◌, ◌≤◌, IsTrue, List, [], ◌∷◌, ◌++◌, length, Option, Some, None}
 use Rattle.std.specs.Option.{option_map}
-use Rattle.pd_format.specs.Lists.{IsFirst}
-use Rattle.pd_format.specs.Names.{ProcessNames, process_named, var_named}
-use Rattle.pd_format.specs.Tokens.{Token, Word, Dot, Placed, placed}
-use Rattle.pd_format.specs.PrefixWalk.{State, Inside, AfterName, AfterDot, step, walk, start}
-use Rattle.pd_format.specs.OpenerStack.{Opener, opened, all_opened}
-use Rattle.pd_format.specs.PredicateTexts.{PredicateFault, IsFaulty, IsMisplaced, opens, tokens_of}
-use Rattle.pd_format.specs.Limits.{depth_limit}
+use Rattle.def_format.specs.Lists.{IsFirst}
+use Rattle.def_format.specs.Names.{ProcessNames, process_named, var_named}
+use Rattle.def_format.specs.Tokens.{Token, Word, Dot, Placed, placed}
+use Rattle.def_format.specs.PrefixWalk.{State, Inside, AfterName, AfterDot, step, walk, start}
+use Rattle.def_format.specs.OpenerStack.{Opener, opened, all_opened}
+use Rattle.def_format.specs.PredicateTexts.{PredicateFault, IsFaulty, IsMisplaced, opens, tokens_of}
+use Rattle.def_format.specs.Limits.{depth_limit}
 use Rattle.pd_pred.specs.Openers.{openers_view}
 use Rattle.pd_pred.specs.States.{parser_state_view}
 use Rattle.pd_pred.specs.Views.{predicate_fault_view}

@@ -1,6 +1,6 @@
 -- The states of a walk over tokens that the program's states stand for.
 use Rattle.std.specs.Prelude.{ℕ}
-use Rattle.pd_format.specs.PrefixWalk as walk
+use Rattle.def_format.specs.PrefixWalk as walk
 use Rattle.pd_pred.specs.declared.state.WordKind.{WordKind}
 use Rattle.pd_pred.specs.declared.state.WordKind.TheVariants.{Negates, Joins, Truth, Name}
 use Rattle.pd_pred.specs.declared.state.Side.{Side}

@@ -1,7 +1,7 @@
 -- The tokens that the program's tokens stand for.
 use Rattle.std.specs.Prelude.{List, map}
-use Rattle.pd_format.specs.Tokens as format
-use Rattle.pd_format.specs.Tokens.{number_from}
+use Rattle.def_format.specs.Tokens as format
+use Rattle.def_format.specs.Tokens.{number_from}
 use Rattle.pd_pred.specs.declared.token.Token.{Token}
 use Rattle.pd_pred.specs.declared.token.Token.TheVariants.{Word, Digits, OpenParen, CloseParen, Relates, Signs, Star, Dot, End}
 use Rattle.pd_pred.specs.declared.token.Placed.{Placed}

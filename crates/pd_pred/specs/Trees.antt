@@ -1,6 +1,6 @@
 -- The predicate that a syntax tree stands for.
 use Rattle.std.specs.Prelude.{List, map}
-use Rattle.pd_model.specs.Predicates as model
+use Rattle.def_model.specs.Predicates as model
 use Rattle.pd_pred.specs.declared.tree.Sign.{Sign}
 use Rattle.pd_pred.specs.declared.tree.Sign.TheVariants.{Plus, Minus}
 use Rattle.pd_pred.specs.declared.tree.Term.{Term}

@@ -1,11 +1,11 @@
 -- What the program's predicates and errors stand for.
 use Rattle.std.specs.Prelude.{◌≡◌, ◌+◌, ℕ, List, Option, Some, None, MatchOption}
-use Rattle.pd_model.specs.Predicates.{Predicate}
+use Rattle.def_model.specs.Predicates.{Predicate}
 use Rattle.pd_pred.specs.Trees.{tree_view}
-use Rattle.pd_format.specs.Names.{ProcessNames}
-use Rattle.pd_format.specs.Limits.{predicate_byte_limit}
-use Rattle.pd_format.specs.PredicateTexts.{PredicateFault, IsRefusedPredicate}
-use Rattle.pd_format.specs.PredicateTexts as faults
+use Rattle.def_format.specs.Names.{ProcessNames}
+use Rattle.def_format.specs.Limits.{predicate_byte_limit}
+use Rattle.def_format.specs.PredicateTexts.{PredicateFault, IsRefusedPredicate}
+use Rattle.def_format.specs.PredicateTexts as faults
 use Rattle.pd_pred.specs.declared.error.PredErrorKind.{PredErrorKind}
 use Rattle.pd_pred.specs.declared.error.PredErrorKind.TheVariants as kinds
 use Rattle.pd_pred.specs.declared.error.PredError.{PredError}

@@ -2,12 +2,12 @@
 //!
 //! Each function reads the longest prefix of the tokens that one rule of the grammar spells, and gives the rest.
 //! The tokens are known to be a predicate's, so what can't stand there is never met.
-ghost use Rattle.pd_format.specs.Grammar.{NamedBy, OrRule, AndRule, NotRule, SpellsWhole};
-ghost use Rattle.pd_format.specs.Limits.{predicate_byte_limit};
-ghost use Rattle.pd_format.specs.PredicateTexts.{NumbersFit, tokens_of};
-ghost use Rattle.pd_format.specs.PrefixWalk.{AtEnd, AtOperand, AtTerm, AfterStar, OnLeft, start, walk};
-ghost use Rattle.pd_format.specs.Tokens.{Digits, Relates, Signs, Star, Word};
-ghost use Rattle.pd_model.specs.Predicates.{Variable};
+ghost use Rattle.def_format.specs.Grammar.{NamedBy, OrRule, AndRule, NotRule, SpellsWhole};
+ghost use Rattle.def_format.specs.Limits.{predicate_byte_limit};
+ghost use Rattle.def_format.specs.PredicateTexts.{NumbersFit, tokens_of};
+ghost use Rattle.def_format.specs.PrefixWalk.{AtEnd, AtOperand, AtTerm, AfterStar, OnLeft, start, walk};
+ghost use Rattle.def_format.specs.Tokens.{Digits, Relates, Signs, Star, Word};
+ghost use Rattle.def_model.specs.Predicates.{Variable};
 ghost use Rattle.pd_pred.specs.Beginnings.{BeginsAs};
 ghost use Rattle.pd_pred.specs.Building.{
   tokens_view,

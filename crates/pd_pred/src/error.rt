@@ -1,5 +1,5 @@
 //! Why a text is refused as a predicate.
-use pd_format::PREDICATE_BYTE_LIMIT;
+use def_format::PREDICATE_BYTE_LIMIT;
 use std::alloc::AllocError;
 
 /// What is wrong with a predicate's text.

@@ -1,12 +1,12 @@
 //! What a predicate means at a state.
-ghost use Rattle.pd_model.specs.Predicates as model;
-ghost use Rattle.pd_model.specs.Predicates.{holds_at};
+ghost use Rattle.def_model.specs.Predicates as model;
+ghost use Rattle.def_model.specs.Predicates.{holds_at};
 ghost use Rattle.pd_pred.specs.Trees.{comparison_view, sign_view, sum_view, term_view, tree_view};
 ghost use Rattle.std.specs.Int.RustNames.{unsigned_abs};
 ghost use Rattle.std.specs.Prelude.{◌≡◌, ◌<◌, ◌^◌};
 
 use super::tree::{Comparison, Sign, SignedTerm, Sum, Term, Tree};
-use pd_model::Values;
+use def_model::Values;
 
 /// Whether the predicate is true at the state.
 pub(crate) fn holds<V: Values>(tree: &Tree, values: &V) -> bool

@@ -1,8 +1,8 @@
 //! The tokens of a text.
-ghost use Rattle.pd_format.specs.Names as format;
-ghost use Rattle.pd_format.specs.Limits.{predicate_byte_limit};
-ghost use Rattle.pd_format.specs.Tokens as format_tokens;
-ghost use Rattle.pd_format.specs.Tokens.{AreTokens, BeginsNoToken, IsSpelling};
+ghost use Rattle.def_format.specs.Names as format;
+ghost use Rattle.def_format.specs.Limits.{predicate_byte_limit};
+ghost use Rattle.def_format.specs.Tokens as format_tokens;
+ghost use Rattle.def_format.specs.Tokens.{AreTokens, BeginsNoToken, IsSpelling};
 ghost use Rattle.pd_pred.specs.Lexing.{BeginsNoDouble, IsFirstToken, IsLexErrorOf, SkipsSpaces, SpellsNoToken};
 ghost use Rattle.pd_pred.specs.Tokens.{lexed_view, token_view};
 ghost use Rattle.std.specs.List.{prefix_len};

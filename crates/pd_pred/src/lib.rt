@@ -29,9 +29,9 @@ mod state;
 mod token;
 mod tree;
 
+pub use def_model::Values;
 pub use error::{PredError, PredErrorKind};
 pub use name::is_name;
 pub use names::{Names, ProcessNames};
-pub use pd_model::Values;
 pub use predicate::Pred;
 pub use tree::{Comparison, Sign, SignedTerm, Sum, Term, Tree};

@@ -1,9 +1,9 @@
 //! What is a name.
-ghost use Rattle.pd_format.specs.Names.{is_in_word, is_keyword, is_letter, is_name, is_word};
+ghost use Rattle.def_format.specs.Names.{is_in_word, is_keyword, is_letter, is_name, is_word};
 ghost use Rattle.std.specs.List.{list_all};
 ghost use Rattle.std.specs.Prelude.{◌≡◌};
 
-use pd_format::NAME_BYTE_LIMIT;
+use def_format::NAME_BYTE_LIMIT;
 
 /// Whether the byte is a letter or `_`, with which a word can begin.
 pub(crate) fn is_letter(byte: u8) -> bool

@@ -1,6 +1,6 @@
 //! The processes of a session and their variables.
-ghost use Rattle.pd_format.specs.Names.{process_named, var_named, vars_of, ProcessNames as Entry};
-ghost use Rattle.pd_format.specs.Names.{AreDistinct};
+ghost use Rattle.def_format.specs.Names.{process_named, var_named, vars_of, ProcessNames as Entry};
+ghost use Rattle.def_format.specs.Names.{AreDistinct};
 ghost use Rattle.pd_pred.specs.Names.{entries_view};
 ghost use Rattle.std.specs.Prelude.{◌≡◌, ◌<◌, List, length, map, string_bytes, slice_get, position, IfSome};
 ghost use Rattle.std.specs.Str.{bytes_eq};
@@ -24,11 +24,11 @@ pub struct Names {
 
 impl Model for Names {
     ghost use Rattle.std.specs.Prelude.{List};
-    ghost use Rattle.pd_format.specs.Names.{ProcessNames as Entry};
+    ghost use Rattle.def_format.specs.Names.{ProcessNames as Entry};
 
     ghost Value = { List Entry };
 
-    ghost use Rattle.pd_format.specs.Names.{AreDistinct};
+    ghost use Rattle.def_format.specs.Names.{AreDistinct};
     ghost use Rattle.pd_pred.specs.Names.{entries_view};
 
     ghost view = { λ n. entries_view n.processes.items };

@@ -1,7 +1,7 @@
 //! The numbers that digits write.
-ghost use Rattle.pd_format.specs.PredicateTexts as format;
-ghost use Rattle.pd_format.specs.PredicateTexts.{NumbersFit};
-ghost use Rattle.pd_format.specs.Tokens.{number_from};
+ghost use Rattle.def_format.specs.PredicateTexts as format;
+ghost use Rattle.def_format.specs.PredicateTexts.{NumbersFit};
+ghost use Rattle.def_format.specs.Tokens.{number_from};
 ghost use Rattle.pd_pred.specs.Numbers.{IsFirstTooLarge};
 ghost use Rattle.pd_pred.specs.Tokens.{lexed_view, token_view};
 ghost use Rattle.std.specs.Prelude.{◌≡◌, ◌<◌, ◌-◌, ◌^◌, nat_lt, MatchOption};

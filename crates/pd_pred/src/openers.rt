@@ -1,8 +1,8 @@
 //! What is open around a token of a predicate.
-ghost use Rattle.pd_format.specs.Limits.{depth_limit};
-ghost use Rattle.pd_format.specs.OpenerStack.{drop_nots, opened};
-ghost use Rattle.pd_format.specs.Tokens as format;
-ghost use Rattle.pd_format.specs.PredicateTexts.{opens};
+ghost use Rattle.def_format.specs.Limits.{depth_limit};
+ghost use Rattle.def_format.specs.OpenerStack.{drop_nots, opened};
+ghost use Rattle.def_format.specs.Tokens as format;
+ghost use Rattle.def_format.specs.PredicateTexts.{opens};
 ghost use Rattle.pd_pred.specs.Openers.{openers_view};
 ghost use Rattle.pd_pred.specs.Tokens.{token_view};
 ghost use Rattle.std.specs.Prelude.{◌≡◌, ◌<◌, ◌≤◌, ◌==◌, [], length, IsTrue, codes};
@@ -11,7 +11,7 @@ ghost use Rattle.std.specs.Str.{bytes_eq};
 use super::state::{WordKind, word_kind};
 use super::token::Token;
 use arrayvec::ArrayVec;
-use pd_format::DEPTH_LIMIT;
+use def_format::DEPTH_LIMIT;
 
 /// A token that stands open around others.
 #[derive(Clone, Copy, Default)]

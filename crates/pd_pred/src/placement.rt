@@ -1,7 +1,7 @@
 //! Which token of a predicate stands where it may not.
-ghost use Rattle.pd_format.specs.PredicateTexts.{opens, tokens_of};
-ghost use Rattle.pd_format.specs.PrefixWalk.{AtEnd, start, walk};
-ghost use Rattle.pd_format.specs.Tokens.{End, Token as FormatToken};
+ghost use Rattle.def_format.specs.PredicateTexts.{opens, tokens_of};
+ghost use Rattle.def_format.specs.PrefixWalk.{AtEnd, start, walk};
+ghost use Rattle.def_format.specs.Tokens.{End, Token as FormatToken};
 ghost use Rattle.pd_pred.specs.Placement.{
   IsFaultAt,
   IsFirstMisplaced,
@@ -29,8 +29,8 @@ pub(crate) fn first_misplaced(names: &Names, tokens: &[Placed<'_>]) -> Option<Pr
     ensures ends { IfNone result ((prefix : List FormatToken) → tokens_of (lexed_view tokens.now) ≡ prefix ++ End ∷ [] →
         walk start (tokens_of (lexed_view tokens.now)) ≡ Some AtEnd) }
 {
-    pd_format::prefixes_are_walked();
-    pd_format::depths_are_heights();
+    def_format::prefixes_are_walked();
+    def_format::depths_are_heights();
     let mut place = Place::new();
     for placed in tokens {
         if let Err(kind) = place.read(names, placed.token) {

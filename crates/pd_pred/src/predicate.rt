@@ -1,7 +1,7 @@
 //! The predicate itself.
-ghost use Rattle.pd_format.specs.Limits.{predicate_byte_limit};
-ghost use Rattle.pd_format.specs.PredicateTexts.{IsPredicate};
-ghost use Rattle.pd_model.specs.Predicates.{holds_at, Predicate};
+ghost use Rattle.def_format.specs.Limits.{predicate_byte_limit};
+ghost use Rattle.def_format.specs.PredicateTexts.{IsPredicate};
+ghost use Rattle.def_model.specs.Predicates.{holds_at, Predicate};
 ghost use Rattle.pd_pred.specs.Trees.{tree_view};
 ghost use Rattle.pd_pred.specs.Views.{long_error, predicate_view, IsErrorOf};
 ghost use Rattle.std.specs.Prelude.{◌≡◌, ◌<◌, ◌≤◌, length, Err, IfOk, IfErr};
@@ -13,8 +13,8 @@ use super::numbers::first_too_large;
 use super::placement::first_misplaced;
 use super::tree::Tree;
 use super::{Names, PredError, PredErrorKind};
-use pd_format::PREDICATE_BYTE_LIMIT;
-use pd_model::Values;
+use def_format::PREDICATE_BYTE_LIMIT;
+use def_model::Values;
 use std::alloc::Global;
 
 /// A predicate over the variables of a session.
@@ -37,8 +37,8 @@ impl Pred {
         // A text that is too long is refused as such, and never as out of memory.
         ensures long { predicate_byte_limit < length text.now → result ≡ Err long_error }
     {
-        pd_format::one_predicate();
-        pd_format::distinct_names_are_clear();
+        def_format::one_predicate();
+        def_format::distinct_names_are_clear();
         names.differ();
         if text.len() > PREDICATE_BYTE_LIMIT {
             return Err(PredError::LONG);

@@ -1,5 +1,5 @@
 //! What may stand next among a predicate's tokens.
-ghost use Rattle.pd_format.specs.PrefixWalk as walk;
+ghost use Rattle.def_format.specs.PrefixWalk as walk;
 ghost use Rattle.pd_pred.specs.States.{word_kind_view, mode_view, open_parens, side_view, parser_state_view};
 ghost use Rattle.pd_pred.specs.Tokens.{token_view};
 ghost use Rattle.std.specs.Prelude.{◌≡◌, ◌+◌, ◌<◌, ◌≤◌, IfSome};

@@ -1,9 +1,9 @@
 //! The syntax tree of a predicate, for those who read predicates and those who compile them.
-ghost use Rattle.pd_format.specs.Limits.{predicate_byte_limit};
+ghost use Rattle.def_format.specs.Limits.{predicate_byte_limit};
 ghost use Rattle.std.specs.Prelude.{◌≤◌, vec_len};
 
 use super::evaluate::holds;
-use pd_model::Values;
+use def_model::Values;
 
 /// A sign before a term.
 #[derive(Clone, Copy, Debug, PartialEq, Eq)]
@@ -96,7 +96,7 @@ pub enum Tree {
 }
 
 impl Tree {
-    ghost use Rattle.pd_model.specs.Predicates.{holds_at};
+    ghost use Rattle.def_model.specs.Predicates.{holds_at};
     ghost use Rattle.pd_pred.specs.Trees.{tree_view};
     ghost use Rattle.std.specs.Prelude.{◌≡◌};
 

@@ -7,7 +7,7 @@ use Rattle.std.proofs.lemmas.List.{map-append}
 use Rattle.std.proofs.lemmas.List.Elements.{All-nil, All-cons}
 use Rattle.std.proofs.lemmas.List.Sums.{sum_by-cons}
 use Rattle.atomic_table.proofs.Lists.{at_set, at_snoc}
-use Rattle.pd_model.specs.Cuts.{indices_from}
+use Rattle.def_model.specs.Cuts.{indices_from}
 
 module _ {A : Type 0} where
   -- the sum after a change of one element

@@ -12,7 +12,7 @@ use Rattle.std.proofs.lemmas.List.Sums.{sum_by-cons, sum_by-append, sum_by_push}
 use Rattle.std.proofs.lemmas.List.Elements.{All-nil, All-cons, All-tail, All-append}
 use Rattle.atomic_table.specs.Table.{State, Me, step, keeps, takes, gives, stepped, opening, Allows, Splits, Joins, Seen}
 use Rattle.atomic_table.proofs.Lists.{at_set, at_snoc, set_here, set_else, set_again, at_longer}
-use Rattle.pd_format.specs.Histories.{fresh_row}
+use Rattle.def_format.specs.Histories.{fresh_row}
 use Rattle.pd_register.specs.declared.row.Row.{Row}
 use Rattle.pd_register.specs.declared.post.Post.{Post}
 use Rattle.pd_register.specs.declared.history.History.{History}

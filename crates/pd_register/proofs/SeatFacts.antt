@@ -9,9 +9,9 @@ use lib.ListN.{get_elem?}
 use native.Mathlib.Decide.{ℕ_discrete}
 use Rattle.atomic_table.specs.Table.{Me, rest}
 use Rattle.atomic_table.proofs.Lists.{at_longer, at_last}
-use Rattle.pd_format.specs.Histories as histories
-use Rattle.pd_format.specs.Histories.{fresh_row, row_of, rows_from, rows_of, IsLegal}
-use Rattle.pd_format.proofs.HistoryFacts.{row_at, row_found, legal_found}
+use Rattle.def_format.specs.Histories as histories
+use Rattle.def_format.specs.Histories.{fresh_row, row_of, rows_from, rows_of, IsLegal}
+use Rattle.def_format.proofs.HistoryFacts.{row_at, row_found, legal_found}
 use Rattle.pd_register.specs.declared.row.Row.{Row}
 use Rattle.pd_register.specs.declared.step.Step.{Step}
 use Rattle.pd_register.specs.declared.post.Post.{Post}

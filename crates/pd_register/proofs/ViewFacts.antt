@@ -1,11 +1,11 @@
 -- Rows and histories by their views: a row is given by its view, and a post more is one more in the history.
 use Rattle.std.proofs.Common.{◌≡◌, ◌≢◌, ◌<◌, ℕ, true, List, [], ◌∷◌, ◌++◌, length, get_or, set, sym, refl, ap, ◌∙◌, subst, arith, length-set}
 use Rattle.std.proofs.lemmas.List.{map-append, map-set}
-use Rattle.pd_format.specs.Readings as readings
-use Rattle.pd_format.specs.Histories as histories
-use Rattle.pd_format.specs.Histories.{post_of, fresh_row, allows, row_after, row_of, rows_from, rows_of}
-use Rattle.pd_format.specs.HistoryLaws.{PassesAsLegal}
-use Rattle.pd_format.proofs.HistoryFacts.{row_here, row_else, row_at, rows_set, legal_push}
+use Rattle.def_format.specs.Readings as readings
+use Rattle.def_format.specs.Histories as histories
+use Rattle.def_format.specs.Histories.{post_of, fresh_row, allows, row_after, row_of, rows_from, rows_of}
+use Rattle.def_format.specs.HistoryLaws.{PassesAsLegal}
+use Rattle.def_format.proofs.HistoryFacts.{row_here, row_else, row_at, rows_set, legal_push}
 use Rattle.pd_register.specs.declared.step.Step.{Step}
 use Rattle.pd_register.specs.declared.post.Post.{Post}
 use Rattle.pd_register.specs.declared.row.Row.{Row}

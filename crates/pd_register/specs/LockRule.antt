@@ -4,7 +4,7 @@ use mathlib.Core.Option.{Option, some}
 use mathlib.Core.List.{IsPrefix}
 use lib.ListN.{get_elem?}
 use Rattle.atomic_table.specs.Table.{State, Step, Me, rest}
-use Rattle.pd_format.specs.Histories.{fresh_row, IsLegal}
+use Rattle.def_format.specs.Histories.{fresh_row, IsLegal}
 use Rattle.pd_register.specs.declared.view.View.{View}
 use Rattle.pd_register.specs.declared.row.Row.{Row}
 use Rattle.pd_register.specs.declared.post.Post.{Post}

@@ -1,8 +1,8 @@
 -- What contracts say of a register, its seats and its watcher.
 use Rattle.std.specs.Prelude.{◌≡◌, ℕ, List, [], ◌∷◌, ◌++◌, length, map, All}
 use mathlib.Core.List.{IsPrefix}
-use Rattle.pd_model.specs.Cuts.{indices_from}
-use Rattle.pd_format.specs.Histories.{Post, Step, post_of, Row, fresh_row, row_after}
+use Rattle.def_model.specs.Cuts.{indices_from}
+use Rattle.def_format.specs.Histories.{Post, Step, post_of, Row, fresh_row, row_after}
 use Rattle.pd_register.specs.Views.{history_view, row_view}
 use Rattle.pd_register.specs.declared.register.Register.{Register}
 use Rattle.pd_register.specs.declared.seat.Seat.{Seat}

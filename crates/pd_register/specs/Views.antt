@@ -1,8 +1,8 @@
 -- What the program's steps, rows and histories stand for.
 use Rattle.std.specs.Prelude.{◌≡◌, ℕ, List, length, map, Some, slice_get, slice_index_or}
-use Rattle.pd_format.specs.Readings as readings
-use Rattle.pd_format.specs.Histories as histories
-use Rattle.pd_format.specs.Histories.{StepJoin, StepEvent, StepEnd, StepFault, fresh_row, row_of, rows_of}
+use Rattle.def_format.specs.Readings as readings
+use Rattle.def_format.specs.Histories as histories
+use Rattle.def_format.specs.Histories.{StepJoin, StepEvent, StepEnd, StepFault, fresh_row, row_of, rows_of}
 use Rattle.pd_register.specs.declared.step.Step.{Step}
 use Rattle.pd_register.specs.declared.step.Step.TheVariants as steps
 use Rattle.pd_register.specs.declared.post.Post.{Post}

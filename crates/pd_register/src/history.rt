@@ -1,7 +1,7 @@
 //! The history with its rows, as it lies under the lock.
 ghost use Rattle.std.specs.Prelude.{◌≡◌, ◌<◌, ◌++◌, [], ◌∷◌, true, length, IfOk, IfErr};
-ghost use Rattle.pd_format.specs.Histories.{rows_of};
-ghost use Rattle.pd_format.specs.HistoryLaws.{PassesAsLegal};
+ghost use Rattle.def_format.specs.Histories.{rows_of};
+ghost use Rattle.def_format.specs.HistoryLaws.{PassesAsLegal};
 ghost use Rattle.pd_register.specs.Views.{history_view, rows_view};
 
 use crate::post::Post;
@@ -22,7 +22,7 @@ pub struct History {
 }
 
 impl History {
-    ghost use Rattle.pd_format.specs.Histories.{allows};
+    ghost use Rattle.def_format.specs.Histories.{allows};
     ghost use Rattle.pd_register.specs.Views.{step_view, post_value, row_or_fresh};
 
     /// The history of this many streams without a step.

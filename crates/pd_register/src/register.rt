@@ -1,7 +1,7 @@
 //! The register itself: a history that threads share, under a lock of one word.
 ghost use Rattle.std.specs.Prelude.{◌≡◌, ◌<◌, [], true, false, IfOk, IfErr, All, length, map};
 ghost use mathlib.Core.List.{IsPrefix};
-ghost use Rattle.pd_format.specs.Histories.{allows, IsLegal};
+ghost use Rattle.def_format.specs.Histories.{allows, IsLegal};
 ghost use Rattle.pd_register.specs.Views.{step_view, rows_view, AreRowsOf, HasRow};
 ghost use Rattle.pd_register.specs.LockRule.{Takes, MayGive, Looks, ShowsRows, after_giving, history_in_hand};
 

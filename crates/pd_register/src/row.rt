@@ -2,7 +2,7 @@
 ghost use Rattle.std.specs.Prelude.{◌≡◌, true};
 
 use crate::step::Step;
-use pd_format::EVENT_LIMIT;
+use def_format::EVENT_LIMIT;
 
 /// Where a stream stands.
 #[derive(Clone, Copy, Debug, PartialEq, Eq)]
@@ -29,7 +29,7 @@ pub struct Row {
 }
 
 impl Row {
-    ghost use Rattle.pd_format.specs.Histories.{fresh_row, allows, row_after};
+    ghost use Rattle.def_format.specs.Histories.{fresh_row, allows, row_after};
     ghost use Rattle.pd_register.specs.Views.{row_view, step_view};
 
     /// The row of a stream that has made no step.

@@ -18,7 +18,7 @@ pub struct Seat {
 }
 
 impl Seat {
-    ghost use Rattle.pd_format.specs.Histories.{fresh_row, allows};
+    ghost use Rattle.def_format.specs.Histories.{fresh_row, allows};
     ghost use Rattle.pd_register.specs.Views.{row_value, row_state_view, step_view};
     ghost use Rattle.pd_register.specs.LockRule.{view};
     ghost use Rattle.pd_register.specs.Seats.{stream_of, posted_row};

@@ -1,6 +1,6 @@
 //! The right to look at all streams' rows.
 ghost use Rattle.std.specs.Prelude.{◌≡◌, [], ◌∷◌, false};
-ghost use Rattle.pd_format.specs.Histories.{fresh_row};
+ghost use Rattle.def_format.specs.Histories.{fresh_row};
 ghost use Rattle.pd_register.specs.Views.{row_value};
 
 use crate::rule::TableSeat;

@@ -2,11 +2,11 @@
 use Rattle.std.proofs.Common.{◌≡◌, ℕ, ◌+◌, ◌*◌, ◌<◌, ◌≤◌, List, [], ◌∷◌, ◌++◌, length, refl, sym, ap, ◌∙◌, subst, append_assoc, append-nil, arith}
 use Rattle.std.specs.Prelude.{codes, flat_map}
 use Rattle.std.specs.List.{AllByRecursion}
-use Rattle.pd_format.specs.Limits.{predicate_limit}
-use Rattle.pd_format.specs.Lines.{ended_lines}
-use Rattle.pd_format.specs.Reports.{Agrees, Answer, AnswerIsLawful, IsNoReport, Possibly, Refusal, RefusalIsLawful, answer_lines, text_of_lines}
-use Rattle.pd_format.proofs.OneReport as one_report
-use Rattle.pd_format.proofs.OneReport.{Lacks, line_lacks, session_line, session_rest}
+use Rattle.def_format.specs.Limits.{predicate_limit}
+use Rattle.def_format.specs.Lines.{ended_lines}
+use Rattle.def_format.specs.Reports.{Agrees, Answer, AnswerIsLawful, IsNoReport, Possibly, Refusal, RefusalIsLawful, answer_lines, text_of_lines}
+use Rattle.def_format.proofs.OneReport as one_report
+use Rattle.def_format.proofs.OneReport.{Lacks, line_lacks, session_line, session_rest}
 use Rattle.pd_report.specs.Pairs.{StopsInPair}
 use Rattle.pd_report.specs.Reading.{counts_text, first_text, refused_text, Begins, CountsFit, FirstIsLawful, StopsAfter}
 use Rattle.pd_report.proofs.Stops.{answers_lack, first_stops, line_stops, refused_begins, refused_stops, second_lacks, second_stops, two_each, whole_answers}

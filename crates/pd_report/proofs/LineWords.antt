@@ -2,9 +2,9 @@
 use Rattle.std.proofs.Common.{◌≡◌, ℕ, List, [], ◌∷◌, ◌++◌, None, Some, Option, Ok, Err, Result, refl, sym, ap, ◌∙◌}
 use Rattle.std.specs.Prelude.{codes, decimal}
 use Rattle.std.specs.List.{AllByRecursion}
-use Rattle.pd_format.specs.Reports as reports
-use Rattle.pd_format.specs.Reports.{Definitely, Refusal, RefusalIsLawful, DefinitelyIsLawful, Fits, IsName, definitely_words, possibly_words, refusal_words, spaced}
-use Rattle.pd_format.proofs.OneReport.{Lacks, Plain, plain_lacks, name_plain, possibly_plain, definitely_plain, refused_line, session_line}
+use Rattle.def_format.specs.Reports as reports
+use Rattle.def_format.specs.Reports.{Definitely, Refusal, RefusalIsLawful, DefinitelyIsLawful, Fits, IsName, definitely_words, possibly_words, refusal_words, spaced}
+use Rattle.def_format.proofs.OneReport.{Lacks, Plain, plain_lacks, name_plain, possibly_plain, definitely_plain, refused_line, session_line}
 use Rattle.pd_report.specs.Reading.{first_text, pieces, second_text, FirstIsLawful, IsFoundAs, IsReadAs}
 use Rattle.pd_report.proofs.Pieces.{pieces_of_joined, joined_of_pieces}
 

@@ -4,8 +4,8 @@ use Rattle.std.specs.Prelude.{◌==◌, IfOk, IsErr}
 use Rattle.std.specs.List.{AllByRecursion}
 use Rattle.std.proofs.lemmas.List.{length-map, map-append}
 use Rattle.std.proofs.lemmas.List.Splits.{length-slice_split}
-use Rattle.pd_format.specs.Reports.{with_commas}
-use Rattle.pd_format.proofs.OneReport.{Lacks}
+use Rattle.def_format.specs.Reports.{with_commas}
+use Rattle.def_format.proofs.OneReport.{Lacks}
 use Rattle.pd_report.specs.Reading.{pieces, IsFoundAs, IsReadAs, IsTextOf}
 use Rattle.pd_report.proofs.Pieces.{pieces_of_joined, joined_of_pieces}
 

@@ -10,9 +10,9 @@ use Rattle.std.proofs.lemmas.List.Splits.{slice_split-cons_yes, slice_split-cons
 use Rattle.std.proofs.lemmas.Str.{IsUtf8-from_ascii}
 use Rattle.std.proofs.lemmas.Str.Ascii.{IsAscii-from_all}
 use Rattle.std.proofs.lemmas.Bool.{and_parts, not-true}
-use Rattle.pd_format.specs.Names.{is_in_word}
-use Rattle.pd_format.specs.Reports.{NamedPlace, PlaceIsLawful, place_text}
-use Rattle.pd_format.proofs.OneReport.{Lacks, InWord, same_byte, in_word_lacks, name_in_word, decimal_in_word}
+use Rattle.def_format.specs.Names.{is_in_word}
+use Rattle.def_format.specs.Reports.{NamedPlace, PlaceIsLawful, place_text}
+use Rattle.def_format.proofs.OneReport.{Lacks, InWord, same_byte, in_word_lacks, name_in_word, decimal_in_word}
 use Rattle.pd_report.specs.Reading.{pieces}
 
 word_first : (c : ℕ) (w rest : List ℕ) → Lacks c w → pieces c (w ++ c ∷ rest) ≡ w ∷ pieces c rest

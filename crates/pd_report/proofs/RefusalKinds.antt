@@ -1,8 +1,8 @@
 -- Which refusal the words are of, by the first of them.
 use Rattle.std.proofs.Common.{◌≡◌, ℕ, List, ◌∷◌}
 use Rattle.std.specs.Prelude.{codes}
-use Rattle.pd_format.specs.RefusalKinds.{PredicateKind, StreamKind}
-use Rattle.pd_format.specs.Reports.{Refusal, Predicate, Stream, refusal_words}
+use Rattle.def_format.specs.RefusalKinds.{PredicateKind, StreamKind}
+use Rattle.def_format.specs.Reports.{Refusal, Predicate, Stream, refusal_words}
 use Rattle.pd_report.specs.Reading.{at_fault_words, stream_fault_words, AtFaultIsLawful, IsOfKind, StreamFaultIsLawful}
 use Rattle.pd_report.proofs.Pieces.{tail_is}
 

@@ -2,9 +2,9 @@
 use Rattle.std.proofs.Common.{◌≡◌, ℕ, zero, suc, ◌+◌, ◌*◌, ◌<◌, ◌≤◌, List, [], ◌∷◌, ◌++◌, length, take, refl, sym, ap, ◌∙◌, subst, append_assoc, append-nil, length-append, arith}
 use Rattle.std.specs.Prelude.{codes, flat_map}
 use Rattle.std.specs.List.{AllByRecursion}
-use Rattle.pd_format.specs.Limits.{predicate_limit}
-use Rattle.pd_format.specs.Reports as reports
-use Rattle.pd_format.specs.Reports.{Answer, AnswerIsLawful, Definitely, DefinitelyIsLawful, IsLawful, Possibly, Refusal, RefusalIsLawful, Report, Judged, Refused, answer_lines, report_lines}
+use Rattle.def_format.specs.Limits.{predicate_limit}
+use Rattle.def_format.specs.Reports as reports
+use Rattle.def_format.specs.Reports.{Answer, AnswerIsLawful, Definitely, DefinitelyIsLawful, IsLawful, Possibly, Refusal, RefusalIsLawful, Report, Judged, Refused, answer_lines, report_lines}
 use Rattle.pd_report.specs.Reading.{counts_text, first_text, refused_text, second_text, Begins, CountsFit, FirstIsLawful, StopsAfter}
 use Rattle.pd_report.proofs.LineWords.{first_words}
 use Rattle.pd_report.proofs.Pieces.{head_is, tail_is}

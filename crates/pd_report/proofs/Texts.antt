@@ -2,9 +2,9 @@
 use Rattle.std.proofs.Common.{◌≡◌, ℕ, List, [], ◌∷◌, ◌++◌, map, refl, ap, ◌∙◌, append-nil}
 use Rattle.std.specs.Prelude.{codes, flat_map}
 use Rattle.std.proofs.lemmas.Grind.{flat_map-append}
-use Rattle.pd_format.specs.Lines.{line_feed}
-use Rattle.pd_format.specs.Reports.{Possibly, Definitely, Refusal, Spec, Predicate, Streams, Stream, Absent, Match, Cycle, Judged, Refused, answer_lines, definitely_words, possibly_words, refusal_words, report_text, spaced, text_of_lines}
-use Rattle.pd_format.specs.Reports as reports
+use Rattle.def_format.specs.Lines.{line_feed}
+use Rattle.def_format.specs.Reports.{Possibly, Definitely, Refusal, Spec, Predicate, Streams, Stream, Absent, Match, Cycle, Judged, Refused, answer_lines, definitely_words, possibly_words, refusal_words, report_text, spaced, text_of_lines}
+use Rattle.def_format.specs.Reports as reports
 use Rattle.pd_report.specs.Views.{answer_view, answers_text, definitely_line, possibly_line, session_text}
 use Rattle.pd_report.specs.declared.answer.Answer.{Answer}
 

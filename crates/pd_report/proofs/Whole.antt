@@ -5,9 +5,9 @@ use Rattle.std.specs.List.{AllByRecursion, list_all}
 use Rattle.std.proofs.lemmas.Grind.{flat_map-append}
 use Rattle.std.proofs.lemmas.List.{append_cancel_left, take_all}
 use Rattle.std.proofs.lemmas.Bool.{and_parts, not-true}
-use Rattle.pd_format.specs.Lines.{ended_lines, line_feed, onto_first}
-use Rattle.pd_format.specs.Reports.{Agrees, IsNoReport, IsReport, Report, report_lines, text_of_lines}
-use Rattle.pd_format.proofs.OneReport.{Lacks, ended_line, lines_lack, lines_of_text}
+use Rattle.def_format.specs.Lines.{ended_lines, line_feed, onto_first}
+use Rattle.def_format.specs.Reports.{Agrees, IsNoReport, IsReport, Report, report_lines, text_of_lines}
+use Rattle.def_format.proofs.OneReport.{Lacks, ended_line, lines_lack, lines_of_text}
 use Rattle.pd_report.specs.Reading.{Begins, StopsAfter}
 use Rattle.pd_report.proofs.Stops.{nothing_stops}
 

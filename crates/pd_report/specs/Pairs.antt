@@ -1,10 +1,10 @@
 -- What reading the lines of an answer gives.
 use Rattle.std.specs.Prelude.{◌≡◌, ℕ, ◌≤◌, List, ◌∷◌, ◌++◌, length, map}
 use Rattle.std.specs.List.{AllByRecursion}
-use Rattle.pd_format.specs.Limits.{predicate_limit}
-use Rattle.pd_format.specs.Lines.{ended_lines, line_feed}
-use Rattle.pd_format.specs.Reports as reports
-use Rattle.pd_format.specs.Reports.{answer_lines, text_of_lines, AnswerIsLawful, DefinitelyIsLawful}
+use Rattle.def_format.specs.Limits.{predicate_limit}
+use Rattle.def_format.specs.Lines.{ended_lines, line_feed}
+use Rattle.def_format.specs.Reports as reports
+use Rattle.def_format.specs.Reports.{answer_lines, text_of_lines, AnswerIsLawful, DefinitelyIsLawful}
 use Rattle.pd_report.specs.Reading.{first_text, second_text, FirstIsLawful}
 use Rattle.pd_report.specs.Views.{answer_view}
 use Rattle.pd_report.specs.declared.answer.Answer.{Answer}

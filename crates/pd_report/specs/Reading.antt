@@ -4,10 +4,10 @@ use Rattle.std.specs.List.{slice_split}
 use Rattle.std.specs.Option.{MatchOption}
 use Rattle.std.specs.declared.alloc.Global.{Global}
 use Rattle.std.specs.declared.string.String.{String}
-use Rattle.pd_format.specs.Reports as reports
-use Rattle.pd_format.specs.Reports.{IsLawful, RefusalIsLawful, definitely_words, possibly_words, predicate_words, refusal_words, report_lines, spaced, stream_words, Fits, IsName, PossiblyIsLawful}
-use Rattle.pd_format.specs.Lists.{is_one_of}
-use Rattle.pd_format.specs.RefusalKinds.{RefusalKind, refusal_kind}
+use Rattle.def_format.specs.Reports as reports
+use Rattle.def_format.specs.Reports.{IsLawful, RefusalIsLawful, definitely_words, possibly_words, predicate_words, refusal_words, report_lines, spaced, stream_words, Fits, IsName, PossiblyIsLawful}
+use Rattle.def_format.specs.Lists.{is_one_of}
+use Rattle.def_format.specs.RefusalKinds.{RefusalKind, refusal_kind}
 use Rattle.pd_report.specs.Views.{possibly_view}
 use Rattle.pd_report.specs.declared.possibly.Possibly.{Possibly}
 use denote.Ref.{Bor}

@@ -1,8 +1,8 @@
 -- What the program's reports stand for.
 use Rattle.std.specs.Prelude.{ℕ, List, [], ◌∷◌, ◌++◌, codes, decimal, flat_map, map, string_bytes}
-use Rattle.pd_format.specs.Lines.{line_feed}
-use Rattle.pd_format.specs.Reports.{NamedPlace, answer_lines, definitely_words, possibly_words, spaced, text_of_lines}
-use Rattle.pd_format.specs.Reports as reports
+use Rattle.def_format.specs.Lines.{line_feed}
+use Rattle.def_format.specs.Reports.{NamedPlace, answer_lines, definitely_words, possibly_words, spaced, text_of_lines}
+use Rattle.def_format.specs.Reports as reports
 use Rattle.pd_report.specs.declared.answer.Answer.{Answer}
 use Rattle.pd_report.specs.declared.possibly.Possibly.{Possibly}
 use Rattle.pd_report.specs.declared.possibly.Possibly.TheVariants as possibly

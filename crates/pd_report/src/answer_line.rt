@@ -1,5 +1,5 @@
 //! Reads the lines of an answer.
-ghost use Rattle.pd_format.specs.Reports.{definitely_words, path_text, possibly_words, with_commas, DefinitelyIsLawful, Fits, IsName, PossiblyIsLawful};
+ghost use Rattle.def_format.specs.Reports.{definitely_words, path_text, possibly_words, with_commas, DefinitelyIsLawful, Fits, IsName, PossiblyIsLawful};
 ghost use Rattle.pd_report.specs.Reading.{first_part_view, first_text, second_text, FirstIsLawful, IsFoundAs};
 ghost use Rattle.pd_report.specs.Remaining.{words_left};
 ghost use Rattle.pd_report.specs.Views.{definitely_view, possibly_view};

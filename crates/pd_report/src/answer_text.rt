@@ -1,5 +1,5 @@
 //! The lines of answers.
-ghost use Rattle.pd_format.specs.Reports.{answer_lines, definitely_words, path_text, possibly_words, spaced, text_of_lines};
+ghost use Rattle.def_format.specs.Reports.{answer_lines, definitely_words, path_text, possibly_words, spaced, text_of_lines};
 ghost use Rattle.pd_report.specs.Views.{answer_view, answers_text, definitely_line, definitely_view, possibly_line, possibly_view};
 ghost use Rattle.std.specs.Prelude.{◌≡◌, ◌∷◌, ◌++◌, [], OnOk};
 

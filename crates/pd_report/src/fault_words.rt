@@ -1,6 +1,6 @@
 //! The words for faults that a report's reader accepts, in the one order of the definitions.
-ghost use Rattle.pd_format.specs.Lists.{is_one_of};
-ghost use Rattle.pd_format.specs.Reports.{match_words, predicate_words, spec_words, stream_words};
+ghost use Rattle.def_format.specs.Lists.{is_one_of};
+ghost use Rattle.def_format.specs.Reports.{match_words, predicate_words, spec_words, stream_words};
 ghost use Rattle.pd_report.specs.Reading.{slices_view};
 ghost use Rattle.std.specs.Prelude.{◌≡◌};
 

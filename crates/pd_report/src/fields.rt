@@ -1,5 +1,5 @@
 //! The fields of a line of text.
-ghost use Rattle.pd_format.specs.Reports.{place_text, with_commas};
+ghost use Rattle.def_format.specs.Reports.{place_text, with_commas};
 ghost use Rattle.pd_report.specs.Steps.{name_at, names_at, names_view, AreBelow};
 ghost use Rattle.pd_report.specs.Views.{named_places_view};
 ghost use Rattle.std.specs.Prelude.{◌≡◌, ◌<◌, ◌++◌, decimal, length, map, OnErr, OnOk};

@@ -1,5 +1,5 @@
 //! Words with a comma between each two.
-ghost use Rattle.pd_format.specs.Reports.{path_text, place_text, with_commas, Fits, IsName, PlaceIsLawful};
+ghost use Rattle.def_format.specs.Reports.{path_text, place_text, with_commas, Fits, IsName, PlaceIsLawful};
 ghost use Rattle.pd_report.specs.Reading.{IsFoundAs, IsReadAs, IsTextOf};
 ghost use Rattle.pd_report.specs.Remaining.{words_left};
 ghost use Rattle.pd_report.specs.Views.{named_place_view, named_places_view, place_view};

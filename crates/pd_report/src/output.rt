@@ -1,5 +1,5 @@
 //! Writes a text, and a report.
-ghost use Rattle.pd_format.specs.Reports.{report_text};
+ghost use Rattle.def_format.specs.Reports.{report_text};
 ghost use Rattle.pd_report.specs.Views.{report_view};
 ghost use Rattle.std.specs.Io.KnownBytes.{Appends, Keeps};
 ghost use Rattle.std.specs.Prelude.{◌≡◌, ◌<◌, ℕ, length, take, Err, IfErr, OnErr, OnOk, IsOkUnless};

@@ -1,12 +1,12 @@
 //! The names of the processes of an observation's events, each kept once.
-ghost use Rattle.pd_format.specs.Limits.{process_limit};
-ghost use Rattle.pd_format.specs.Reports.{IsName};
+ghost use Rattle.def_format.specs.Limits.{process_limit};
+ghost use Rattle.def_format.specs.Reports.{IsName};
 ghost use Rattle.pd_report.specs.Steps.{name_at, names_at, names_view, AreBelow, GoesOn};
 ghost use Rattle.std.specs.Prelude.{◌≡◌, ◌<◌, ◌∷◌, ◌++◌, [], None, length, position, string_bytes, take, IfOk, OnOk};
 ghost use Rattle.std.specs.Str.{bytes_eq};
 
 use super::words::word_text;
-use pd_format::PROCESS_LIMIT;
+use def_format::PROCESS_LIMIT;
 use std::alloc::{AllocError, Global};
 use std::marker::Model;
 

@@ -1,6 +1,6 @@
 //! Reads a report.
-ghost use Rattle.pd_format.specs.Lines.{line_feed};
-ghost use Rattle.pd_format.specs.Reports.{answer_lines, text_of_lines, Agrees, IsNoReport, IsReport};
+ghost use Rattle.def_format.specs.Lines.{line_feed};
+ghost use Rattle.def_format.specs.Reports.{answer_lines, text_of_lines, Agrees, IsNoReport, IsReport};
 ghost use Rattle.pd_report.specs.Pairs.{AnswersFit, IsPair};
 ghost use Rattle.pd_report.specs.Reading.{counts_text, CountsFit};
 ghost use Rattle.pd_report.specs.Views.{answer_view, report_view};
@@ -14,7 +14,7 @@ use super::refusal_line::refused_line;
 use super::report::Report;
 use super::session_line::session_line;
 use super::words::cut_at;
-use pd_format::PREDICATE_LIMIT;
+use def_format::PREDICATE_LIMIT;
 use std::alloc::{AllocError, Global};
 
 /// The byte that ends a line.

@@ -1,7 +1,7 @@
 //! Reads the line of a refusal.
-ghost use Rattle.pd_format.specs.Lists.{is_one_of};
-ghost use Rattle.pd_format.specs.RefusalKinds.{AbsentKind, CycleKind, MatchKind, PredicateKind, SpecKind, StreamKind, StreamsKind};
-ghost use Rattle.pd_format.specs.Reports.{place_text, refusal_words, spec_words, with_commas, IsName, PlaceIsLawful, RefusalIsLawful};
+ghost use Rattle.def_format.specs.Lists.{is_one_of};
+ghost use Rattle.def_format.specs.RefusalKinds.{AbsentKind, CycleKind, MatchKind, PredicateKind, SpecKind, StreamKind, StreamsKind};
+ghost use Rattle.def_format.specs.Reports.{place_text, refusal_words, spec_words, with_commas, IsName, PlaceIsLawful, RefusalIsLawful};
 ghost use Rattle.pd_report.specs.Reading.{at_fault_view, at_fault_words, refused_text, stream_fault_view, stream_fault_words, AtFaultIsLawful, IsOfKind, StreamFaultIsLawful, IsFoundAs, IsReadAs};
 ghost use Rattle.pd_report.specs.Remaining.{words_left};
 ghost use Rattle.pd_report.specs.Views.{named_places_view, refusal_view};

@@ -1,5 +1,5 @@
 //! The words of a refusal.
-ghost use Rattle.pd_format.specs.Reports.{Predicate as RefusedPredicate, Stream as RefusedStream, refusal_words, spaced};
+ghost use Rattle.def_format.specs.Reports.{Predicate as RefusedPredicate, Stream as RefusedStream, refusal_words, spaced};
 ghost use Rattle.pd_report.specs.Views.{refusal_view};
 ghost use Rattle.std.specs.Prelude.{◌≡◌, ◌++◌, OnOk};
 

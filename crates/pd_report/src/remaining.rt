@@ -1,5 +1,5 @@
 //! The words that remain of bytes, taken one after another.
-ghost use Rattle.pd_format.specs.Reports.{Fits};
+ghost use Rattle.def_format.specs.Reports.{Fits};
 ghost use Rattle.pd_report.specs.Remaining.{words_left};
 ghost use Rattle.pd_report.specs.Reading.{pieces};
 ghost use Rattle.std.specs.Prelude.{◌≡◌, ◌==◌, ◌∷◌, [], ℕ, List, MatchOption, decimal, length};

@@ -1,5 +1,5 @@
 //! A report's text.
-ghost use Rattle.pd_format.specs.Reports.{report_text};
+ghost use Rattle.def_format.specs.Reports.{report_text};
 ghost use Rattle.pd_report.specs.Views.{report_view, session_text};
 ghost use Rattle.std.specs.Prelude.{◌≡◌, ◌++◌, OnOk, IfOk};
 

@@ -1,5 +1,5 @@
 //! Reads the line that counts what a session has.
-ghost use Rattle.pd_format.specs.Reports.{Fits};
+ghost use Rattle.def_format.specs.Reports.{Fits};
 ghost use Rattle.pd_report.specs.Reading.{counts_text, counts_words, CountsFit, IsFoundAs};
 ghost use Rattle.pd_report.specs.Remaining.{words_left};
 ghost use Rattle.std.specs.Prelude.{◌≡◌, ◌∷◌, ℕ, List, MatchOption, decimal};

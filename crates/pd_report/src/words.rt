@@ -1,6 +1,6 @@
 //! Words, and what stands between others.
-ghost use Rattle.pd_format.specs.Names.{is_in_word};
-ghost use Rattle.pd_format.specs.Reports.{Fits, IsName};
+ghost use Rattle.def_format.specs.Names.{is_in_word};
+ghost use Rattle.def_format.specs.Reports.{Fits, IsName};
 ghost use Rattle.pd_report.specs.Cuts.{IsCut, Lacks};
 ghost use Rattle.pd_report.specs.Reading.{IsFoundAs, IsReadAs};
 ghost use Rattle.std.specs.List.{list_all};

@@ -4,7 +4,7 @@ use Rattle.std.proofs.lemmas.List.{length-map, length-take, map-append, take_mor
 use Rattle.serde_json.specs.Data.{Data, Items, Members, array, no_items, item, put}
 use Rattle.serde_json.specs.View.{items_of, items_view, view}
 use Rattle.serde_json.specs.declared.value.Value.{Value}
-use Rattle.pd_format.specs.Documents.{asked_predicate, asked_predicates, with_predicates}
+use Rattle.def_format.specs.Documents.{asked_predicate, asked_predicates, with_predicates}
 
 -- the items, and one more
 abbrev pub with_last : Items → Data → Items

@@ -6,8 +6,8 @@ use Rattle.std.specs.Str.{is_utf8}
 use Rattle.serde_json.specs.Data.{Data, null, boolean, number, string, array, object, Members, no_members, member, put, depth, items_depth, members_depth}
 use Rattle.serde_json.specs.Read.{max_depth, read}
 use Rattle.serde_json.proofs.Nesting.{depth-read}
-use Rattle.pd_format.specs.Documents.{Options, asked_predicates, fields_with_options, with_options, with_predicates, with_width}
-use Rattle.pd_format.specs.Records.{json_value}
+use Rattle.def_format.specs.Documents.{Options, asked_predicates, fields_with_options, with_options, with_predicates, with_width}
+use Rattle.def_format.specs.Records.{json_value}
 
 match_depth : (o : Ordering) (a b c : Members) (n : ℕ) → members_depth a ≤ n → members_depth b ≤ n
     → members_depth c ≤ n → members_depth (match_ordering o a b c) ≤ n

@@ -5,12 +5,12 @@ use Rattle.std.proofs.lemmas.Bool.{lt-ltb, le-ltb}
 use Rattle.serde_json.specs.Data.{Data}
 use Rattle.serde_json.specs.View.{view}
 use Rattle.serde_json.specs.declared.value.Value.{Value}
-use Rattle.pd_format.specs.Documents.{Outline, Document, Inquiry, IsDocument, HasRefusedPredicate, Options, inquiry_json, inquiry_of, outline_of, outline_fault, outline_of_inquiry, outline_of_json, checked_outline, names_of_outline, with_options}
-use Rattle.pd_format.specs.Limits.{document_byte_limit}
-use Rattle.pd_format.specs.Documents as faults
-use Rattle.pd_format.specs.Lists.{unless}
-use Rattle.pd_format.specs.PredicateTexts.{PredicateFault}
-use Rattle.pd_format.specs.Records.{json_value}
+use Rattle.def_format.specs.Documents.{Outline, Document, Inquiry, IsDocument, HasRefusedPredicate, Options, inquiry_json, inquiry_of, outline_of, outline_fault, outline_of_inquiry, outline_of_json, checked_outline, names_of_outline, with_options}
+use Rattle.def_format.specs.Limits.{document_byte_limit}
+use Rattle.def_format.specs.Documents as faults
+use Rattle.def_format.specs.Lists.{unless}
+use Rattle.def_format.specs.PredicateTexts.{PredicateFault}
+use Rattle.def_format.specs.Records.{json_value}
 use Rattle.pd_pred.specs.Views.{predicate_fault_view}
 use Rattle.pd_spec.specs.DocumentParts.{IsDocumentOf}
 use Rattle.pd_spec.specs.Faults.{IsFaultFound}

@@ -5,7 +5,7 @@ use Rattle.std.specs.Prelude.{Option, None, Some, option_map}
 use Rattle.serde_json.specs.Data.{Data}
 use Rattle.serde_json.specs.View.{view, items_view}
 use Rattle.serde_json.specs.declared.value.Value.{Value}
-use Rattle.pd_format.specs.Documents.{each}
+use Rattle.def_format.specs.Documents.{each}
 
 -- what was made so far, and then the rest
 abbrev pub onto : {A : Type 0} → List A → Option (List A) → Option (List A)

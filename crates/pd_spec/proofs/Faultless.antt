@@ -5,11 +5,11 @@ use Rattle.std.specs.List.{list_all, AllZip}
 use Rattle.std.proofs.lemmas.Bool.{leb-true, and_parts}
 use Rattle.std.proofs.lemmas.List.{length-map}
 use Rattle.serde_json.specs.Data.{Data, Members, no_members, member}
-use Rattle.pd_format.specs.Documents.{Outline, IsNamedPredicate, outline_fault, is_within, predicate_names, vars_fit, width_fits, is_width, natural, names_of_outline, initial_of, width_of}
-use Rattle.pd_format.specs.Limits.{default_width, predicate_limit, process_limit, var_limit, width_limit}
-use Rattle.pd_format.specs.Names.{ProcessNames, is_name}
-use Rattle.pd_format.specs.Records.{keys, values, whole_number}
-use Rattle.pd_format.proofs.Faultless.{faultless}
+use Rattle.def_format.specs.Documents.{Outline, IsNamedPredicate, outline_fault, is_within, predicate_names, vars_fit, width_fits, is_width, natural, names_of_outline, initial_of, width_of}
+use Rattle.def_format.specs.Limits.{default_width, predicate_limit, process_limit, var_limit, width_limit}
+use Rattle.def_format.specs.Names.{ProcessNames, is_name}
+use Rattle.def_format.specs.Records.{keys, values, whole_number}
+use Rattle.def_format.proofs.Faultless.{faultless}
 use Rattle.pd_spec.specs.Named.{named_view}
 use Rattle.pd_spec.specs.Outlines.{entry_in, row_in}
 use Rattle.pd_spec.specs.Sound.{IsSound, lengths, vars_of_each}

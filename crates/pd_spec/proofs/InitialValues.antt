@@ -2,8 +2,8 @@
 use Rattle.std.proofs.Common.{◌≡◌, ℕ, zero, suc, List, [], ◌∷◌, length, refl, sym, ap, ◌∙◌, ℤ}
 use Rattle.std.specs.Prelude.{slice_index_or}
 use Rattle.std.proofs.lemmas.List.{length-map}
-use Rattle.pd_format.specs.Names.{ProcessNames, vars_of}
-use Rattle.pd_traces.specs.InitialRows.{AreInitialRows}
+use Rattle.def_format.specs.Names.{ProcessNames, vars_of}
+use Rattle.read_traces.specs.InitialRows.{AreInitialRows}
 use Rattle.pd_spec.specs.Sound.{IsSound, lengths, vars_of_each}
 
 -- ---- as many of each

@@ -5,8 +5,8 @@ use Rattle.std.specs.Map.{keys_of}
 use Rattle.serde_json.specs.Data.{Members}
 use Rattle.serde_json.specs.View.{view, members_view}
 use Rattle.serde_json.specs.declared.value.Value.{Value}
-use Rattle.pd_format.specs.Names.{ProcessNames}
-use Rattle.pd_format.specs.Records.{keys, values}
+use Rattle.def_format.specs.Names.{ProcessNames}
+use Rattle.def_format.specs.Records.{keys, values}
 use Rattle.pd_spec.specs.Outlines.{entry_in, initial_value}
 
 -- one element more, as f sees what was made of it, and h what seen sees of it

@@ -4,12 +4,12 @@ use Rattle.std.specs.Map.{keys_of, values_of}
 use Rattle.std.specs.Str.{bytes_eq}
 use Rattle.std.specs.Prelude.{◌&&◌}
 use Rattle.std.proofs.lemmas.List.{length-map}
-use Rattle.pd_format.proofs.ListTests.{list_any-map}
+use Rattle.def_format.proofs.ListTests.{list_any-map}
 use Rattle.std.specs.List.{list_any, list_all}
 use Rattle.serde_json.specs.Data.{Data}
 use Rattle.serde_json.specs.View.{view, members_view}
 use Rattle.serde_json.specs.declared.value.Value.{Value}
-use Rattle.pd_format.specs.Records.{keys, values, has_only}
+use Rattle.def_format.specs.Records.{keys, values, has_only}
 
 pub keys-members_view : (entries : List (String Global × Value))
     → keys (members_view entries) ≡ map (λ entry. string_bytes entry.0) entries

@@ -6,9 +6,9 @@ use Rattle.std.specs.Map.{keys_of}
 use Rattle.serde_json.specs.Data.{Members}
 use Rattle.serde_json.specs.View.{members_view}
 use Rattle.serde_json.specs.declared.value.Value.{Value}
-use Rattle.pd_format.specs.Documents.{vars_fit}
-use Rattle.pd_format.specs.Names.{is_name}
-use Rattle.pd_format.specs.Records.{keys}
+use Rattle.def_format.specs.Documents.{vars_fit}
+use Rattle.def_format.specs.Names.{is_name}
+use Rattle.def_format.specs.Records.{keys}
 use Rattle.pd_spec.specs.Outlines.{process_view, predicate_outline_view, outline_view, has_names}
 use Rattle.pd_spec.specs.declared.outline.ProcessOutline.{ProcessOutline}
 use Rattle.pd_spec.specs.declared.outline.PredicateOutline.{PredicateOutline}

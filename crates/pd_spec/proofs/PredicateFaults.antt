@@ -3,9 +3,9 @@ use Rattle.std.proofs.Common.{◌≡◌, ℕ, suc, ◌+◌, ◌<◌, List, [], �
 use Rattle.std.specs.Prelude.{MatchOption}
 use Rattle.std.specs.List.{AllByRecursion, AllZip}
 use Rattle.std.proofs.lemmas.List.{map-append, length-map, length-take-le, take-append-drop, take_more}
-use Rattle.pd_format.specs.Documents.{IsNamedPredicate, NamedPredicate, Outline, IsSpelled, names_of_outline}
-use Rattle.pd_format.specs.Names.{ProcessNames}
-use Rattle.pd_format.specs.PredicateTexts.{PredicateFault, IsRefusedPredicate}
+use Rattle.def_format.specs.Documents.{IsNamedPredicate, NamedPredicate, Outline, IsSpelled, names_of_outline}
+use Rattle.def_format.specs.Names.{ProcessNames}
+use Rattle.def_format.specs.PredicateTexts.{PredicateFault, IsRefusedPredicate}
 use Rattle.pd_pred.specs.Views.{predicate_fault_view}
 use Rattle.pd_spec.specs.Named.{named_view}
 use Rattle.pd_spec.specs.Outlines.{predicate_outline_view}

@@ -1,7 +1,7 @@
 -- The rows of initial values beside the processes' variables.
 use Rattle.std.proofs.Common.{◌≡◌, ℕ, zero, suc, ◌<◌, List, [], ◌∷◌, length, Some, arith}
 use Rattle.std.specs.Prelude.{slice_get, slice_index_or}
-use Rattle.pd_format.specs.Names.{ProcessNames, vars_of}
+use Rattle.def_format.specs.Names.{ProcessNames, vars_of}
 use Rattle.pd_spec.specs.Sound.{lengths, vars_of_each}
 
 -- a process that has a variable is there

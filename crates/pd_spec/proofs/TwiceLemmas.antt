@@ -12,8 +12,8 @@ use Rattle.std.proofs.lemmas.List.{map-append, take-append-drop, take_more}
 use Rattle.std.proofs.lemmas.List.Folds.{list_any-append}
 use Rattle.std.proofs.lemmas.Map.Text.{is_eq-slice_cmp}
 use Rattle.std.proofs.lemmas.Slice.Eq.{bytes_eq-Decides}
-use Rattle.pd_format.specs.Documents.{has_twice}
-use Rattle.pd_format.specs.Lists.{is_one_of}
+use Rattle.def_format.specs.Documents.{has_twice}
+use Rattle.def_format.specs.Lists.{is_one_of}
 
 abbrev pub texts_of : List (Bor (List ℕ)) → List (List ℕ)
 texts_of texts = map (λ (text : Bor (List ℕ)). text.now) texts

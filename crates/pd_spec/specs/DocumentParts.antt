@@ -1,7 +1,7 @@
 -- The document of an outline.
 use Rattle.std.specs.Prelude.{◌≡◌, Bool, Some}
 use Rattle.std.specs.List.{AllZip}
-use Rattle.pd_format.specs.Documents.{Document, Outline, IsNamedPredicate, names_of_outline, initial_of, width_of, version_of}
+use Rattle.def_format.specs.Documents.{Document, Outline, IsNamedPredicate, names_of_outline, initial_of, width_of, version_of}
 
 -- The document is what the outline says, with the predicates of its texts. Whether they are answered beyond the width
 -- is given beside it.

@@ -1,7 +1,7 @@
 -- The faults that a step of the reader finds.
 use Rattle.std.specs.Prelude.{◌≡◌, Option, Some, None, MatchOption}
-use Rattle.pd_format.specs.Documents.{DocumentFault}
-use Rattle.pd_format.specs.Documents as faults
+use Rattle.def_format.specs.Documents.{DocumentFault}
+use Rattle.def_format.specs.Documents as faults
 use Rattle.pd_spec.specs.declared.fault.SpecFault.TheVariants as kinds
 use Rattle.pd_spec.specs.declared.fault.SpecFault.{SpecFault}
 use Rattle.pd_spec.specs.declared.fault.SpecFault.TheVariants.{Memory}

@@ -1,6 +1,6 @@
 -- What a predicate with its name stands for.
 use Rattle.std.specs.Prelude.{string_bytes}
-use Rattle.pd_format.specs.Documents.{NamedPredicate}
+use Rattle.def_format.specs.Documents.{NamedPredicate}
 use Rattle.pd_pred.specs.Views.{predicate_view}
 use Rattle.pd_spec.specs.declared.named.NamedPred.{NamedPred}
 

@@ -1,12 +1,12 @@
 -- What the program's outline of a document stands for.
 use Rattle.std.specs.Prelude.{◌≢◌, ℕ, ℤ, pos, Bool, ◌&&◌, List, All, AllPairs, map, codes, option_map, Option, unwrap_or}
 use Rattle.std.specs.List.{list_all}
-use Rattle.pd_format.specs.Names.{is_name, ProcessNames}
-use Rattle.pd_format.specs.Records.{keys, values, whole_number}
+use Rattle.def_format.specs.Names.{is_name, ProcessNames}
+use Rattle.def_format.specs.Records.{keys, values, whole_number}
 use Rattle.serde_json.specs.Data.{Data, Members}
 use Rattle.serde_json.specs.Find.{as_str, as_object}
 use Rattle.serde_json.specs.View.{view, members_view}
-use Rattle.pd_format.specs.Documents.{Outline, named_object, process_names, predicate_names}
+use Rattle.def_format.specs.Documents.{Outline, named_object, process_names, predicate_names}
 use Rattle.pd_spec.specs.declared.outline.ProcessOutline.{ProcessOutline}
 use Rattle.pd_spec.specs.declared.outline.PredicateOutline.{PredicateOutline}
 use Rattle.pd_spec.specs.declared.outline.Outline.{Outline as Parts}

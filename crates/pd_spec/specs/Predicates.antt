@@ -1,10 +1,10 @@
 -- The faults in the texts of predicates, and the one that is looked for after them.
 use Rattle.std.specs.Prelude.{◌≡◌, ℕ, ◌+◌, List, ◌∷◌, ◌++◌, length, None, MatchOption}
 use Rattle.std.specs.List.{AllByRecursion}
-use Rattle.pd_model.specs.Predicates.{Predicate}
-use Rattle.pd_format.specs.Documents.{Outline, IsSpelled, names_of_outline, version_of}
-use Rattle.pd_format.specs.Names.{ProcessNames}
-use Rattle.pd_format.specs.PredicateTexts.{PredicateFault, IsPredicate, IsRefusedPredicate}
+use Rattle.def_model.specs.Predicates.{Predicate}
+use Rattle.def_format.specs.Documents.{Outline, IsSpelled, names_of_outline, version_of}
+use Rattle.def_format.specs.Names.{ProcessNames}
+use Rattle.def_format.specs.PredicateTexts.{PredicateFault, IsPredicate, IsRefusedPredicate}
 use Rattle.pd_pred.specs.Views.{predicate_fault_view}
 use Rattle.pd_spec.specs.declared.fault.SpecFault.{SpecFault}
 use Rattle.pd_spec.specs.declared.fault.SpecFault.TheVariants as kinds

@@ -1,8 +1,8 @@
 -- What holds of the parts of each document.
 use Rattle.std.specs.Prelude.{◌≡◌, ℕ, ◌≤◌, nat_le, ℤ, IsTrue, List, length, map}
 use Rattle.std.specs.List.{list_all}
-use Rattle.pd_format.specs.Limits.{predicate_limit, process_limit, var_limit, width_limit}
-use Rattle.pd_format.specs.Names.{ProcessNames, is_name}
+use Rattle.def_format.specs.Limits.{predicate_limit, process_limit, var_limit, width_limit}
+use Rattle.def_format.specs.Names.{ProcessNames, is_name}
 
 -- the length of each row
 abbrev pub lengths : {A : Type 0} → List (List A) → List ℕ

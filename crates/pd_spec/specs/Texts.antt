@@ -3,8 +3,8 @@ use Rattle.std.specs.Prelude.{◌≡◌, ℕ, List, [], Some, None}
 use Rattle.json.specs.Lex.{tokens}
 use Rattle.json.specs.Print.{print}
 use Rattle.serde_json.specs.Data.{Data}
-use Rattle.pd_format.specs.Documents.{Inquiry, Options, inquiry_json}
-use Rattle.pd_format.specs.Records.{json_value}
+use Rattle.def_format.specs.Documents.{Inquiry, Options, inquiry_json}
+use Rattle.def_format.specs.Records.{json_value}
 
 -- no width and no predicate is asked for, so the document's fields stay as they are
 abbrev pub KeepsFields : Options → Type 0

@@ -1,8 +1,8 @@
 -- What the program's options, its document and its faults stand for.
 use Rattle.std.specs.Prelude.{map, MatchOption}
-use Rattle.pd_format.specs.Documents.{Document, Inquiry, IsRefusedDocument, Options as AskedOptions}
-use Rattle.pd_format.specs.Documents as faults
-use Rattle.pd_format.specs.Versions.{version_view}
+use Rattle.def_format.specs.Documents.{Document, Inquiry, IsRefusedDocument, Options as AskedOptions}
+use Rattle.def_format.specs.Documents as faults
+use Rattle.def_format.specs.Versions.{version_view}
 use Rattle.pd_pred.specs.Views.{predicate_fault_view}
 use Rattle.pd_spec.specs.declared.fault.SpecFault.{SpecFault}
 use Rattle.pd_spec.specs.declared.fault.SpecFault.TheVariants as kinds

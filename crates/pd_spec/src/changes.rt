@@ -1,7 +1,7 @@
 //! A document's JSON value with what is asked in place of what it has.
 ghost use Rattle.std.specs.Prelude.{◌≡◌, ◌++◌, IfOk, OnOk, codes, decimal, map, string_bytes};
 ghost use Rattle.serde_json.specs.View.{items_view, members_view, view};
-ghost use Rattle.pd_format.specs.Documents.{asked_predicate, asked_predicates, fields_with_options, with_options, with_predicates, with_width};
+ghost use Rattle.def_format.specs.Documents.{asked_predicate, asked_predicates, fields_with_options, with_options, with_predicates, with_width};
 ghost use Rattle.pd_spec.specs.Views.{options_view};
 
 use super::options::Options;

@@ -5,8 +5,8 @@ ghost use Rattle.serde_json.specs.View.{view, members_view, items_view};
 ghost use Rattle.std.specs.List.{list_any, list_all};
 ghost use Rattle.std.specs.BTreeMap.{keys, values};
 ghost use Rattle.std.specs.Str.{bytes_eq};
-ghost use Rattle.pd_format.specs.Records.{has_only, whole_number, values as values_of};
-ghost use Rattle.pd_format.specs.Documents.{field};
+ghost use Rattle.def_format.specs.Records.{has_only, whole_number, values as values_of};
+ghost use Rattle.def_format.specs.Documents.{field};
 
 use serde_json::{Map, Value};
 

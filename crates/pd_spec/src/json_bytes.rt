@@ -1,7 +1,7 @@
 //! The JSON value of bytes.
 ghost use Rattle.std.specs.Prelude.{◌≡◌, true, false, option_map, IfOk};
 ghost use Rattle.serde_json.specs.View.{view};
-ghost use Rattle.pd_format.specs.Records.{json_value};
+ghost use Rattle.def_format.specs.Records.{json_value};
 
 use serde_json::{Category, Value};
 use std::alloc::{AllocError, Global};

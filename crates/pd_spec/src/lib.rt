@@ -41,11 +41,11 @@ mod texts;
 mod twice;
 mod version;
 
+pub use def_format::Version;
 pub use fault::SpecFault;
 pub use fields::{are_whole, has_only, value_at};
 pub use json_bytes::json_value;
 pub use named::NamedPred;
 pub use options::Options;
-pub use pd_format::Version;
 pub use spec::Spec;
 pub use texts::document_text;

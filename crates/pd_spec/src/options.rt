@@ -1,6 +1,6 @@
 //! What is asked of a session beside its document.
 ghost use Rattle.std.specs.Prelude.{◌≡◌, false, true};
-ghost use Rattle.pd_format.specs.Documents.{no_options};
+ghost use Rattle.def_format.specs.Documents.{no_options};
 ghost use Rattle.pd_spec.specs.Texts.{KeepsFields};
 ghost use Rattle.pd_spec.specs.Views.{options_view};
 

@@ -1,7 +1,7 @@
 //! The outline of a document: its parts, borrowed from the JSON value.
 ghost use Rattle.std.specs.Prelude.{◌≡◌, IfOk, map, option_map};
 ghost use Rattle.serde_json.specs.View.{view, items_view};
-ghost use Rattle.pd_format.specs.Documents.{each, outline_of};
+ghost use Rattle.def_format.specs.Documents.{each, outline_of};
 ghost use Rattle.pd_spec.specs.Outlines.{process_in, predicate_in, process_view, predicate_outline_view, outline_view};
 
 use super::fields::{array_at, has_only, object_at, text_at, value_at};

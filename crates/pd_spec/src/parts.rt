@@ -2,7 +2,7 @@
 ghost use Rattle.std.specs.Prelude.{◌≡◌, IfOk, false, map, string_bytes};
 ghost use Rattle.std.specs.BTreeMap.{keys, values};
 ghost use Rattle.serde_json.specs.View.{view};
-ghost use Rattle.pd_format.specs.Documents.{has_twice, initial_of, names_of_outline, process_names};
+ghost use Rattle.def_format.specs.Documents.{has_twice, initial_of, names_of_outline, process_names};
 ghost use Rattle.pd_pred.specs.Names.{entry_view, entries_view};
 ghost use Rattle.pd_spec.specs.Outlines.{process_view, outline_view, entry_in, row_in, initial_value, HasDistinctVars, AllHaveDistinctVars, AreDistinctTexts};
 

@@ -1,7 +1,7 @@
 //! The predicates of a document, parsed one after another.
 ghost use Rattle.std.specs.Prelude.{◌≡◌, IfOk, IfErr, map};
 ghost use Rattle.std.specs.List.{AllZip};
-ghost use Rattle.pd_format.specs.Documents.{IsNamedPredicate};
+ghost use Rattle.def_format.specs.Documents.{IsNamedPredicate};
 ghost use Rattle.pd_spec.specs.Named.{named_view};
 ghost use Rattle.pd_spec.specs.Outlines.{predicate_outline_view};
 ghost use Rattle.pd_spec.specs.Predicates.{IsFaultIn, IsFaultAmong};

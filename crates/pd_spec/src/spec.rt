@@ -1,8 +1,8 @@
 //! The session document.
 ghost use Rattle.std.specs.Prelude.{◌≡◌, ◌<◌, ◌≤◌, Some, false, true, length, map, option_map, slice_get, string_bytes};
 ghost use Rattle.serde_json.specs.View.{view};
-ghost use Rattle.pd_format.specs.Documents.{width_of};
-ghost use Rattle.pd_format.specs.Limits.{document_byte_limit};
+ghost use Rattle.def_format.specs.Documents.{width_of};
+ghost use Rattle.def_format.specs.Limits.{document_byte_limit};
 ghost use Rattle.pd_spec.specs.Sound.{IsSound};
 
 use super::changes::with_options;
@@ -12,9 +12,9 @@ use super::outline::Outline;
 use super::predicates::parse_all;
 use super::version::version_of;
 use super::{NamedPred, SpecFault};
-use pd_format::{DEFAULT_WIDTH, DOCUMENT_BYTE_LIMIT, Version};
+use def_format::{DEFAULT_WIDTH, DOCUMENT_BYTE_LIMIT, Version};
 use pd_pred::Names;
-use pd_traces::InitialValues;
+use read_traces::InitialValues;
 use serde_json::Value;
 use std::alloc::Global;
 
@@ -59,13 +59,13 @@ fn value_in(row: &[i64], v: usize) -> i64
 
 impl Spec {
     ghost use Rattle.std.specs.Prelude.{Err, IfOk, IfErr, None, [], slice_index_or};
-    ghost use Rattle.pd_format.specs.Documents.{IsDocument, inquiry_of, outline_fault, plain};
-    ghost use Rattle.pd_format.specs.Names.{vars_of};
+    ghost use Rattle.def_format.specs.Documents.{IsDocument, inquiry_of, outline_fault, plain};
+    ghost use Rattle.def_format.specs.Names.{vars_of};
     ghost use Rattle.pd_spec.specs.DocumentParts.{IsDocumentOf};
     ghost use Rattle.pd_spec.specs.Named.{named_view};
     ghost use Rattle.pd_spec.specs.Outlines.{outline_view};
     ghost use Rattle.pd_spec.specs.Predicates.{IsLateFault};
-    ghost use Rattle.pd_format.specs.Versions.{version_view};
+    ghost use Rattle.def_format.specs.Versions.{version_view};
     ghost use Rattle.pd_spec.specs.Views.{document_view, options_view, IsFaultOf};
 
     /// The document that these bytes are.

@@ -1,6 +1,6 @@
 //! The text of a document with what is asked.
 ghost use Rattle.std.specs.Prelude.{IfOk};
-ghost use Rattle.pd_format.specs.Documents.{inquiry_of};
+ghost use Rattle.def_format.specs.Documents.{inquiry_of};
 ghost use Rattle.pd_spec.specs.Texts.{IsDocumentText};
 ghost use Rattle.pd_spec.specs.Views.{options_view};
 

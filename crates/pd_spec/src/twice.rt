@@ -1,6 +1,6 @@
 //! Whether a text stands twice in a list.
 ghost use Rattle.std.specs.Prelude.{◌≡◌, map, IfOk};
-ghost use Rattle.pd_format.specs.Documents.{has_twice};
+ghost use Rattle.def_format.specs.Documents.{has_twice};
 
 use std::alloc::{AllocError, Global};
 use std::collections::BTreeSet;

@@ -1,10 +1,10 @@
 //! The version that a document says.
 ghost use Rattle.std.specs.Prelude.{◌≡◌, option_map};
 ghost use Rattle.serde_json.specs.View.{view};
-ghost use Rattle.pd_format.specs.Documents.{numbered_version, version_of};
-ghost use Rattle.pd_format.specs.Versions.{version_view};
+ghost use Rattle.def_format.specs.Documents.{numbered_version, version_of};
+ghost use Rattle.def_format.specs.Versions.{version_view};
 
-use pd_format::Version;
+use def_format::Version;
 use serde_json::Value;
 
 fn numbered(number: i64) -> Option<Version>

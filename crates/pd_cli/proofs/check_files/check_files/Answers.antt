@@ -1,9 +1,9 @@
 -- What a check leaves written by the files of these names.
 use Rattle.std.proofs.Common.{List, ℕ, Err, ap, map, subst, sym}
-use Rattle.pd_arguments.specs.Statuses.{OfFinding, UnreadClaim, sources_of}
-use Rattle.pd_arguments.specs.Views.{session_view}
-use Rattle.pd_format.specs.Documents.{inquiry_of}
-use Rattle.pd_judgement.specs.Writes.{IsWholeInput, whole_source}
+use Rattle.app_arguments.specs.Statuses.{OfFinding, UnreadClaim, sources_of}
+use Rattle.app_arguments.specs.Views.{session_view}
+use Rattle.def_format.specs.Documents.{inquiry_of}
+use Rattle.def_judgement.specs.Writes.{IsWholeInput, whole_source}
 use Rattle.pd_spec.specs.Views.{options_view}
 use Rattle.pd_cli.specs.Faults.{ending_view}
 use Rattle.pd_cli.specs.FileSources.{IsReadOf}

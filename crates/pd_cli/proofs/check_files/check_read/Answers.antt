@@ -1,7 +1,7 @@
 -- A flush leaves the whole text of the finding.
 use Rattle.std.proofs.Common.{map, Some, None}
-use Rattle.pd_judgement.specs.Writes.{IsFindingTextOf}
-use Rattle.pd_sessions.specs.Inquiries.{inquiry_view}
+use Rattle.def_judgement.specs.Writes.{IsFindingTextOf}
+use Rattle.judge_session.specs.Inquiries.{inquiry_view}
 use Rattle.pd_cli.proofs.FilesRead.{whole_is_whole}
 use Rattle.pd_cli.proofs.FlushedTexts.{check_ends, flushed_up_to, unsaid_of_finding}
 use Rattle.pd_cli.proofs.check_files.check_read.Goals as goal

@@ -2,7 +2,7 @@
 use Rattle.std.proofs.Common.{arith, ap}
 use Rattle.std.proofs.lemmas.Result.{IfOk-weaker}
 use Rattle.pd_cli.proofs.FilesRead.{if_all_left, if_more_left}
-use Rattle.pd_sessions.specs.declared.fault.EngineFault.TheVariants.{Read}
+use Rattle.judge_session.specs.declared.fault.EngineFault.TheVariants.{Read}
 use Rattle.pd_cli.proofs.UnreadFiles.{same_fault}
 use Rattle.pd_cli.proofs.claim_files.read_report.Goals as goal
 

@@ -1,10 +1,10 @@
 -- What a run that draws leaves by the files of these names.
 use Rattle.std.proofs.Common.{List, ℕ, Err, ap, map, subst, sym}
-use Rattle.pd_arguments.specs.Statuses.{UnreadClaim, sources_of}
-use Rattle.pd_arguments.specs.Views.{session_view}
-use Rattle.pd_judgement.specs.Writes.{IsWholeInput}
+use Rattle.app_arguments.specs.Statuses.{UnreadClaim, sources_of}
+use Rattle.app_arguments.specs.Views.{session_view}
+use Rattle.def_judgement.specs.Writes.{IsWholeInput}
 use Rattle.pd_spec.specs.Views.{options_view}
-use Rattle.pd_wish.specs.Wishes.{wish_view}
+use Rattle.out_picture.specs.Wishes.{wish_view}
 use Rattle.pd_cli.specs.Drawings.{OfDrawing}
 use Rattle.pd_cli.specs.FileSources.{IsReadOf}
 use Rattle.pd_cli.proofs.DrawingsRead.{drawn_of_files}

@@ -1,7 +1,7 @@
 -- What a run that draws leaves by the bytes that were read.
 use Rattle.std.proofs.Common.{map}
-use Rattle.pd_sessions.specs.Inquiries.{inquiry_view}
-use Rattle.pd_wish.specs.Wishes.{wish_view}
+use Rattle.judge_session.specs.Inquiries.{inquiry_view}
+use Rattle.out_picture.specs.Wishes.{wish_view}
 use Rattle.pd_cli.proofs.DrawingEnds.{drawing_finished}
 use Rattle.pd_cli.proofs.draw_files.draw_read.Goals as goal
 

@@ -1,11 +1,11 @@
 -- What a run that explores leaves written by the files of these names.
 use Rattle.std.proofs.Common.{◌≡◌, List, ℕ, [], ◌∷◌, Err, Bor, ap, map, subst, sym}
-use Rattle.pd_arguments.specs.Statuses.{MayBeUnread, sources_of}
-use Rattle.pd_arguments.specs.Views.{session_view}
-use Rattle.pd_explore.specs.FileViews.{files_view}
-use Rattle.pd_explore.specs.Sources.{AreFilesOf, StreamFile}
-use Rattle.pd_explore.specs.declared.stream_file.StreamFile.{StreamFile as Used}
-use Rattle.pd_format.specs.Documents.{inquiry_of}
+use Rattle.app_arguments.specs.Statuses.{MayBeUnread, sources_of}
+use Rattle.app_arguments.specs.Views.{session_view}
+use Rattle.judge_explore.specs.FileViews.{files_view}
+use Rattle.judge_explore.specs.Sources.{AreFilesOf, StreamFile}
+use Rattle.judge_explore.specs.declared.stream_file.StreamFile.{StreamFile as Used}
+use Rattle.def_format.specs.Documents.{inquiry_of}
 use Rattle.pd_spec.specs.Views.{options_view}
 use Rattle.pd_cli.specs.Explorations.{OfPage}
 use Rattle.pd_cli.specs.Faults.{exploration_ending}

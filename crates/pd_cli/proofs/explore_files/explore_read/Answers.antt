@@ -1,9 +1,9 @@
 -- A flush changes nothing of what is written.
 use Rattle.std.proofs.Common.{◌≡◌, List, map, refl, None, Ok}
-use Rattle.pd_explore.specs.Explored.{IsOwed, judged_as}
-use Rattle.pd_explore.specs.FileViews.{files_view}
-use Rattle.pd_explore.specs.Sources.{StreamFile}
-use Rattle.pd_sessions.specs.Inquiries.{inquiry_view}
+use Rattle.judge_explore.specs.Explored.{IsOwed, judged_as}
+use Rattle.judge_explore.specs.FileViews.{files_view}
+use Rattle.judge_explore.specs.Sources.{StreamFile}
+use Rattle.judge_session.specs.Inquiries.{inquiry_view}
 use Rattle.pd_cli.specs.Explorations.{IsOwedWith}
 use Rattle.pd_cli.proofs.ExplorationEnds.{explored_ends, explored_fails, unsaid_of_owed}
 use Rattle.pd_cli.proofs.FlushedTexts.{flushed_up_to}

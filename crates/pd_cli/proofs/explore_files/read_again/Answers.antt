@@ -3,8 +3,8 @@ use Rattle.std.proofs.Common.{◌≡◌, List, ℕ, None, Some, Option}
 use Rattle.std.specs.Global.{Global}
 use Rattle.std.specs.Prelude.{IfSome, Vec}
 use Rattle.std.proofs.lemmas.Result.{IfOk-weaker}
-use Rattle.pd_explore.specs.Sources.{stream_bytes}
-use Rattle.pd_judgement.specs.Writes.{Source}
+use Rattle.judge_explore.specs.Sources.{stream_bytes}
+use Rattle.def_judgement.specs.Writes.{Source}
 use Rattle.pd_cli.specs.FileSources.{Knows}
 use Rattle.pd_cli.proofs.FilesRead.{of_known_bytes}
 use Rattle.pd_cli.proofs.explore_files.read_again.Goals as goal

@@ -2,8 +2,8 @@
 use Rattle.std.proofs.Common.{◌≡◌, List, ℕ, Option, subst, sym}
 use Rattle.std.specs.Prelude.{IfSome}
 use Rattle.std.proofs.lemmas.Result.{IfOk-weaker}
-use Rattle.pd_explore.specs.FileViews.{file_view}
-use Rattle.pd_explore.specs.Sources.{IsFileOf, stream_bytes, stream_file}
+use Rattle.judge_explore.specs.FileViews.{file_view}
+use Rattle.judge_explore.specs.Sources.{IsFileOf, stream_bytes, stream_file}
 use Rattle.pd_cli.specs.FileSources.{bytes_in}
 use Rattle.pd_cli.proofs.FilesAgain.{file_read, file_unread}
 use Rattle.pd_cli.proofs.explore_files.stream_file.Goals as goal

@@ -1,8 +1,8 @@
 -- One more file after each turn.
 use Rattle.std.proofs.Common.{List, ℕ, map, subst, Bor}
 use Rattle.std.proofs.lemmas.List.{take_all}
-use Rattle.pd_explore.specs.FileViews.{file_view, files_view}
-use Rattle.pd_explore.specs.Sources.{AreFilesOf}
+use Rattle.judge_explore.specs.FileViews.{file_view, files_view}
+use Rattle.judge_explore.specs.Sources.{AreFilesOf}
 use Rattle.pd_cli.specs.FileSources.{bytes_in}
 use Rattle.pd_cli.proofs.FilesAgain.{file_on}
 use Rattle.pd_cli.proofs.explore_files.stream_files.Goals as goal

@@ -1,7 +1,7 @@
 -- The files of the names so far.
 use Rattle.std.proofs.Common.{map, take}
-use Rattle.pd_explore.specs.FileViews.{files_view}
-use Rattle.pd_explore.specs.Sources.{AreFilesOf}
+use Rattle.judge_explore.specs.FileViews.{files_view}
+use Rattle.judge_explore.specs.Sources.{AreFilesOf}
 use Rattle.pd_cli.specs.FileSources.{bytes_in}
 use Rattle.pd_cli.proofs.explore_files.stream_files.Given as goal
 

@@ -1,8 +1,8 @@
 -- What a judgement leaves written by the files of these names.
 use Rattle.std.proofs.Common.{List, ℕ, [], ◌∷◌, Err, ap, map, subst, sym}
-use Rattle.pd_arguments.specs.Statuses.{MayBeUnread, OfStreams, sources_of}
-use Rattle.pd_arguments.specs.Views.{session_view}
-use Rattle.pd_format.specs.Documents.{inquiry_of}
+use Rattle.app_arguments.specs.Statuses.{MayBeUnread, OfStreams, sources_of}
+use Rattle.app_arguments.specs.Views.{session_view}
+use Rattle.def_format.specs.Documents.{inquiry_of}
 use Rattle.pd_spec.specs.Views.{options_view}
 use Rattle.pd_cli.specs.Faults.{judgement_ending}
 use Rattle.pd_cli.specs.FileSources.{IsReadOf}

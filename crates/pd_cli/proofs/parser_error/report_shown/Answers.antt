@@ -1,5 +1,5 @@
 -- A text that can't be shown is reported as a failed write.
-use Rattle.pd_arguments.specs.Statuses.{Failed, WriteFailure}
+use Rattle.app_arguments.specs.Statuses.{Failed, WriteFailure}
 use Rattle.pd_cli.proofs.parser_error.report_shown.Goals as goal
 
 pub returns-in-Err : goal.returns-in-Err

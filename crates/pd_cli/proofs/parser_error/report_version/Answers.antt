@@ -1,6 +1,6 @@
 -- The line is written whole, or the output fails: on the way, or once the line is written.
 use Rattle.std.proofs.Common.{◌∙◌, inr}
-use Rattle.pd_arguments.specs.Statuses.{Failed, IsVersionLine, WriteFailure}
+use Rattle.app_arguments.specs.Statuses.{Failed, IsVersionLine, WriteFailure}
 use Rattle.pd_cli.proofs.FlushedTexts.{flushed_up_to}
 use Rattle.pd_cli.proofs.parser_error.report_version.Goals as goal
 

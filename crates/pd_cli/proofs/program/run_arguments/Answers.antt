@@ -1,14 +1,14 @@
 -- What is done is what the arguments ask for.
 use Rattle.std.proofs.Common.{inl, inr, map, subst}
-use Rattle.pd_arguments.specs.Statuses.{CheckFiles, JudgeFiles, ServeStreams}
+use Rattle.app_arguments.specs.Statuses.{CheckFiles, JudgeFiles, ServeStreams}
 use Rattle.pd_cli.proofs.Explanations.{unexplained}
 use Rattle.clap.specs.Values.{kind_of}
-use Rattle.pd_wish.specs.Wishes.{wish_view}
-use Rattle.pd_fail_on.specs.Views.{fail_on_view}
+use Rattle.out_picture.specs.Wishes.{wish_view}
+use Rattle.app_arguments.specs.ConditionViews.{fail_on_view}
 use Rattle.pd_spec.specs.Views.{options_view}
-use Rattle.pd_arguments.specs.Views.{IsAsked, keep_view, session_view}
-use Rattle.pd_arguments.proofs.ParserEnds.{error_as_asked}
-use Rattle.pd_arguments.proofs.ServicePorts.{port_of_service}
+use Rattle.app_arguments.specs.Views.{IsAsked, keep_view, session_view}
+use Rattle.app_arguments.proofs.ParserEnds.{error_as_asked}
+use Rattle.app_arguments.proofs.ServicePorts.{port_of_service}
 use Rattle.pd_cli.proofs.program.run_arguments.Goals as goal
 
 pub run_service-requires-clause-some : goal.run_service-requires-clause-some

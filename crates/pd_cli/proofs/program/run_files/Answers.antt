@@ -1,5 +1,5 @@
 -- What is left is said for the answers on which this run is to fail.
-use Rattle.pd_fail_on.specs.Views.{fail_on_view}
+use Rattle.app_arguments.specs.ConditionViews.{fail_on_view}
 use Rattle.pd_cli.specs.Faults.{judgement_ending}
 use Rattle.pd_cli.proofs.program.run_files.Goals as goal
 

@@ -3,7 +3,7 @@ use Rattle.std.proofs.Common.{◌≡◌, ◌∙◌, ◌+◌, ◌++◌, ◌∷◌
 use Rattle.std.proofs.lemmas.List.{length_push}
 use Rattle.std.proofs.lemmas.List.Elements.{All-push}
 use Rattle.std.specs.Prelude.{All}
-use Rattle.pd_peers.specs.declared.heard_source.HeardSource.{HeardSource}
+use Rattle.app_peers.specs.declared.recording_source.RecordingSource.{RecordingSource}
 use Rattle.pd_cli.proofs.server.accept_streams.Goals as goal
 
 pub loop-place-preserved : goal.loop-place-preserved
@@ -11,7 +11,7 @@ loop-place-preserved g c =
     let held = c.loop-place.streams.items in
     let stream = c.in-Ok.stream in
     let pushed : c.push.new.self.items ≡ held ++ stream ∷ [] = c.in_ok-push-in-Ok.ensures.items in
-    let Open : HeardSource g.row.N-Connection.Denot g.row.W.Denot g.row.T.Denot → Type 0 =
+    let Open : RecordingSource g.row.N-Connection.Denot g.row.W.Denot g.row.T.Denot → Type 0 =
     λ found. g.N.Connection.ByteSource.has_ended found.source ≡ false in
     record {
       count = ap length pushed ∙ (length_push held stream ∙ ap (λ (n : ℕ). n + 1) c.loop-place.invariant.count);

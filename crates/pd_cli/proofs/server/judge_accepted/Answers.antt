@@ -1,6 +1,6 @@
 -- A flush changes nothing of what is written.
 use Rattle.std.proofs.Common.{map}
-use Rattle.pd_sessions.specs.Inquiries.{inquiry_view}
+use Rattle.judge_session.specs.Inquiries.{inquiry_view}
 use Rattle.pd_cli.proofs.FlushedTexts.{judged_ends, unflushed_ends}
 use Rattle.pd_cli.proofs.server.judge_accepted.Goals as goal
 

@@ -1,9 +1,9 @@
 -- A refused document has no streams.
 use Rattle.std.proofs.Common.{◌≡◌, ◌≢◌, [], ◌∙◌, None, false, subst, sym}
-use Rattle.pd_judgement.specs.Headline.{is_judged}
+use Rattle.def_judgement.specs.Headline.{is_judged}
 use Rattle.pd_report.specs.Views.{report_view}
-use Rattle.pd_arguments.specs.Statuses.{Ending, OfConnections, ServiceMayFail}
-use Rattle.pd_sessions.specs.Inquiries.{inquiry_view}
+use Rattle.app_arguments.specs.Statuses.{Ending, OfConnections, ServiceMayFail}
+use Rattle.judge_session.specs.Inquiries.{inquiry_view}
 use Rattle.pd_cli.proofs.Accepted.{accepted_of_refused, refused_outcome, refused_unless_memory, service_faults, service_of_judgement, service_outcome}
 use Rattle.pd_cli.specs.Faults.{judgement_ending}
 use Rattle.pd_cli.specs.FileSources.{ReadLeaves}

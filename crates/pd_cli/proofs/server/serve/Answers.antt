@@ -1,7 +1,7 @@
 -- What is left by the document with what is asked, or whatever it is if it can't be read.
 use Rattle.std.proofs.Common.{◌≢◌, List, ℕ, [], ◌∷◌, None, Err, ap, subst, sym}
-use Rattle.pd_arguments.specs.Statuses.{MayBeUnread, OfConnections, ServiceMayFail}
-use Rattle.pd_arguments.specs.Views.{keep_view}
+use Rattle.app_arguments.specs.Statuses.{MayBeUnread, OfConnections, ServiceMayFail}
+use Rattle.app_arguments.specs.Views.{keep_view}
 use Rattle.pd_spec.specs.Views.{options_view}
 use Rattle.pd_cli.specs.Faults.{service_ending}
 use Rattle.pd_cli.specs.FileSources.{IsReadOf}

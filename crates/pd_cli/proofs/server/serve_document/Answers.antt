@@ -1,5 +1,5 @@
 -- By what the document is.
-use Rattle.pd_arguments.specs.Views.{keep_view}
+use Rattle.app_arguments.specs.Views.{keep_view}
 use Rattle.pd_cli.proofs.server.serve_document.Goals as goal
 
 pub returns-in-Ok : goal.returns-in-Ok

@@ -1,8 +1,8 @@
 -- All of the report is left if the session can't be kept to its end, or nothing if it can't from its start.
 use Rattle.std.proofs.Common.{◌≢◌, None}
-use Rattle.pd_arguments.specs.Views.{keep_view}
-use Rattle.pd_arguments.specs.Statuses.{ServiceMayFail}
-use Rattle.pd_sessions.specs.Inquiries.{inquiry_view}
+use Rattle.app_arguments.specs.Views.{keep_view}
+use Rattle.app_arguments.specs.Statuses.{ServiceMayFail}
+use Rattle.judge_session.specs.Inquiries.{inquiry_view}
 use Rattle.pd_cli.proofs.Accepted.{kept_service}
 use Rattle.pd_cli.proofs.server.serve_kept.Goals as goal
 

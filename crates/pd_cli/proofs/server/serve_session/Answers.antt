@@ -2,16 +2,16 @@
 use Rattle.std.proofs.Common.{◌≡◌, ◌≢◌, ◌∙◌, None, List, ap, length, map, subst, sym}
 use Rattle.std.proofs.lemmas.List.{length-map}
 use Rattle.std.proofs.lemmas.List.Elements.{All-map}
-use Rattle.pd_format.specs.Names.{ProcessNames}
-use Rattle.pd_arguments.specs.Views.{keep_view}
-use Rattle.pd_arguments.specs.Statuses.{Ending, OfConnections, ServiceMayFail}
-use Rattle.pd_judgement.specs.Writes.{Source}
-use Rattle.pd_sessions.specs.Inquiries.{inquiry_view}
+use Rattle.def_format.specs.Names.{ProcessNames}
+use Rattle.app_arguments.specs.Views.{keep_view}
+use Rattle.app_arguments.specs.Statuses.{Ending, OfConnections, ServiceMayFail}
+use Rattle.def_judgement.specs.Writes.{Source}
+use Rattle.judge_session.specs.Inquiries.{inquiry_view}
 use Rattle.pd_cli.proofs.Accepted.{accepted_of_read, service_of_judgement}
 use Rattle.pd_cli.specs.Faults.{judgement_ending}
 use Rattle.pd_cli.specs.FileSources.{ReadLeaves}
 use Rattle.pd_cli.specs.declared.service_notices.ServiceNotices.{ServiceNotices}
-use Rattle.pd_peers.specs.declared.heard_source.HeardSource.{HeardSource}
+use Rattle.app_peers.specs.declared.recording_source.RecordingSource.{RecordingSource}
 use Rattle.pd_spec.specs.Views.{document_view}
 use Rattle.pd_cli.proofs.server.serve_session.Goals as goal
 
@@ -20,7 +20,7 @@ returns-clause-written g c fail_on =
     let service = c.args.host.now.service.now in
     let port = service.port in
     let G = g.N.Network.may_give c.args.host.now.network.now port in
-    let left : HeardSource g.row.N-Connection.Denot g.row.F-Sink.Denot
+    let left : RecordingSource g.row.N-Connection.Denot g.row.F-Sink.Denot
     (ServiceNotices g.row.F.Denot g.row.N.Denot) → Source =
     λ stream. g.N.Connection.ByteSource.left stream.source in
     let streams = c.in_ok-streams.streams.items in

@@ -2,7 +2,7 @@
 use Rattle.std.proofs.Common.{◌≡◌, ℕ, Bor, List, arith, false, map, subst, suc, sym, true}
 use Rattle.std.specs.Prelude.{All}
 use Rattle.std.specs.List.{AllZip}
-use Rattle.pd_sessions.specs.declared.fault.EngineFault.TheVariants.{Read}
+use Rattle.judge_session.specs.declared.fault.EngineFault.TheVariants.{Read}
 use Rattle.pd_cli.specs.FileSources.{Knows}
 use Rattle.pd_cli.proofs.FilesRead.{of_known_fate, read_of_file, sources_of_names}
 use Rattle.pd_cli.proofs.UnreadFiles.{all_open, same_fault}

@@ -1,7 +1,7 @@
 -- What the loops of `histories` keep.
 use Rattle.std.proofs.Common.{◌≡◌, ℕ, ◌<◌, ◌++◌, length}
-use Rattle.pd_model.specs.Events.{events_of}
-use Rattle.pd_traces.specs.Views.{computation_view}
+use Rattle.def_model.specs.Events.{events_of}
+use Rattle.read_traces.specs.Views.{computation_view}
 use Rattle.pd_clock.specs.Histories.{rows_after}
 use Rattle.pd_clock.specs.States.{values_at}
 use Rattle.pd_clock.proofs.computation.histories.Given as goal

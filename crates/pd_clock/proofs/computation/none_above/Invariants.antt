@@ -1,7 +1,7 @@
 -- What the loops of `none_above` keep.
 use Rattle.std.proofs.Common.{ℕ, ◌<◌, ◌≤◌, get_or}
-use Rattle.pd_model.specs.Events.{event_count}
-use Rattle.pd_traces.specs.Views.{computation_view}
+use Rattle.def_model.specs.Events.{event_count}
+use Rattle.read_traces.specs.Views.{computation_view}
 use Rattle.pd_clock.proofs.computation.none_above.Given as goal
 
 abbrev pub invariant-loop-i : goal.invariant-loop-i

@@ -2,11 +2,11 @@
 use Rattle.std.proofs.Common.{◌≡◌, ℕ, ◌+◌, ◌*◌, ◌<◌, ◌≤◌, ◌++◌, List, [], ◌∷◌, length, take, sum, sym, ap, ◌∙◌, arith}
 use Rattle.std.proofs.lemmas.List.{map-append, take_more}
 use Rattle.std.proofs.lemmas.List.Sums.{sum_by-append}
-use Rattle.pd_format.specs.Limits.{event_limit, process_limit}
-use Rattle.pd_model.specs.Cuts.{total, full_cut}
-use Rattle.pd_model.specs.Events.{Computation, Event, events_of, event_count}
-use Rattle.pd_traces.specs.declared.event.Trace.{Trace}
-use Rattle.pd_traces.specs.Views.{computation_view}
+use Rattle.def_format.specs.Limits.{event_limit, process_limit}
+use Rattle.def_model.specs.Cuts.{total, full_cut}
+use Rattle.def_model.specs.Events.{Computation, Event, events_of, event_count}
+use Rattle.read_traces.specs.declared.event.Trace.{Trace}
+use Rattle.read_traces.specs.Views.{computation_view}
 use Rattle.pd_clock.proofs.Parts.{events_read}
 use Rattle.pd_clock.proofs.computation.total_of.Goals as goal
 

@@ -3,13 +3,13 @@ use Rattle.std.proofs.Common.{◌≡◌, ◌+◌, ◌<◌, List, [], ◌∷◌, 
 use Rattle.std.specs.Prelude.{Some, None, position}
 use Rattle.std.proofs.lemmas.List.{length-map, map-append, length_push, drop-map}
 use Rattle.std.proofs.lemmas.Result.{IfOk-weaker}
-use Rattle.pd_model.specs.Events as events
-use Rattle.pd_model.specs.Order.{IsReportedCycle}
-use Rattle.pd_traces.specs.declared.event.Trace.{Trace}
-use Rattle.pd_traces.specs.Views.{computation_view}
+use Rattle.def_model.specs.Events as events
+use Rattle.def_model.specs.Order.{IsReportedCycle}
+use Rattle.read_traces.specs.declared.event.Trace.{Trace}
+use Rattle.read_traces.specs.Views.{computation_view}
 use Rattle.pd_match.specs.Views.{place_view}
 use Rattle.pd_clock.specs.Orders.{places_view}
-use Rattle.pd_model.proofs.StuckWay.{IsWay, way_start, way_more, way_short, way_back}
+use Rattle.def_model.proofs.StuckWay.{IsWay, way_start, way_more, way_short, way_back}
 use Rattle.pd_clock.proofs.Cycles.{is_of, new_from_none, taken_from_some}
 use Rattle.pd_clock.proofs.cycle.cycle_from.Goals as goal
 

@@ -1,9 +1,9 @@
 -- What the loops of `cycle_from` keep.
 use Rattle.std.proofs.Common.{◌-◌, length}
-use Rattle.pd_traces.specs.Views.{computation_view}
+use Rattle.read_traces.specs.Views.{computation_view}
 use Rattle.pd_match.specs.Views.{place_view}
 use Rattle.pd_clock.specs.Orders.{places_view}
-use Rattle.pd_model.proofs.StuckWay.{IsWay}
+use Rattle.def_model.proofs.StuckWay.{IsWay}
 use Rattle.pd_clock.proofs.cycle.cycle_from.Given as goal
 
 abbrev pub invariant-loop-start : goal.invariant-loop-start

@@ -1,8 +1,8 @@
 -- The first stuck event is the first that is left, if one is left.
 use Rattle.std.proofs.Common.{◌≡◌, ℕ, ◌<◌, ◌≤◌, List, length, get_or, sym, ap, ◌∙◌, arith}
-use Rattle.pd_model.specs.Events.{event_count}
-use Rattle.pd_traces.specs.declared.event.Trace.{Trace}
-use Rattle.pd_traces.specs.Views.{computation_view}
+use Rattle.def_model.specs.Events.{event_count}
+use Rattle.read_traces.specs.declared.event.Trace.{Trace}
+use Rattle.read_traces.specs.Views.{computation_view}
 use Rattle.pd_clock.proofs.Parts.{events_read}
 use Rattle.pd_clock.proofs.Cycles.{first_left, none_left}
 use Rattle.pd_clock.proofs.cycle.first_stuck.Goals as goal

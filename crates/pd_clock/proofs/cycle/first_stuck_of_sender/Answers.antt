@@ -3,17 +3,17 @@ use Rattle.std.proofs.Common.{◌≡◌, ℕ, ◌<◌, ◌↔◌, List, length, 
 use Rattle.std.specs.Prelude.{Option, Some, None, IsSome, IfNone, option_map, Contains}
 use Rattle.std.proofs.lemmas.List.{length-map}
 use Rattle.std.proofs.lemmas.Option.{same_Some}
-use Rattle.pd_model.specs.Events as events
-use Rattle.pd_model.specs.Events.{Computation, place}
-use Rattle.pd_model.specs.Messages.{IsMessage, IsMessageList}
-use Rattle.pd_model.specs.Order.{IsStuck, IsFirstStuck}
-use Rattle.pd_model.proofs.Stuck.{stuck_receipt}
-use Rattle.pd_model.proofs.Consistency.{process_in_range}
-use Rattle.pd_traces.specs.declared.event.Trace.{Trace}
-use Rattle.pd_traces.specs.Views.{computation_view}
+use Rattle.def_model.specs.Events as events
+use Rattle.def_model.specs.Events.{Computation, place}
+use Rattle.def_model.specs.Messages.{IsMessage, IsMessageList}
+use Rattle.def_model.specs.Order.{IsStuck, IsFirstStuck}
+use Rattle.def_model.proofs.Stuck.{stuck_receipt}
+use Rattle.def_model.proofs.Consistency.{process_in_range}
+use Rattle.read_traces.specs.declared.event.Trace.{Trace}
+use Rattle.read_traces.specs.Views.{computation_view}
 use Rattle.pd_match.specs.Views.{place_view}
 use Rattle.pd_match.specs.declared.place.Place.{Place}
-use Rattle.pd_model.proofs.StuckWay.{stuck_event}
+use Rattle.def_model.proofs.StuckWay.{stuck_event}
 use Rattle.pd_clock.proofs.cycle.first_stuck_of_sender.Goals as goal
 
 -- the send of this receipt is reported, and is stuck

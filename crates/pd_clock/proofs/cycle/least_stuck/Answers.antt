@@ -1,12 +1,12 @@
 -- The first process with a stuck event is the least.
 use Rattle.std.proofs.Common.{◌≡◌, ℕ, ◌<◌, ◌≤◌, length, below_more, arith}
 use Rattle.std.proofs.lemmas.List.{length-map}
-use Rattle.pd_model.specs.Events.{place}
-use Rattle.pd_model.specs.Order.{IsStuck}
-use Rattle.pd_model.proofs.Consistency.{process_in_range}
-use Rattle.pd_traces.specs.declared.event.Trace.{Trace}
-use Rattle.pd_traces.specs.Views.{computation_view}
-use Rattle.pd_model.proofs.StuckWay.{stuck_event}
+use Rattle.def_model.specs.Events.{place}
+use Rattle.def_model.specs.Order.{IsStuck}
+use Rattle.def_model.proofs.Consistency.{process_in_range}
+use Rattle.read_traces.specs.declared.event.Trace.{Trace}
+use Rattle.read_traces.specs.Views.{computation_view}
+use Rattle.def_model.proofs.StuckWay.{stuck_event}
 use Rattle.pd_clock.proofs.cycle.least_stuck.Goals as goal
 
 pub returns-in-Some-clause-some : goal.returns-in-Some-clause-some

@@ -1,8 +1,8 @@
 -- What the loops of `least_stuck` keep.
 use Rattle.std.proofs.Common.{ℕ, ◌<◌}
-use Rattle.pd_traces.specs.Views.{computation_view}
-use Rattle.pd_model.specs.Events.{place}
-use Rattle.pd_model.specs.Order.{IsStuck}
+use Rattle.read_traces.specs.Views.{computation_view}
+use Rattle.def_model.specs.Events.{place}
+use Rattle.def_model.specs.Order.{IsStuck}
 use Rattle.pd_clock.proofs.cycle.least_stuck.Given as goal
 
 abbrev pub invariant-loop-p : goal.invariant-loop-p

@@ -1,14 +1,14 @@
 -- The row of the next event stands after the others of its process.
 use Rattle.std.proofs.Common.{◌≡◌, ◌<◌, ℕ, List, length, get_or, set, take, ◌+◌, ◌++◌, sym, ap, ◌∙◌, subst, arith}
 use Rattle.std.proofs.lemmas.List.{get_or_read, length-map, length-set, length-take, get_or-take}
-use Rattle.pd_format.specs.Limits.{process_limit}
-use Rattle.pd_model.specs.Cuts.{one_more}
-use Rattle.pd_model.specs.Order.{IsClock}
+use Rattle.def_format.specs.Limits.{process_limit}
+use Rattle.def_model.specs.Cuts.{one_more}
+use Rattle.def_model.specs.Order.{IsClock}
 use Rattle.pd_clock.specs.Orders.{HasClocks, clocks_of, next_of}
 use Rattle.pd_clock.proofs.OrderSteps.{go_within}
 use Rattle.pd_clock.proofs.ClockRows.{clocks_more, rows_written, rows_kept, rows_read}
-use Rattle.pd_traces.specs.Views.{computation_view}
-use Rattle.pd_traces.specs.declared.event.Trace.{Trace}
+use Rattle.read_traces.specs.Views.{computation_view}
+use Rattle.read_traces.specs.declared.event.Trace.{Trace}
 use Rattle.pd_clock.proofs.order.add.Goals as goal
 
 pub returns-clause-clocks : goal.returns-clause-clocks

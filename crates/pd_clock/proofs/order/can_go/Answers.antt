@@ -4,12 +4,12 @@ use Rattle.std.specs.Prelude.{Some, None}
 use Rattle.std.proofs.lemmas.Bool.{leb-true, leb-false}
 use Rattle.std.proofs.lemmas.Option.{same_Some, none-some}
 use Rattle.pd_clock.specs.Orders.{IsDone, next_of}
-use Rattle.pd_traces.specs.declared.event.Trace.{Trace}
-use Rattle.pd_traces.specs.Views.{computation_view}
+use Rattle.read_traces.specs.declared.event.Trace.{Trace}
+use Rattle.read_traces.specs.Views.{computation_view}
 use Rattle.pd_match.specs.Views.{place_view}
-use Rattle.pd_model.specs.Events.{Place, event_count}
-use Rattle.pd_model.specs.Messages.{IsMessage}
-use Rattle.pd_model.proofs.Consistency.{process_in_range}
+use Rattle.def_model.specs.Events.{Place, event_count}
+use Rattle.def_model.specs.Messages.{IsMessage}
+use Rattle.def_model.proofs.Consistency.{process_in_range}
 use Rattle.pd_clock.proofs.Parts.{events_read}
 use Rattle.pd_clock.proofs.OrderSteps.{IsSendOf, send_found, send_event}
 use Rattle.pd_clock.proofs.order.can_go.Goals as goal

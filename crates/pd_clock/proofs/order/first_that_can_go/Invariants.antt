@@ -1,6 +1,6 @@
 -- What the loops of `first_that_can_go` keep.
 use Rattle.std.proofs.Common.{ℕ, ◌<◌, ◌≤◌}
-use Rattle.pd_traces.specs.Views.{computation_view}
+use Rattle.read_traces.specs.Views.{computation_view}
 use Rattle.pd_clock.specs.Orders.{Waits}
 use Rattle.pd_clock.proofs.order.first_that_can_go.Given as goal
 

@@ -2,16 +2,16 @@
 use Rattle.std.proofs.Common.{◌≡◌, ◌≢◌, ◌<◌, ℕ, List, length, get_or, max, sym, ap, ◌∙◌, subst, inl, inr, arith}
 use Rattle.std.specs.Prelude.{option_map, Option, Some, None, IfSome}
 use Rattle.std.proofs.lemmas.List.{get_or_read, length-map}
-use Rattle.pd_format.specs.Limits.{process_limit}
-use Rattle.pd_model.specs.Cuts.{Includes}
+use Rattle.def_format.specs.Limits.{process_limit}
+use Rattle.def_model.specs.Cuts.{Includes}
 use Rattle.pd_clock.specs.Orders.{next_of, count_of}
 use Rattle.pd_clock.proofs.OrderSteps.{IsSendOf, next_found, sent_some, go_within}
 use Rattle.pd_clock.proofs.ClockRows.{IsBeforeNext, has_rows, next_clock}
-use Rattle.pd_traces.specs.Views.{computation_view}
-use Rattle.pd_traces.specs.declared.event.Trace.{Trace}
+use Rattle.read_traces.specs.Views.{computation_view}
+use Rattle.read_traces.specs.declared.event.Trace.{Trace}
 use Rattle.pd_match.specs.Views.{place_view}
 use Rattle.pd_match.specs.declared.place.Place.{Place}
-use Rattle.pd_model.specs.Events.{place}
+use Rattle.def_model.specs.Events.{place}
 use Rattle.pd_clock.proofs.order.next_row.Goals.{then-number-eq0, else-number-eq0}
 use Rattle.pd_clock.proofs.order.next_row.Goals as goal
 

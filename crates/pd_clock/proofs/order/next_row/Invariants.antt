@@ -1,7 +1,7 @@
 -- What the loops of `next_row` keep.
 use Rattle.std.proofs.Common.{◌≡◌, ℕ, ◌<◌, length, max, get_or}
 use Rattle.std.specs.Prelude.{option_map}
-use Rattle.pd_format.specs.Limits.{process_limit}
+use Rattle.def_format.specs.Limits.{process_limit}
 use Rattle.pd_match.specs.Views.{place_view}
 use Rattle.pd_clock.specs.Orders.{count_of}
 use Rattle.pd_clock.proofs.order.next_row.Given as goal

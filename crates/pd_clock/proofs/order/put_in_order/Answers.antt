@@ -1,8 +1,8 @@
 -- Event after event is put into the order, until every process waits.
 use Rattle.std.proofs.Common.{◌≡◌, ℕ, ◌<◌, List, length, sym, subst, arith}
 use Rattle.std.proofs.lemmas.List.{length-map}
-use Rattle.pd_traces.specs.Views.{computation_view}
-use Rattle.pd_traces.specs.declared.event.Trace.{Trace}
+use Rattle.read_traces.specs.Views.{computation_view}
+use Rattle.read_traces.specs.declared.event.Trace.{Trace}
 use Rattle.pd_clock.specs.Orders.{CanGo, Waits}
 use Rattle.pd_clock.proofs.OrderSteps.{none_ordered, order_more, fewer_left, go_within, leaves_stuck}
 use Rattle.pd_clock.proofs.ClockRows.{clocks_none}

@@ -1,7 +1,7 @@
 -- What the loops of `put_in_order` keep.
 use Rattle.std.proofs.Common.{◌-◌, ◌≤◌, length, sum}
-use Rattle.pd_traces.specs.Views.{computation_view}
-use Rattle.pd_model.specs.Cuts.{total}
+use Rattle.read_traces.specs.Views.{computation_view}
+use Rattle.def_model.specs.Cuts.{total}
 use Rattle.pd_clock.specs.Orders.{HasClocks, IsOrdered}
 use Rattle.pd_clock.proofs.order.put_in_order.Given as goal
 

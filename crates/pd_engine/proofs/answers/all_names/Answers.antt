@@ -2,7 +2,7 @@
 use Rattle.std.proofs.Common.{List, ℕ, [], ◌∷◌, ◌++◌, sym, ap, ◌∙◌}
 use Rattle.std.specs.Prelude.{string_bytes}
 use Rattle.std.proofs.lemmas.List.{map-append}
-use Rattle.pd_format.specs.Names.{name_of_process}
+use Rattle.def_format.specs.Names.{name_of_process}
 use Rattle.pd_report.specs.Steps.{names_view}
 use Rattle.pd_engine.proofs.PathNames.{one_more_name}
 use Rattle.pd_engine.proofs.answers.all_names.Goals as goal

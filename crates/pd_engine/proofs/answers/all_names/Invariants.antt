@@ -1,6 +1,6 @@
 -- The names of the processes so far.
 use Rattle.std.proofs.Common.{◌≡◌, map, take}
-use Rattle.pd_format.specs.Names.{ProcessNames}
+use Rattle.def_format.specs.Names.{ProcessNames}
 use Rattle.pd_report.specs.Steps.{names_view}
 use Rattle.pd_engine.proofs.answers.all_names.Given as goal
 

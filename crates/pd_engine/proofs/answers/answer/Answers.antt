@@ -1,9 +1,9 @@
 -- The answer for one predicate.
 use Rattle.std.proofs.Common.{rules, ◌≡◌, ◌∙◌, List, length, ap, sym, subst}
-use Rattle.pd_judgement.specs.Judgements.{printed_definitely}
-use Rattle.pd_format.specs.Names.{ProcessNames}
+use Rattle.def_judgement.specs.Judgements.{printed_definitely}
+use Rattle.def_format.specs.Names.{ProcessNames}
 use Rattle.pd_pred.specs.Views.{predicate_view}
-use Rattle.pd_lists.specs.Answers.{definitely_answer_view, possibly_answer_view}
+use Rattle.walk_back.specs.Answers.{definitely_answer_view, possibly_answer_view}
 use Rattle.pd_report.specs.Views as views
 use Rattle.pd_spec.specs.Views.{document_view}
 use Rattle.pd_engine.proofs.PrintedPaths.{answer_reported}

@@ -3,15 +3,15 @@ use Rattle.std.proofs.Common.{◌≡◌, ◌+◌, ◌<◌, ℕ, Bor, List, [], �
 use Rattle.std.specs.List.{AllZip}
 use Rattle.std.proofs.lemmas.List.{take_all, take_more, map-append}
 use Rattle.pd_report.specs.Views as views
-use Rattle.pd_format.specs.Documents.{NamedPredicate}
-use Rattle.pd_judgement.specs.Judgements.{IsAnswered}
-use Rattle.pd_lists.specs.declared.answers.Answers.{Answers}
-use Rattle.pd_model.specs.Predicates.{Recorded}
+use Rattle.def_format.specs.Documents.{NamedPredicate}
+use Rattle.def_judgement.specs.Judgements.{IsAnswered}
+use Rattle.walk_back.specs.declared.answers.Answers.{Answers}
+use Rattle.def_model.specs.Predicates.{Recorded}
 use Rattle.pd_pred.specs.declared.predicate.Pred.{Pred}
 use Rattle.pd_spec.specs.Named.{named_view}
 use Rattle.pd_spec.specs.Views.{document_view}
 use Rattle.pd_spec.specs.declared.named.NamedPred.{NamedPred}
-use Rattle.pd_walk.specs.Stages.{AllAnswered}
+use Rattle.walk.specs.Stages.{AllAnswered}
 use Rattle.pd_engine.specs.Early.{IsDefinitelyOf, IsPossiblyOf}
 use Rattle.pd_engine.proofs.WalkAnswers.{definitely_taken, early_at, place_there, possibly_taken}
 use Rattle.pd_engine.proofs.Zips.{all_zip_push}

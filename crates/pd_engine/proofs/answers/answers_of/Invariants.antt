@@ -2,7 +2,7 @@
 use Rattle.std.proofs.Common.{map, take}
 use Rattle.std.specs.List.{AllZip}
 use Rattle.pd_report.specs.Views as views
-use Rattle.pd_judgement.specs.Judgements.{IsAnswered}
+use Rattle.def_judgement.specs.Judgements.{IsAnswered}
 use Rattle.pd_spec.specs.Named.{named_view}
 use Rattle.pd_spec.specs.Views.{document_view}
 use Rattle.pd_engine.proofs.answers.answers_of.Given as goal

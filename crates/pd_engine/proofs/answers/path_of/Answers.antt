@@ -1,6 +1,6 @@
 -- The path of processes, each by its place among all.
 use Rattle.std.proofs.Common.{rules, ◌≡◌, ◌∙◌, List, ℕ, map, ap}
-use Rattle.pd_format.specs.Names.{ProcessNames}
+use Rattle.def_format.specs.Names.{ProcessNames}
 use Rattle.pd_report.specs.Steps.{names_at}
 use Rattle.pd_engine.proofs.PathNames.{same_names}
 use Rattle.pd_engine.proofs.answers.path_of.Goals as goal

@@ -1,13 +1,13 @@
 -- The report of the parts that were read one after another is the bundle's.
 use Rattle.std.proofs.Common.{ℕ, List, [], ◌∷◌, sym, subst}
-use Rattle.pd_bundle.specs.PartsRead.{IsKept}
-use Rattle.pd_format.specs.Documents.{plain}
-use Rattle.pd_format.specs.Reports.{Report}
-use Rattle.pd_judgement.specs.Judgements.{IsJudgement, RawStream}
+use Rattle.read_bundle.specs.PartsRead.{IsKept}
+use Rattle.def_format.specs.Documents.{plain}
+use Rattle.def_format.specs.Reports.{Report}
+use Rattle.def_judgement.specs.Judgements.{IsJudgement, RawStream}
 use Rattle.pd_report.specs.declared.report.Report.{Report as Judged}
-use Rattle.pd_sessions.specs.Unanswered.{IsUnanswered, refused_report}
+use Rattle.judge_session.specs.Unanswered.{IsUnanswered, refused_report}
 use Rattle.pd_engine.proofs.BundleReads.{long_handed_on, read_handed_on, report_weaker}
-use Rattle.pd_sessions.proofs.SessionReports.{of_given}
+use Rattle.judge_session.proofs.SessionReports.{of_given}
 use Rattle.pd_engine.proofs.bundle_judges.bundle_report.Goals as goal
 
 pub returns-in_err-document-clause-long : goal.returns-in_err-document-clause-long

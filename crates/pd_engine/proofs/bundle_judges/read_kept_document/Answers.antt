@@ -1,14 +1,14 @@
 -- The document in what is kept of the first part is that of the part.
 use Rattle.std.proofs.Common.{ℕ, List, subst, arith}
-use Rattle.pd_bundle.specs.PartsRead.{IsKept}
-use Rattle.pd_format.specs.Documents.{plain}
-use Rattle.pd_format.specs.Reports.{Report}
-use Rattle.pd_judgement.specs.Judgements.{IsJudgement, RawStream}
+use Rattle.read_bundle.specs.PartsRead.{IsKept}
+use Rattle.def_format.specs.Documents.{plain}
+use Rattle.def_format.specs.Reports.{Report}
+use Rattle.def_judgement.specs.Judgements.{IsJudgement, RawStream}
 use Rattle.pd_report.specs.Views.{refusal_view}
 use Rattle.pd_spec.proofs.DocumentFacts.{long_bytes}
 use Rattle.pd_spec.specs.declared.fault.SpecFault.TheVariants as faults
 use Rattle.pd_engine.proofs.BundleReads.{refusal_weaker}
-use Rattle.pd_sessions.proofs.DocumentRefusals.{refused_judged}
+use Rattle.judge_session.proofs.DocumentRefusals.{refused_judged}
 use Rattle.pd_engine.proofs.bundle_judges.read_kept_document.Goals as goal
 
 pub returns-then-kept-gt-DOCUMENT_BYTE_LIMIT-clause-refused :

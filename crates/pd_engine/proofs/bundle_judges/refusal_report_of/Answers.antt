@@ -1,9 +1,9 @@
 -- The refusal of the document is the bundle's report, whatever its other parts are.
 use Rattle.std.proofs.Common.{Bool, true, false, List, [], ◌∷◌, subst}
-use Rattle.pd_bundle.specs.Steps.{HasParts}
-use Rattle.pd_format.specs.Documents.{plain}
-use Rattle.pd_format.specs.Reports.{Report}
-use Rattle.pd_judgement.specs.Judgements.{IsJudgement, RawStream}
+use Rattle.read_bundle.specs.Steps.{HasParts}
+use Rattle.def_format.specs.Documents.{plain}
+use Rattle.def_format.specs.Reports.{Report}
+use Rattle.def_judgement.specs.Judgements.{IsJudgement, RawStream}
 use Rattle.pd_report.specs.Views.{report_view}
 use Rattle.pd_engine.proofs.BundleReads.{refusal_read, settled_right}
 use Rattle.pd_engine.proofs.bundle_judges.refusal_report_of.Goals as goal

@@ -1,6 +1,6 @@
 -- What is decided of the predicates so far.
 use Rattle.std.proofs.Common.{◌≡◌, ◌<◌, ℕ, get_or, length}
-use Rattle.pd_decided.specs.Found.{IsPathIfKnown}
+use Rattle.wide.specs.Found.{IsPathIfKnown}
 use Rattle.pd_engine.specs.Early.{IsEarly}
 use Rattle.pd_engine.specs.declared.early.Early.{Early}
 use Rattle.pd_spec.specs.Views.{document_view}

@@ -1,7 +1,7 @@
 -- What is written is the text of the session's report, and its truth.
 use Rattle.std.proofs.Common.{map}
 use Rattle.pd_report.specs.Views.{report_view}
-use Rattle.pd_sessions.specs.Inquiries.{inquiry_view}
+use Rattle.judge_session.specs.Inquiries.{inquiry_view}
 use Rattle.pd_engine.proofs.ReportTexts.{streams_written, whole_truth, whole_written}
 use Rattle.pd_engine.proofs.SessionReports.{whole_report}
 use Rattle.pd_engine.proofs.judges.judge_streams.Goals as goal

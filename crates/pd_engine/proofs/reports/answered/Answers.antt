@@ -1,10 +1,10 @@
 -- The answers of a session's computation are its report.
 use Rattle.std.proofs.Common.{List, length, map, ap, ◌∙◌, subst}
-use Rattle.pd_traces.specs.declared.event.Trace.{Trace}
+use Rattle.read_traces.specs.declared.event.Trace.{Trace}
 use Rattle.pd_gather.specs.Views.{results_view, traces_view}
 use Rattle.pd_report.specs.Views.{answer_view}
 use Rattle.pd_spec.specs.Views.{document_view}
-use Rattle.pd_sessions.specs.Computations.{AreWellFormed}
+use Rattle.judge_session.specs.Computations.{AreWellFormed}
 use Rattle.pd_engine.proofs.AnsweredTraces.{answered_report}
 use Rattle.pd_engine.proofs.reports.answered.Goals as goal
 

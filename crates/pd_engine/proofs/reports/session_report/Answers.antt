@@ -1,13 +1,13 @@
 -- The report of the streams that were read, or of a document that is refused.
 use Rattle.std.proofs.Common.{List, map}
-use Rattle.pd_format.specs.Reports.{Report}
+use Rattle.def_format.specs.Reports.{Report}
 use Rattle.pd_gather.specs.Views.{results_view}
-use Rattle.pd_judgement.specs.Judgements.{IsJudgement, IsReportOfResults, RawStream}
+use Rattle.def_judgement.specs.Judgements.{IsJudgement, IsReportOfResults, RawStream}
 use Rattle.pd_spec.specs.Views.{document_view}
-use Rattle.pd_sessions.specs.Inquiries.{inquiry_view}
-use Rattle.pd_sessions.specs.SessionReports.{IsReportOfInputs}
-use Rattle.pd_sessions.specs.Unanswered.{given_report}
-use Rattle.pd_sessions.proofs.SessionReports.{inputs_report, of_given, refused_inputs_report}
+use Rattle.judge_session.specs.Inquiries.{inquiry_view}
+use Rattle.judge_session.specs.SessionReports.{IsReportOfInputs}
+use Rattle.judge_session.specs.Unanswered.{given_report}
+use Rattle.judge_session.proofs.SessionReports.{inputs_report, of_given, refused_inputs_report}
 use Rattle.pd_engine.proofs.SessionReports.{refusal_reported}
 use Rattle.pd_engine.proofs.reports.session_report.Goals as goal
 

@@ -1,7 +1,7 @@
 -- The kind of event and the variables that it sets, from the fields of a line.
 use Rattle.std.proofs.Common.{map, string_bytes, sym, ◌∙◌}
 use Rattle.std.proofs.lemmas.Slice.Eq.{bytes_eq-Decides}
-use Rattle.pd_traces.specs.Columns.{seen_kind_view}
+use Rattle.read_traces.specs.Columns.{seen_kind_view}
 use Rattle.pd_events.proofs.PlainLines.{fields_read, no_field_read, sets_read}
 use Rattle.pd_events.proofs.plain.next_event.Goals as goal
 

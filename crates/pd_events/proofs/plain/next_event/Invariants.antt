@@ -1,7 +1,7 @@
 -- What the loop of `next_event` keeps.
 use Rattle.std.proofs.Common.{map, string_bytes, Option}
 use Rattle.serde_json.specs.Data.{Members, no_members}
-use Rattle.pd_traces.specs.Columns.{seen_kind_view}
+use Rattle.read_traces.specs.Columns.{seen_kind_view}
 use Rattle.pd_events.specs.Plain.{AreSets, GoesOn, line_fields}
 use Rattle.pd_events.proofs.plain.next_event.Given as goal
 

@@ -1,6 +1,6 @@
 -- What a line of the plain shape says.
 use Rattle.std.proofs.Common.{map, string_bytes}
-use Rattle.pd_traces.specs.Columns.{seen_kind_view}
+use Rattle.read_traces.specs.Columns.{seen_kind_view}
 use Rattle.pd_events.proofs.PlainLines.{whole_line_read}
 use Rattle.pd_events.proofs.plain.plain_event.Goals as goal
 

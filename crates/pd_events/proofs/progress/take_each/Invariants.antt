@@ -1,7 +1,7 @@
 -- What the loops of `take_each` keep.
 use Rattle.std.proofs.Common.{◌≡◌, drop, length, take}
 use Rattle.pd_frames.specs.Views.{lines_view}
-use Rattle.pd_format.specs.ReadingLaws.{read_on}
+use Rattle.def_format.specs.ReadingLaws.{read_on}
 use Rattle.pd_spec.specs.Views.{document_view}
 use Rattle.pd_events.specs.Progress.{reading_view}
 use Rattle.pd_events.proofs.progress.take_each.Given as goal

@@ -2,7 +2,7 @@
 use Rattle.std.proofs.Common.{◌≡◌, option_map, sym, ap, ◌∙◌}
 use Rattle.std.specs.Prelude.{Some, None}
 use Rattle.serde_json.specs.View.{view}
-use Rattle.pd_format.specs.Records.{json_value}
+use Rattle.def_format.specs.Records.{json_value}
 use Rattle.pd_events.specs.Statements.{statement_view}
 use Rattle.pd_events.proofs.RecordFacts.{no_value, record_of_its_value}
 use Rattle.pd_events.proofs.record.read_record.Goals as goal

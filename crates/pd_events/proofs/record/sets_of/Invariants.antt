@@ -1,7 +1,7 @@
 -- What the loops of `sets_of` keep.
 use Rattle.std.proofs.Common.{◌≡◌, ◌++◌, map, drop, string_bytes}
 use Rattle.serde_json.specs.View.{members_view}
-use Rattle.pd_format.specs.Records.{sets_from}
+use Rattle.def_format.specs.Records.{sets_from}
 use Rattle.pd_events.proofs.record.sets_of.Given as goal
 
 -- the sets so far, and then those of the variables that are left

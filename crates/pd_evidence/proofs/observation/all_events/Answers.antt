@@ -1,8 +1,8 @@
 -- One count more is one more of the full cut.
 use Rattle.std.proofs.Common.{◌<◌, List, [], ◌∷◌, ◌++◌, ℕ, length, take, add-one, sym, ap, ◌∙◌, arith}
 use Rattle.std.proofs.Math.Seq.{take-suc}
-use Rattle.pd_model.specs.Cuts.{full_cut}
-use Rattle.pd_model.proofs.Counts.{full_at, length_full}
+use Rattle.def_model.specs.Cuts.{full_cut}
+use Rattle.def_model.proofs.Counts.{full_at, length_full}
 use Rattle.pd_evidence.proofs.observation.all_events.Goals as goal
 
 pub loop-p-preserved : goal.loop-p-preserved

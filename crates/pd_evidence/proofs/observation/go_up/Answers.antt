@@ -1,6 +1,6 @@
 -- Each step is one of the least process that goes up, until none does.
 use Rattle.std.proofs.Common.{List, [], ◌∷◌, ◌++◌, ℕ, sym, subst}
-use Rattle.pd_model.specs.Cuts.{one_more}
+use Rattle.def_model.specs.Cuts.{one_more}
 use Rattle.pd_evidence.specs.Steps.{IsOnWay}
 use Rattle.pd_evidence.proofs.LeastWays.{fewer_left, more_way, end_way, none_left}
 use Rattle.pd_evidence.proofs.observation.go_up.Goals as goal

@@ -1,8 +1,8 @@
 -- The send that was found decides.
 use Rattle.std.proofs.Common.{◌≡◌, ◌<◌, ◌↔◌, List, ℕ, length, get_or, refl, sym, subst, arith}
 use Rattle.std.specs.Prelude.{Some, None, IsTrue, nat_le}
-use Rattle.pd_model.specs.Cuts.{IsConsistent, one_more}
-use Rattle.pd_model.proofs.AddedEvents.{added}
+use Rattle.def_model.specs.Cuts.{IsConsistent, one_more}
+use Rattle.def_model.proofs.AddedEvents.{added}
 use Rattle.pd_clock.specs.Senders.{IsSender}
 use Rattle.pd_evidence.proofs.NextSends.{send_within, some_decides, none_decides}
 use Rattle.pd_evidence.proofs.observation.has_send.Goals as goal

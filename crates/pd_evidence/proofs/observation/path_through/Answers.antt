@@ -1,7 +1,7 @@
 -- The way begins at the empty cut and ends at the full one, which are consistent.
 use Rattle.std.proofs.Common.{◌≡◌, List, ℕ, sym, ◌∙◌, subst}
-use Rattle.pd_model.specs.Cuts.{IsConsistent, empty_cut, full_cut}
-use Rattle.pd_model.proofs.Steps.{empty_consistent}
+use Rattle.def_model.specs.Cuts.{IsConsistent, empty_cut, full_cut}
+use Rattle.def_model.proofs.Steps.{empty_consistent}
 use Rattle.pd_evidence.proofs.LeastWays.{full_consistent}
 use Rattle.pd_evidence.proofs.observation.path_through.Goals as goal
 

@@ -2,13 +2,13 @@
 use Rattle.std.proofs.Common.{◌≡◌, ◌↔◌, ℕ, suc, ◌<◌, List, [], ◌∷◌, length, get_or, drop, drop-cons, add-one, IsTrue, Ok, sym, ap, ◌∙◌, subst}
 use Rattle.std.proofs.lemmas.List.{drop_all, with_items_is}
 use Rattle.std.specs.Vec.{with_items}
-use Rattle.pd_model.specs.Cuts.{empty_cut, full_cut, one_more}
-use Rattle.pd_model.specs.Answers.{IsAvoidingObservation}
-use Rattle.pd_model.specs.Predicates.{test_of}
+use Rattle.def_model.specs.Cuts.{empty_cut, full_cut, one_more}
+use Rattle.def_model.specs.Answers.{IsAvoidingObservation}
+use Rattle.def_model.specs.Predicates.{test_of}
 use Rattle.pd_pred.specs.Views.{predicate_view}
-use Rattle.pd_model.specs.Paths.{IsAvoidingCut, AvoidsFrom}
-use Rattle.pd_model.proofs.Counts.{length_more}
-use Rattle.pd_model.proofs.AvoidingPaths.{refused_here, refused_step, rest_after, ended_full}
+use Rattle.def_model.specs.Paths.{IsAvoidingCut, AvoidsFrom}
+use Rattle.def_model.proofs.Counts.{length_more}
+use Rattle.def_model.proofs.AvoidingPaths.{refused_here, refused_step, rest_after, ended_full}
 use Rattle.pd_evidence.proofs.path.check_path.Goals as goal
 
 pub returns-then-not-branch : goal.returns-then-not-branch

@@ -1,9 +1,9 @@
 -- What the loops of `check_path` keep.
 use Rattle.std.proofs.Common.{◌↔◌, drop}
-use Rattle.pd_model.specs.Answers.{IsAvoidingObservation}
-use Rattle.pd_model.specs.Predicates.{test_of}
+use Rattle.def_model.specs.Answers.{IsAvoidingObservation}
+use Rattle.def_model.specs.Predicates.{test_of}
 use Rattle.pd_pred.specs.Views.{predicate_view}
-use Rattle.pd_model.specs.Paths.{AvoidsFrom, IsAvoidingCut}
+use Rattle.def_model.specs.Paths.{AvoidsFrom, IsAvoidingCut}
 use Rattle.pd_evidence.proofs.path.check_path.Given as goal
 
 abbrev pub invariant-loop-p : goal.invariant-loop-p

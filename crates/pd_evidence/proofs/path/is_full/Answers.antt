@@ -1,6 +1,6 @@
 -- Counts that differ nowhere from the numbers of events are those of all events.
 use Rattle.std.proofs.Common.{refl, arith}
-use Rattle.pd_model.proofs.AvoidingPaths.{full_from_counts}
+use Rattle.def_model.proofs.AvoidingPaths.{full_from_counts}
 use Rattle.pd_evidence.proofs.path.is_full.Goals as goal
 
 pub returns : goal.returns

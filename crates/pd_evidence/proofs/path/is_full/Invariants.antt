@@ -1,6 +1,6 @@
 -- What the loops of `is_full` keep.
 use Rattle.std.proofs.Common.{◌≡◌, ℕ, ◌<◌, get_or}
-use Rattle.pd_model.specs.Events.{event_count}
+use Rattle.def_model.specs.Events.{event_count}
 use Rattle.pd_evidence.proofs.path.is_full.Given as goal
 
 abbrev pub invariant-loop-p : goal.invariant-loop-p

@@ -1,8 +1,8 @@
 -- As many zeros as there are processes are the empty cut.
 use Rattle.std.proofs.Common.{◌≡◌, ℕ, replicate, ap, ◌∙◌}
 use Rattle.std.proofs.lemmas.Result.{IfOk-weaker}
-use Rattle.pd_model.specs.Cuts.{empty_cut}
-use Rattle.pd_model.proofs.AvoidingPaths.{zeros_are_empty}
+use Rattle.def_model.specs.Cuts.{empty_cut}
+use Rattle.def_model.proofs.AvoidingPaths.{zeros_are_empty}
 use Rattle.pd_evidence.proofs.path.no_events.Goals as goal
 
 pub returns : goal.returns

@@ -2,7 +2,7 @@
 use Rattle.std.proofs.Common.{◌≡◌, ◌<◌, ◌++◌, Bool, [], ◌∷◌, length, get_or, map, take, ap, arith}
 use Rattle.std.proofs.lemmas.List.{take_more, map-append}
 use Rattle.std.proofs.lemmas.Option.{slice_get-get_or}
-use Rattle.pd_model.specs.Predicates.{test_of}
+use Rattle.def_model.specs.Predicates.{test_of}
 use Rattle.pd_pred.specs.Views.{predicate_view}
 use Rattle.pd_expand.proofs.crew.marks_in_turn.Goals as goal
 

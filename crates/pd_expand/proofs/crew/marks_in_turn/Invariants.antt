@@ -1,6 +1,6 @@
 -- What the loops of `marks_in_turn` keep.
 use Rattle.std.proofs.Common.{◌≡◌, map, take}
-use Rattle.pd_model.specs.Predicates.{test_of}
+use Rattle.def_model.specs.Predicates.{test_of}
 use Rattle.pd_pred.specs.Views.{predicate_view}
 use Rattle.pd_expand.proofs.crew.marks_in_turn.Given as goal
 

@@ -4,8 +4,8 @@ use Rattle.std.specs.List.{range_with_len}
 use Rattle.rayon.specs.Numbers.{nat_range}
 use Rattle.rayon.proofs.ListFacts.{IfOk-then}
 use Rattle.rayon.proofs.ToStd.{nat_range-All}
-use Rattle.pd_model.specs.Cuts.{IsConsistent}
-use Rattle.pd_model.specs.Predicates.{test_of}
+use Rattle.def_model.specs.Cuts.{IsConsistent}
+use Rattle.def_model.specs.Predicates.{test_of}
 use Rattle.pd_pred.specs.Views.{predicate_view}
 use Rattle.pd_expand.proofs.MarkFacts.{marks_are}
 use Rattle.pd_expand.proofs.marking.marks.Goals as goal

@@ -1,6 +1,7 @@
 -- The bytes before the first LF and those after it, if there is one.
 use Rattle.std.proofs.Common.{arith}
-use Rattle.pd_frames.proofs.Feeds.{no_feed, no_feed_below, around_feed}
+use Rattle.def_format.proofs.FeedPlaces.{no_feed, no_feed_below}
+use Rattle.pd_frames.proofs.Feeds.{around_feed}
 use Rattle.pd_frames.proofs.cut.split_line.Goals as goal
 
 pub returns-in_err-end : goal.returns-in_err-end

@@ -2,7 +2,7 @@
 use Rattle.std.proofs.Common.{◌∷◌, [], inl, inr, sym, subst, List}
 use Rattle.std.specs.Prelude.{Result}
 use Rattle.pd_events.specs.Views.{result_view}
-use Rattle.pd_traces.specs.declared.event.Trace.{Trace}
+use Rattle.read_traces.specs.declared.event.Trace.{Trace}
 use Rattle.pd_events.specs.declared.fault.StreamFault.{StreamFault}
 use Rattle.pd_register.specs.Seats.{posted_row}
 use Rattle.pd_spec.specs.Views.{document_view}

@@ -1,7 +1,7 @@
 -- The seat's row has as many events as were counted, and what it has seen grows.
 use mathlib.Core.List.{IsPrefix}
 use Rattle.std.proofs.Common.{◌≡◌}
-use Rattle.pd_format.specs.Readings.{Joined}
+use Rattle.def_format.specs.Readings.{Joined}
 use Rattle.pd_gather.specs.Rows.{row}
 use Rattle.pd_register.specs.Seats.{IsSameSeat, posted_row, seen_history}
 use Rattle.pd_gather.proofs.posting.post_events.Given as goal

@@ -1,7 +1,7 @@
 -- A stream is closed once its reads are done, and what they gave is what was consumed of the source.
 use Rattle.std.proofs.Common.{◌≡◌, ℕ, ◌+◌, refl, sym, ◌∙◌, ap, subst, arith}
-use Rattle.pd_format.specs.Histories.{Row}
-use Rattle.pd_format.specs.Limits.{stream_byte_limit}
+use Rattle.def_format.specs.Histories.{Row}
+use Rattle.def_format.specs.Limits.{stream_byte_limit}
 use Rattle.pd_register.specs.Seats.{posted_row, seen_history}
 use Rattle.pd_spec.specs.Views.{document_view}
 use Rattle.pd_gather.specs.ReadSoFar.{HasRead}

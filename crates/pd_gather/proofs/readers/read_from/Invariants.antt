@@ -2,7 +2,7 @@
 use mathlib.Core.List.{IsPrefix}
 use Rattle.std.proofs.Common.{◌≡◌, false}
 use Rattle.std.specs.Vec.{vec_len}
-use Rattle.pd_format.specs.Readings.{NothingMore}
+use Rattle.def_format.specs.Readings.{NothingMore}
 use Rattle.pd_gather.specs.ReadSoFar.{HasRead}
 use Rattle.pd_gather.specs.ReadStreams.{read_byte_limit}
 use Rattle.pd_gather.specs.Rows.{row_of_reading}

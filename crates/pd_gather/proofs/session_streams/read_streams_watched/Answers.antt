@@ -1,7 +1,7 @@
 -- Streams that are too many come to the same unread, and the others to what was read of them.
 use Rattle.std.proofs.Common.{rules, ◌≡◌, ◌<◌, length, drop, map, sym, ◌∙◌, subst}
 use Rattle.std.proofs.lemmas.List.{length-map}
-use Rattle.pd_format.specs.Limits.{stream_count_limit}
+use Rattle.def_format.specs.Limits.{stream_count_limit}
 use Rattle.pd_spec.specs.Views.{document_view}
 use Rattle.pd_register.specs.Seats.{AreSeats, posted_row}
 use Rattle.pd_gather.specs.Views.{results_view}

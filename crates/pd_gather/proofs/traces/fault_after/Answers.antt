@@ -1,6 +1,6 @@
 -- The fault of a stream after these.
 use Rattle.std.proofs.Common.{◌≡◌, true, false, refl, sym, ◌∙◌}
-use Rattle.pd_format.specs.Sessions.{has_joined}
+use Rattle.def_format.specs.Sessions.{has_joined}
 use Rattle.pd_gather.specs.Views.{results_view}
 use Rattle.std.proofs.lemmas.List.{length-map}
 use Rattle.pd_gather.proofs.Places.{any_joined}

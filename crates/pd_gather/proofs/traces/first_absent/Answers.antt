@@ -1,8 +1,8 @@
 -- The first process without a trace is the one that a session's traces lack.
 use Rattle.std.proofs.Common.{◌≡◌, ◌+◌, ◌<◌, ◌++◌, ◌∷◌, [], List, length, drop, ap, sym, ◌∙◌, arith}
 use Rattle.std.specs.Prelude.{None}
-use Rattle.pd_format.specs.Names.{ProcessNames}
-use Rattle.pd_format.specs.Sessions.{trace_of, traces_from}
+use Rattle.def_format.specs.Names.{ProcessNames}
+use Rattle.def_format.specs.Sessions.{trace_of, traces_from}
 use Rattle.pd_gather.specs.Views.{results_view}
 use Rattle.pd_gather.proofs.Places.{any_found, dropped, following, none_found, none_more, one_more, some_found}
 use Rattle.pd_gather.proofs.traces.first_absent.Goals as goal

@@ -1,7 +1,7 @@
 -- What the loops of `first_absent` keep.
 use Rattle.std.proofs.Common.{◌≡◌, List, drop}
-use Rattle.pd_format.specs.Readings.{Trace}
-use Rattle.pd_format.specs.Sessions.{traces_from}
+use Rattle.def_format.specs.Readings.{Trace}
+use Rattle.def_format.specs.Sessions.{traces_from}
 use Rattle.pd_gather.specs.Views.{results_view}
 use Rattle.pd_gather.proofs.Places.{following}
 use Rattle.pd_gather.proofs.traces.first_absent.Given as goal

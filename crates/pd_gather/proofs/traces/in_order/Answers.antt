@@ -2,12 +2,12 @@
 use Rattle.std.proofs.Common.{◌≡◌, ℕ, ◌+◌, ◌<◌, List, [], ◌∷◌, ◌++◌, length, drop, ap, sym, subst, ◌∙◌, arith}
 use Rattle.std.specs.Prelude.{Some, Result, IsOk, option_map}
 use Rattle.std.proofs.lemmas.Grind.{common_steps}
-use Rattle.pd_format.specs.Names.{ProcessNames}
-use Rattle.pd_format.specs.ReadingLaws.{FitsSession}
-use Rattle.pd_format.specs.Readings as readings
-use Rattle.pd_format.specs.Sessions.{SessionFault, trace_of, traces_from}
-use Rattle.pd_traces.specs.Views.{trace_view}
-use Rattle.pd_traces.specs.declared.event.Trace.{Trace}
+use Rattle.def_format.specs.Names.{ProcessNames}
+use Rattle.def_format.specs.ReadingLaws.{FitsSession}
+use Rattle.def_format.specs.Readings as readings
+use Rattle.def_format.specs.Sessions.{SessionFault, trace_of, traces_from}
+use Rattle.read_traces.specs.Views.{trace_view}
+use Rattle.read_traces.specs.declared.event.Trace.{Trace}
 use Rattle.pd_gather.specs.Views.{results_view, traces_view}
 use Rattle.pd_gather.proofs.Places.{following, one_more, complete_has, dropped, is_mapped, prefix_push, at_push, trace_is_of}
 use Rattle.pd_gather.proofs.traces.in_order.Goals as goal

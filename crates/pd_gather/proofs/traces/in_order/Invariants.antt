@@ -1,10 +1,10 @@
 -- What the loops of `in_order` keep.
 use Rattle.std.proofs.Common.{◌≡◌, ℕ, ◌≤◌, length, drop, All}
 use Rattle.std.specs.Prelude.{Some, slice_get}
-use Rattle.pd_format.specs.ReadingLaws.{FitsSession}
-use Rattle.pd_format.specs.Sessions.{trace_of, traces_from}
-use Rattle.pd_traces.specs.Views.{trace_view}
-use Rattle.pd_traces.specs.declared.event.Trace.{Trace}
+use Rattle.def_format.specs.ReadingLaws.{FitsSession}
+use Rattle.def_format.specs.Sessions.{trace_of, traces_from}
+use Rattle.read_traces.specs.Views.{trace_view}
+use Rattle.read_traces.specs.declared.event.Trace.{Trace}
 use Rattle.pd_gather.specs.Views.{ReadingFits, results_view, traces_view}
 use Rattle.pd_gather.proofs.Places.{following}
 use Rattle.pd_gather.proofs.traces.in_order.Given as goal

@@ -4,8 +4,8 @@ use Rattle.std.specs.Prelude.{Some, None, option_map}
 use Rattle.std.specs.List.{position}
 use Rattle.std.specs.Result.{result_ok}
 use Rattle.std.proofs.lemmas.List.Quantifiers.{position-Some}
-use Rattle.pd_format.specs.Sessions.{trace_of}
-use Rattle.pd_traces.specs.Views.{trace_view}
+use Rattle.def_format.specs.Sessions.{trace_of}
+use Rattle.read_traces.specs.Views.{trace_view}
 use Rattle.pd_gather.specs.Views.{is_trace_of, results_view}
 use Rattle.pd_gather.proofs.Places.{Given, trace_at, trace_nowhere, trace_stays}
 use Rattle.pd_gather.proofs.traces.take_trace.Goals as goal

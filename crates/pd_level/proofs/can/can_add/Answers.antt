@@ -3,17 +3,17 @@ use Rattle.std.proofs.Common.{◌≡◌, ◌+◌, ◌<◌, ◌≤◌, ◌↔◌,
 use Rattle.std.specs.Prelude.{Some, None, IsTrue, nat_le}
 use Rattle.std.proofs.lemmas.Bool.{leb-true, le-leb}
 use Rattle.std.proofs.lemmas.Option.{same_Some, none-some}
-use Rattle.pd_model.specs.Cuts.{IsConsistent, one_more}
-use Rattle.pd_model.specs.Events as events
-use Rattle.pd_model.specs.Events.{Computation, Send, event_count, place}
-use Rattle.pd_model.specs.Messages.{IsMessage}
-use Rattle.pd_model.proofs.Chains.{event_from_kind}
-use Rattle.pd_model.proofs.Consistency.{process_in_range}
+use Rattle.def_model.specs.Cuts.{IsConsistent, one_more}
+use Rattle.def_model.specs.Events as events
+use Rattle.def_model.specs.Events.{Computation, Send, event_count, place}
+use Rattle.def_model.specs.Messages.{IsMessage}
+use Rattle.def_model.proofs.Chains.{event_from_kind}
+use Rattle.def_model.proofs.Consistency.{process_in_range}
 use Rattle.pd_match.specs.Views.{place_view}
 use Rattle.pd_match.specs.declared.place.Place.{Place}
 use Rattle.pd_clock.specs.Senders.{IsSender}
-use Rattle.pd_model.proofs.AddedEvents.{HasSend, added, one_more_exactly}
-use Rattle.pd_keys.specs.Keys.{digits}
+use Rattle.def_model.proofs.AddedEvents.{HasSend, added, one_more_exactly}
+use Rattle.walk_keys.specs.Keys.{digits}
 use Rattle.pd_level.proofs.can.can_add.Goals as goal
 
 some_decides : (c : Computation) (counts : List ℕ) (p count d : ℕ) (send : Place) → IsConsistent c counts → p < length c

@@ -1,6 +1,6 @@
 -- One list after the other, or both merged.
 use Rattle.std.proofs.Common.{subst, sym}
-use Rattle.pd_keys.specs.Keys.{Ascending}
+use Rattle.walk_keys.specs.Keys.{Ascending}
 use Rattle.pd_level.proofs.Merges.{ascending_append, both_just}
 use Rattle.pd_level.proofs.merge.joined.Goals as goal
 

@@ -2,7 +2,7 @@
 use Rattle.std.proofs.Common.{◌≡◌, ℕ, ◌-◌, ◌<◌, ◌≤◌, List, ◌++◌, length, get_or, take, drop, Contains, sym, ◌∙◌, subst, inl, inr, ◌⊎◌, ◌↔◌, arith}
 use Rattle.std.proofs.lemmas.Bool.{false≢true}
 use Rattle.std.proofs.lemmas.List.{take_all}
-use Rattle.pd_keys.specs.Keys.{Ascending}
+use Rattle.walk_keys.specs.Keys.{Ascending}
 use Rattle.pd_level.proofs.Merges.{IsMerged, take_left, take_right, take_both, rest_left, swapped}
 use Rattle.pd_level.proofs.merge.merge.Goals as goal
 use Rattle.pd_level.proofs.merge.merge.Goals.{then-loop-i-test+else-j-len, else-loop-i-test}

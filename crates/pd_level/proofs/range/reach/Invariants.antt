@@ -1,6 +1,6 @@
 -- With an event more the keys before the one end are below the bound, and those from the other end on are not.
 use Rattle.std.proofs.Common.{ℕ, ◌+◌, ◌-◌, ◌^◌, ◌<◌, ◌≤◌, get_or, length}
-use Rattle.pd_keys.specs.Keys.{count_base}
+use Rattle.walk_keys.specs.Keys.{count_base}
 use Rattle.pd_level.proofs.range.reach.Given as goal
 
 abbrev pub invariant-loop-low : goal.invariant-loop-low

@@ -1,8 +1,8 @@
 -- One count more is read at a time.
 use Rattle.std.proofs.Common.{rules, ◌≡◌, ℕ, ◌+◌, ◌++◌, ◌∷◌, [], List, get_or, take, set, sym, ap, ◌∙◌, subst, arith}
 use Rattle.std.proofs.lemmas.List.{length-set, take_all, take_more, take_more_set}
-use Rattle.pd_keys.specs.Keys.{digits}
-use Rattle.pd_keys.proofs.Keys.{length-digits}
+use Rattle.walk_keys.specs.Keys.{digits}
+use Rattle.walk_keys.proofs.Keys.{length-digits}
 use Rattle.pd_level.proofs.read.cut_of.Goals as goal
 
 pub loop-p-preserved : goal.loop-p-preserved

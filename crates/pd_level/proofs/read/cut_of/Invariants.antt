@@ -1,7 +1,7 @@
 -- The counts so far are the digits.
 use Rattle.std.proofs.Common.{◌≡◌, length, take}
-use Rattle.pd_format.specs.Limits.{process_limit}
-use Rattle.pd_keys.specs.Keys.{digits}
+use Rattle.def_format.specs.Limits.{process_limit}
+use Rattle.walk_keys.specs.Keys.{digits}
 use Rattle.pd_level.proofs.read.cut_of.Given as goal
 
 abbrev pub invariant-loop-p : goal.invariant-loop-p

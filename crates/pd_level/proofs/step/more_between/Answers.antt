@@ -1,6 +1,6 @@
 -- The piece of the keys whose cuts lie in range makes those that lie there.
 use Rattle.std.proofs.Common.{ℕ, ◌-◌, ◌^◌, length, refl, subst}
-use Rattle.pd_keys.specs.Keys.{count_base}
+use Rattle.walk_keys.specs.Keys.{count_base}
 use Rattle.pd_level.proofs.Ranges.{IsPieceOf, piece_made}
 use Rattle.pd_level.proofs.step.more_between.Goals as goal
 

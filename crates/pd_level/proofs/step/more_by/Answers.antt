@@ -2,8 +2,8 @@
 use Rattle.std.proofs.Common.{◌≡◌, ℕ, ◌+◌, ◌-◌, ◌<◌, List, length, get_or, take, Contains, sym, ◌∙◌, subst, ◌↔◌, arith}
 use Rattle.std.proofs.lemmas.Bool.{false≢true}
 use Rattle.std.proofs.lemmas.List.{take_all}
-use Rattle.pd_model.specs.Cuts.{IsConsistent, one_more}
-use Rattle.pd_keys.specs.Keys.{digits}
+use Rattle.def_model.specs.Cuts.{IsConsistent, one_more}
+use Rattle.walk_keys.specs.Keys.{digits}
 use Rattle.pd_level.specs.MoreCuts.{IsMoreBy, piece}
 use Rattle.pd_level.proofs.Ranges.{length-piece, piece_at, piece_cuts}
 use Rattle.pd_level.proofs.Steps.{MakesCut, step_no, step_yes}

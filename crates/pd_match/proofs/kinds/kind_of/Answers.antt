@@ -1,8 +1,8 @@
 -- The kind of the event at index `n` of process `p`.
 use Rattle.std.proofs.Common.{◌<◌, List, length, ap, subst, ◌∙◌}
-use Rattle.pd_model.specs.Events as events
-use Rattle.pd_traces.specs.Columns.{seen_kind_view}
-use Rattle.pd_traces.specs.declared.event.Trace.{Trace}
+use Rattle.def_model.specs.Events as events
+use Rattle.read_traces.specs.Columns.{seen_kind_view}
+use Rattle.read_traces.specs.declared.event.Trace.{Trace}
 use Rattle.pd_match.proofs.Traces.{events_read, kind_here}
 use Rattle.pd_match.proofs.kinds.kind_of.Goals as goal
 

@@ -1,9 +1,9 @@
 -- Matches sends and receipts, by a hasher.
 use Rattle.std.proofs.Common.{rules}
 use Rattle.std.specs.Prelude.{IfSome}
-use Rattle.pd_format.specs.Versions.{version_view}
-use Rattle.pd_traces.specs.Views.{computation_view}
-use Rattle.pd_model.specs.Messages.{IsReported}
+use Rattle.def_format.specs.Versions.{version_view}
+use Rattle.read_traces.specs.Views.{computation_view}
+use Rattle.def_model.specs.Messages.{IsReported}
 use Rattle.pd_match.specs.Views.{match_fault_view}
 use Rattle.pd_match.proofs.matching.match_by.Goals as goal
 

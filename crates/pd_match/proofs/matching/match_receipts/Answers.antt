@@ -2,10 +2,10 @@
 use Rattle.std.proofs.Common.{◌≡◌, ◌∙◌, ◌+◌, [], add-one, ap, arith, length, replicate, rules, suc, subst, sym, ℕ, List}
 use Rattle.std.proofs.lemmas.List.{length-map, length-replicate}
 use Rattle.indexmap.specs.IndexMap.{index_map_len}
-use Rattle.pd_traces.specs.declared.event.Trace.{Trace}
-use Rattle.pd_format.specs.Versions.{version_view}
-use Rattle.pd_traces.specs.Views.{computation_view}
-use Rattle.pd_model.specs.Messages.{IsMessageList}
+use Rattle.read_traces.specs.declared.event.Trace.{Trace}
+use Rattle.def_format.specs.Versions.{version_view}
+use Rattle.read_traces.specs.Views.{computation_view}
+use Rattle.def_model.specs.Messages.{IsMessageList}
 use Rattle.pd_match.specs.Noted.{CountsSends, event_place, last_receiver, pairs_in, place_noted, sends_marked}
 use Rattle.pd_match.specs.Progress.{MatchedBefore, RowsTell, SendsBefore}
 use Rattle.pd_match.proofs.ReceivedSends.{sends_all, sends_first}

@@ -1,8 +1,8 @@
 -- What the loops of `match_receipts` keep.
 use Rattle.std.specs.Prelude.{◌≡◌, length}
 use Rattle.indexmap.specs.IndexMap.{index_map_len}
-use Rattle.pd_format.specs.Versions.{version_view}
-use Rattle.pd_traces.specs.Views.{computation_view}
+use Rattle.def_format.specs.Versions.{version_view}
+use Rattle.read_traces.specs.Views.{computation_view}
 use Rattle.pd_match.specs.Noted.{event_place, last_receiver, sends_marked}
 use Rattle.pd_match.specs.Progress.{MatchedBefore, RowsTell, SendsBefore}
 use Rattle.pd_match.proofs.matching.match_receipts.Given as goal

@@ -2,7 +2,7 @@
 use Rattle.std.proofs.Common.{◌≡◌, ◌∙◌, ◌<◌, List, ℕ, Option, Some, ap, arith, false, true, get_or, length, option_map, refl, set, subst, suc, sym, add-one, cond, bytes_eq, ◌+◌}
 use Rattle.std.specs.Prelude.{nat_eq}
 use Rattle.std.proofs.lemmas.List.{get_or_read}
-use Rattle.pd_format.specs.Versions.{version_view}
+use Rattle.def_format.specs.Versions.{version_view}
 use Rattle.pd_match.specs.Noted.{again, last_receiver, mark_at, place_noted, sends_marked}
 use Rattle.pd_match.specs.Views.{place_view}
 use Rattle.pd_match.proofs.Marks.{mark_more, sends_marked_more}

@@ -1,11 +1,11 @@
 -- The send of the event at index `n` of process `p`, if it is a receipt.
 use Rattle.std.proofs.Common.{◌≡◌, ◌∙◌, ℕ, Some, ap, rules, refl, subst, suc, sym, List, bytes_eq, cond}
 use Rattle.std.specs.Prelude.{IfSome}
-use Rattle.pd_format.specs.Versions.{version_view}
-use Rattle.pd_traces.specs.Views.{computation_view}
-use Rattle.pd_traces.specs.Columns.{seen_kind_view}
-use Rattle.pd_model.specs.Events.{Receive, kind_at}
-use Rattle.pd_model.specs.Messages.{IsReported}
+use Rattle.def_format.specs.Versions.{version_view}
+use Rattle.read_traces.specs.Views.{computation_view}
+use Rattle.read_traces.specs.Columns.{seen_kind_view}
+use Rattle.def_model.specs.Events.{Receive, kind_at}
+use Rattle.def_model.specs.Messages.{IsReported}
 use Rattle.pd_match.specs.Noted.{IsReportedOf, again, event_place, last_receiver, place_noted, sends_marked}
 use Rattle.pd_match.specs.Progress.{SendsBefore}
 use Rattle.pd_match.proofs.ReceivedSends.{sends_kept, sends_of_receipt}

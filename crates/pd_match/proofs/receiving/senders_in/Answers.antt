@@ -1,10 +1,10 @@
 -- For each event of process `p` its send, if it is a receipt.
 use Rattle.std.proofs.Common.{◌≡◌, ◌↔◌, Some, option_map, ◌∙◌, ◌+◌, add-one, arith, refl, suc, subst, sym}
-use Rattle.pd_format.specs.Versions.{version_view}
-use Rattle.pd_traces.specs.Views.{computation_view}
-use Rattle.pd_model.specs.Events.{event_count}
-use Rattle.pd_model.specs.Events as events
-use Rattle.pd_model.specs.Messages.{IsMessage}
+use Rattle.def_format.specs.Versions.{version_view}
+use Rattle.read_traces.specs.Views.{computation_view}
+use Rattle.def_model.specs.Events.{event_count}
+use Rattle.def_model.specs.Events as events
+use Rattle.def_model.specs.Messages.{IsMessage}
 use Rattle.pd_match.specs.Views.{place_view}
 use Rattle.pd_match.specs.Noted.{HasReceived, NoneBadBefore, event_place, last_receiver, send_in, sends_marked}
 use Rattle.pd_match.specs.Progress.{MatchedBefore, RowTells, SendsBefore}

@@ -1,7 +1,7 @@
 -- What the loops of `senders_in` keep.
 use Rattle.std.specs.Prelude.{◌≡◌, length}
-use Rattle.pd_format.specs.Versions.{version_view}
-use Rattle.pd_traces.specs.Views.{computation_view}
+use Rattle.def_format.specs.Versions.{version_view}
+use Rattle.read_traces.specs.Views.{computation_view}
 use Rattle.pd_match.specs.Noted.{event_place, last_receiver, sends_marked}
 use Rattle.pd_match.specs.Progress.{MatchedBefore, RowTells, SendsBefore}
 use Rattle.pd_match.proofs.receiving.senders_in.Given as goal

@@ -1,9 +1,9 @@
 -- Notes the event at index `n` of process `p`, if it is a send.
 use Rattle.std.proofs.Common.{◌≡◌, ◌∙◌, ap, sym, subst, Some}
-use Rattle.pd_traces.specs.Views.{computation_view}
-use Rattle.pd_traces.specs.Columns.{seen_kind_view}
-use Rattle.pd_model.specs.Events.{Send, kind_at}
-use Rattle.pd_model.specs.Messages.{SendTwice, IsReported}
+use Rattle.read_traces.specs.Views.{computation_view}
+use Rattle.read_traces.specs.Columns.{seen_kind_view}
+use Rattle.def_model.specs.Events.{Send, kind_at}
+use Rattle.def_model.specs.Messages.{SendTwice, IsReported}
 use Rattle.pd_match.specs.Noted.{event_place, place_noted}
 use Rattle.pd_match.proofs.Ids.{noted_more, noted_other}
 use Rattle.pd_match.proofs.Reports.{none_from_test, same_send, sent_twice}

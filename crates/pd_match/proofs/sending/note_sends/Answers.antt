@@ -1,7 +1,7 @@
 -- Notes the sends of process `p`.
 use Rattle.std.proofs.Common.{◌≡◌, ◌∙◌, add-one, arith, subst, sym}
-use Rattle.pd_traces.specs.Views.{computation_view}
-use Rattle.pd_model.specs.Events.{Send, event_count}
+use Rattle.read_traces.specs.Views.{computation_view}
+use Rattle.def_model.specs.Events.{Send, event_count}
 use Rattle.pd_match.specs.Noted.{HasBefore, event_place, place_noted}
 use Rattle.pd_match.proofs.Ids.{noted_process}
 use Rattle.pd_match.proofs.Traces.{length_read}

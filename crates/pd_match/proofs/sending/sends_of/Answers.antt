@@ -1,9 +1,9 @@
 -- The place of each send, by its id.
 use Rattle.std.proofs.Common.{◌≡◌, ◌∙◌, add-one, arith, length, subst, sym}
 use Rattle.std.proofs.lemmas.List.{length-map}
-use Rattle.pd_traces.specs.declared.event.Trace.{Trace}
-use Rattle.pd_traces.specs.Views.{computation_view}
-use Rattle.pd_model.specs.Events.{Send}
+use Rattle.read_traces.specs.declared.event.Trace.{Trace}
+use Rattle.read_traces.specs.Views.{computation_view}
+use Rattle.def_model.specs.Events.{Send}
 use Rattle.pd_match.specs.Noted.{HasBefore, event_place, place_noted}
 use Rattle.pd_match.proofs.Ids.{none_noted, noted_all, noted_first}
 use Rattle.pd_match.proofs.sending.sends_of.Goals as goal

@@ -1,7 +1,7 @@
 -- What the loops of `sends_of` keep.
-use Rattle.pd_traces.specs.Views.{computation_view}
+use Rattle.read_traces.specs.Views.{computation_view}
 use Rattle.pd_match.specs.Noted.{HasBefore, event_place, place_noted}
-use Rattle.pd_model.specs.Events.{Send}
+use Rattle.def_model.specs.Events.{Send}
 use Rattle.pd_match.proofs.sending.sends_of.Given as goal
 
 abbrev pub invariant-loop-p : goal.invariant-loop-p

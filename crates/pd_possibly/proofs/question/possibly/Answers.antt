@@ -1,6 +1,6 @@
 -- The answer of the walk, in both wordings.
-use Rattle.pd_lists.specs.Answers.{possibly_answer_view}
-use Rattle.pd_model.specs.Predicates.{test_of}
+use Rattle.walk_back.specs.Answers.{possibly_answer_view}
+use Rattle.def_model.specs.Predicates.{test_of}
 use Rattle.pd_pred.specs.Views.{predicate_view}
 use Rattle.pd_possibly.proofs.ObservedAnswers.{observed_answer}
 use Rattle.pd_possibly.proofs.question.possibly.Goals as goal

@@ -1,7 +1,7 @@
 -- The tree of the predicate that the tokens spell, the end among them.
 use Rattle.std.proofs.Common.{◌<◌, length, arith, rules}
-use Rattle.pd_format.specs.Tokens.{OpenParen}
-use Rattle.pd_format.specs.Grammar.{OrRule, AndRule, word_or, word_and, word_not}
+use Rattle.def_format.specs.Tokens.{OpenParen}
+use Rattle.def_format.specs.Grammar.{OrRule, AndRule, word_or, word_and, word_not}
 use Rattle.pd_pred.specs.Trees.{tree_view}
 use Rattle.pd_pred.proofs.Prefixes.{readable_rest, readable_follows, fewer_follow}
 use Rattle.pd_pred.proofs.RulesRead.{alone_in_or, alone_in_and, one_more_in_or, one_more_in_and, leads_after_or, leads_after_and, leads_after_not, negation_is_read, truth_is_read, falsehood_is_read, leads_after_paren, parens_are_read}

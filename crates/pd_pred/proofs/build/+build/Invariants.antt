@@ -1,7 +1,7 @@
 -- What the loops of `+build` keep.
 use Rattle.std.proofs.Common.{◌+◌, ◌*◌, length}
 use Rattle.std.specs.Prelude.{IsFalse, codes}
-use Rattle.pd_format.specs.Grammar.{OrRule, AndRule}
+use Rattle.def_format.specs.Grammar.{OrRule, AndRule}
 use Rattle.pd_pred.specs.Building.{IsRead, begins_with_word, tokens_view}
 use Rattle.pd_pred.specs.Trees.{tree_view}
 use Rattle.pd_pred.proofs.build.+build.Given as goal

@@ -1,6 +1,6 @@
 -- The number and what follows it, if the tokens begin with one.
 use Rattle.std.proofs.Common.{ap, arith}
-use Rattle.pd_format.specs.Tokens.{number_from}
+use Rattle.def_format.specs.Tokens.{number_from}
 use Rattle.pd_pred.specs.Tokens.{token_view}
 use Rattle.pd_pred.proofs.TermsRead.{number_fits}
 use Rattle.pd_pred.proofs.build.after_number.Goals as goal

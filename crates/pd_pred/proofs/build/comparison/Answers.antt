@@ -1,5 +1,5 @@
 -- Two sums and how they are compared.
-use Rattle.pd_format.specs.Tokens.{Relates}
+use Rattle.def_format.specs.Tokens.{Relates}
 use Rattle.pd_pred.specs.Trees.{comparison_view, sum_view}
 use Rattle.pd_pred.proofs.Prefixes.{readable_rest, readable_follows}
 use Rattle.pd_pred.proofs.RulesRead.{comparison_is_read}

@@ -1,6 +1,6 @@
 -- The numbers of the process and the variable that the tokens name.
 use Rattle.std.proofs.Common.{◌≡◌, ◌∙◌, sym, Some}
-use Rattle.pd_format.specs.Names.{process_named}
+use Rattle.def_format.specs.Names.{process_named}
 use Rattle.pd_pred.proofs.TermsRead.{reference_is_known, reference_is_read}
 use Rattle.pd_pred.proofs.build.reference.Goals as goal
 

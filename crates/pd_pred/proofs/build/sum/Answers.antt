@@ -1,6 +1,6 @@
 -- Terms with their signs; a first plus isn't written.
 use Rattle.std.proofs.Common.{arith}
-use Rattle.pd_format.specs.Tokens.{Signs}
+use Rattle.def_format.specs.Tokens.{Signs}
 use Rattle.pd_pred.specs.Trees.{sign_view, term_view, terms_view}
 use Rattle.pd_pred.proofs.Prefixes.{readable_rest, readable_follows, fewer_follow}
 use Rattle.pd_pred.proofs.TermsRead.{readable_after_first, first_is_read, more_is_read, terms-append}

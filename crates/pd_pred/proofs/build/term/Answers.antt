@@ -1,7 +1,7 @@
 -- A number, a variable, or a number times a variable.
 use Rattle.std.proofs.Common.{arith}
 use Rattle.pd_pred.proofs.Prefixes.{readable_follows}
-use Rattle.pd_format.specs.Tokens.{Digits, Star}
+use Rattle.def_format.specs.Tokens.{Digits, Star}
 use Rattle.pd_pred.proofs.TermsRead.{number_is_read, factor_fits, times_is_read}
 use Rattle.pd_pred.proofs.build.term.Goals as goal
 

@@ -1,7 +1,7 @@
 -- What the loops of `sum_value` keep.
 use Rattle.std.proofs.Common.{◌≡◌, ◌≤◌, ◌*◌, ◌^◌, ◌+ℤ◌, drop}
 use Rattle.std.specs.Int.RustNames.{unsigned_abs}
-use Rattle.pd_model.specs.Predicates as model
+use Rattle.def_model.specs.Predicates as model
 use Rattle.pd_pred.specs.Trees.{terms_view, sum_view}
 use Rattle.pd_pred.proofs.evaluate.sum_value.Given as goal
 

@@ -1,6 +1,6 @@
 -- The digits that the text begins with, and what follows them.
 use Rattle.std.proofs.Common.{◌∙◌, ap, take, drop}
-use Rattle.pd_format.specs.Names.{is_digit}
+use Rattle.def_format.specs.Names.{is_digit}
 use Rattle.pd_pred.proofs.Runs.{run_boundary, digit_ascii, digits_are_first}
 use Rattle.pd_pred.proofs.lexer.first_digits.Goals as goal
 

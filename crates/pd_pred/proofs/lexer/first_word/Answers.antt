@@ -1,6 +1,6 @@
 -- The word that the text begins with, and what follows it.
 use Rattle.std.proofs.Common.{◌∙◌, ap, take, drop}
-use Rattle.pd_format.specs.Names.{is_in_word}
+use Rattle.def_format.specs.Names.{is_in_word}
 use Rattle.pd_pred.proofs.Runs.{run_boundary, word_ascii, word_is_first}
 use Rattle.pd_pred.proofs.lexer.first_word.Goals as goal
 

@@ -1,6 +1,6 @@
 -- What follows the spaces and tabs that the text begins with.
 use Rattle.std.proofs.Common.{◌∙◌, ap, drop}
-use Rattle.pd_format.specs.Tokens.{is_space}
+use Rattle.def_format.specs.Tokens.{is_space}
 use Rattle.pd_pred.proofs.Runs.{run_boundary, space_ascii, skips_spaces}
 use Rattle.pd_pred.proofs.lexer.skip_spaces.Goals as goal
 

@@ -1,7 +1,7 @@
 -- Whether the digits, of which there may be any number, write a number over the limit.
 use Rattle.std.proofs.Common.{◌+◌, ◌*◌, ◌-◌, ◌≤◌, get_or, arith}
 use Rattle.std.proofs.lemmas.Bool.Decides.{nat_tests}
-use Rattle.pd_format.specs.Tokens.{number_from}
+use Rattle.def_format.specs.Tokens.{number_from}
 use Rattle.pd_pred.proofs.Digits.{number_from_bound}
 use Rattle.pd_pred.proofs.numbers.exceeds.Goals as goal
 

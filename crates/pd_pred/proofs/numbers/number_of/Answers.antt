@@ -1,6 +1,6 @@
 -- The number that the digits write.
 use Rattle.std.proofs.Common.{◌+◌, ◌*◌, ◌-◌, ◌≤◌, get_or, arith}
-use Rattle.pd_format.specs.Tokens.{number_from}
+use Rattle.def_format.specs.Tokens.{number_from}
 use Rattle.pd_pred.proofs.Digits.{number_from_bound}
 use Rattle.pd_pred.proofs.numbers.number_of.Goals as goal
 

@@ -1,6 +1,6 @@
 -- What the loops of `number_of` keep.
 use Rattle.std.proofs.Common.{◌≡◌, drop}
-use Rattle.pd_format.specs.Tokens.{number_from}
+use Rattle.def_format.specs.Tokens.{number_from}
 use Rattle.pd_pred.proofs.numbers.number_of.Given as goal
 
 abbrev pub invariant-loop-digit : goal.invariant-loop-digit

@@ -1,7 +1,7 @@
 -- An answer's first line.
 use Rattle.std.proofs.Common.{◌≡◌, ◌∙◌, ◌∷◌, sym, ap}
 use Rattle.std.specs.Prelude.{codes, string_bytes}
-use Rattle.pd_format.specs.Reports.{possibly_words}
+use Rattle.def_format.specs.Reports.{possibly_words}
 use Rattle.pd_report.specs.Reading.{pieces}
 use Rattle.pd_report.specs.Remaining.{words_left}
 use Rattle.pd_report.specs.Views.{possibly_view}

@@ -2,7 +2,7 @@
 use Rattle.std.proofs.Common.{◌∙◌, ◌∷◌, [], sym, ap}
 use Rattle.std.specs.Prelude.{codes}
 use Rattle.std.proofs.lemmas.Result.{IfOk-weaker}
-use Rattle.pd_format.specs.Reports.{definitely_words, DefinitelyIsLawful}
+use Rattle.def_format.specs.Reports.{definitely_words, DefinitelyIsLawful}
 use Rattle.pd_report.specs.Remaining.{words_left}
 use Rattle.pd_report.specs.Views.{definitely_view}
 use Rattle.pd_report.proofs.LineWords.{second_words, found_line}

@@ -3,7 +3,7 @@ use Rattle.std.proofs.Common.{rules, tests, sym, ◌∙◌}
 use Rattle.std.proofs.lemmas.Iterator.{YieldsList-from_slice}
 use Rattle.std.proofs.lemmas.Iterator.Search.{any_from_yields_List}
 use Rattle.std.specs.Str.{bytes_eq}
-use Rattle.pd_format.proofs.ListTests.{list_any-map}
+use Rattle.def_format.proofs.ListTests.{list_any-map}
 use Rattle.pd_report.proofs.fault_words.is_one_of.Goals as goal
 
 pub returns : goal.returns

@@ -3,7 +3,7 @@ use Rattle.std.proofs.Common.{◌++◌, sym, ap, ◌∙◌, arith}
 use Rattle.std.specs.List.{join_with_byte}
 use Rattle.std.proofs.lemmas.List.{take_all}
 use Rattle.std.proofs.lemmas.Simd.{map-map}
-use Rattle.pd_format.specs.Reports.{place_text}
+use Rattle.def_format.specs.Reports.{place_text}
 use Rattle.pd_report.specs.Views.{named_place_view}
 use Rattle.pd_report.proofs.Joins.{words_end}
 use Rattle.pd_report.proofs.fields.push_places.Goals as goal

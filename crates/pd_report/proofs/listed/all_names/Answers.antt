@@ -1,6 +1,6 @@
 -- Names, as the words.
 use Rattle.std.proofs.Common.{◌∙◌, ◌++◌, map, sym, ap, subst}
-use Rattle.pd_format.specs.Reports.{IsName}
+use Rattle.def_format.specs.Reports.{IsName}
 use Rattle.pd_report.specs.Remaining.{words_left}
 use Rattle.pd_report.proofs.Lists.{one_is_none}
 use Rattle.pd_report.proofs.listed.all_names.Goals as goal

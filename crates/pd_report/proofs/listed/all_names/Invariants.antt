@@ -1,7 +1,7 @@
 -- What the loop of `all_names` keeps.
 use Rattle.std.proofs.Common.{◌≡◌, ◌++◌, length, map}
 use Rattle.std.specs.List.{AllByRecursion}
-use Rattle.pd_format.specs.Reports.{IsName}
+use Rattle.def_format.specs.Reports.{IsName}
 use Rattle.pd_report.specs.Remaining.{words_left}
 use Rattle.pd_report.proofs.listed.all_names.Given as goal
 

@@ -1,7 +1,7 @@
 -- Numbers, as the words.
 use Rattle.std.proofs.Common.{◌∙◌, ◌++◌, map, sym, ap}
 use Rattle.std.specs.Prelude.{decimal}
-use Rattle.pd_format.specs.Reports.{Fits}
+use Rattle.def_format.specs.Reports.{Fits}
 use Rattle.pd_report.specs.Remaining.{words_left}
 use Rattle.pd_report.proofs.Lists.{one_is_none}
 use Rattle.pd_report.proofs.listed.all_numbers.Goals as goal

@@ -2,7 +2,7 @@
 use Rattle.std.proofs.Common.{◌≡◌, ◌++◌, length, map}
 use Rattle.std.specs.Prelude.{decimal}
 use Rattle.std.specs.List.{AllByRecursion}
-use Rattle.pd_format.specs.Reports.{Fits}
+use Rattle.def_format.specs.Reports.{Fits}
 use Rattle.pd_report.specs.Remaining.{words_left}
 use Rattle.pd_report.proofs.listed.all_numbers.Given as goal
 

@@ -1,6 +1,6 @@
 -- Events, as the words.
 use Rattle.std.proofs.Common.{◌∙◌, ◌++◌, map, sym, ap}
-use Rattle.pd_format.specs.Reports.{PlaceIsLawful, place_text}
+use Rattle.def_format.specs.Reports.{PlaceIsLawful, place_text}
 use Rattle.pd_report.specs.Remaining.{words_left}
 use Rattle.pd_report.specs.Views.{named_places_view}
 use Rattle.pd_report.proofs.Lists.{one_is_none}

@@ -1,7 +1,7 @@
 -- What the loop of `all_places` keeps.
 use Rattle.std.proofs.Common.{◌≡◌, ◌++◌, length, map}
 use Rattle.std.specs.List.{AllByRecursion}
-use Rattle.pd_format.specs.Reports.{PlaceIsLawful, place_text}
+use Rattle.def_format.specs.Reports.{PlaceIsLawful, place_text}
 use Rattle.pd_report.specs.Remaining.{words_left}
 use Rattle.pd_report.specs.Views.{named_places_view}
 use Rattle.pd_report.proofs.listed.all_places.Given as goal

@@ -1,6 +1,6 @@
 -- Whether the words are events.
 use Rattle.std.proofs.Common.{◌∙◌, ◌++◌, ◌∷◌, [], map, sym, ap}
-use Rattle.pd_format.specs.Reports.{PlaceIsLawful, place_text}
+use Rattle.def_format.specs.Reports.{PlaceIsLawful, place_text}
 use Rattle.pd_report.specs.Remaining.{words_left}
 use Rattle.pd_report.specs.Views.{place_view}
 use Rattle.pd_report.proofs.Lists.{all_push, one_is_none, read_more}

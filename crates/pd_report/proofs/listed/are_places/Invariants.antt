@@ -2,7 +2,7 @@
 use Rattle.std.proofs.Common.{length}
 use Rattle.pd_report.specs.Remaining.{words_left}
 use Rattle.pd_report.proofs.Lists.{AreTexts}
-use Rattle.pd_format.specs.Reports.{PlaceIsLawful, place_text}
+use Rattle.def_format.specs.Reports.{PlaceIsLawful, place_text}
 use Rattle.pd_report.proofs.listed.are_places.Given as goal
 
 abbrev pub invariant-loop-word : goal.invariant-loop-word

@@ -3,8 +3,8 @@ use Rattle.std.proofs.Common.{map}
 use Rattle.std.specs.List.{AllByRecursion}
 use Rattle.std.proofs.lemmas.List.{length-map}
 use Rattle.std.proofs.lemmas.Result.{IfOk-weaker}
-use Rattle.pd_format.specs.Reports.{IsName}
-use Rattle.pd_format.proofs.OneReport.{names_lack}
+use Rattle.def_format.specs.Reports.{IsName}
+use Rattle.def_format.proofs.OneReport.{names_lack}
 use Rattle.pd_report.specs.Remaining.{words_left}
 use Rattle.pd_report.proofs.Lists.{map_same, found_listed}
 use Rattle.pd_report.proofs.listed.names.Goals as goal

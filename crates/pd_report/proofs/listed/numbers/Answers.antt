@@ -4,8 +4,8 @@ use Rattle.std.specs.Prelude.{decimal}
 use Rattle.std.specs.List.{AllByRecursion}
 use Rattle.std.proofs.lemmas.List.{length-map}
 use Rattle.std.proofs.lemmas.Result.{IfOk-weaker}
-use Rattle.pd_format.specs.Reports.{Fits}
-use Rattle.pd_format.proofs.OneReport.{decimals_lack}
+use Rattle.def_format.specs.Reports.{Fits}
+use Rattle.def_format.proofs.OneReport.{decimals_lack}
 use Rattle.pd_report.specs.Remaining.{words_left}
 use Rattle.pd_report.proofs.Lists.{found_listed}
 use Rattle.pd_report.proofs.listed.numbers.Goals as goal

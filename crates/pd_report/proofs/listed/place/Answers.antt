@@ -1,5 +1,5 @@
 -- An event.
-use Rattle.pd_format.specs.Reports.{PlaceIsLawful, place_text}
+use Rattle.def_format.specs.Reports.{PlaceIsLawful, place_text}
 use Rattle.pd_report.specs.Views.{named_place_view, place_view}
 use Rattle.pd_report.proofs.Lists.{refused_there}
 use Rattle.pd_report.proofs.listed.place.Goals as goal

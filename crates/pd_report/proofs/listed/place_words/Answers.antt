@@ -1,7 +1,7 @@
 -- An event is two words with a `#` between them.
 use Rattle.std.proofs.Common.{◌≡◌, ◌∙◌, ◌∷◌, [], sym, ap, subst}
 use Rattle.std.specs.Prelude.{decimal}
-use Rattle.pd_format.specs.Reports.{IsName}
+use Rattle.def_format.specs.Reports.{IsName}
 use Rattle.pd_report.specs.Reading.{pieces}
 use Rattle.pd_report.proofs.Pieces.{head_is, joined_of_pieces, place_pieces, tail_is}
 use Rattle.pd_report.proofs.listed.place_words.Goals as goal

@@ -3,8 +3,8 @@ use Rattle.std.proofs.Common.{◌<◌, map, length}
 use Rattle.std.specs.List.{AllByRecursion}
 use Rattle.std.proofs.lemmas.List.{length-map}
 use Rattle.std.proofs.lemmas.Result.{IfOk-weaker}
-use Rattle.pd_format.specs.Reports.{PlaceIsLawful, place_text, with_commas}
-use Rattle.pd_format.proofs.OneReport.{places_lack}
+use Rattle.def_format.specs.Reports.{PlaceIsLawful, place_text, with_commas}
+use Rattle.def_format.proofs.OneReport.{places_lack}
 use Rattle.pd_report.specs.Remaining.{words_left}
 use Rattle.pd_report.specs.Views.{named_places_view}
 use Rattle.pd_report.proofs.Lists.{found_listed, listed_none, read_there, texts_listed}

@@ -1,6 +1,6 @@
 -- A name's place.
 use Rattle.std.proofs.Common.{◌∙◌, sym}
-use Rattle.pd_format.specs.Limits.{process_limit}
+use Rattle.def_format.specs.Limits.{process_limit}
 use Rattle.pd_report.proofs.Places.{known_at}
 use Rattle.pd_report.proofs.path.place_of.Goals as goal
 

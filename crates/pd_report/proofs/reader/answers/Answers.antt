@@ -4,8 +4,8 @@ use Rattle.std.specs.Prelude.{flat_map}
 use Rattle.std.specs.List.{AllByRecursion}
 use Rattle.std.proofs.lemmas.Bool.Decides.{nat_tests}
 use Rattle.std.proofs.lemmas.List.{length-map}
-use Rattle.pd_format.specs.Limits.{predicate_limit}
-use Rattle.pd_format.specs.Reports.{answer_lines, text_of_lines, AnswerIsLawful}
+use Rattle.def_format.specs.Limits.{predicate_limit}
+use Rattle.def_format.specs.Reports.{answer_lines, text_of_lines, AnswerIsLawful}
 use Rattle.pd_report.specs.Reading.{CountsFit}
 use Rattle.pd_report.specs.Views.{answer_view}
 use Rattle.pd_report.specs.declared.answer.Answer.{Answer}

@@ -2,8 +2,8 @@
 use Rattle.std.proofs.Common.{◌≡◌, ◌≤◌, ◌++◌, length, map}
 use Rattle.std.specs.Prelude.{flat_map}
 use Rattle.std.specs.List.{AllByRecursion}
-use Rattle.pd_format.specs.Limits.{predicate_limit}
-use Rattle.pd_format.specs.Reports.{answer_lines, text_of_lines, AnswerIsLawful}
+use Rattle.def_format.specs.Limits.{predicate_limit}
+use Rattle.def_format.specs.Reports.{answer_lines, text_of_lines, AnswerIsLawful}
 use Rattle.pd_report.specs.Views.{answer_view}
 use Rattle.pd_report.proofs.reader.answers.Given as goal
 

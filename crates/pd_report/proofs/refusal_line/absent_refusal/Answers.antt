@@ -1,8 +1,8 @@
 -- A process without a stream, of the words after `absent`.
 use Rattle.std.proofs.Common.{◌∷◌, refl, ap}
 use Rattle.std.specs.Prelude.{codes}
-use Rattle.pd_format.specs.RefusalKinds.{AbsentKind}
-use Rattle.pd_format.specs.Reports.{refusal_words, Absent}
+use Rattle.def_format.specs.RefusalKinds.{AbsentKind}
+use Rattle.def_format.specs.Reports.{refusal_words, Absent}
 use Rattle.pd_report.specs.Reading.{IsOfKind}
 use Rattle.pd_report.specs.Remaining.{words_left}
 use Rattle.pd_report.specs.Views.{refusal_view}

@@ -1,8 +1,8 @@
 -- A causal cycle, of the words after `cycle`.
 use Rattle.std.proofs.Common.{◌∷◌, refl, ap}
 use Rattle.std.specs.Prelude.{codes}
-use Rattle.pd_format.specs.RefusalKinds.{CycleKind}
-use Rattle.pd_format.specs.Reports.{refusal_words, Cycle}
+use Rattle.def_format.specs.RefusalKinds.{CycleKind}
+use Rattle.def_format.specs.Reports.{refusal_words, Cycle}
 use Rattle.pd_report.specs.Reading.{IsOfKind}
 use Rattle.pd_report.specs.Remaining.{words_left}
 use Rattle.pd_report.specs.Views.{refusal_view}

@@ -1,8 +1,8 @@
 -- A send or a receive that matches none.
 use Rattle.std.proofs.Common.{◌≡◌, ◌∙◌, ◌∷◌, [], refl, sym}
-use Rattle.pd_format.specs.RefusalKinds.{MatchKind}
-use Rattle.pd_format.specs.Reports.{place_text, refusal_words, Match}
-use Rattle.pd_format.proofs.OneReport.{match_word}
+use Rattle.def_format.specs.RefusalKinds.{MatchKind}
+use Rattle.def_format.specs.Reports.{place_text, refusal_words, Match}
+use Rattle.def_format.proofs.OneReport.{match_word}
 use Rattle.pd_report.specs.Reading.{IsOfKind}
 use Rattle.pd_report.specs.Remaining.{words_left}
 use Rattle.pd_report.specs.Views.{place_view, refusal_view}

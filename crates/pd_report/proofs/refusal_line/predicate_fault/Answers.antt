@@ -1,6 +1,6 @@
 -- A predicate's number, counted from 1, the word of its fault, and the byte at fault.
 use Rattle.std.proofs.Common.{◌≡◌, ℕ, List, ◌≤◌, ◌∙◌, sym, arith}
-use Rattle.pd_format.proofs.OneReport.{one_decimal, predicate_word}
+use Rattle.def_format.proofs.OneReport.{one_decimal, predicate_word}
 use Rattle.pd_report.specs.Reading.{at_fault_view, at_fault_words, AtFaultIsLawful}
 use Rattle.pd_report.specs.Remaining.{words_left}
 use Rattle.pd_report.proofs.Lists.{refused_there}

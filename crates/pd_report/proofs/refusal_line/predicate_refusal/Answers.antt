@@ -1,8 +1,8 @@
 -- A refused predicate, of the words after `predicate`.
 use Rattle.std.proofs.Common.{◌∷◌, refl, ap}
 use Rattle.std.specs.Prelude.{codes}
-use Rattle.pd_format.specs.RefusalKinds.{PredicateKind}
-use Rattle.pd_format.specs.Reports.{refusal_words, Predicate}
+use Rattle.def_format.specs.RefusalKinds.{PredicateKind}
+use Rattle.def_format.specs.Reports.{refusal_words, Predicate}
 use Rattle.pd_report.specs.Reading.{IsOfKind}
 use Rattle.pd_report.specs.Remaining.{words_left}
 use Rattle.pd_report.specs.Views.{refusal_view}

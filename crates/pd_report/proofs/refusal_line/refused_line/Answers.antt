@@ -1,7 +1,7 @@
 -- The refusal, if the line is one.
 use Rattle.std.proofs.Common.{◌∙◌, ◌∷◌, [], sym}
 use Rattle.std.specs.Prelude.{codes}
-use Rattle.pd_format.specs.Reports.{refusal_words, RefusalIsLawful}
+use Rattle.def_format.specs.Reports.{refusal_words, RefusalIsLawful}
 use Rattle.pd_report.specs.Remaining.{words_left}
 use Rattle.pd_report.specs.Views.{refusal_view}
 use Rattle.pd_report.proofs.LineWords.{read_line, refused_words}

@@ -1,6 +1,6 @@
 -- The word of a document's fault, as the only word.
 use Rattle.std.proofs.Common.{◌∙◌, sym}
-use Rattle.pd_format.proofs.OneReport.{spec_word}
+use Rattle.def_format.proofs.OneReport.{spec_word}
 use Rattle.pd_report.proofs.refusal_line.spec_fault.Goals as goal
 
 pub word_text-requires : goal.word_text-requires

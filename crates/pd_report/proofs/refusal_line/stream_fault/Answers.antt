@@ -1,6 +1,6 @@
 -- A stream's number, the number of its line at fault, and the word of its fault.
 use Rattle.std.proofs.Common.{◌≡◌, ℕ, List, ◌∙◌, ◌∷◌, [], sym}
-use Rattle.pd_format.proofs.OneReport.{stream_word}
+use Rattle.def_format.proofs.OneReport.{stream_word}
 use Rattle.pd_report.specs.Reading.{stream_fault_view, stream_fault_words, StreamFaultIsLawful}
 use Rattle.pd_report.specs.Remaining.{words_left}
 use Rattle.pd_report.proofs.Lists.{refused_there}

@@ -1,8 +1,8 @@
 -- A refused stream, of the words after `stream`.
 use Rattle.std.proofs.Common.{◌∷◌, refl, ap}
 use Rattle.std.specs.Prelude.{codes}
-use Rattle.pd_format.specs.RefusalKinds.{StreamKind}
-use Rattle.pd_format.specs.Reports.{refusal_words, Stream}
+use Rattle.def_format.specs.RefusalKinds.{StreamKind}
+use Rattle.def_format.specs.Reports.{refusal_words, Stream}
 use Rattle.pd_report.specs.Reading.{IsOfKind}
 use Rattle.pd_report.specs.Remaining.{words_left}
 use Rattle.pd_report.specs.Views.{refusal_view}

@@ -1,7 +1,7 @@
 -- A report's text.
 use Rattle.std.proofs.Common.{[], ◌∷◌, ◌++◌, sym, ap, ◌∙◌}
 use Rattle.std.specs.Prelude.{codes}
-use Rattle.pd_format.specs.Reports.{refusal_words, report_text, spaced}
+use Rattle.def_format.specs.Reports.{refusal_words, report_text, spaced}
 use Rattle.pd_report.specs.Views.{answers_text, refusal_view, report_view, session_text}
 use Rattle.pd_report.proofs.Texts.{judged_text, refused_text, two_written}
 use Rattle.pd_report.proofs.report_text.text.Goals as goal

@@ -4,7 +4,7 @@ use Rattle.std.specs.Prelude.{not, ◌==◌}
 use Rattle.std.proofs.Math.Seq.{drop-cons}
 use Rattle.std.proofs.lemmas.Bool.Decides.{nat_tests}
 use Rattle.std.proofs.lemmas.List.{take-append-drop, take_all, take_more, take_rest}
-use Rattle.pd_format.proofs.OneReport.{all-append}
+use Rattle.def_format.proofs.OneReport.{all-append}
 use Rattle.pd_report.specs.Cuts.{Lacks}
 use Rattle.pd_report.proofs.words.cut_at.Goals as goal
 

@@ -1,6 +1,6 @@
 -- The predicates so far.
 use Rattle.std.proofs.Common.{◌≡◌, length, map, take}
-use Rattle.pd_format.specs.Documents.{asked_predicates}
+use Rattle.def_format.specs.Documents.{asked_predicates}
 use Rattle.serde_json.specs.View.{items_view}
 use Rattle.pd_spec.proofs.changes.asked_predicates.Given as goal
 

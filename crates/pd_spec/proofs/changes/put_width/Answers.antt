@@ -3,7 +3,7 @@ use Rattle.std.proofs.Common.{◌∙◌, ap, ap₂, sym}
 use Rattle.serde_json.specs.Data.{put}
 use Rattle.serde_json.specs.View.{members_view}
 use Rattle.serde_json.proofs.Views.{members_view-insert_entry}
-use Rattle.pd_format.specs.Documents.{with_width}
+use Rattle.def_format.specs.Documents.{with_width}
 use Rattle.pd_spec.proofs.changes.put_width.Goals as goal
 
 pub returns-in_ok-insert : goal.returns-in_ok-insert

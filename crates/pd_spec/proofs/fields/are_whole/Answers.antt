@@ -2,7 +2,7 @@
 use Rattle.std.proofs.Common.{◌∙◌}
 use Rattle.std.specs.Prelude.{is_some}
 use Rattle.serde_json.specs.Data.{Data}
-use Rattle.pd_format.specs.Records.{whole_number}
+use Rattle.def_format.specs.Records.{whole_number}
 use Rattle.pd_spec.proofs.MemberViews.{all_values-entries}
 use Rattle.pd_spec.proofs.fields.are_whole.Goals as goal
 

@@ -1,6 +1,6 @@
 -- If the reader of JSON finds a value it is the bytes' value, and otherwise they have none.
 use Rattle.std.proofs.Common.{sym}
-use Rattle.pd_format.proofs.JsonFacts.{json_value-some, json_value-none}
+use Rattle.def_format.proofs.JsonFacts.{json_value-some, json_value-none}
 use Rattle.pd_spec.proofs.json_bytes.json_value.Goals as goal
 
 pub returns-in-Ok : goal.returns-in-Ok

@@ -1,7 +1,7 @@
 -- The predicates of the items so far, and those of the items that are left, are those of all.
 use Rattle.std.proofs.Common.{sym, ◌∙◌, arith}
 use Rattle.serde_json.specs.View.{items_view}
-use Rattle.pd_format.specs.Documents.{each}
+use Rattle.def_format.specs.Documents.{each}
 use Rattle.pd_spec.specs.Outlines.{predicate_in, predicate_outline_view}
 use Rattle.pd_spec.proofs.Each.{onto_nothing, each_more, each_none}
 use Rattle.pd_spec.proofs.outline.predicate_outlines.Goals as goal

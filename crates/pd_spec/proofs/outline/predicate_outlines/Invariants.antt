@@ -1,7 +1,7 @@
 -- What the loops of `predicate_outlines` keep.
 use Rattle.std.proofs.Common.{◌≡◌, map, drop}
 use Rattle.serde_json.specs.View.{items_view}
-use Rattle.pd_format.specs.Documents.{each}
+use Rattle.def_format.specs.Documents.{each}
 use Rattle.pd_spec.specs.Outlines.{predicate_in, predicate_outline_view}
 use Rattle.pd_spec.proofs.Each.{onto}
 use Rattle.pd_spec.proofs.outline.predicate_outlines.Given as goal

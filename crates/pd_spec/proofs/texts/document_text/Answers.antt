@@ -3,8 +3,8 @@ use Rattle.std.proofs.Common.{◌≡◌, ◌≤◌, ◌∙◌, Some, option_map,
 use Rattle.serde_json.specs.Data.{Data, depth}
 use Rattle.serde_json.specs.Read.{max_depth, read}
 use Rattle.serde_json.specs.View.{view}
-use Rattle.pd_format.specs.Records.{json_value}
-use Rattle.pd_format.proofs.JsonFacts.{json_value-some}
+use Rattle.def_format.specs.Records.{json_value}
+use Rattle.def_format.proofs.JsonFacts.{json_value-some}
 use Rattle.pd_spec.specs.Texts.{no_json, own, printed}
 use Rattle.pd_spec.specs.Views.{options_view}
 use Rattle.pd_spec.proofs.Depths.{changed_depth}

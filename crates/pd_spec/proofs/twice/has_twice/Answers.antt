@@ -1,7 +1,7 @@
 -- Whether some text is among these twice.
 use Rattle.std.proofs.Common.{sym, ap, ◌∙◌}
 use Rattle.std.proofs.lemmas.List.{take_all}
-use Rattle.pd_format.specs.Documents.{has_twice}
+use Rattle.def_format.specs.Documents.{has_twice}
 use Rattle.pd_spec.proofs.TwiceLemmas.{texts_of, same_more, once_more, twice_here}
 use Rattle.pd_spec.proofs.twice.has_twice.Goals as goal
 

@@ -2,8 +2,8 @@
 use Rattle.std.proofs.Common.{◌≡◌, ℕ, List, Bor, false, map, take, nat_cmp, is_eq}
 use Rattle.std.specs.Cmp.Lexicographic.{slice_cmp}
 use Rattle.std.specs.List.{list_any}
-use Rattle.pd_format.specs.Documents.{has_twice}
-use Rattle.pd_format.specs.Lists.{is_one_of}
+use Rattle.def_format.specs.Documents.{has_twice}
+use Rattle.def_format.specs.Lists.{is_one_of}
 use Rattle.pd_spec.proofs.twice.has_twice.Given as goal
 
 abbrev pub invariant-loop-text : goal.invariant-loop-text

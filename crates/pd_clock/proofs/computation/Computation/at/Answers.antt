@@ -1,8 +1,8 @@
 -- The state at a cut.
 use Rattle.std.proofs.Common.{◌≡◌, ℕ, sym, subst}
-use Rattle.pd_model.specs.Cuts.{FitsProcesses}
-use Rattle.pd_model.specs.Predicates.{Recorded, state_at}
-use Rattle.pd_traces.specs.Views.{computation_view}
+use Rattle.def_model.specs.Cuts.{FitsProcesses}
+use Rattle.def_model.specs.Predicates.{Recorded, state_at}
+use Rattle.read_traces.specs.Views.{computation_view}
 use Rattle.pd_clock.specs.StateViews.{state_view}
 use Rattle.pd_clock.proofs.Lookups.{is_looked_up, value_is_state}
 use Rattle.pd_clock.proofs.computation.Computation.at.Goals as goal

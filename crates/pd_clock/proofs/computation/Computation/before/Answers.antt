@@ -1,10 +1,10 @@
 -- An event happened before another if it is in its clock, and is another one.
 use Rattle.std.proofs.Common.{◌≡◌, ◌≢◌, ◌↔◌, ◌≤◌, sym, subst, ◌∙◌}
 use Rattle.std.proofs.lemmas.Bool.{leb-true, le-leb, false≢true}
-use Rattle.pd_model.specs.Events as events
-use Rattle.pd_model.specs.Order.{HappenedBefore}
+use Rattle.def_model.specs.Events as events
+use Rattle.def_model.specs.Order.{HappenedBefore}
 use Rattle.pd_match.specs.Views.{place_view}
-use Rattle.pd_model.proofs.ClockSteps.{in_clock}
+use Rattle.def_model.proofs.ClockSteps.{in_clock}
 use Rattle.pd_clock.proofs.PastFacts.{apart_from_test, same_from_test}
 use Rattle.pd_clock.proofs.computation.Computation.before.Goals as goal
 

@@ -2,13 +2,13 @@
 use Rattle.std.proofs.Common.{◌≡◌, ℤ, List, Option, Some, None, refl, sym, subst}
 use Rattle.std.specs.Prelude.{IfNone, Vec}
 use Rattle.std.specs.Global.{Global}
-use Rattle.pd_format.specs.Names.{ProcessNames}
-use Rattle.pd_model.specs.Order.{HasNoCycle}
-use Rattle.pd_model.specs.Predicates.{Initial}
-use Rattle.pd_traces.specs.InitialRows.{AreInitialRows}
-use Rattle.pd_traces.specs.Views.{computation_view}
-use Rattle.pd_traces.specs.SessionTraces.{AreTraces}
-use Rattle.pd_traces.specs.declared.event.Trace.{Trace}
+use Rattle.def_format.specs.Names.{ProcessNames}
+use Rattle.def_model.specs.Order.{HasNoCycle}
+use Rattle.def_model.specs.Predicates.{Initial}
+use Rattle.read_traces.specs.InitialRows.{AreInitialRows}
+use Rattle.read_traces.specs.Views.{computation_view}
+use Rattle.read_traces.specs.SessionTraces.{AreTraces}
+use Rattle.read_traces.specs.declared.event.Trace.{Trace}
 use Rattle.pd_clock.specs.Computations.{FitsInitial, initial_view}
 use Rattle.pd_clock.proofs.FitTraces.{fits_initial}
 use Rattle.pd_clock.proofs.PastFacts.{all_clocks}

@@ -1,8 +1,8 @@
 -- An event can be undone if it is in the clock of no other process's last event.
 use Rattle.std.proofs.Common.{◌≡◌, ℕ, ◌<◌, ◌↔◌, List, get_or, ap, arith}
-use Rattle.pd_model.specs.Cuts.{IsConsistent, one_less}
-use Rattle.pd_model.specs.Predicates.{Recorded}
-use Rattle.pd_traces.specs.Views.{computation_view}
+use Rattle.def_model.specs.Cuts.{IsConsistent, one_less}
+use Rattle.def_model.specs.Predicates.{Recorded}
+use Rattle.read_traces.specs.Views.{computation_view}
 use Rattle.pd_clock.specs.Pasts.{IsInNoPast}
 use Rattle.pd_clock.proofs.UndoFacts.{undone_exactly}
 use Rattle.pd_clock.proofs.computation.Computation.can_undo.Goals as goal

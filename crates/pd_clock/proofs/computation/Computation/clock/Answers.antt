@@ -1,8 +1,8 @@
 -- A clock is looked up in the row of its process.
 use Rattle.std.proofs.Common.{◌≡◌, ◌<◌, ◌+◌, ◌-◌, ◌*◌, length, ap, sym, ◌∙◌, arith}
-use Rattle.pd_model.specs.Events.{IsEvent}
-use Rattle.pd_model.specs.Predicates.{Recorded}
-use Rattle.pd_traces.specs.Views.{computation_view}
+use Rattle.def_model.specs.Events.{IsEvent}
+use Rattle.def_model.specs.Predicates.{Recorded}
+use Rattle.read_traces.specs.Views.{computation_view}
 use Rattle.pd_match.specs.Views.{place_view}
 use Rattle.pd_clock.proofs.PastFacts.{place_in_row, clock_read}
 use Rattle.pd_clock.proofs.computation.Computation.clock.Goals as goal

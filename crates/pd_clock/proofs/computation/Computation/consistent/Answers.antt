@@ -1,8 +1,8 @@
 -- Counts that fit are consistent if they have what is in the clocks of their last events.
 use Rattle.std.proofs.Common.{◌≡◌, ◌↔◌, ap}
-use Rattle.pd_model.specs.Cuts.{FitsProcesses, IsConsistent}
-use Rattle.pd_model.specs.Predicates.{Recorded}
-use Rattle.pd_traces.specs.Views.{computation_view}
+use Rattle.def_model.specs.Cuts.{FitsProcesses, IsConsistent}
+use Rattle.def_model.specs.Predicates.{Recorded}
+use Rattle.read_traces.specs.Views.{computation_view}
 use Rattle.pd_clock.specs.Pasts.{HasPasts}
 use Rattle.pd_clock.proofs.PastFacts.{consistent_exactly}
 use Rattle.pd_clock.proofs.computation.Computation.consistent.Goals as goal

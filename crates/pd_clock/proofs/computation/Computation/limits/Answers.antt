@@ -1,7 +1,7 @@
 -- What holds of every computation.
 use Rattle.std.proofs.Common.{subst}
-use Rattle.pd_model.specs.Order.{HasNoCycle}
-use Rattle.pd_model.specs.Predicates.{Recorded}
+use Rattle.def_model.specs.Order.{HasNoCycle}
+use Rattle.def_model.specs.Predicates.{Recorded}
 use Rattle.pd_clock.proofs.computation.Computation.limits.Goals as goal
 
 pub returns-clause-acyclic : goal.returns-clause-acyclic

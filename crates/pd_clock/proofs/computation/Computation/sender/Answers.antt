@@ -1,7 +1,7 @@
 -- A send is looked up among the messages.
 use Rattle.std.proofs.Common.{subst}
-use Rattle.pd_model.specs.Messages.{IsMessageList}
-use Rattle.pd_model.specs.Predicates.{Recorded}
+use Rattle.def_model.specs.Messages.{IsMessageList}
+use Rattle.def_model.specs.Predicates.{Recorded}
 use Rattle.pd_clock.proofs.computation.Computation.sender.Goals as goal
 
 pub returns : goal.returns

@@ -2,9 +2,9 @@
 use Rattle.std.proofs.Common.{◌≡◌, ℕ, List, ◌<◌, ◌≤◌, length, get_or, ap, sym, ◌∙◌, subst, ℤ, Vec, w64}
 use Rattle.std.specs.Global.{Global}
 use Rattle.std.proofs.lemmas.Int.{to_z-of_z}
-use Rattle.pd_model.specs.Events.{event_count}
-use Rattle.pd_model.specs.Predicates.{Recorded, state_at}
-use Rattle.pd_traces.specs.Views.{computation_view}
+use Rattle.def_model.specs.Events.{event_count}
+use Rattle.def_model.specs.Predicates.{Recorded, state_at}
+use Rattle.read_traces.specs.Views.{computation_view}
 use Rattle.pd_clock.specs.States.{value_in, values_at}
 use Rattle.pd_clock.proofs.Lookups.{count_there, row_there, value_is_state}
 use Rattle.pd_clock.proofs.Parts.{values_read}

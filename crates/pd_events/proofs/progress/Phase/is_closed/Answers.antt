@@ -1,5 +1,5 @@
 -- Whether the end line or a fault has come.
-use Rattle.pd_format.specs.Readings.{by_end_line, by_fault}
+use Rattle.def_format.specs.Readings.{by_end_line, by_fault}
 use Rattle.pd_events.proofs.progress.Phase.is_closed.Goals as goal
 
 pub returns-in-Ended-clause-yes : goal.returns-in-Ended-clause-yes

@@ -1,6 +1,6 @@
 -- Takes these lines, and the fault after them.
 use Rattle.std.proofs.Common.{ap, ◌∙◌}
-use Rattle.pd_format.specs.Readings.{with_end}
+use Rattle.def_format.specs.Readings.{with_end}
 use Rattle.pd_events.specs.Progress.{stop_of_fault}
 use Rattle.pd_events.proofs.progress.Progress.take_lines.Goals as goal
 

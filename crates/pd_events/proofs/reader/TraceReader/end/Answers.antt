@@ -1,6 +1,6 @@
 -- Takes the end of the input, after which the reader is closed.
 use Rattle.std.proofs.Common.{true, ap}
-use Rattle.pd_format.specs.Readings.{Reading, Ended}
+use Rattle.def_format.specs.Readings.{Reading, Ended}
 use Rattle.pd_frames.specs.Views.{lines_view}
 use Rattle.pd_events.proofs.ReaderSteps.{closed_ends, ended, ends_closed}
 use Rattle.pd_events.proofs.reader.TraceReader.end.Goals as goal

@@ -1,6 +1,6 @@
 -- Takes it that a read of the input failed, after which the reader is closed.
 use Rattle.std.proofs.Common.{false, ap}
-use Rattle.pd_format.specs.Readings.{Reading}
+use Rattle.def_format.specs.Readings.{Reading}
 use Rattle.pd_events.proofs.ReaderSteps.{failed, ends_closed}
 use Rattle.pd_events.proofs.reader.TraceReader.fail.Goals as goal
 

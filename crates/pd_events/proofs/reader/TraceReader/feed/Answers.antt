@@ -1,5 +1,5 @@
 -- Takes the next bytes of the stream.
-use Rattle.pd_format.specs.Readings.{Open}
+use Rattle.def_format.specs.Readings.{Open}
 use Rattle.pd_frames.specs.Views.{lines_view}
 use Rattle.pd_events.proofs.ReaderSteps.{closed_reads, fed, not_open}
 use Rattle.pd_events.proofs.reader.TraceReader.feed.Goals as goal

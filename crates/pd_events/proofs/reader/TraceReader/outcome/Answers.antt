@@ -1,6 +1,6 @@
 -- The trace of a stream that has its end line, otherwise its fault.
 use Rattle.std.proofs.Common.{refl, sym, ◌∙◌, ap}
-use Rattle.pd_format.specs.Readings.{Reading, result_of}
+use Rattle.def_format.specs.Readings.{Reading, result_of}
 use Rattle.pd_events.proofs.reader.TraceReader.outcome.Goals as goal
 
 pub returns-in-Ended-clause-fits : goal.returns-in-Ended-clause-fits

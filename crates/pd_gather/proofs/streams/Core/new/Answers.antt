@@ -2,7 +2,7 @@
 use Rattle.std.proofs.Common.{[], All, arith, subst, sym}
 use Rattle.std.proofs.lemmas.List.Elements.{All-push}
 use Rattle.std.proofs.lemmas.Option.{get_or_from_slice_get, slice_get_within}
-use Rattle.pd_format.specs.Readings.{Open}
+use Rattle.def_format.specs.Readings.{Open}
 use Rattle.pd_events.specs.Reads.{ReaderState, Reads}
 use Rattle.pd_spec.specs.Views.{document_view}
 use Rattle.pd_gather.proofs.streams.Core.new.Goals as goal

@@ -1,7 +1,7 @@
 -- What the loops of `new` keep.
 use Rattle.std.proofs.Common.{◌≡◌, [], All}
 use Rattle.std.specs.Vec.{vec_len}
-use Rattle.pd_format.specs.Readings.{Open}
+use Rattle.def_format.specs.Readings.{Open}
 use Rattle.pd_events.specs.Reads.{ReaderState, Reads}
 use Rattle.pd_spec.specs.Views.{document_view}
 use Rattle.pd_gather.proofs.streams.Core.new.Given as goal

@@ -6,7 +6,7 @@ use Rattle.std.proofs.lemmas.Iterator.Consumers.{YieldsList-end}
 use Rattle.std.proofs.lemmas.Iterator.Adapters.{YieldsList-from_vec}
 use Rattle.std.proofs.lemmas.Grind.{common_steps}
 use Rattle.pd_events.specs.Reads.{ReaderState}
-use Rattle.pd_traces.specs.declared.event.Trace.{Trace}
+use Rattle.read_traces.specs.declared.event.Trace.{Trace}
 use Rattle.pd_events.specs.declared.fault.StreamFault.{StreamFault}
 use Rattle.std.specs.Prelude.{Result}
 use Rattle.pd_gather.proofs.Outcomes.{Gives, gives_push, outcomes_are_results, outcomes_fit}

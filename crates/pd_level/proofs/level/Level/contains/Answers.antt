@@ -2,7 +2,7 @@
 use Rattle.std.proofs.Common.{◌≡◌, ◌↔◌, ℕ, List, false, length, Contains, sym, ap, ◌∙◌, subst}
 use Rattle.std.specs.Prelude.{IsTrue, Bool}
 use Rattle.std.proofs.lemmas.Bool.{false≢true}
-use Rattle.pd_keys.specs.Keys.{AreDigits, AreKeys, key_of}
+use Rattle.walk_keys.specs.Keys.{AreDigits, AreKeys, key_of}
 use Rattle.pd_level.specs.Levels.{Levelled, cuts_of, numbers}
 use Rattle.pd_level.specs.declared.keys.Keys.{Keys}
 use Rattle.pd_level.specs.declared.keys.Keys.TheVariants as kind

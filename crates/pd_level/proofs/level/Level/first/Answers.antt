@@ -1,8 +1,8 @@
 -- The key of the empty cut is 0.
 use Rattle.std.proofs.Common.{◌≡◌, ℕ, List, [], ◌∷◌, ◌++◌, ap, sym, ◌∙◌, subst, arith}
-use Rattle.pd_model.specs.Cuts.{empty_cut}
-use Rattle.pd_keys.specs.Keys.{digits}
-use Rattle.pd_keys.proofs.Keys.{digits-empty}
+use Rattle.def_model.specs.Cuts.{empty_cut}
+use Rattle.walk_keys.specs.Keys.{digits}
+use Rattle.walk_keys.proofs.Keys.{digits-empty}
 use Rattle.pd_level.specs.Levels.{IsKept, cuts_of, numbers}
 use Rattle.pd_level.proofs.Levels.{first_kept}
 use Rattle.pd_level.proofs.level.Level.first.Goals as goal

@@ -1,12 +1,12 @@
 -- The state of the key is that of the cut.
 use Rattle.std.proofs.Common.{◌≡◌, ◌<◌, ℕ, List, All, length, sym, ap, ◌∙◌, subst, arith}
 use Rattle.std.specs.Prelude.{IfSome, Bool, slice_get, slice_index}
-use Rattle.pd_model.specs.Cuts.{FitsProcesses, IsConsistent}
-use Rattle.pd_model.specs.Events.{Computation}
-use Rattle.pd_model.specs.Predicates.{test_of}
+use Rattle.def_model.specs.Cuts.{FitsProcesses, IsConsistent}
+use Rattle.def_model.specs.Events.{Computation}
+use Rattle.def_model.specs.Predicates.{test_of}
 use Rattle.pd_pred.specs.Views.{predicate_view}
-use Rattle.pd_keys.specs.Keys.{digits}
-use Rattle.pd_keys.specs.Pairs.{pair_number}
+use Rattle.walk_keys.specs.Keys.{digits}
+use Rattle.walk_keys.specs.Pairs.{pair_number}
 use Rattle.pd_level.specs.Levels.{Levelled, cuts_of, numbers}
 use Rattle.pd_level.specs.declared.keys.Keys.{Keys}
 use Rattle.pd_level.specs.declared.keys.Keys.TheVariants as kind

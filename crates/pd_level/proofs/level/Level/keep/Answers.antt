@@ -1,6 +1,6 @@
 -- The cuts that are kept are those of the keys that are kept.
 use Rattle.std.proofs.Common.{◌≡◌, ap, ◌∙◌}
-use Rattle.pd_keys.specs.Keys.{digits}
+use Rattle.walk_keys.specs.Keys.{digits}
 use Rattle.pd_level.specs.Levels.{Levelled, cuts_of, kept_by, numbers}
 use Rattle.pd_level.proofs.Kept.{kept-map, kept_keys, kept_some}
 use Rattle.pd_level.proofs.level.Level.keep.Goals as goal

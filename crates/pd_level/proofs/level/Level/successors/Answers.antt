@@ -1,7 +1,7 @@
 -- All cuts lie between the ends of the level.
 use Rattle.std.proofs.lemmas.Result.{IfOk-weaker}
-use Rattle.pd_model.specs.Answers.{IsListOf}
-use Rattle.pd_model.specs.Cuts.{IsNextOf}
+use Rattle.def_model.specs.Answers.{IsListOf}
+use Rattle.def_model.specs.Cuts.{IsNextOf}
 use Rattle.pd_level.specs.Levels.{Levelled}
 use Rattle.pd_level.proofs.Levels.{IsNextBetween, whole_list}
 use Rattle.pd_level.proofs.level.Level.successors.Goals as goal

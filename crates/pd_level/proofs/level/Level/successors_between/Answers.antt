@@ -1,11 +1,11 @@
 -- The keys that are made are those of the cuts between.
 use Rattle.std.proofs.Common.{◌≡◌, Bool, ℕ, ◌<◌, ◌≤◌, List, length, refl, ap, sym, subst, arith}
 use Rattle.std.specs.Prelude.{All}
-use Rattle.pd_format.specs.Limits.{event_limit}
-use Rattle.pd_model.specs.Events.{Computation, event_count}
-use Rattle.pd_model.specs.Answers.{IsListOf}
-use Rattle.pd_model.specs.Cuts.{IsConsistent}
-use Rattle.pd_keys.specs.Keys.{AreKeys}
+use Rattle.def_format.specs.Limits.{event_limit}
+use Rattle.def_model.specs.Events.{Computation, event_count}
+use Rattle.def_model.specs.Answers.{IsListOf}
+use Rattle.def_model.specs.Cuts.{IsConsistent}
+use Rattle.walk_keys.specs.Keys.{AreKeys}
 use Rattle.pd_level.specs.MoreCuts.{AreCuts, IsMoreBySome}
 use Rattle.pd_level.specs.Levels.{FitsKind, HasRoom, Levelled, cuts_of, is_single, numbers}
 use Rattle.pd_level.specs.declared.keys.Keys.{Keys}

@@ -1,9 +1,9 @@
 -- The keys of both levels are those of the cuts that stand in one of them.
 use Rattle.std.proofs.Common.{◌≡◌, ℕ, ◌<◌, ◌⊎◌, inl, inr, Bool, Contains, List, All, length, get_or, refl, ap, sym, ◌∙◌, subst, arith}
-use Rattle.pd_model.specs.Answers.{IsListOf}
-use Rattle.pd_model.specs.Cuts.{IsConsistent}
-use Rattle.pd_model.specs.Events.{Computation}
-use Rattle.pd_keys.specs.Keys.{AreKeys, Ascending}
+use Rattle.def_model.specs.Answers.{IsListOf}
+use Rattle.def_model.specs.Cuts.{IsConsistent}
+use Rattle.def_model.specs.Events.{Computation}
+use Rattle.walk_keys.specs.Keys.{AreKeys, Ascending}
 use Rattle.pd_level.specs.Levels.{FitsKind, HasRoom, IsInEither, IsKept, Levelled, cuts_of, is_single, numbers}
 use Rattle.pd_level.proofs.Levels.{are_cuts, process_count, same_kind}
 use Rattle.pd_level.specs.declared.keys.Keys.{Keys}

@@ -3,8 +3,8 @@ use Rattle.std.proofs.Common.{◌≡◌, sym, ◌∙◌, arith, w64}
 use Rattle.std.specs.Prelude.{slice_index}
 use Rattle.std.proofs.lemmas.Int.{to_z-of_z}
 use Rattle.std.proofs.lemmas.List.{get_or_past}
-use Rattle.pd_keys.specs.Keys.{digits}
-use Rattle.pd_keys.proofs.Keys.{length-digits}
+use Rattle.walk_keys.specs.Keys.{digits}
+use Rattle.walk_keys.proofs.Keys.{length-digits}
 use Rattle.pd_level.proofs.state.KeyStateValues.value.Goals.{then-process-self, else-process-self}
 use Rattle.pd_level.proofs.state.KeyStateValues.value.Goals as goal
 

@@ -2,7 +2,7 @@
 use Rattle.std.proofs.Common.{sym, ◌∙◌, ap}
 use Rattle.std.specs.Prelude.{List}
 use Rattle.std.specs.Str.{bytes_eq}
-use Rattle.pd_format.specs.Names.{process_named, ProcessNames as Entry}
+use Rattle.def_format.specs.Names.{process_named, ProcessNames as Entry}
 use Rattle.pd_pred.specs.Names.{entry_view, entries_view}
 use Rattle.pd_pred.proofs.Positions.{position-map}
 use Rattle.pd_pred.proofs.names.Names.find.Goals as goal

@@ -1,6 +1,6 @@
 -- What the loops of `drop_negations` keep.
 use Rattle.std.proofs.Common.{◌≡◌, length}
-use Rattle.pd_format.specs.OpenerStack.{drop_nots}
+use Rattle.def_format.specs.OpenerStack.{drop_nots}
 use Rattle.pd_pred.specs.Openers.{openers_view}
 use Rattle.pd_pred.proofs.openers.Openers.drop_negations.Given as goal
 

@@ -1,9 +1,9 @@
 -- A history without steps is legal, and its rows are fresh.
 use Rattle.std.proofs.Common.{◌≡◌, ◌∙◌, ℕ, List, [], ◌∷◌, ◌++◌, ap, sym, subst, length, arith, refl}
 use Rattle.std.proofs.lemmas.List.{map-append}
-use Rattle.pd_format.specs.Histories.{rows_of}
-use Rattle.pd_format.specs.HistoryLaws.{PassesAsLegal}
-use Rattle.pd_format.proofs.HistoryFacts.{rows_more}
+use Rattle.def_format.specs.Histories.{rows_of}
+use Rattle.def_format.specs.HistoryLaws.{PassesAsLegal}
+use Rattle.def_format.proofs.HistoryFacts.{rows_more}
 use Rattle.pd_register.specs.declared.post.Post.{Post}
 use Rattle.pd_register.specs.Views.{history_view, row_view, rows_view}
 use Rattle.pd_register.proofs.history.History.new.Goals as goal

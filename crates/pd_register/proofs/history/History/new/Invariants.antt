@@ -1,6 +1,6 @@
 -- The rows so far are those of no step.
 use Rattle.std.proofs.Common.{◌≡◌, [], length}
-use Rattle.pd_format.specs.Histories.{rows_of}
+use Rattle.def_format.specs.Histories.{rows_of}
 use Rattle.pd_register.specs.Views.{rows_view}
 use Rattle.pd_register.proofs.history.History.new.Given as goal
 

@@ -1,7 +1,7 @@
 -- The step is allowed, and the history with it is legal and has the rows.
 use Rattle.std.proofs.Common.{◌∙◌, ap, sym}
-use Rattle.pd_format.specs.Histories as histories
-use Rattle.pd_format.specs.Histories.{fresh_row, row_after}
+use Rattle.def_format.specs.Histories as histories
+use Rattle.def_format.specs.Histories.{fresh_row, row_after}
 use Rattle.pd_register.specs.Views.{row_view, step_view}
 use Rattle.std.proofs.lemmas.List.{get_or-map}
 use Rattle.pd_register.proofs.ViewFacts.{history_push}

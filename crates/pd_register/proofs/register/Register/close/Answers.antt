@@ -3,7 +3,7 @@ use Rattle.std.proofs.Common.{rules, ◌≡◌, ◌∙◌, ℕ, ◌+◌, ◌<◌
 use Rattle.std.proofs.lemmas.List.{length-map}
 use Rattle.std.proofs.lemmas.List.Elements.{All-cons}
 use mathlib.Core.Option.{some-injective}
-use Rattle.pd_format.specs.Histories.{fresh_row, rows_of}
+use Rattle.def_format.specs.Histories.{fresh_row, rows_of}
 use Rattle.pd_register.specs.declared.seat.Seat.{Seat}
 use Rattle.pd_register.specs.declared.history.History.{History}
 use Rattle.pd_register.specs.declared.row.Row.{Row}

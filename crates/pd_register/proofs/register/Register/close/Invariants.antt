@@ -1,6 +1,6 @@
 -- The seats that were joined have their rows in the view.
 use Rattle.std.proofs.Common.{◌≡◌, ◌++◌, List, [], false, All, length}
-use Rattle.pd_format.specs.Histories.{fresh_row}
+use Rattle.def_format.specs.Histories.{fresh_row}
 use Rattle.pd_register.specs.Views.{row_value}
 use Rattle.pd_register.specs.Seats.{IsSeatOf, stream_count}
 use Rattle.pd_register.specs.declared.seat.Seat.{Seat}

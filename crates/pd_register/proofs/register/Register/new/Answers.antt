@@ -2,7 +2,7 @@
 use Rattle.std.proofs.Common.{◌≡◌, ◌∙◌, ℕ, ◌+◌, List, [], ◌∷◌, ◌++◌, ◌-◌, ◌<◌, false, drop, take, All, length, get_or, ap, sym, subst, arith}
 use Rattle.std.proofs.lemmas.List.Elements.{All-push}
 use Rattle.atomic_table.specs.Table.{opening, Splits}
-use Rattle.pd_format.specs.Histories.{fresh_row}
+use Rattle.def_format.specs.Histories.{fresh_row}
 use Rattle.pd_register.specs.declared.history.History.{History}
 use Rattle.pd_register.specs.declared.seat.Seat.{Seat}
 use Rattle.pd_register.specs.Views.{row_value, history_view}

@@ -1,8 +1,8 @@
 -- The step may be made, the slot may go back, and the seat stays right.
 use Rattle.std.proofs.Common.{◌≡◌, ℕ, ◌<◌, true, ◌∷◌, ap, sym, subst, ◌∙◌, arith}
 use Rattle.atomic_table.specs.Table.{rest}
-use Rattle.pd_format.specs.Histories as histories
-use Rattle.pd_format.specs.Histories.{allows}
+use Rattle.def_format.specs.Histories as histories
+use Rattle.def_format.specs.Histories.{allows}
 use Rattle.pd_register.specs.Views.{step_view, row_in}
 use Rattle.pd_register.proofs.ViewFacts.{row_in_here}
 use Rattle.pd_register.proofs.SeatFacts.{own_row, stored_row, stands_own, follows, posts_when_added, posts_when_refused, posts_kept, own_after, holds_now, given_legal}

@@ -2,7 +2,7 @@
 use Rattle.std.proofs.Common.{map}
 use Rattle.pd_pred.specs.Names.{entries_view}
 use Rattle.pd_spec.specs.Outlines.{process_view}
-use Rattle.pd_format.proofs.DistinctNames.{names_differ}
+use Rattle.def_format.proofs.DistinctNames.{names_differ}
 use Rattle.pd_spec.proofs.Mapped.{names_of_entries}
 use Rattle.pd_spec.proofs.outline.Outline.names.Goals as goal
 

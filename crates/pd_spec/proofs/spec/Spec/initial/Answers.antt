@@ -1,6 +1,6 @@
 -- The initial values, in a row for each process.
 use Rattle.std.proofs.Common.{◌≡◌, length, arith, rules}
-use Rattle.pd_format.specs.Names.{vars_of}
+use Rattle.def_format.specs.Names.{vars_of}
 use Rattle.pd_spec.proofs.Rows.{process_of_var, row_fits, row_found}
 use Rattle.pd_spec.proofs.spec.Spec.initial.Goals as goal
 

@@ -1,11 +1,11 @@
 -- That `of_outline` meets its contract.
 use Rattle.std.proofs.Common.{◌≡◌, List, ℕ, None, option_map, map, string_bytes, sym, ap, ◌∙◌}
 use Rattle.serde_json.specs.View.{view}
-use Rattle.pd_format.specs.Documents.{version_of}
+use Rattle.def_format.specs.Documents.{version_of}
 use Rattle.pd_spec.specs.Outlines.{outline_view, predicate_outline_view}
 use Rattle.pd_spec.specs.declared.named.NamedPred.{NamedPred}
 use Rattle.pd_spec.proofs.Faultless.{sound_of, parsed_names}
-use Rattle.pd_format.specs.Versions.{version_view}
+use Rattle.def_format.specs.Versions.{version_view}
 use Rattle.pd_spec.specs.Named.{named_view}
 use Rattle.pd_spec.proofs.PredicateFaults.{all_spelled}
 use Rattle.pd_spec.proofs.spec.Spec.of_outline.Goals as goal

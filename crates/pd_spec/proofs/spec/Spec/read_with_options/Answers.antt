@@ -2,7 +2,7 @@
 use Rattle.std.proofs.Common.{◌≡◌, Ok, Some, None, option_map, sym, ap, ◌∙◌}
 use Rattle.std.proofs.lemmas.Result.{err_from_is_err_and, MatchResult-weaker}
 use Rattle.serde_json.specs.View.{view}
-use Rattle.pd_format.specs.Documents.{Inquiry, inquiry_json, inquiry_of, outline_of, outline_of_inquiry}
+use Rattle.def_format.specs.Documents.{Inquiry, inquiry_json, inquiry_of, outline_of, outline_of_inquiry}
 use Rattle.pd_spec.specs.Outlines.{outline_view}
 use Rattle.pd_spec.specs.Views.{document_view, options_view}
 use Rattle.pd_spec.proofs.DocumentFacts.{changed_value, document_of_inquiry, late_fault, long_bytes, no_json, no_shape, no_value, outline_fault_reported, sound_bytes}

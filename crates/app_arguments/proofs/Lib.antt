@@ -1,0 +1,11 @@
+-- The modules of lemmas of this crate.
+pub mod Builders
+pub mod Conditions
+pub mod Flags
+pub mod Numbers
+pub mod Parsed
+pub mod ParserEnds
+pub mod ServicePorts
+pub mod Wishes
+mod Lists
+mod Parts

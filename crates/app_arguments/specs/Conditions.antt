@@ -1,0 +1,139 @@
+-- The answers that a script asks to fail on: conditions, the text of a list of them, and what a report comes to.
+use Rattle.std.specs.Prelude.{ℕ, ◌<◌, ◌&&◌, ◌||◌, not, Bool, true, false, if◌then◌else◌, List, ◌∷◌, ◌++◌, codes, length, map, Option, Some, None, IfSome}
+use Rattle.std.specs.List.{AllByRecursion, list_any}
+use Rattle.std.specs.Str.{bytes_eq}
+use Rattle.def_format.specs.Reports.{Answer, Possibly, Definitely, Report, Judged, Refused, IsName, with_commas}
+
+-- ---- what is asked for
+
+-- which answers
+pub data Kind : Type 0 where
+  -- some consistent cut satisfies the predicate
+  PossiblyYes : Kind
+  -- none does
+  PossiblyNo : Kind
+  -- every observation passes through a cut that satisfies it
+  DefinitelyYes : Kind
+  -- some observation passes through none
+  DefinitelyNo : Kind
+  -- one of the two questions has no answer within the width
+  SomeUnknown : Kind
+
+-- the answers of this kind, of the predicate of this name, or of any if there is no name
+pub record Condition : Type 0 where
+  pub name : Option (List ℕ)
+  pub kind : Kind
+
+-- ---- the text of a list
+
+abbrev pub kind_text : Kind → List ℕ
+kind_text PossiblyYes = codes "possibly"
+kind_text PossiblyNo = codes "possibly-no"
+kind_text DefinitelyYes = codes "definitely"
+kind_text DefinitelyNo = codes "definitely-no"
+kind_text SomeUnknown = codes "unknown"
+
+-- the colon between a predicate's name and a kind
+abbrev pub colon : ℕ
+colon = 58
+
+abbrev pub text_for : Option (List ℕ) → Kind → List ℕ
+text_for None kind = kind_text kind
+text_for (Some name) kind = name ++ colon ∷ kind_text kind
+
+abbrev pub condition_text : Condition → List ℕ
+condition_text condition = text_for condition.name condition.kind
+
+-- the name is one that a predicate may have
+abbrev pub IsLawful : Condition → Type 0
+IsLawful condition = IfSome condition.name IsName
+
+abbrev pub AreLawful : List Condition → Type 0
+AreLawful conditions = (0 < length conditions) × AllByRecursion IsLawful conditions
+
+-- the texts of the conditions, with a comma between each two
+abbrev pub list_text : List Condition → List ℕ
+list_text conditions = with_commas (map condition_text conditions)
+
+-- ---- whether a report has such an answer
+
+abbrev pub is_possibly_yes : Possibly → Bool
+is_possibly_yes (Possibly.Yes counts) = true
+is_possibly_yes Possibly.No = false
+is_possibly_yes (Possibly.Unknown level) = false
+
+abbrev pub is_possibly_no : Possibly → Bool
+is_possibly_no (Possibly.Yes counts) = false
+is_possibly_no Possibly.No = true
+is_possibly_no (Possibly.Unknown level) = false
+
+abbrev pub is_possibly_unknown : Possibly → Bool
+is_possibly_unknown (Possibly.Yes counts) = false
+is_possibly_unknown Possibly.No = false
+is_possibly_unknown (Possibly.Unknown level) = true
+
+abbrev pub is_definitely_yes : Definitely → Bool
+is_definitely_yes (Definitely.Yes level) = true
+is_definitely_yes (Definitely.No path) = false
+is_definitely_yes (Definitely.Unknown level) = false
+
+abbrev pub is_definitely_no : Definitely → Bool
+is_definitely_no (Definitely.Yes level) = false
+is_definitely_no (Definitely.No path) = true
+is_definitely_no (Definitely.Unknown level) = false
+
+abbrev pub is_definitely_unknown : Definitely → Bool
+is_definitely_unknown (Definitely.Yes level) = false
+is_definitely_unknown (Definitely.No path) = false
+is_definitely_unknown (Definitely.Unknown level) = true
+
+-- an answer is of this kind
+abbrev pub is_of_kind : Kind → Answer → Bool
+is_of_kind PossiblyYes answer = is_possibly_yes answer.possibly
+is_of_kind PossiblyNo answer = is_possibly_no answer.possibly
+is_of_kind DefinitelyYes answer = is_definitely_yes answer.definitely
+is_of_kind DefinitelyNo answer = is_definitely_no answer.definitely
+is_of_kind SomeUnknown answer = is_possibly_unknown answer.possibly || is_definitely_unknown answer.definitely
+
+-- an answer is that of the predicate of this name, or of any if there is no name
+abbrev pub is_of_name : Option (List ℕ) → Answer → Bool
+is_of_name None answer = true
+is_of_name (Some name) answer = bytes_eq answer.name name
+
+-- an answer is one of those that a condition asks for
+abbrev pub is_asked_for : Condition → Answer → Bool
+is_asked_for condition answer = is_of_name condition.name answer && is_of_kind condition.kind answer
+
+-- one of the answers is
+abbrev pub is_met : List Answer → Condition → Bool
+is_met answers condition = list_any (is_asked_for condition) answers
+
+-- the answers have none of the predicate of this name
+abbrev pub lacks_name : List Answer → Option (List ℕ) → Bool
+lacks_name answers None = false
+lacks_name answers (Some name) = not (list_any (is_of_name (Some name)) answers)
+
+-- a condition names a predicate that isn't there
+abbrev pub lacks_predicate : List Answer → Condition → Bool
+lacks_predicate answers condition = lacks_name answers condition.name
+
+-- ---- what a report comes to
+
+pub data Conclusion : Type 0 where
+  -- the session is refused
+  OfRefusal : Conclusion
+  -- it is judged, and a condition names a predicate that the report doesn't have
+  NoPredicate : Conclusion
+  -- it is judged, the report has all predicates that are named, and some condition is met
+  Met : Conclusion
+  -- and none is
+  Unmet : Conclusion
+
+abbrev pub conclusion_of_answers : List Condition → List Answer → Conclusion
+conclusion_of_answers conditions answers =
+    if list_any (lacks_predicate answers) conditions then NoPredicate
+    else (if list_any (is_met answers) conditions then Met else Unmet)
+
+abbrev pub conclusion : List Condition → Report → Conclusion
+conclusion conditions (Judged processes events messages answers) = conclusion_of_answers conditions answers
+conclusion conditions (Refused refusal) = OfRefusal

@@ -1,0 +1,5 @@
+pub mod Arguments
+pub mod Views
+pub mod Statuses
+pub mod Conditions
+pub mod ConditionViews

@@ -1,0 +1,369 @@
+-- How a run of the program ends: its exit status, and what that says of what it leaves on its output and on its errors.
+use Rattle.std.specs.Prelude.{◌≡◌, ◌≢◌, ◌<◌, ◌≤◌, ◌⊎◌, ⊤, ℕ, true, false, Bool, All, List, [], ◌∷◌, codes, length, map, Option, Some, None, IfSome}
+use Rattle.std.specs.Io.KnownBytes.{Keeps}
+use Rattle.def_format.specs.Documents.{Document, DocumentFault, IsDocument, IsRefusedDocument, Inquiry, Options, inquiry_of}
+use Rattle.def_format.specs.Limits.{document_byte_limit, report_byte_limit}
+use Rattle.def_format.specs.Reports.{Report}
+use Rattle.app_arguments.specs.Conditions as conditions
+use Rattle.app_arguments.specs.Conditions.{Condition, Conclusion, conclusion}
+use Rattle.def_judgement.specs.Writes.{Source, Writes, Whole, Partial, IsAnyReport, IsBrokenOff, IsJudged, IsRefused, IsWholeInput, IsTextOfBundle, IsTextOfStreams, IsTooLong, IsFindingTextOf}
+
+-- ---- what a run is asked for
+
+pub data Request : Type 0 where
+  -- to judge the bundle on the input
+  JudgeInput : Request
+  -- to judge a session document, with what is asked beside it, and streams of events, each in a file of this name; and
+  -- to fail on these answers
+  JudgeFiles : (options : Options) (fail_on : List Condition) (document : List ℕ) (streams : List (List ℕ)) → Request
+  -- to check a report by a session document, with what is asked beside it, and streams of events, each in a file of
+  -- this name
+  CheckFiles : (options : Options) (document report : List ℕ) (streams : List (List ℕ)) → Request
+  -- to judge a session document, in the file of this name, and streams of events that come by connections to this port,
+  -- in the same way; to show meanwhile how far they are read to this many watchers; to wait no longer than this many
+  -- seconds for the connections, and to keep the session in the folder of this name, if that is asked for
+  ServeStreams : (options : Options) (fail_on : List Condition) (document : List ℕ) (port watchers : ℕ)
+      (wait : Option ℕ) (keep : Option (List ℕ)) → Request
+  -- to show the help
+  ShowHelp : Request
+  -- to say which version of the program this is
+  ShowVersion : Request
+  -- the arguments ask for nothing that can be done
+  Unclear : Request
+
+-- ---- files
+
+-- What is known of a file: what its reader has left once it is open, and whether it can surely be opened.
+pub record File : Type 0 where
+  pub source : Source
+  pub opens : Bool
+
+abbrev pub sources_of : List File → List Source
+sources_of files = map (λ (file : File). file.source) files
+
+-- Some of these files may be such that it can't be opened, or a read of one of those may fail.
+abbrev pub MayBeUnread : (opened read : List File) → Type 0
+MayBeUnread opened read =
+    All (λ (file : File). file.opens ≡ true) opened → All (λ (file : File). file.source.fails ≡ Some false) read → ⊥
+
+-- the report of this source is too long, if its bytes are known
+abbrev pub IsLongReport : Source → Type 0
+IsLongReport report = IfSome report.bytes (λ bytes. report_byte_limit < length bytes)
+
+-- The bytes are those of a document that is read from this source: all that it had left, if that is known, to its end,
+-- unless they are more than a document may have.
+pub record IsWholeDocument (source : Source) (bytes : List ℕ) : Type 0 where
+  pub all : IfSome source.bytes (λ known. bytes ≡ known)
+  pub ended : source.fails ≡ Some true → document_byte_limit < length bytes
+
+-- ---- how a run ends
+
+-- why a run does not do what it is asked for, though the arguments are clear
+pub data Failure : Type 0 where
+  -- memory runs out
+  MemoryFailure : Failure
+  -- the input or a file can't be read, or a report is too long
+  ReadFailure : Failure
+  -- the output can't be written, or not be flushed; or a session that is to be kept can't be
+  WriteFailure : Failure
+  -- the bundle is too long
+  BundleFailure : Failure
+  -- a port can't be bound, or a connection that is a stream can't be accepted, or not in time
+  NetworkFailure : Failure
+
+pub data Ending : Type 0 where
+  -- the session is judged and has no answer to fail on, nothing that the check found is bad, or the help is written
+  Success : Ending
+  -- the session is refused, or something that the check found is bad
+  Negative : Ending
+  -- the session is judged, and has an answer to fail on
+  Alarm : Ending
+  -- the session is judged, and has no predicate of a name that the arguments give
+  NoPredicate : Ending
+  -- the arguments are refused
+  Misuse : Ending
+  Failed : Failure → Ending
+
+abbrev pub status_of_failure : Failure → ℕ
+status_of_failure MemoryFailure = 4
+status_of_failure ReadFailure = 3
+status_of_failure WriteFailure = 3
+status_of_failure BundleFailure = 3
+status_of_failure NetworkFailure = 3
+
+-- the exit status
+abbrev pub status_of : Ending → ℕ
+status_of Success = 0
+status_of Negative = 1
+status_of Alarm = 5
+status_of NoPredicate = 2
+status_of Misuse = 2
+status_of (Failed failure) = status_of_failure failure
+
+-- ---- what stands on the errors
+
+-- the line that reports a failure
+abbrev pub line_of_failure : Failure → List ℕ
+line_of_failure MemoryFailure = codes "monitor: memory\n"
+line_of_failure ReadFailure = codes "monitor: read\n"
+line_of_failure WriteFailure = codes "monitor: write\n"
+line_of_failure BundleFailure = codes "monitor: bundle too long\n"
+line_of_failure NetworkFailure = codes "monitor: network\n"
+
+-- the text that is owed is written, or a prefix of it
+abbrev pub WritesUpTo : (IsOwed : List ℕ → Type 0) → (old new : Option (List ℕ)) → Type 0
+WritesUpTo IsOwed old new = Writes IsOwed Whole old new ⊎ Writes IsOwed Partial old new
+
+abbrev pub IsLineOf : Failure → List ℕ → Type 0
+IsLineOf failure text = text ≡ line_of_failure failure
+
+-- the line that reports that there is no predicate of a name that the arguments give
+abbrev pub IsNoPredicateLine : List ℕ → Type 0
+IsNoPredicateLine text = text ≡ codes "monitor: no predicate of this name\n"
+
+-- Nothing is reported of what succeeds, is found bad or is to fail; of a predicate that isn't there and of a failure
+-- its line, or a prefix of it if the errors take no more. What is reported of refused arguments is the parser's.
+abbrev pub Reports : Ending → (old new : Option (List ℕ)) → Type 0
+Reports Success old new = Keeps old new
+Reports Negative old new = Keeps old new
+Reports Alarm old new = Keeps old new
+Reports NoPredicate old new = WritesUpTo IsNoPredicateLine old new
+Reports Misuse old new = ⊤
+Reports (Failed failure) old new = WritesUpTo (IsLineOf failure) old new
+
+-- ---- what stands on the output
+
+-- A session is judged or refused: the text of its report. The output fails: that text or a prefix of it. Any other end:
+-- nothing; and that the input can't be read is said only if a read of it may fail.
+abbrev pub JudgementLeaves : (input : Source) → Ending → (old new : Option (List ℕ)) → Type 0
+JudgementLeaves input Success old new = Writes (IsTextOfBundle input IsJudged) Whole old new
+JudgementLeaves input Negative old new = Writes (IsTextOfBundle input IsRefused) Whole old new
+JudgementLeaves input Alarm old new = ⊥
+JudgementLeaves input NoPredicate old new = ⊥
+JudgementLeaves input Misuse old new = ⊥
+JudgementLeaves input (Failed MemoryFailure) old new = Keeps old new
+JudgementLeaves input (Failed ReadFailure) old new = IsBrokenOff input × Keeps old new
+JudgementLeaves input (Failed WriteFailure) old new = WritesUpTo (IsTextOfBundle input IsAnyReport) old new
+JudgementLeaves input (Failed BundleFailure) old new = IsTooLong input × Keeps old new
+JudgementLeaves input (Failed NetworkFailure) old new = ⊥
+
+-- P holds of the document in this file, with what is asked.
+pub record OfDocument (options : Options) (document : File) (P : Inquiry → Type 0) : Type 0 where
+  pub bytes : List ℕ
+  pub whole : IsWholeDocument document.source bytes
+  pub holds : P (inquiry_of options bytes)
+
+-- What is left of a run whose document stands in this file: nothing if memory runs out, nothing if a file can't be
+-- opened or read, which is so only if that may be, and else what P says of the document with what is asked.
+abbrev pub LeavesOf : (options : Options) (document : File) (IsUnread : Type 0)
+    (P : Inquiry → Ending → (old new : Option (List ℕ)) → Type 0) → Ending → (old new : Option (List ℕ)) → Type 0
+LeavesOf options document IsUnread P (Failed MemoryFailure) old new = Keeps old new
+LeavesOf options document IsUnread P (Failed ReadFailure) old new = IsUnread × Keeps old new
+LeavesOf options document IsUnread P (Failed WriteFailure) old new =
+    OfDocument options document (λ inquiry. P inquiry (Failed WriteFailure) old new)
+LeavesOf options document IsUnread P (Failed BundleFailure) old new =
+    OfDocument options document (λ inquiry. P inquiry (Failed BundleFailure) old new)
+LeavesOf options document IsUnread P (Failed NetworkFailure) old new =
+    OfDocument options document (λ inquiry. P inquiry (Failed NetworkFailure) old new)
+LeavesOf options document IsUnread P Success old new =
+    OfDocument options document (λ inquiry. P inquiry Success old new)
+LeavesOf options document IsUnread P Negative old new =
+    OfDocument options document (λ inquiry. P inquiry Negative old new)
+LeavesOf options document IsUnread P Alarm old new = OfDocument options document (λ inquiry. P inquiry Alarm old new)
+LeavesOf options document IsUnread P NoPredicate old new =
+    OfDocument options document (λ inquiry. P inquiry NoPredicate old new)
+LeavesOf options document IsUnread P Misuse old new = OfDocument options document (λ inquiry. P inquiry Misuse old new)
+
+-- a report comes to this, under these conditions
+abbrev pub ComesTo : (fail_on : List Condition) → Conclusion → Report → Type 0
+ComesTo fail_on end report = conclusion fail_on report ≡ end
+
+-- What is left of the texts of a report, of which IsText holds by what is said of the report. A session that is judged
+-- has an answer to fail on, or none, or no predicate of a name among these conditions; or it is refused: the text
+-- of its report. The output fails: that text or a prefix of it.
+abbrev pub OfReport : (IsText : (Report → Type 0) → List ℕ → Type 0) (fail_on : List Condition) → Ending
+    → (old new : Option (List ℕ)) → Type 0
+OfReport IsText fail_on Success old new = Writes (IsText (ComesTo fail_on conditions.Unmet)) Whole old new
+OfReport IsText fail_on Negative old new = Writes (IsText IsRefused) Whole old new
+OfReport IsText fail_on Alarm old new = Writes (IsText (ComesTo fail_on conditions.Met)) Whole old new
+OfReport IsText fail_on NoPredicate old new = Writes (IsText (ComesTo fail_on conditions.NoPredicate)) Whole old new
+OfReport IsText fail_on Misuse old new = ⊥
+OfReport IsText fail_on (Failed MemoryFailure) old new = ⊥
+OfReport IsText fail_on (Failed ReadFailure) old new = ⊥
+OfReport IsText fail_on (Failed WriteFailure) old new = WritesUpTo (IsText IsAnyReport) old new
+OfReport IsText fail_on (Failed BundleFailure) old new = ⊥
+OfReport IsText fail_on (Failed NetworkFailure) old new = ⊥
+
+-- of a document and of streams that these sources give
+abbrev pub OfStreams : (streams : List Source) (fail_on : List Condition) → Inquiry → Ending
+    → (old new : Option (List ℕ)) → Type 0
+OfStreams streams fail_on inquiry ending old new = OfReport (IsTextOfStreams inquiry streams) fail_on ending old new
+
+-- The text of the report of a document and of the streams that accepted connections gave, where a connection may be a
+-- source of which G holds. There are as many connections as the document has processes, and none if it is refused.
+pub record IsTextOfAccepted (document : Inquiry) (G : Source → Type 0) (IsSaid : Report → Type 0) (text : List ℕ) :
+    Type 0 where
+  pub inputs : List Source
+  pub accepted : All G inputs
+  pub one_each : (read : Document) → IsDocument document read → length inputs ≡ length read.names
+  pub none_refused : (fault : DocumentFault) → IsRefusedDocument document fault → inputs ≡ []
+  pub is_text : IsTextOfStreams document inputs IsSaid text
+
+-- Not all ports may be bound and connections accepted: the network may fail, or they are waited for no longer than some
+-- seconds.
+abbrev pub ServiceMayFail : (wait : Option ℕ) (network_serves : Bool) → Type 0
+ServiceMayFail wait network_serves = wait ≡ None → network_serves ≡ true → ⊥
+
+-- the inquiry is of a document, and isn't refused
+abbrev pub HoldsDocument : Inquiry → Type 0
+HoldsDocument inquiry = (document : Document) × IsDocument inquiry document
+
+-- The same of streams that come by connections. If a port can't be bound, or a stream not be accepted, or not in time:
+-- nothing; and that comes only of a document that isn't refused. If the session is to be kept, and can't be: nothing,
+-- in the same way, or all of the report.
+abbrev pub OfConnections : (G : Source → Type 0) (MayNotServe IsKept : Type 0) (fail_on : List Condition) → Inquiry
+    → Ending → (old new : Option (List ℕ)) → Type 0
+OfConnections G MayNotServe IsKept fail_on inquiry (Failed NetworkFailure) old new =
+    MayNotServe × HoldsDocument inquiry × Keeps old new
+OfConnections G MayNotServe IsKept fail_on inquiry (Failed WriteFailure) old new =
+    WritesUpTo (IsTextOfAccepted inquiry G IsAnyReport) old new
+    ⊎ (IsKept × HoldsDocument inquiry × Keeps old new)
+OfConnections G MayNotServe IsKept fail_on inquiry (Failed MemoryFailure) old new = ⊥
+OfConnections G MayNotServe IsKept fail_on inquiry (Failed ReadFailure) old new = ⊥
+OfConnections G MayNotServe IsKept fail_on inquiry (Failed BundleFailure) old new = ⊥
+OfConnections G MayNotServe IsKept fail_on inquiry Success old new =
+    OfReport (IsTextOfAccepted inquiry G) fail_on Success old new
+OfConnections G MayNotServe IsKept fail_on inquiry Negative old new =
+    OfReport (IsTextOfAccepted inquiry G) fail_on Negative old new
+OfConnections G MayNotServe IsKept fail_on inquiry Alarm old new =
+    OfReport (IsTextOfAccepted inquiry G) fail_on Alarm old new
+OfConnections G MayNotServe IsKept fail_on inquiry NoPredicate old new =
+    OfReport (IsTextOfAccepted inquiry G) fail_on NoPredicate old new
+OfConnections G MayNotServe IsKept fail_on inquiry Misuse old new = ⊥
+
+-- P holds of the bytes of a report, which are all that its source had left, and not too many.
+pub record OfClaim (report : Source) (P : List ℕ → Type 0) : Type 0 where
+  pub bytes : List ℕ
+  pub whole : IsWholeInput report bytes
+  pub fits : length bytes ≤ report_byte_limit
+  pub holds : P bytes
+
+-- A check of a report of this source finds nothing bad, or something: the text of what it finds. The output fails: that
+-- text or a prefix of it.
+abbrev pub OfFinding : (report : Source) (streams : List Source) → Inquiry → Ending → (old new : Option (List ℕ))
+    → Type 0
+OfFinding report streams inquiry Success old new =
+    OfClaim report (λ r. Writes (IsFindingTextOf inquiry r streams (Some true)) Whole old new)
+OfFinding report streams inquiry Negative old new =
+    OfClaim report (λ r. Writes (IsFindingTextOf inquiry r streams (Some false)) Whole old new)
+OfFinding report streams inquiry Alarm old new = ⊥
+OfFinding report streams inquiry NoPredicate old new = ⊥
+OfFinding report streams inquiry Misuse old new = ⊥
+OfFinding report streams inquiry (Failed MemoryFailure) old new = ⊥
+OfFinding report streams inquiry (Failed ReadFailure) old new = ⊥
+OfFinding report streams inquiry (Failed WriteFailure) old new =
+    OfClaim report (λ r. WritesUpTo (IsFindingTextOf inquiry r streams None) old new)
+OfFinding report streams inquiry (Failed BundleFailure) old new = ⊥
+OfFinding report streams inquiry (Failed NetworkFailure) old new = ⊥
+
+-- The help is the parser's text: it is shown, or the output fails.
+abbrev pub HelpLeaves : Ending → (old new : Option (List ℕ)) → Type 0
+HelpLeaves Success old new = ⊤
+HelpLeaves Negative old new = ⊥
+HelpLeaves Alarm old new = ⊥
+HelpLeaves NoPredicate old new = ⊥
+HelpLeaves Misuse old new = ⊥
+HelpLeaves (Failed MemoryFailure) old new = Keeps old new
+HelpLeaves (Failed ReadFailure) old new = ⊥
+HelpLeaves (Failed WriteFailure) old new = ⊤
+HelpLeaves (Failed BundleFailure) old new = ⊥
+HelpLeaves (Failed NetworkFailure) old new = ⊥
+
+-- the line that names the program and its version
+abbrev pub IsVersionLine : List ℕ → Type 0
+IsVersionLine text = text ≡ codes "monitor 1.0.0\n"
+
+-- That line is written, or the output fails: that line or a prefix of it.
+abbrev pub VersionLeaves : Ending → (old new : Option (List ℕ)) → Type 0
+VersionLeaves Success old new = Writes IsVersionLine Whole old new
+VersionLeaves Negative old new = ⊥
+VersionLeaves Alarm old new = ⊥
+VersionLeaves NoPredicate old new = ⊥
+VersionLeaves Misuse old new = ⊥
+VersionLeaves (Failed MemoryFailure) old new = Keeps old new
+VersionLeaves (Failed ReadFailure) old new = ⊥
+VersionLeaves (Failed WriteFailure) old new = WritesUpTo IsVersionLine old new
+VersionLeaves (Failed BundleFailure) old new = ⊥
+VersionLeaves (Failed NetworkFailure) old new = ⊥
+
+-- Arguments that ask for nothing are refused, and nothing is written.
+abbrev pub MisuseLeaves : Ending → (old new : Option (List ℕ)) → Type 0
+MisuseLeaves Success old new = ⊥
+MisuseLeaves Negative old new = ⊥
+MisuseLeaves Alarm old new = ⊥
+MisuseLeaves NoPredicate old new = ⊥
+MisuseLeaves Misuse old new = Keeps old new
+MisuseLeaves (Failed MemoryFailure) old new = Keeps old new
+MisuseLeaves (Failed ReadFailure) old new = ⊥
+MisuseLeaves (Failed WriteFailure) old new = ⊥
+MisuseLeaves (Failed BundleFailure) old new = ⊥
+MisuseLeaves (Failed NetworkFailure) old new = ⊥
+
+-- What is left of a run whose document and streams stand in files of these names, by what P says of the streams'
+-- sources.
+abbrev pub SessionLeaves : (files : List ℕ → File) (options : Options) (document : List ℕ) (streams : List (List ℕ))
+    (P : List Source → Inquiry → Ending → (old new : Option (List ℕ)) → Type 0) → Ending
+    → (old new : Option (List ℕ)) → Type 0
+SessionLeaves files options document streams P ending old new =
+    LeavesOf options (files document) (MayBeUnread (files document ∷ map files streams) (files document ∷ []))
+    (P (sources_of (map files streams))) ending old new
+
+-- Of the files of a document, a report and streams one may be such that it can't be opened, or one of the first two
+-- such that it can't be read; or the report is too long.
+abbrev pub UnreadClaim : (files : List ℕ → File) (document report : List ℕ) (streams : List (List ℕ)) → Type 0
+UnreadClaim files document report streams =
+    MayBeUnread (files document ∷ files report ∷ map files streams) (files document ∷ files report ∷ [])
+    ⊎ IsLongReport (files report).source
+
+-- By what is asked for, where of the input and of the file of each name this is known, a connection to each port may be
+-- such a source, and the network serves or may fail to.
+abbrev pub Leaves : (input : Source) (files : List ℕ → File) (connections : ℕ → Source → Type 0)
+    (network_serves : Bool) → Request → Ending → (old new : Option (List ℕ)) → Type 0
+Leaves input files connections network_serves JudgeInput ending old new = JudgementLeaves input ending old new
+Leaves input files connections network_serves (JudgeFiles options fail_on document streams) ending old new =
+    SessionLeaves files options document streams (λ sources. OfStreams sources fail_on) ending old new
+Leaves input files connections network_serves (CheckFiles options document report streams) ending old new =
+    LeavesOf options (files document) (UnreadClaim files document report streams)
+    (OfFinding (files report).source (sources_of (map files streams))) ending old new
+Leaves input files connections network_serves (ServeStreams options fail_on document port watchers wait keep) ending
+    old new =
+    LeavesOf options (files document) (MayBeUnread (files document ∷ []) (files document ∷ []))
+    (OfConnections (connections port) (ServiceMayFail wait network_serves) (keep ≢ None) fail_on) ending old new
+Leaves input files connections network_serves ShowHelp ending old new = HelpLeaves ending old new
+Leaves input files connections network_serves ShowVersion ending old new = VersionLeaves ending old new
+Leaves input files connections network_serves Unclear ending old new = MisuseLeaves ending old new
+
+-- ---- a run
+
+-- Memory runs out before it is known what is asked for, and nothing is written; or the arguments ask for something, and
+-- what is left on the output is by that and by how the run ends.
+abbrev pub DoesAsAsked : (IsAsked : Request → Type 0) (input : Source) (files : List ℕ → File)
+    (connections : ℕ → Source → Type 0) (network_serves : Bool) → Ending → (old new : Option (List ℕ)) → Type 0
+DoesAsAsked IsAsked input files connections network_serves ending old new =
+    ((ending ≡ Failed MemoryFailure) × Keeps old new)
+    ⊎ (request : Request) × IsAsked request × Leaves input files connections network_serves request ending old new
+
+-- A run with this exit status came to some end, by which this is left on the output.
+pub record Ends (IsLeft : Ending → Type 0) (status : ℕ) (errors_old errors_new : Option (List ℕ)) : Type 0 where
+  pub ending : Ending
+  pub is_status : status ≡ status_of ending
+  pub output : IsLeft ending
+  pub errors : Reports ending errors_old errors_new
+
+-- A run did what its arguments ask for: requests of which this holds.
+abbrev pub EndsAsAsked : (IsAsked : Request → Type 0) (input : Source) (files : List ℕ → File)
+    (connections : ℕ → Source → Type 0) (network_serves : Bool) (status : ℕ)
+    (old new errors_old errors_new : Option (List ℕ)) → Type 0
+EndsAsAsked IsAsked input files connections network_serves status old new errors_old errors_new =
+    Ends (λ ending. DoesAsAsked IsAsked input files connections network_serves ending old new) status errors_old
+    errors_new

@@ -1,0 +1,102 @@
+//! A list of conditions.
+ghost use Rattle.app_arguments.specs.Conditions.{AreLawful, conclusion, conclusion_of_answers, is_met, lacks_predicate, list_text};
+ghost use Rattle.app_arguments.specs.ConditionViews.{conclusion_view, conditions_view, fail_on_view};
+ghost use Rattle.pd_report.specs.Reading.{IsFoundAs};
+ghost use Rattle.pd_report.specs.Views.{answer_view, report_view};
+ghost use Rattle.std.specs.List.{list_any};
+ghost use Rattle.std.specs.Prelude.{◌≡◌, [], IfOk, map};
+
+use super::conclusion::Conclusion;
+use super::condition::{Condition, condition_of};
+use pd_report::{Answer, Report};
+use std::alloc::{AllocError, Global};
+
+/// The answers that a script asks to fail on: a list of conditions, which may be empty.
+#[derive(Drop)]
+pub struct FailOn<'a> {
+    conditions: Vec<Condition<'a>>,
+}
+
+/// The conditions of a list, if all of its parts are some.
+fn conditions_of(alloc: Global, list: &str) -> Result<Option<Vec<Condition<'_>>>, AllocError>
+    ensures { IfOk result (IsFoundAs (λ found. conditions_view found.items) list_text AreLawful list.now) }
+{
+    let mut conditions = Vec::new(alloc);
+    let mut left = list;
+    while let Some((first, rest)) = left.split_once(',') {
+        let Some(condition) = condition_of(first) else {
+            return Ok(None);
+        };
+        conditions.push(condition)?;
+        left = rest;
+    }
+    let Some(last) = condition_of(left) else {
+        return Ok(None);
+    };
+    conditions.push(last)?;
+    Ok(Some(conditions))
+}
+
+/// Whether a condition names a predicate that the answers don't have.
+fn any_lacks(conditions: &[Condition<'_>], answers: &[Answer]) -> bool
+    ensures { result ≡ list_any (lacks_predicate (map answer_view answers.now)) (conditions_view conditions.now) }
+{
+    conditions
+        .iter()
+        .any(|condition| condition.lacks_predicate(answers))
+}
+
+/// Whether a condition is met.
+fn any_met(conditions: &[Condition<'_>], answers: &[Answer]) -> bool
+    ensures { result ≡ list_any (is_met (map answer_view answers.now)) (conditions_view conditions.now) }
+{
+    conditions.iter().any(|condition| condition.is_met(answers))
+}
+
+/// What answers come to.
+fn conclusion_of(conditions: &[Condition<'_>], answers: &[Answer]) -> Conclusion
+    ensures { conclusion_view result
+        ≡ conclusion_of_answers (conditions_view conditions.now) (map answer_view answers.now) }
+{
+    if any_lacks(conditions, answers) {
+        return Conclusion::NoPredicate;
+    }
+    if any_met(conditions, answers) {
+        return Conclusion::Met;
+    }
+    Conclusion::Unmet
+}
+
+impl<'a> FailOn<'a> {
+    /// No condition.
+    pub fn nothing(alloc: Global) -> FailOn<'a>
+        ensures { fail_on_view result ≡ [] }
+    {
+        FailOn {
+            conditions: Vec::new(alloc),
+        }
+    }
+
+    /// The conditions of a list, at least one with a comma between each two, if it is such a list.
+    ///
+    /// # Errors
+    /// An allocation was refused.
+    pub fn of(alloc: Global, list: &'a str) -> Result<Option<FailOn<'a>>, AllocError>
+        ensures { IfOk result (IsFoundAs fail_on_view list_text AreLawful list.now) }
+    {
+        let Some(conditions) = conditions_of(alloc, list)? else {
+            return Ok(None);
+        };
+        Ok(Some(FailOn { conditions }))
+    }
+
+    /// What a report comes to under these conditions.
+    pub fn conclusion(&self, report: &Report) -> Conclusion
+        ensures { conclusion_view result ≡ conclusion (fail_on_view self.now) (report_view report.now) }
+    {
+        match report {
+            Report::Judged { answers, .. } => conclusion_of(&self.conditions, answers),
+            Report::Refused(_) => Conclusion::Refused,
+        }
+    }
+}

@@ -1,0 +1,75 @@
+//! What the program is asked for.
+
+use super::fail_on::FailOn;
+use super::workers::Workers;
+use out_picture::Wish;
+use pd_spec::Options;
+
+/// The names of the files of a session, and what is asked of it.
+#[derive(Drop)]
+pub struct SessionNames<'a> {
+    /// Of the session document.
+    pub spec: &'a str,
+    /// Of the streams of events, in their order.
+    pub streams: Vec<&'a str>,
+    /// What is asked beside the document.
+    pub options: Options<'a>,
+}
+
+/// What a judgement of files is asked for.
+#[derive(Drop)]
+pub struct Judgement<'a> {
+    /// The names of the session's files.
+    pub names: SessionNames<'a>,
+    /// The answers to fail on.
+    pub fail_on: FailOn<'a>,
+    /// How many workers share the work.
+    pub workers: Workers,
+}
+
+/// What is asked for of a page on which a run is explored.
+#[derive(Drop)]
+pub struct Exploration<'a> {
+    /// The names of the session's files.
+    pub names: SessionNames<'a>,
+    /// How many workers share the work.
+    pub workers: Workers,
+}
+
+/// What a server is asked for.
+#[derive(Drop)]
+pub struct Service<'a> {
+    /// The name of the session document's file.
+    pub spec: &'a str,
+    /// What is asked beside the document.
+    pub options: Options<'a>,
+    /// The port on which the streams are accepted, from 1 to 65,534.
+    pub port: u16,
+    /// How many watchers are accepted on the next port, at most 64.
+    pub watchers: u64,
+    /// How many seconds the streams are waited for, from 1 to 86,400, if that has an end.
+    pub wait: Option<u64>,
+    /// The name of the folder in which the session is kept, if it is.
+    pub keep: Option<&'a str>,
+    /// The answers to fail on.
+    pub fail_on: FailOn<'a>,
+    /// How many workers share the work.
+    pub workers: Workers,
+}
+
+/// What the program is asked for.
+#[derive(Drop)]
+pub enum Request<'a> {
+    /// To judge the bundle on the input.
+    Bundle,
+    /// To judge a session document and streams.
+    Judge(Judgement<'a>),
+    /// To check the report in the file of this name against a session document and streams.
+    Check(&'a str, SessionNames<'a>),
+    /// To draw the report in the file of this name with a session document and streams, as it is asked for.
+    Draw(&'a str, Wish<'a>, SessionNames<'a>),
+    /// To judge a session document and streams that come by connections.
+    Serve(Service<'a>),
+    /// To write the page on which the run of a session document and streams is explored.
+    Explore(Exploration<'a>),
+}

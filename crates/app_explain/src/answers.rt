@@ -1,0 +1,192 @@
+//! Explains what an answer leaves unknown.
+ghost use Rattle.app_explain.specs.Answers.{is_definitely_unknown, is_possibly_unknown, is_unknown};
+ghost use Rattle.std.specs.List.{list_any};
+ghost use Rattle.std.specs.Prelude.{◌≡◌, false, IfOk, OnOk};
+
+use super::says::{say, say_name, say_number};
+use pd_report::{Answer, Definitely, Possibly};
+use std::alloc::AllocError;
+
+/// A whole level, and how many cuts it has.
+#[derive(Clone, Copy)]
+pub struct Widest {
+    /// Its number.
+    pub number: u64,
+    /// How many cuts it has; 0 if that isn't known.
+    pub cuts: u64,
+}
+
+impl Widest {
+    /// Of which nothing is known.
+    pub fn unknown() -> Widest {
+        Widest { number: 0, cuts: 0 }
+    }
+}
+
+/// With what a session was judged.
+#[derive(Clone, Copy)]
+pub struct Judged {
+    /// How many cuts a level may have, if that is known.
+    pub width: Option<u64>,
+    /// Whether predicates were to be answered beyond the width, where they are decided without levels.
+    pub beyond_width: bool,
+    /// The level with the most cuts to which the walk has come.
+    pub widest: Widest,
+}
+
+impl Judged {
+    ghost use Rattle.app_explain.specs.Answers.{known_cuts};
+    ghost use Rattle.std.specs.Prelude.{◌≡◌};
+
+    /// How many cuts this level has, if that is known and they are more than the width.
+    fn cuts_of(&self, level: u64) -> Option<u64>
+        ensures { result ≡ known_cuts self.now level }
+    {
+        let Widest { number, cuts } = self.widest;
+        if number == level && cuts > self.width.unwrap_or(0) && cuts < u64::MAX {
+            return Some(cuts);
+        }
+        None
+    }
+}
+
+/// Says how many states the level has on which an answer stays unknown.
+fn say_cuts(out: &mut Vec<u8>, level: u64, judged: Judged) -> Result<(), AllocError> {
+    match (judged.cuts_of(level), judged.width) {
+        (Some(cuts), Some(width)) => {
+            say(out, " in all, has ")?;
+            say_number(out, cuts)?;
+            say(out, ", and the width is ")?;
+            say_number(out, width)?;
+            say(out, ".\n")
+        }
+        (Some(cuts), None) => {
+            say(out, " in all, has ")?;
+            say_number(out, cuts)?;
+            say(out, ", more than the width allows.\n")
+        }
+        (None, Some(width)) => {
+            say(out, " in all, has more than ")?;
+            say_number(out, width)?;
+            say(out, ", the width.\n")
+        }
+        (None, None) => say(out, " in all, has more of them than the width allows.\n"),
+    }
+}
+
+/// Says of a question about a predicate at which level it stays unknown.
+fn say_unknown(
+    out: &mut Vec<u8>,
+    name: &str,
+    question: &str,
+    level: u64,
+    judged: Judged,
+) -> Result<(), AllocError> {
+    say(out, "It is unknown whether ")?;
+    say_name(out, name)?;
+    say(out, question)?;
+    say_number(out, level)?;
+    say(out, ", of the states after ")?;
+    say_number(out, level)?;
+    say(out, if level == 1 { " event" } else { " events" })?;
+    say_cuts(out, level, judged)
+}
+
+/// Says of a predicate that it is unknown whether it possibly holds, if so, and whether it is.
+fn say_possibly(out: &mut Vec<u8>, answer: &Answer, judged: Judged) -> Result<bool, AllocError>
+    ensures said { IfOk result (λ said. said ≡ is_possibly_unknown answer.now.possibly) }
+    ensures quiet { IfOk result (λ said. said ≡ false → out.new.items ≡ out.old.items) }
+{
+    match &answer.possibly {
+        Possibly::Unknown(level) => {
+            say_unknown(out, &answer.name, " possibly holds: level ", *level, judged)?;
+            Ok(true)
+        }
+        Possibly::Yes(_) | Possibly::No => Ok(false),
+    }
+}
+
+/// Says of a predicate that it is unknown whether it definitely holds, if so, and whether it is.
+fn say_definitely(out: &mut Vec<u8>, answer: &Answer, judged: Judged) -> Result<bool, AllocError>
+    ensures said { IfOk result (λ said. said ≡ is_definitely_unknown answer.now.definitely) }
+    ensures quiet { IfOk result (λ said. said ≡ false → out.new.items ≡ out.old.items) }
+{
+    match &answer.definitely {
+        Definitely::Unknown(level) => {
+            say_unknown(
+                out,
+                &answer.name,
+                " definitely holds: level ",
+                *level,
+                judged,
+            )?;
+            Ok(true)
+        }
+        Definitely::Yes(_) | Definitely::No(_) => Ok(false),
+    }
+}
+
+/// Says what is unknown of one predicate, and whether something is.
+fn say_answer(out: &mut Vec<u8>, answer: &Answer, judged: Judged) -> Result<bool, AllocError>
+    ensures said { IfOk result (λ said. said ≡ is_unknown answer.now) }
+    ensures quiet { IfOk result (λ said. said ≡ false → out.new.items ≡ out.old.items) }
+{
+    let possibly = say_possibly(out, answer, judged)?;
+    let definitely = say_definitely(out, answer, judged)?;
+    Ok(possibly || definitely)
+}
+
+/// Says that a greater width might decide answers that are unknown, unless none could.
+fn say_width(out: &mut Vec<u8>, judged: Judged) -> Result<(), AllocError> {
+    let needed = judged.cuts_of(judged.widest.number).unwrap_or(0);
+    if needed > def_format::WIDTH_LIMIT {
+        return Ok(());
+    }
+    match judged.width {
+        Some(def_format::WIDTH_LIMIT) => Ok(()),
+        Some(_) => say(out, "ask for a greater width, up to --width 65536; or "),
+        None => say(
+            out,
+            "give the document a greater width, up to \"width\":65536; or ",
+        ),
+    }
+}
+
+/// Says what would decide answers that are unknown.
+fn say_ways(out: &mut Vec<u8>, judged: Judged) -> Result<(), AllocError> {
+    say(out, "What to do: ")?;
+    say_width(out, judged)?;
+    if !judged.beyond_width {
+        say(
+            out,
+            "judge files with --beyond-width, which answers predicates that name two processes, and most of those in \
+which each comparison names one; or ",
+        )?;
+    }
+    say(
+        out,
+        "record fewer events that neither send nor receive and set no variable that a predicate names.\n",
+    )
+}
+
+/// Explains each answer that is unknown: at which level, and what would decide it.
+///
+/// # Errors
+/// Out of memory; what was put until then stays.
+pub fn explain_answers(
+    out: &mut Vec<u8>,
+    answers: &[Answer],
+    judged: Judged,
+) -> Result<(), AllocError>
+    ensures { list_any is_unknown answers.now ≡ false → OnOk result (out.new.items ≡ out.old.items) }
+{
+    let mut is_unknown = false;
+    for answer in answers {
+        let said = say_answer(out, answer, judged)?;
+        is_unknown = is_unknown || said;
+    }
+    if is_unknown {
+        say_ways(out, judged)?;
+    }
+    Ok(())
+}

@@ -1,0 +1,275 @@
+//! Explains why the messages of a session are refused.
+ghost use Rattle.app_explain.specs.Fields.{is_text, message_of, text_in};
+ghost use Rattle.std.specs.Option.{option_map};
+ghost use Rattle.std.specs.Prelude.{◌≡◌, string_bytes, IfOk};
+
+use super::fields::text_in_line;
+use super::lines::{next_record, record_after};
+use super::says::{say, say_advice, say_name, say_number, say_shown};
+use super::source::{Source, show_numbered};
+use std::alloc::{AllocError, Global};
+
+/// What a word for messages that don't match means, of an event.
+fn meaning(word: &str) -> &'static str {
+    match word {
+        "sendtwice" => "sends a message with an id that another event sends too.",
+        "orphan" => "receives a message that no event of the session sends.",
+        "selfmessage" => "receives a message that its own process sends.",
+        _ => "receives a message that is received by another event too.",
+    }
+}
+
+/// What is expected in place of what has this fault.
+fn expected(word: &str) -> &'static str {
+    match word {
+        "sendtwice" => "an id of its own for each message that is sent.",
+        "orphan" =>
+            "for each receipt an event of another process that sends the message with this id.",
+        "selfmessage" => "a message that goes from one process to another.",
+        _ => {
+            "one receipt of each message; with \"version\":2 in the document one in each process that receives it."
+        }
+    }
+}
+
+/// What to do about this fault.
+fn advice(word: &str) -> &'static str {
+    match word {
+        "sendtwice" => {
+            "make ids of the name of the sender and a counter, also over restarts; a message that is sent again is \
+recorded once."
+        }
+        "orphan" => {
+            "record the send before the message leaves, with the id that travels with it; record the receipt of what \
+comes from outside of the session as {}."
+        }
+        "selfmessage" =>
+            "record {} in place of both events, since what a process does stands in its order anyway.",
+        _ => {
+            "record the first receipt alone; if several processes receive the message, the document needs \
+\"version\":2."
+        }
+    }
+}
+
+/// The id of the message that this event sends or receives, where events count from 1, in the bytes of its stream.
+///
+/// # Errors
+/// Out of memory.
+pub fn message_of(alloc: Global, bytes: &[u8], number: u64) -> Result<Option<String>, AllocError>
+    ensures { IfOk result (λ found. option_map string_bytes found ≡ message_of number bytes.now) }
+{
+    let Some(record) = record_after(bytes, number) else {
+        return Ok(None);
+    };
+    match text_in_line(alloc, record.bytes, "send")? {
+        Some(id) => Ok(Some(id)),
+        None => text_in_line(alloc, record.bytes, "recv"),
+    }
+}
+
+/// An event, by the name of its process and its number, counted from 1.
+#[derive(Clone, Copy)]
+pub struct EventName<'a> {
+    /// The name of its process.
+    pub process: &'a str,
+    /// Its number.
+    pub number: u64,
+}
+
+/// Says which event it is.
+fn say_event(out: &mut Vec<u8>, event: EventName<'_>) -> Result<(), AllocError> {
+    say(out, "Event ")?;
+    say_number(out, event.number)?;
+    say(out, " of process ")?;
+    say_name(out, event.process)
+}
+
+/// Explains why an event's message is refused: what it means. What is expected is said by `advise_messages`.
+///
+/// # Errors
+/// Out of memory; what was put until then stays.
+pub fn explain_message(
+    out: &mut Vec<u8>,
+    event: EventName<'_>,
+    word: &str,
+) -> Result<(), AllocError> {
+    say_event(out, event)?;
+    say(out, " ")?;
+    say(out, meaning(word))?;
+    say(out, "\n")
+}
+
+/// Says what is expected of messages in place of what has this fault, and what to do.
+///
+/// # Errors
+/// Out of memory; what was put until then stays.
+pub fn advise_messages(out: &mut Vec<u8>, word: &str) -> Result<(), AllocError> {
+    say_advice(out, expected(word), advice(word))
+}
+
+/// Shows the line of an event in its stream.
+///
+/// # Errors
+/// Out of memory; what was put until then stays.
+pub fn show_event(
+    out: &mut Vec<u8>,
+    source: &Source<'_>,
+    event: EventName<'_>,
+) -> Result<(), AllocError> {
+    match record_after(source.bytes, event.number) {
+        Some(record) => show_numbered(out, source.name, record.line, record.bytes, None),
+        None => Ok(()),
+    }
+}
+
+/// Which other events with the id of a message are shown, and what is said of each.
+#[derive(Clone, Copy)]
+pub struct Others<'a> {
+    /// The field of their lines that has the id: `send` or `recv`.
+    pub field: &'a str,
+    /// What is said before the line.
+    pub said: &'a str,
+}
+
+/// Shows the first event of a stream that sends or receives the message with this id, as the field says, and isn't the
+/// event with this number. It gives whether there is one.
+///
+/// # Errors
+/// Out of memory; what was put until then stays.
+pub fn show_other(
+    out: &mut Vec<u8>,
+    alloc: Global,
+    source: &Source<'_>,
+    others: Others<'_>,
+    id: &str,
+    but: u64,
+) -> Result<bool, AllocError> {
+    let mut rest = source.bytes;
+    let mut line = 0u64;
+    for number in 0..u64::MAX {
+        let Some(record) = next_record(rest, line) else {
+            return Ok(false);
+        };
+        rest = record.after;
+        line = record.line;
+        if number > 0 && number != but && has_id(alloc, record.bytes, others.field, id)? {
+            say(out, others.said)?;
+            show_numbered(out, source.name, line, record.bytes, None)?;
+            return Ok(true);
+        }
+    }
+    Ok(false)
+}
+
+/// Whether a record sends or receives, as the field says, the message with this id.
+fn has_id(alloc: Global, line: &[u8], field: &str, id: &str) -> Result<bool, AllocError>
+    ensures { IfOk result (λ has. has ≡ is_text id.now (text_in field.now line.now)) }
+{
+    match text_in_line(alloc, line, field)? {
+        Some(found) => Ok(found.as_str() == id),
+        None => Ok(false),
+    }
+}
+
+/// Says what a causal cycle is. Its events are shown by `show_step`.
+///
+/// # Errors
+/// Out of memory; what was put until then stays.
+pub fn explain_cycle(out: &mut Vec<u8>) -> Result<(), AllocError> {
+    say(
+        out,
+        "Each of these events receives a message that the process of the next one sends after that next one, and the \
+last one a message that the process of the first one sends after the first. So each of them would have happened before \
+itself.\n",
+    )
+}
+
+/// Shows an event of a causal cycle with its message, if it has one.
+///
+/// # Errors
+/// Out of memory; what was put until then stays.
+pub fn show_step(
+    out: &mut Vec<u8>,
+    alloc: Global,
+    source: Option<&Source<'_>>,
+    event: EventName<'_>,
+) -> Result<(), AllocError> {
+    say_event(out, event)?;
+    let Some(source) = source else {
+        return say(out, ".\n");
+    };
+    let id = message_of(alloc, source.bytes, event.number)?;
+    if let Some(id) = id {
+        say(out, " receives the message ")?;
+        say_name(out, &id)?;
+    }
+    say(out, ". ")?;
+    show_event(out, source, event)
+}
+
+/// Says what to do about a causal cycle.
+///
+/// # Errors
+/// Out of memory; what was put until then stays.
+pub fn advise_cycle(out: &mut Vec<u8>) -> Result<(), AllocError> {
+    say_advice(
+        out,
+        "in each stream the events in the order in which they happened, a send before the message leaves and a \
+receipt after it has come.",
+        "look at the streams of these events for lines in the wrong order: two threads that write without one lock, a \
+send that is recorded too late, or an id that is used twice.",
+    )
+}
+
+/// Explains that no stream is one of this process.
+///
+/// # Errors
+/// Out of memory; what was put until then stays.
+pub fn explain_absent(out: &mut Vec<u8>, process: &str) -> Result<(), AllocError> {
+    say(out, "No stream is that of process ")?;
+    say_name(out, process)?;
+    say(out, ", which the session document names.\n")
+}
+
+/// Says whose stream a file is.
+///
+/// # Errors
+/// Out of memory; what was put until then stays.
+pub fn show_join(out: &mut Vec<u8>, file: &str, process: Option<&str>) -> Result<(), AllocError> {
+    say(out, "    ")?;
+    say_shown(out, file.as_bytes())?;
+    match process {
+        Some(process) => {
+            say(out, " is the stream of ")?;
+            say_name(out, process)?;
+        }
+        None => say(out, " doesn't say whose stream it is")?,
+    }
+    say(out, "\n")
+}
+
+/// Says what to do about a stream that is absent.
+///
+/// # Errors
+/// Out of memory; what was put until then stays.
+pub fn advise_absent(out: &mut Vec<u8>) -> Result<(), AllocError> {
+    say_advice(
+        out,
+        "a stream for each process of the document, one that recorded nothing too: its join and its end line.",
+        "give the stream of that process too, or take the process out of the document.",
+    )
+}
+
+/// Explains that there are too many streams.
+///
+/// # Errors
+/// Out of memory; what was put until then stays.
+pub fn explain_streams(out: &mut Vec<u8>) -> Result<(), AllocError> {
+    say(out, "There are more than 32 streams.\n")?;
+    say_advice(
+        out,
+        "one stream for each process, of which a session has at most 16.",
+        "name the files of one run alone.",
+    )
+}

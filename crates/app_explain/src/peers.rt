@@ -1,0 +1,380 @@
+//! Explains what concerns those who send the streams of a server.
+ghost use Rattle.app_explain.specs.Peers.{is_earlier, is_sent, missing, missing_text, process_names};
+ghost use Rattle.std.specs.List.{list_any};
+ghost use Rattle.std.specs.Prelude.{◌≡◌, ◌++◌, not, OnOk};
+
+use super::known_names::{name_at, say_processes};
+use super::record_details::place_in_record;
+use super::says::{say, say_advice, say_name, say_number, say_shown};
+use super::source::show_line_of;
+use super::streams::{StreamFault, advice, expected, say_head, say_known, say_refused};
+use super::window::show_line;
+use pd_pred::Names;
+use std::alloc::{AllocError, Global};
+
+/// What begins a line that is told while a server runs.
+const TELLING: &str = "serve: ";
+
+/// Who sends a stream, as far as it is known.
+#[derive(Clone, Copy)]
+pub struct Sender<'a> {
+    /// The number of the stream, counted from 1.
+    pub stream: u64,
+    /// From which address it comes, as `from 127.0.0.1:40000`; it is empty if that isn't known.
+    pub origin: &'a str,
+    /// The name of its process, if it has said that.
+    pub process: Option<&'a str>,
+    /// Its first line, or what has come of it.
+    pub start: &'a [u8],
+    /// The line at which it is refused, or its last one if it ends too soon, if that is known.
+    pub line: Option<&'a [u8]>,
+}
+
+/// The first line without the line feed that ends it, and a carriage return before that.
+fn first_line(start: &[u8]) -> &[u8] {
+    match start.split_last() {
+        Some((b'\n', line)) => line,
+        _ => start,
+    }
+}
+
+/// Shows how a stream begins that hasn't said whose it is.
+fn show_start(out: &mut Vec<u8>, sender: Sender<'_>) -> Result<(), AllocError> {
+    if sender.start.is_empty() {
+        return say(out, "Nothing came of it.\n");
+    }
+    say(out, "It begins so:\n")?;
+    show_line(out, first_line(sender.start), None)
+}
+
+/// Says on a line who sends a stream.
+fn say_sender(out: &mut Vec<u8>, sender: Sender<'_>) -> Result<(), AllocError> {
+    say(out, "    stream ")?;
+    say_number(out, sender.stream)?;
+    if !sender.origin.is_empty() {
+        say(out, ", ")?;
+        say_shown(out, sender.origin.as_bytes())?;
+        say(out, ",")?;
+    }
+    match sender.process {
+        Some(process) => {
+            say(out, " is the one of ")?;
+            say_name(out, process)?;
+            say(out, "\n")
+        }
+        None => {
+            say(out, " hasn't said whose it is. ")?;
+            show_start(out, sender)
+        }
+    }
+}
+
+/// Shows this line, at which a stream is refused that this peer sent, or the last one if the stream ended too soon.
+fn show_sent_line(
+    out: &mut Vec<u8>,
+    alloc: Global,
+    names: Option<&Names>,
+    fault: StreamFault<'_>,
+    sender: Sender<'_>,
+    line: &[u8],
+) -> Result<(), AllocError> {
+    say(out, "stream ")?;
+    say_number(out, sender.stream)?;
+    let number = fault.line.saturating_sub((fault.word == "unended") as u64);
+    let Some(names) = names else {
+        return show_line_of(out, number, line, None);
+    };
+    let process = sender.process.and_then(|name| names.find(name));
+    let place = place_in_record(alloc, names, process, line, fault.word)?;
+    show_line_of(out, number, line, place)
+}
+
+/// Shows where a stream is refused that this peer sent, or how it begins if it is refused there.
+fn show_refused(
+    out: &mut Vec<u8>,
+    alloc: Global,
+    names: Option<&Names>,
+    fault: StreamFault<'_>,
+    sender: Sender<'_>,
+) -> Result<(), AllocError> {
+    let Some(line) = sender.line else {
+        if sender.process.is_none() || fault.line <= 1 {
+            return show_start(out, sender);
+        }
+        return Ok(());
+    };
+    if fault.word == "unended" {
+        say(out, "Its last line is this one. ")?;
+    }
+    say(out, "In ")?;
+    show_sent_line(out, alloc, names, fault, sender, line)?;
+    match names {
+        Some(names) => say_known(out, names, sender.process, fault.word),
+        None => Ok(()),
+    }
+}
+
+/// Whether an earlier stream than this one is of the same process.
+fn is_earlier(other: Sender<'_>, sender: Sender<'_>) -> bool
+    ensures { result ≡ is_earlier other.entry sender.entry }
+{
+    other.stream < sender.stream && other.process == sender.process
+}
+
+/// Explains why a stream is refused that this peer sent.
+fn explain_sent(
+    out: &mut Vec<u8>,
+    alloc: Global,
+    names: Option<&Names>,
+    fault: StreamFault<'_>,
+    sender: Sender<'_>,
+    all: &[Sender<'_>],
+) -> Result<(), AllocError> {
+    say_head(out, fault, sender.origin, sender.process)?;
+    if fault.word == "taken" {
+        for other in all {
+            if is_earlier(*other, sender) {
+                return say_sender(out, *other);
+            }
+        }
+    }
+    show_refused(out, alloc, names, fault, sender)
+}
+
+/// Explains why a stream of a server is refused: by whom it was sent, of these, and the line at fault, or how it begins
+/// if it doesn't say whose it is. What there is in place of an unknown name is said if the names of the document are
+/// known.
+///
+/// # Errors
+/// Out of memory; what was put until then stays.
+pub fn explain_sent_stream(
+    out: &mut Vec<u8>,
+    alloc: Global,
+    names: Option<&Names>,
+    fault: StreamFault<'_>,
+    senders: &[Sender<'_>],
+) -> Result<(), AllocError> {
+    match senders.iter().find(|sender| sender.stream == fault.stream) {
+        Some(sender) => explain_sent(out, alloc, names, fault, *sender, senders)?,
+        None => say_head(out, fault, "", None)?,
+    }
+    say(out, "Streams count in the order in which they connected.\n")?;
+    say_advice(out, expected(fault.word), advice(fault.word))
+}
+
+/// Says of each stream who sends it.
+fn show_senders(out: &mut Vec<u8>, senders: &[Sender<'_>]) -> Result<(), AllocError> {
+    for sender in senders {
+        say_sender(out, *sender)?;
+    }
+    Ok(())
+}
+
+/// Whether one of these streams is the one of the process of this name.
+fn is_sent(senders: &[Sender<'_>], name: &str) -> bool
+    ensures { result ≡ is_sent senders.now name.now }
+{
+    senders.iter().any(|sender| sender.process == Some(name))
+}
+
+/// Says which processes of the document have sent none of these streams.
+fn say_missing(out: &mut Vec<u8>, names: &Names, senders: &[Sender<'_>]) -> Result<(), AllocError>
+    ensures { OnOk result (out.new.items
+        ≡ out.old.items ++ missing_text (missing senders.now (process_names names.now))) }
+{
+    let mut said = "Missing: ";
+    for process in 0..names.processes() {
+        let name = name_at(names, process);
+        if !is_sent(senders, name) {
+            say(out, said)?;
+            say_name(out, name)?;
+            said = ", ";
+        }
+    }
+    say(out, ".\n")?;
+    Ok(())
+}
+
+/// Explains that not all streams have connected in time: which have, and which processes are missing.
+///
+/// # Errors
+/// Out of memory; what was put until then stays.
+pub fn explain_wait(
+    out: &mut Vec<u8>,
+    names: &Names,
+    port: u64,
+    seconds: u64,
+    senders: &[Sender<'_>],
+) -> Result<(), AllocError> {
+    say(out, "In ")?;
+    say_number(out, seconds)?;
+    say(
+        out,
+        if seconds == 1 {
+            " second "
+        } else {
+            " seconds "
+        },
+    )?;
+    say_number(out, senders.len() as u64)?;
+    say(out, " of ")?;
+    say_number(out, names.processes() as u64)?;
+    say(out, " streams connected to port ")?;
+    say_number(out, port)?;
+    say(out, if senders.is_empty() { ".\n" } else { ":\n" })?;
+    show_senders(out, senders)?;
+    say_missing(out, names, senders)?;
+    say_advice(
+        out,
+        "a connection for each process of the document.",
+        "start what is missing, let it connect to that port of this machine, or wait longer by --wait.",
+    )
+}
+
+/// Explains that a session couldn't be kept: which file, and why.
+///
+/// # Errors
+/// Out of memory; what was put until then stays.
+pub fn explain_unkept(out: &mut Vec<u8>, why: Option<&str>) -> Result<(), AllocError> {
+    say(out, "Not all of the session is kept. ")?;
+    if let Some(why) = why {
+        say_shown(out, why.as_bytes())?;
+        say(out, ".\n")?;
+    }
+    say_advice(
+        out,
+        "an empty folder, or a name that nothing has yet in a folder that there is; and room for all that comes.",
+        "give another folder after --keep, or make room.",
+    )
+}
+
+/// Tells that what comes of a stream isn't kept any more in the file of this name, and why.
+///
+/// # Errors
+/// Out of memory; what was put until then stays.
+pub fn tell_stop(out: &mut Vec<u8>, path: &str, why: &str) -> Result<(), AllocError> {
+    say(out, TELLING)?;
+    say_shown(out, path.as_bytes())?;
+    say(out, " can't be written: ")?;
+    say_shown(out, why.as_bytes())?;
+    say(
+        out,
+        ". What comes of that stream from here on isn't kept; the session is judged all the same.\n",
+    )
+}
+
+/// Tells on which port the streams are waited for, and whose, and on the next one how many watchers.
+///
+/// # Errors
+/// Out of memory; what was put until then stays.
+pub fn tell_ports(
+    out: &mut Vec<u8>,
+    names: &Names,
+    port: u64,
+    watchers: u64,
+) -> Result<(), AllocError> {
+    say(out, TELLING)?;
+    say(out, "port ")?;
+    say_number(out, port)?;
+    say(out, " of this machine waits for the streams of ")?;
+    say_processes(out, names)?;
+    if watchers > 0 {
+        say(out, ", and the next one for ")?;
+        say_number(out, watchers)?;
+        say(
+            out,
+            if watchers == 1 {
+                " watcher"
+            } else {
+                " watchers"
+            },
+        )?;
+    }
+    say(out, ".\n")
+}
+
+/// Tells that a stream has connected, one of this many.
+///
+/// # Errors
+/// Out of memory; what was put until then stays.
+pub fn tell_connection(
+    out: &mut Vec<u8>,
+    sender: Sender<'_>,
+    count: u64,
+) -> Result<(), AllocError> {
+    say(out, TELLING)?;
+    say(out, "stream ")?;
+    say_number(out, sender.stream)?;
+    say(out, " of ")?;
+    say_number(out, count)?;
+    say(out, " has connected")?;
+    if !sender.origin.is_empty() {
+        say(out, ", ")?;
+        say_shown(out, sender.origin.as_bytes())?;
+    }
+    say(out, ".\n")
+}
+
+/// Whether a process of the document has sent none of these streams.
+fn is_missing(names: &Names, senders: &[Sender<'_>]) -> bool
+    ensures { result ≡ list_any (λ name. not (is_sent senders.now name)) (process_names names.now) }
+{
+    for process in 0..names.processes() {
+        if !is_sent(senders, name_at(names, process)) {
+            return true;
+        }
+    }
+    false
+}
+
+/// Tells how a stream begins, one of these: whose it is, and whose are missing; or that it doesn't say that.
+///
+/// # Errors
+/// Out of memory; what was put until then stays.
+pub fn tell_start(
+    out: &mut Vec<u8>,
+    names: &Names,
+    sender: Sender<'_>,
+    senders: &[Sender<'_>],
+) -> Result<(), AllocError> {
+    say(out, TELLING)?;
+    say(out, "stream ")?;
+    say_number(out, sender.stream)?;
+    let Some(process) = sender.process else {
+        say(out, " hasn't said whose it is. ")?;
+        return show_start(out, sender);
+    };
+    say(out, " is the one of ")?;
+    say_name(out, process)?;
+    if is_missing(names, senders) {
+        say(out, ". ")?;
+        return say_missing(out, names, senders);
+    }
+    say(out, ". None is missing.\n")
+}
+
+/// Tells that a stream is refused, at which line and why, and when the report comes. The line is shown, unless it was
+/// told before how the stream begins, since it hasn't said whose it is.
+///
+/// # Errors
+/// Out of memory; what was put until then stays.
+pub fn tell_refusal(
+    out: &mut Vec<u8>,
+    alloc: Global,
+    names: &Names,
+    fault: StreamFault<'_>,
+    sender: Sender<'_>,
+) -> Result<(), AllocError> {
+    say(out, TELLING)?;
+    say(out, "stream ")?;
+    say_refused(out, fault, sender.origin, sender.process)?;
+    if let (Some(_), Some(line)) = (sender.process, sender.line) {
+        say(out, TELLING)?;
+        show_sent_line(out, alloc, Some(names), fault, sender, line)?;
+    }
+    say(out, TELLING)?;
+    say(
+        out,
+        "no more of it is read; the report comes once the other streams have ended.\n",
+    )
+}

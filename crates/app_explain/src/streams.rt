@@ -1,0 +1,254 @@
+//! Explains why a stream is refused.
+ghost use Rattle.app_explain.specs.Fields.{joined_name};
+ghost use Rattle.std.specs.Option.{option_map};
+ghost use Rattle.std.specs.Prelude.{◌≡◌, string_bytes, IfOk};
+
+use super::fields::text_in_line;
+use super::known_names::{name_at, say_processes, say_vars};
+use super::lines::{line_at, record_after};
+use super::record_details::place_in_record;
+use super::says::{say, say_advice, say_name, say_number, say_shown};
+use super::source::{Source, show_numbered};
+use pd_pred::Names;
+use std::alloc::{AllocError, Global};
+
+/// The fault of a stream, as a report has it.
+#[derive(Clone, Copy)]
+pub struct StreamFault<'a> {
+    /// The number of the stream, counted from 1.
+    pub stream: u64,
+    /// The number of its line, counted from 1.
+    pub line: u64,
+    /// The word of the fault.
+    pub word: &'a str,
+}
+
+/// What a word for a stream's fault means.
+fn meaning(word: &str) -> &'static str {
+    match word {
+        "linetoolong" => "this line has more than 65,536 bytes.",
+        "streamtoolong" => "the stream has more than 16,777,216 bytes before its end line.",
+        "json" => "this line isn't a JSON text.",
+        "shape" => "this line has none of the forms of a stream's lines.",
+        "join" => "the first line has to say whose stream it is, and no later one may.",
+        "unknownprocess" => "the session document has no process of this name.",
+        "unknownvar" => "the process has no variable of this name.",
+        "value" => "the value of a variable isn't a whole number.",
+        "messageid" => "the id of a message has no byte, or more than 64.",
+        "events" => "the process has more than 10,000 events.",
+        "unended" => "the stream ends without the line that ends it.",
+        "read" => "it can't be read to its end.",
+        _ => "an earlier stream is one of the same process.",
+    }
+}
+
+/// What is expected in place of what has this fault.
+pub(crate) fn expected(word: &str) -> &'static str {
+    match word {
+        "linetoolong" => "one event a line, in at most 65,536 bytes.",
+        "streamtoolong" => "at most 16,777,216 bytes.",
+        "json" => "one JSON object a line, in UTF-8, ended by a line feed.",
+        "shape" => {
+            "{\"process\":\"a\"} first; then {}, {\"set\":{\"x\":1}}, {\"send\":\"id\"} or {\"recv\":\"id\"}, each \
+also with \"set\"; and {\"end\":true} last."
+        }
+        "join" =>
+            "{\"process\":\"a\"} as the first line, with the name of the process, and nowhere else.",
+        "value" => {
+            "a whole number from -9223372036854775808 to 9223372036854775807, without a point or an exponent."
+        }
+        "messageid" => "a text of 1 to 64 bytes, as \"left-1\".",
+        "events" => "at most 10,000 events of a process.",
+        "unended" => "{\"end\":true} as the last line.",
+        "taken" => "one stream for each process.",
+        _ => "",
+    }
+}
+
+/// What to do about this fault.
+pub(crate) fn advice(word: &str) -> &'static str {
+    match word {
+        "linetoolong" => "look whether a line feed is missing between two events.",
+        "streamtoolong" | "events" => {
+            "record fewer events: none for what changes no variable that a predicate names, and shorter runs."
+        }
+        "json" =>
+            "look how the line was written: two writers may share the file; or a crash cut it off, then put \
+{\"end\":true} in its place.",
+        "shape" => "have the recorder write one of these.",
+        "join" =>
+            "have the recorder write that line once, before all others; for two runs, take two files.",
+        "unknownprocess" => "correct the name in the stream, or add the process to the document.",
+        "unknownvar" =>
+            "correct the name in the stream, or add the variable to the process in the document.",
+        "value" =>
+            "record a whole number, as 0 and 1 for no and yes, or thousandths for a fraction.",
+        "messageid" => "give each message the name of its sender and a counter.",
+        "unended" => {
+            "have the program end its recording when it ends; if it crashed, append that line to judge what came until \
+then."
+        }
+        "read" =>
+            "look whether the file is there and may be read, or whether the connection broke off.",
+        _ => "give each stream once, or correct the name of the process in its first line.",
+    }
+}
+
+/// Whose stream it is: the name that its first record gives, if it does.
+///
+/// # Errors
+/// Out of memory.
+pub fn joined_name(alloc: Global, bytes: &[u8]) -> Result<Option<String>, AllocError>
+    ensures { IfOk result (λ found. option_map string_bytes found ≡ joined_name bytes.now) }
+{
+    match record_after(bytes, 0) {
+        Some(record) => text_in_line(alloc, record.bytes, "process"),
+        None => Ok(None),
+    }
+}
+
+/// What is said of a file by its name.
+fn shown_name(file: &str) -> &str {
+    if file == "-" { "standard input" } else { file }
+}
+
+/// Says which stream is refused, at which line, and why.
+pub(crate) fn say_head(
+    out: &mut Vec<u8>,
+    fault: StreamFault<'_>,
+    file: &str,
+    process: Option<&str>,
+) -> Result<(), AllocError> {
+    say(out, "Stream ")?;
+    say_refused(out, fault, file, process)
+}
+
+/// Says of the stream with this number that it is refused, at which line, and why.
+pub(crate) fn say_refused(
+    out: &mut Vec<u8>,
+    fault: StreamFault<'_>,
+    file: &str,
+    process: Option<&str>,
+) -> Result<(), AllocError> {
+    say_number(out, fault.stream)?;
+    if !file.is_empty() {
+        say(out, ", ")?;
+        say_shown(out, shown_name(file).as_bytes())?;
+        say(out, ",")?;
+    }
+    if let Some(process) = process {
+        say(out, " of process ")?;
+        say_name(out, process)?;
+        say(out, ",")?;
+    }
+    say(out, " is refused at line ")?;
+    say_number(out, fault.line)?;
+    say(out, ": ")?;
+    say(out, meaning(fault.word))?;
+    say(out, "\n")
+}
+
+/// Explains why a stream is refused, where only the fault is known, and says in which order streams count.
+///
+/// # Errors
+/// Out of memory; what was put until then stays.
+pub fn explain_stream_word(
+    out: &mut Vec<u8>,
+    fault: StreamFault<'_>,
+    order: &str,
+) -> Result<(), AllocError> {
+    say_head(out, fault, "", None)?;
+    say(out, order)?;
+    say_advice(out, expected(fault.word), advice(fault.word))
+}
+
+/// Explains why the stream in the file of this name is refused, and says more of why, in a sentence.
+///
+/// # Errors
+/// Out of memory; what was put until then stays.
+pub fn explain_stream_with(
+    out: &mut Vec<u8>,
+    fault: StreamFault<'_>,
+    file: &str,
+    why: &str,
+) -> Result<(), AllocError> {
+    say_head(out, fault, file, None)?;
+    if !why.is_empty() {
+        say_shown(out, why.as_bytes())?;
+        say(out, ".\n")?;
+    }
+    say_advice(out, expected(fault.word), advice(fault.word))
+}
+
+/// Shows the line at fault, or the last one if the stream ended too soon.
+fn show_fault(
+    out: &mut Vec<u8>,
+    alloc: Global,
+    names: &Names,
+    source: &Source<'_>,
+    fault: StreamFault<'_>,
+) -> Result<(), AllocError> {
+    if fault.word == "unended" {
+        if fault.line <= 1 {
+            return say(out, "The stream is empty.\n");
+        }
+        say(out, "Its last line is this one. ")?;
+        let last = fault.line.saturating_sub(1);
+        return show_numbered(out, source.name, last, line_at(source.bytes, last), None);
+    }
+    if fault.word == "streamtoolong" {
+        return Ok(());
+    }
+    let line = line_at(source.bytes, fault.line);
+    let process = match joined_name(alloc, source.bytes)? {
+        Some(name) => names.find(&name),
+        None => None,
+    };
+    let place = place_in_record(alloc, names, process, line, fault.word)?;
+    show_numbered(out, source.name, fault.line, line, place)
+}
+
+/// Says which processes or variables there are in place of a name that there isn't.
+pub(crate) fn say_known(
+    out: &mut Vec<u8>,
+    names: &Names,
+    process: Option<&str>,
+    word: &str,
+) -> Result<(), AllocError> {
+    if word == "unknownprocess" {
+        say(out, "Expected here: a process of the document, which has ")?;
+        say_processes(out, names)?;
+        return say(out, ".\n");
+    }
+    if word != "unknownvar" {
+        return Ok(());
+    }
+    let Some(process) = process.and_then(|name| names.find(name)) else {
+        return Ok(());
+    };
+    say(out, "Expected here: a variable of process ")?;
+    say_name(out, name_at(names, process))?;
+    say(out, ", which has ")?;
+    say_vars(out, names, process)?;
+    say(out, ".\n")
+}
+
+/// Explains why this stream is refused: what the fault means, the line with a caret below the place, as far as that is
+/// sure, what is expected there, and what to do.
+///
+/// # Errors
+/// Out of memory; what was put until then stays.
+pub fn explain_stream(
+    out: &mut Vec<u8>,
+    alloc: Global,
+    names: &Names,
+    source: &Source<'_>,
+    fault: StreamFault<'_>,
+) -> Result<(), AllocError> {
+    let joined = joined_name(alloc, source.bytes)?;
+    let process = joined.as_deref();
+    say_head(out, fault, source.name, process)?;
+    show_fault(out, alloc, names, source, fault)?;
+    say_known(out, names, process, fault.word)?;
+    say_advice(out, expected(fault.word), advice(fault.word))
+}

@@ -1,0 +1,241 @@
+-- If each level is narrow no answer is unknown, and each is the truth; so is what is decided whatever the width, if it
+-- is asked for. The answers agree at every width.
+use Rattle.std.proofs.Common.{◌≡◌, ℕ, Bool, true, List, [], ◌∷◌, map, All, refl, subst, ◌↔◌}
+use Rattle.std.proofs.lemmas.List.Elements.{All-nil, All-cons}
+use Rattle.std.specs.List.{AllZip}
+use Rattle.def_model.specs.Events.{Computation, Place}
+use Rattle.def_model.specs.Messages.{Version, Fault, SendTwice, Orphan, SelfMessage, ReceivedTwice, IsReported, HasLawfulMessages}
+use Rattle.def_model.specs.Order.{HasNoCycle, IsReportedCycle}
+use Rattle.def_model.specs.Observations as observations
+use Rattle.def_model.specs.Answers.{PossiblyAnswer, PossiblyYes, PossiblyNo, PossiblyUnknown, DefinitelyAnswer, DefinitelyYes, DefinitelyNo, DefinitelyUnknown, IsPossiblyAnswer, IsDefinitelyAnswer, IsFirstSatisfying, IsLeastFree, IsAvoidingObservation}
+use Rattle.def_model.specs.Predicates.{Recorded, test_of}
+use Rattle.def_format.specs.Names.{ProcessNames, name_of_process}
+use Rattle.def_format.specs.Readings.{Trace}
+use Rattle.def_format.specs.Documents.{Document, NamedPredicate}
+use Rattle.def_format.specs.Reports.{Possibly, Definitely, Answer}
+use Rattle.def_judgement.specs.Judgements.{events_of_traces, recorded_of, printed_possibly, printed_definitely, IsAnswered, of_messages, of_cycle, of_answers}
+use Rattle.def_model.proofs.OneAnswer.{definite_is_possible, cut_below_level}
+use Rattle.def_model.proofs.Paths.{path_avoids}
+use Rattle.def_model.proofs.Stuck.{none_stuck}
+use Rattle.def_judgement.specs.Headline.{IsNarrow, AnswersAgree, SaysPossibly, SaysDefinitely, SaysTruly, SaysDecided, AnswersTruly, AnswersDecided, Headline, HeadlineBeyondWidth, ReportsAgree}
+use Rattle.def_judgement.proofs.Answered.{PossiblyAt, possibly_at, DefinitelyAt, definitely_at}
+use Rattle.def_judgement.proofs.Narrow.{level_is_narrow, avoided_narrowly}
+
+-- ---- what is printed, at every width
+
+-- if no is printed, no consistent cut satisfies
+no_printed : (c : Computation) (test : List ℕ → Bool) (w : ℕ) (reported : Possibly) (p : PossiblyAnswer)
+    → reported ≡ printed_possibly p → IsPossiblyAnswer c test w p → reported ≡ Possibly.No
+    → ¬ observations.Possibly c test
+no_printed c test w reported (PossiblyYes cut) e right said = absurd (cc)
+no_printed c test w reported PossiblyNo e right said = right.1
+no_printed c test w reported (PossiblyUnknown k) e right said = absurd (cc)
+
+-- the cut printed is the first that satisfies
+cut_printed : (c : Computation) (test : List ℕ → Bool) (w : ℕ) (reported : Possibly) (p : PossiblyAnswer)
+    → reported ≡ printed_possibly p → IsPossiblyAnswer c test w p → (cut : List ℕ) → reported ≡ Possibly.Yes cut
+    → IsFirstSatisfying c test cut
+cut_printed c test w reported (PossiblyYes printed) e right cut said =
+    let same : printed ≡ cut = cc in subst (IsFirstSatisfying c test) same right.1
+cut_printed c test w reported PossiblyNo e right cut said = absurd (cc)
+cut_printed c test w reported (PossiblyUnknown k) e right cut said = absurd (cc)
+
+-- if yes is printed, every observation passes through a satisfying cut, and the level printed is the least with no
+-- avoiding cut
+level_printed : (names : List ProcessNames) (c : Computation) (test : List ℕ → Bool) (w : ℕ) (reported : Definitely)
+    (d : DefinitelyAnswer) → reported ≡ printed_definitely names d → IsDefinitelyAnswer c test w d → (level : ℕ)
+    → reported ≡ Definitely.Yes level → observations.Definitely c test × IsLeastFree c test level
+level_printed names c test w reported (DefinitelyYes printed) e right level said =
+    let same : printed ≡ level = cc in (right.1, subst (IsLeastFree c test) same right.2)
+level_printed names c test w reported (DefinitelyNo path) e right level said = absurd (cc)
+level_printed names c test w reported (DefinitelyUnknown k) e right level said = absurd (cc)
+
+-- the answers of Possibly and of Definitely agree
+answers_agree : (names : List ProcessNames) (c : Computation) (test : List ℕ → Bool) (v w : ℕ) (answer : Answer)
+    → HasNoCycle c → (p : PossiblyAnswer) → answer.possibly ≡ printed_possibly p → IsPossiblyAnswer c test v p
+    → (d : DefinitelyAnswer) → answer.definitely ≡ printed_definitely names d → IsDefinitelyAnswer c test w d
+    → AnswersAgree answer
+answers_agree names c test v w answer acyclic p e right d f right' =
+    record {
+      no_clash = λ level said none.
+          no_printed c test v answer.possibly p e right none (definite_is_possible c acyclic test
+          (level_printed names c test w answer.definitely d f right' level said).0);
+      below = λ cut level said said'.
+          cut_below_level c acyclic test level cut (cut_printed c test v answer.possibly p e right cut said)
+          (level_printed names c test w answer.definitely d f right' level said').1;
+    }
+
+-- ---- what is said of Possibly
+
+module _ (c : Computation) (test : List ℕ → Bool) (w : ℕ) (narrow : IsNarrow c w) (reported : Possibly) where
+  possibly_yes_exactly : (p : PossiblyAnswer) → reported ≡ printed_possibly p → IsPossiblyAnswer c test w p
+      → ((cut : List ℕ) × (reported ≡ Possibly.Yes cut)) ↔ observations.Possibly c test
+  possibly_yes_exactly (PossiblyYes cut) e (known, f) = (λ said. (cut, f.consistent, f.satisfies), λ holds. (cut, e))
+  possibly_yes_exactly PossiblyNo e (known, none) =
+      (λ said. let other : reported ≡ Possibly.Yes said.0 = said.1 in absurd (cc), λ holds. absurd (none holds))
+  possibly_yes_exactly (PossiblyUnknown k) e u = absurd (level_is_narrow c test w narrow k u.wide)
+
+  possibly_no_exactly : (p : PossiblyAnswer) → reported ≡ printed_possibly p → IsPossiblyAnswer c test w p
+      → (reported ≡ Possibly.No) ↔ (¬ observations.Possibly c test)
+  possibly_no_exactly (PossiblyYes cut) e (known, f) =
+      (λ said. absurd (cc), λ none. absurd (none (cut, f.consistent, f.satisfies)))
+  possibly_no_exactly PossiblyNo e (known, none) = (λ said. none, λ holds. e)
+  possibly_no_exactly (PossiblyUnknown k) e u = absurd (level_is_narrow c test w narrow k u.wide)
+
+-- ---- what is said of Definitely
+
+module _ (names : List ProcessNames) (c : Computation) (test : List ℕ → Bool) (w : ℕ) (narrow : IsNarrow c w)
+    (reported : Definitely) where
+  definitely_yes_exactly : (d : DefinitelyAnswer) → reported ≡ printed_definitely names d
+      → IsDefinitelyAnswer c test w d → ((level : ℕ) × (reported ≡ Definitely.Yes level))
+      ↔ observations.Definitely c test
+  definitely_yes_exactly (DefinitelyYes level) e (known, every, free) = (λ said. every, λ holds. (level, e))
+  definitely_yes_exactly (DefinitelyNo path) e (known, not_every, printed) =
+      (λ said. let other : reported ≡ Definitely.Yes said.0 = said.1 in absurd (cc), λ holds. absurd (not_every holds))
+  definitely_yes_exactly (DefinitelyUnknown k) e u = absurd (avoided_narrowly c test w narrow k u.wide)
+
+  definitely_no_exactly : (d : DefinitelyAnswer) → reported ≡ printed_definitely names d → IsDefinitelyAnswer c test w d
+      → ((path : List (List ℕ)) × (reported ≡ Definitely.No path)) ↔ (¬ observations.Definitely c test)
+  definitely_no_exactly (DefinitelyYes level) e (known, every, free) =
+      (λ said. let other : reported ≡ Definitely.No said.0 = said.1 in absurd (cc), λ none. absurd (none every))
+  definitely_no_exactly (DefinitelyNo path) e (known, not_every, printed) =
+      (λ said. not_every, λ holds. (map (name_of_process names) path, e))
+  definitely_no_exactly (DefinitelyUnknown k) e u = absurd (avoided_narrowly c test w narrow k u.wide)
+
+  path_printed : (d : DefinitelyAnswer) → reported ≡ printed_definitely names d → IsDefinitelyAnswer c test w d
+      → (words : List (List ℕ)) → reported ≡ Definitely.No words → (path : List ℕ)
+      × (words ≡ map (name_of_process names) path) × IsAvoidingObservation c test path
+  path_printed (DefinitelyYes level) e right words said = absurd (cc)
+  path_printed (DefinitelyNo path) e (known, not_every, printed) words said =
+      let same : words ≡ map (name_of_process names) path = cc in (path, same, path_avoids c test path printed)
+  path_printed (DefinitelyUnknown k) e right words said = absurd (cc)
+
+-- ---- one answer
+
+says_possibly : (c : Computation) (test : List ℕ → Bool) (w : ℕ) (reported : Possibly) (p : PossiblyAnswer)
+    → IsNarrow c w → reported ≡ printed_possibly p → IsPossiblyAnswer c test w p → SaysPossibly c test reported
+says_possibly c test w reported p narrow e right = record {
+  yes_exactly = possibly_yes_exactly c test w narrow reported p e right;
+  no_exactly = possibly_no_exactly c test w narrow reported p e right;
+  cut_satisfies = λ cut said. let i : IsFirstSatisfying c test cut = cut_printed c test w reported p e right cut said in
+      (i.consistent, i.satisfies);
+}
+
+says_definitely : (names : List ProcessNames) (c : Computation) (test : List ℕ → Bool) (w : ℕ) (reported : Definitely)
+    (d : DefinitelyAnswer) → IsNarrow c w → reported ≡ printed_definitely names d → IsDefinitelyAnswer c test w d
+    → SaysDefinitely names c test reported
+says_definitely names c test w reported d narrow e right = record {
+  yes_exactly = definitely_yes_exactly names c test w narrow reported d e right;
+  no_exactly = definitely_no_exactly names c test w narrow reported d e right;
+  path_avoids = path_printed names c test w narrow reported d e right;
+}
+
+module _ (document : Document) (r : Recorded) (acyclic : HasNoCycle r.events) (asked : NamedPredicate) (answer : Answer)
+    (a : IsAnswered document r asked answer) where
+  p : PossiblyAt document r asked.predicate a.possibly
+  p = possibly_at document r asked.predicate a.possibly a.possibly_right
+
+  d : DefinitelyAt document r asked.predicate a.definitely
+  d = definitely_at document r asked.predicate a.definitely a.definitely_right
+
+  agrees : AnswersAgree answer
+  agrees =
+      answers_agree document.names r.events (test_of r asked.predicate) p.width d.width answer acyclic a.possibly
+      a.possibly_reported p.right a.definitely a.definitely_reported d.right
+
+  says_truly : IsNarrow r.events document.width
+      → SaysTruly document.names r.events (test_of r asked.predicate) answer
+  says_truly narrow = record {
+    possibly = says_possibly r.events (test_of r asked.predicate) p.width answer.possibly a.possibly (p.narrow narrow)
+        a.possibly_reported p.right;
+    definitely = says_definitely document.names r.events (test_of r asked.predicate) d.width answer.definitely
+        a.definitely (d.narrow narrow) a.definitely_reported d.right;
+    agrees = agrees;
+  }
+
+  says_decided : document.beyond_width ≡ true → SaysDecided document.names r asked.predicate answer
+  says_decided beyond = record {
+    possibly = λ decided. says_possibly r.events (test_of r asked.predicate) p.width answer.possibly a.possibly
+        (p.narrow_if_decided beyond decided) a.possibly_reported p.right;
+    definitely = λ decided. says_definitely document.names r.events (test_of r asked.predicate) d.width
+        answer.definitely a.definitely (d.narrow_if_decided beyond decided) a.definitely_reported d.right;
+    agrees = agrees;
+  }
+
+-- ---- the report
+
+no_fault : (version : Version) (c : Computation) → HasLawfulMessages version c → (fault : Fault)
+    → ¬ IsReported version c fault
+no_fault version c lawful (SendTwice e) r = lawful.sent_once e r.0
+no_fault version c lawful (Orphan e) r = lawful.received_well e r.1.0
+no_fault version c lawful (SelfMessage e) r = lawful.received_well e r.1.0
+no_fault version c lawful (ReceivedTwice e) r = lawful.received_well e r.1.0
+
+no_cycle_reported : (c : Computation) → HasNoCycle c → (cycle : List Place) → ¬ IsReportedCycle c cycle
+no_cycle_reported c acyclic cycle r = (none_stuck c).0 acyclic r.first r.least.0.0
+
+all_zip_map : {A B : Type 0} → (R S : A → B → Type 0) → ((x : A) (y : B) → R x y → S x y) → (xs : List A) (ys : List B)
+    → AllZip R xs ys → AllZip S xs ys
+all_zip_map R S f [] [] h = tt
+all_zip_map R S f [] (y ∷ ys) h = h
+all_zip_map R S f (x ∷ xs) [] h = h
+all_zip_map R S f (x ∷ xs) (y ∷ ys) h = (f x y h.0, all_zip_map R S f xs ys h.1)
+
+module _ (document : Document) (traces : List Trace) (acyclic : HasNoCycle (events_of_traces traces)) where
+  answers_truly : IsNarrow (events_of_traces traces) document.width → (asked : NamedPredicate) (answer : Answer)
+      → IsAnswered document (recorded_of document traces) asked answer → AnswersTruly document traces asked answer
+  answers_truly narrow asked answer a =
+      (a.name, says_truly document (recorded_of document traces) acyclic asked answer a narrow)
+
+  answers_decided : document.beyond_width ≡ true → (asked : NamedPredicate) (answer : Answer)
+      → IsAnswered document (recorded_of document traces) asked answer → AnswersDecided document traces asked answer
+  answers_decided beyond asked answer a =
+      (a.name, says_decided document (recorded_of document traces) acyclic asked answer a beyond)
+
+pub headline_lem : Headline
+headline_lem document traces report formed narrow (of_messages fault r) =
+    absurd (no_fault document.version (events_of_traces traces) formed.messages fault r)
+headline_lem document traces report formed narrow (of_cycle cycle lawful r) =
+    absurd (no_cycle_reported (events_of_traces traces) formed.no_cycle cycle r)
+headline_lem document traces report formed narrow (of_answers messages answers formed' are answered) =
+    record {
+      messages = messages;
+      answers = answers;
+      reported = refl;
+      counted = are;
+      truly = all_zip_map (IsAnswered document (recorded_of document traces)) (AnswersTruly document traces)
+          (answers_truly document traces formed.no_cycle narrow) document.predicates answers answered;
+    }
+
+pub headline_beyond_width_lem : HeadlineBeyondWidth
+headline_beyond_width_lem document traces report formed beyond (of_messages fault r) =
+    absurd (no_fault document.version (events_of_traces traces) formed.messages fault r)
+headline_beyond_width_lem document traces report formed beyond (of_cycle cycle lawful r) =
+    absurd (no_cycle_reported (events_of_traces traces) formed.no_cycle cycle r)
+headline_beyond_width_lem document traces report formed beyond (of_answers messages answers formed' are answered) =
+    record {
+      messages = messages;
+      answers = answers;
+      reported = refl;
+      counted = are;
+      truly = all_zip_map (IsAnswered document (recorded_of document traces)) (AnswersDecided document traces)
+          (answers_decided document traces formed.no_cycle beyond) document.predicates answers answered;
+    }
+
+-- ---- at every width
+
+all_agree : (document : Document) (traces : List Trace) → HasNoCycle (events_of_traces traces)
+    → (asked : List NamedPredicate) (answers : List Answer)
+    → AllZip (IsAnswered document (recorded_of document traces)) asked answers → All AnswersAgree answers
+all_agree document traces acyclic [] [] each = All-nil AnswersAgree
+all_agree document traces acyclic [] (y ∷ answers) each = absurd each
+all_agree document traces acyclic (x ∷ asked) [] each = absurd each
+all_agree document traces acyclic (x ∷ asked) (y ∷ answers) each =
+    All-cons AnswersAgree y answers (agrees document (recorded_of document traces) acyclic x y each.0)
+    (all_agree document traces acyclic asked answers each.1)
+
+pub reports_agree_lem : ReportsAgree
+reports_agree_lem document traces report (of_messages fault r) = tt
+reports_agree_lem document traces report (of_cycle cycle lawful r) = tt
+reports_agree_lem document traces report (of_answers messages answers formed are answered) =
+    all_agree document traces formed.no_cycle document.predicates answers answered

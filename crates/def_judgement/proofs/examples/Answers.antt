@@ -1,0 +1,9 @@
+-- The definitions, tried on a small computation.
+use Rattle.def_judgement.proofs.Worked.{one_cut_a_level, one_true_report}
+use Rattle.def_judgement.proofs.examples.Goals as goal
+
+pub returns-clause-narrow : goal.returns-clause-narrow
+returns-clause-narrow c = one_cut_a_level
+
+pub returns-clause-truth : goal.returns-clause-truth
+returns-clause-truth c = one_true_report

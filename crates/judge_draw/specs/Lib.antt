@@ -1,0 +1,9 @@
+pub mod Sessions
+pub mod Checks
+pub mod Drawings
+pub mod Choices
+pub mod Values
+pub mod Exhibits
+pub mod Runs
+pub mod Drawn
+pub mod Cycles

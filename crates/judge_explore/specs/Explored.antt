@@ -1,0 +1,104 @@
+-- What is written of a session that is explored.
+use Rattle.std.specs.Prelude.{◌≡◌, ◌⊎◌, ℕ, Bool, true, false, List, length, Option, Some, None, Result, Ok, Err, IfErr}
+use Rattle.std.specs.List.{AllZip}
+use Rattle.def_model.specs.Events.{Place}
+use Rattle.def_model.specs.Messages.{IsMessageList}
+use Rattle.def_model.specs.Cuts.{total}
+use Rattle.def_format.specs.Documents.{Document, Inquiry}
+use Rattle.def_format.specs.Readings.{Trace}
+use Rattle.def_format.specs.Reports.{Report, Judged, Refused}
+use Rattle.def_format.specs.Reports as reports
+use Rattle.def_judgement.specs.Headline.{HoldsSession, IsTrueReport, is_judged}
+use Rattle.def_judgement.specs.Judgements.{IsJudgement, IsTracesReport, RawStream, events_of_traces}
+use Rattle.def_judgement.specs.Writes.{IsAnyReport, IsGivenAs, IsJudged, IsTextOfStreams, Writes, Source as StreamSource}
+use Rattle.out_page.specs.AnswerData.{Answered, Cyclic, Outcome}
+use Rattle.out_page.specs.Pages.{page_text}
+use Rattle.out_page.specs.SourceData.{Source}
+use Rattle.judge_explore.specs.Sources.{StreamFile, sources_of}
+use Rattle.judge_session.specs.Ends.{call_end}
+use Rattle.judge_session.specs.declared.fault.EngineFault.{EngineFault}
+use Rattle.judge_session.specs.declared.fault.EngineFault.TheVariants.{Memory, Write}
+use Rattle.pd_report.specs.declared.report.Report as programs
+
+-- the report of traces of which this is shown, for a session with this many messages
+abbrev pub report_with : Document → List Trace → (messages : ℕ) → Outcome → Report
+report_with document traces messages (Answered answers) =
+    Judged (length document.names) (total (events_of_traces traces)) messages answers
+report_with document traces messages (Cyclic places) = Refused (reports.Cycle places)
+
+-- The page of a session's traces: of where their events were recorded, of these, of the messages, each as its send and
+-- its receipt in the order of the receipts, and of the answers of their report or the causal cycle that it names. Of
+-- the report this is said.
+pub record IsPageOfTraces (document : Document) (sources : List Source) (traces : List Trace)
+    (IsSaid : Report → Type 0) (text : List ℕ) : Type 0 where
+  pub pairs : List (Place × Place)
+  pub are_messages : IsMessageList (events_of_traces traces) pairs
+  pub messages : ℕ
+  pub outcome : Outcome
+  pub right : IsTracesReport document traces (report_with document traces messages outcome)
+  pub said : IsSaid (report_with document traces messages outcome)
+  pub is_text : text ≡ page_text document sources (events_of_traces traces) pairs outcome
+
+-- The page of the session that a document's bytes, with what is asked beside them, and streams hold, with where their
+-- events were recorded by these files; and the report of which it shows the answers or the cycle is the report of the
+-- document and the streams, which is true.
+pub record IsPageOf (inquiry : Inquiry) (files : List StreamFile) (streams : List RawStream)
+    (IsSaid : Report → Type 0) (text : List ℕ) : Type 0 where
+  pub document : Document
+  pub traces : List Trace
+  pub held : HoldsSession inquiry streams document traces
+  pub pairs : List (Place × Place)
+  pub are_messages : IsMessageList (events_of_traces traces) pairs
+  pub messages : ℕ
+  pub outcome : Outcome
+  pub right : IsJudgement inquiry streams (report_with document traces messages outcome)
+  pub truth : IsTrueReport inquiry streams (report_with document traces messages outcome)
+  pub said : IsSaid (report_with document traces messages outcome)
+  pub is_text : text ≡ page_text document (sources_of document.names files (events_of_traces traces))
+      (events_of_traces traces) pairs outcome
+
+-- the same of the streams that these sources gave
+pub record IsPageOfInputs (inquiry : Inquiry) (files : List StreamFile) (inputs : List StreamSource)
+    (IsSaid : Report → Type 0) (text : List ℕ) : Type 0 where
+  pub streams : List RawStream
+  pub are_given : AllZip IsGivenAs inputs streams
+  pub is_page : IsPageOf inquiry files streams IsSaid text
+
+-- whether it is a refusal for a causal cycle
+abbrev pub is_cycle : Report → Bool
+is_cycle (Refused (reports.Cycle places)) = true
+is_cycle _ = false
+
+abbrev pub IsCycle : Report → Type 0
+IsCycle report = is_cycle report ≡ true
+
+-- it is a refusal, and not for a causal cycle
+abbrev pub IsOtherRefusal : Report → Type 0
+IsOtherRefusal report = (is_judged report ≡ false) × (is_cycle report ≡ false)
+
+-- The text that is owed of a session, with these files: of one that is judged its page; of one that is refused for a
+-- causal cycle its page, which shows that; and of one that is refused otherwise the text of its report.
+abbrev pub IsOwed : (inquiry : Inquiry) (files : List StreamFile) (inputs : List StreamSource) (judged : Option Bool)
+    (text : List ℕ) → Type 0
+IsOwed inquiry files inputs (Some true) text =
+    IsPageOfInputs inquiry files inputs IsJudged text
+IsOwed inquiry files inputs (Some false) text =
+    IsPageOfInputs inquiry files inputs IsCycle text
+    ⊎ IsTextOfStreams inquiry inputs IsOtherRefusal text
+IsOwed inquiry files inputs None text =
+    IsPageOfInputs inquiry files inputs IsAnyReport text
+    ⊎ IsTextOfStreams inquiry inputs IsOtherRefusal text
+
+-- whether the session is judged, and not refused with a report, if that is said
+abbrev pub judged_as : Result (Option programs.Report) EngineFault → Option Bool
+judged_as (Ok None) = Some true
+judged_as (Ok (Some refusal)) = Some false
+judged_as (Err fault) = None
+
+-- What a call leaves on its output, and its result, if it explores the session of a document, with what is asked, and
+-- of these sources of streams, with these files. What is owed is written whole, judged or refused as is reported; a
+-- write that fails leaves a prefix of it, out of memory nothing, and no other fault comes.
+pub record Explores (inquiry : Inquiry) (files : List StreamFile) (inputs : List StreamSource)
+    (result : Result (Option programs.Report) EngineFault) (old new : Option (List ℕ)) : Type 0 where
+  pub written : Writes (IsOwed inquiry files inputs (judged_as result)) (call_end result) old new
+  pub err : IfErr result (λ fault. (fault ≡ Memory) ⊎ (fault ≡ Write))

@@ -1,0 +1,160 @@
+//! Explores a session, and writes what comes of it.
+ghost use Rattle.judge_explore.specs.Explored.{Explores, IsOwed, is_cycle, judged_as};
+ghost use Rattle.judge_explore.specs.FileViews.{files_view};
+ghost use Rattle.judge_explore.specs.Sources.{StreamFile as SourceFile};
+ghost use Rattle.def_format.specs.Documents as documents;
+ghost use Rattle.def_format.specs.Limits.{worker_limit};
+ghost use Rattle.def_format.specs.Reports.{Refused};
+ghost use Rattle.def_judgement.specs.Writes.{Source as StreamSource, Writes};
+ghost use Rattle.pd_report.specs.Views.{refusal_view};
+ghost use Rattle.judge_session.specs.Ends.{call_end};
+ghost use Rattle.judge_session.specs.Inquiries.{inquiry_view};
+ghost use Rattle.judge_session.specs.SessionReports.{IsReportOfInputs};
+ghost use Rattle.judge_session.specs.Unanswered.{IsUnanswered};
+ghost use Rattle.std.specs.Prelude.{◌≡◌, ◌⊎◌, ◌≤◌, ℕ, All, Bool, Err, IfErr, IfOk, List, MatchResult, Ok, Option, Some, false, is_some, map};
+
+use super::page::Page;
+use super::pages::page_of_session;
+use super::stream_file::StreamFile;
+use judge_session::{EngineFault, Inquiry, Unanswered};
+use pd_engine::write_report;
+use pd_expand::Crew;
+use pd_gather::ByteSource;
+use pd_level::Gate;
+use pd_report::{Refusal, Report, write_all};
+use std::alloc::Global;
+use std::io::Write;
+use std::random::RandomSource;
+use std::sync::Wait;
+use std::thread::Threads;
+
+/// The report of a refusal, if there is one.
+fn refusal_report(refusal: Option<Refusal>) -> Option<Report>
+    ensures { is_some result ≡ is_some refusal }
+{
+    match refusal {
+        Some(refusal) => Some(Report::Refused(refusal)),
+        None => None,
+    }
+}
+
+/// Writes the page of a session, and gives the report of its refusal, if it is refused.
+fn write_page<W: Write>(page: Page, writer: &mut W) -> Result<Option<Report>, EngineFault>
+    ensures written { Writes (λ text. text ≡ page.text.items) (call_end result) (W.contents writer.old)
+        (W.contents writer.new) }
+    ensures judged { IfOk result (λ report. is_some report ≡ is_some page.refusal) }
+    ensures err { IfErr result (λ fault. fault ≡ EngineFault.Write) }
+{
+    let Page { text, refusal } = page;
+    write_all(&text, writer)?;
+    Ok(refusal_report(refusal))
+}
+
+/// What an exploration gives of a session that is refused, with what came of its report.
+fn refused(written: Result<Report, EngineFault>) -> Result<Option<Report>, EngineFault>
+    ensures { MatchResult written (λ report. result ≡ Ok (Some report)) (λ fault. result ≡ Err fault) }
+{
+    match written {
+        Ok(report) => Ok(Some(report)),
+        Err(fault) => Err(fault),
+    }
+}
+
+/// Whether a refusal is for a causal cycle.
+fn is_cycle(refusal: &Refusal) -> bool
+    ensures { result ≡ is_cycle (Refused (refusal_view refusal.now)) }
+{
+    match refusal {
+        Refusal::Cycle(_) => true,
+        _ => false,
+    }
+}
+
+/// Writes the report of a session that is refused, and gives it back. No refusal that comes here is for a causal cycle,
+/// of which there is a page; of one that is nothing would be written.
+fn write_refusal<W: Write>(
+    alloc: Global,
+    unanswered: Unanswered,
+    writer: &mut W,
+) -> Result<Option<Report>, EngineFault>
+    // It is owed of each inquiry and of readers of which it is the report, whatever the files.
+    ensures written { (inquiry : documents.Inquiry) (files : List SourceFile) (inputs : List StreamSource)
+        → IsUnanswered (IsReportOfInputs inquiry inputs) unanswered
+        → Writes (IsOwed inquiry files inputs (judged_as result)) (call_end result)
+        (W.contents writer.old) (W.contents writer.new) }
+    ensures err { IfErr result (λ fault. (fault ≡ EngineFault.Memory) ⊎ (fault ≡ EngineFault.Write)) }
+{
+    match unanswered {
+        Unanswered::Refused(refusal) => {
+            if is_cycle(&refusal) {
+                return Err(EngineFault::Memory);
+            }
+            refused(write_report(alloc, Report::Refused(refusal), writer))
+        }
+        Unanswered::Memory => Err(EngineFault::Memory),
+    }
+}
+
+/// Explores a session by this crew.
+fn explore_by<
+    S: RandomSource + Threads + Wait + Sync,
+    R: ByteSource + Send + Drop,
+    W: Write,
+    G: Gate + Sync,
+>(
+    crew: &Crew<'_, '_, S, G>,
+    alloc: Global,
+    inquiry: Inquiry<'_, '_, '_>,
+    files: &[StreamFile<'_>],
+    readers: Vec<R>,
+    writer: &mut W,
+) -> Result<Option<Report>, EngineFault>
+    requires { All (λ r. R.has_ended r ≡ false) readers.items }
+    ensures { Explores (inquiry_view inquiry.entry) (files_view files.now) (map R.left readers.items) result
+        (W.contents writer.old) (W.contents writer.new) }
+{
+    match page_of_session(crew, alloc, inquiry, files, readers) {
+        Ok(page) => write_page(page, writer),
+        Err(unanswered) => write_refusal(alloc, unanswered, writer),
+    }
+}
+
+/// Explores the session of an inquiry's document and of the streams: judges it, and writes its page, with the answers
+/// of its report. Of a session that is refused it gives the report back: for a causal cycle it writes a page that shows
+/// the cycle, and otherwise the report, and no page. The page says where each event was recorded, by these files. The
+/// streams are read each on its own thread; none is read if the document is refused, or if they are too many. A read
+/// that fails is a fault of its stream. The workers, from 1 to 16, and the gate change how long it takes, and nothing
+/// that is written.
+///
+/// # Errors
+/// `Memory` leaves nothing written. `Write` leaves a prefix of the text written, and not all of it.
+pub fn explore<
+    S: RandomSource + Threads + Wait + Sync,
+    R: ByteSource + Send + Drop,
+    W: Write,
+    G: Gate + Sync,
+>(
+    rt: &S,
+    alloc: Global,
+    inquiry: Inquiry<'_, '_, '_>,
+    files: &[StreamFile<'_>],
+    readers: Vec<R>,
+    workers: u64,
+    gate: &G,
+    writer: &mut W,
+) -> Result<Option<Report>, EngineFault>
+    requires open { All (λ r. R.has_ended r ≡ false) readers.items }
+    requires some_workers { 1 ≤ workers }
+    requires few_workers { workers ≤ worker_limit }
+    ensures { Explores (inquiry_view inquiry.entry) (files_view files.now) (map R.left readers.items) result
+        (W.contents writer.old) (W.contents writer.new) }
+{
+    explore_by(
+        &Crew::new(rt, workers, gate),
+        alloc,
+        inquiry,
+        files,
+        readers,
+        writer,
+    )
+}

@@ -1,0 +1,193 @@
+//! The page of a session.
+ghost use Rattle.judge_explore.specs.Explored.{IsPageOfInputs, IsPageOfTraces};
+ghost use Rattle.judge_explore.specs.FileViews.{files_view};
+ghost use Rattle.judge_explore.specs.Refused.{IsRefusedBy};
+ghost use Rattle.def_format.specs.Reports.{Refused};
+ghost use Rattle.pd_gather.specs.Views.{traces_view};
+ghost use Rattle.def_judgement.specs.Judgements.{IsTracesReport};
+ghost use Rattle.pd_match.specs.Views.{pairs_view};
+ghost use Rattle.def_model.specs.Messages.{IsMessageList};
+ghost use Rattle.out_page.specs.AnswerData.{Answered, Cyclic};
+ghost use Rattle.out_page.specs.Pages.{page_text};
+ghost use Rattle.out_page.specs.Views.{sources_view};
+ghost use Rattle.pd_report.specs.Views.{answer_view, named_places_view, refusal_view};
+ghost use Rattle.judge_session.specs.Computations.{AreWellFormed};
+ghost use Rattle.judge_session.specs.Inquiries.{inquiry_view};
+ghost use Rattle.judge_session.specs.SessionReports.{IsReportOfInputs};
+ghost use Rattle.judge_session.specs.Unanswered.{IsUnanswered};
+ghost use Rattle.pd_spec.specs.Views.{document_view};
+ghost use Rattle.read_traces.specs.SessionTraces.{AreTraces};
+ghost use Rattle.read_traces.specs.Views.{computation_view};
+ghost use Rattle.std.specs.Prelude.{◌≡◌, All, IfErr, IfOk, false, map};
+
+use super::page::Page;
+use super::sources::sources_of;
+use super::stream_file::StreamFile;
+use judge_session::{Inquiry, Unanswered, build, messages_of, read_inquiry, traces_of};
+use out_page::{Content, Outcome, Source, text};
+use pd_clock::Computation;
+use pd_engine::answers_of;
+use pd_expand::Crew;
+use pd_gather::{ByteSource, read_streams};
+use pd_level::Gate;
+use pd_match::Place;
+use pd_report::{Answer, Refusal};
+use pd_spec::Spec;
+use read_traces::Trace;
+use std::alloc::{AllocError, Global};
+use std::random::RandomSource;
+use std::sync::Wait;
+use std::thread::Threads;
+
+/// The text of the page of a session's traces that shows these answers.
+fn answers_text(
+    alloc: Global,
+    spec: &Spec,
+    sources: &[Source<'_>],
+    traces: &[Trace],
+    pairs: &[(Place, Place)],
+    answers: &[Answer],
+) -> Result<Vec<u8>, AllocError>
+    ensures { IfOk result (λ text. text.items ≡ page_text (document_view spec.now) (sources_view sources.now)
+        (computation_view traces.now) (pairs_view pairs.now) (Answered (map answer_view answers.now))) }
+{
+    let content = Content {
+        spec,
+        sources,
+        traces,
+        pairs,
+        outcome: Outcome::Answers(answers),
+    };
+    text(alloc, &content)
+}
+
+/// The page of a session's traces that make this computation, with these messages.
+fn judged_page<S: RandomSource + Threads + Wait + Sync, G: Gate + Sync>(
+    crew: &Crew<'_, '_, S, G>,
+    alloc: Global,
+    spec: &Spec,
+    sources: &[Source<'_>],
+    traces: &[Trace],
+    pairs: &[(Place, Place)],
+    built: &(Computation<'_>, u64),
+) -> Result<Page, AllocError>
+    requires formed { AreWellFormed (document_view spec.now) (traces_view traces.now) built.now.0 built.now.1 }
+    requires listed { IsMessageList (computation_view traces.now) (pairs_view pairs.now) }
+    ensures { IfOk result (λ page. IsPageOfTraces (document_view spec.now) (sources_view sources.now)
+        (traces_view traces.now) (IsRefusedBy page.refusal) page.text.items) }
+{
+    let answers = answers_of(crew, alloc, spec, &built.0)?;
+    let text = answers_text(alloc, spec, sources, traces, pairs, &answers)?;
+    Ok(Page {
+        text,
+        refusal: None,
+    })
+}
+
+/// The text of the page of a session's traces that shows this causal cycle.
+fn cycle_text(
+    alloc: Global,
+    spec: &Spec,
+    sources: &[Source<'_>],
+    traces: &[Trace],
+    pairs: &[(Place, Place)],
+    places: &[(String, u64)],
+) -> Result<Vec<u8>, AllocError>
+    ensures { IfOk result (λ text. text.items ≡ page_text (document_view spec.now) (sources_view sources.now)
+        (computation_view traces.now) (pairs_view pairs.now) (Cyclic (named_places_view places.now))) }
+{
+    let content = Content {
+        spec,
+        sources,
+        traces,
+        pairs,
+        outcome: Outcome::Cycle(places),
+    };
+    text(alloc, &content)
+}
+
+/// The page of a session's traces that are refused for a causal cycle, or another refusal.
+fn refused_page(
+    alloc: Global,
+    spec: &Spec,
+    sources: &[Source<'_>],
+    traces: &[Trace],
+    pairs: &[(Place, Place)],
+    refusal: Refusal,
+) -> Result<Page, Unanswered>
+    requires listed { IsMessageList (computation_view traces.now) (pairs_view pairs.now) }
+    requires right { IsTracesReport (document_view spec.now) (traces_view traces.now)
+        (Refused (refusal_view refusal)) }
+    ensures page { IfOk result (λ page. IsPageOfTraces (document_view spec.now) (sources_view sources.now)
+        (traces_view traces.now) (IsRefusedBy page.refusal) page.text.items) }
+    ensures refused { IfErr result (IsUnanswered (IsTracesReport (document_view spec.now)
+        (traces_view traces.now))) }
+{
+    match refusal {
+        Refusal::Cycle(places) => {
+            let text = cycle_text(alloc, spec, sources, traces, pairs, &places)?;
+            Ok(Page {
+                text,
+                refusal: Some(Refusal::Cycle(places)),
+            })
+        }
+        other => Err(Unanswered::Refused(other)),
+    }
+}
+
+/// The page of a session's traces, or the refusal of the messages. The page of traces that are refused for a causal
+/// cycle shows the cycle.
+fn page_of_traces<S: RandomSource + Threads + Wait + Sync, G: Gate + Sync>(
+    crew: &Crew<'_, '_, S, G>,
+    alloc: Global,
+    spec: &Spec,
+    sources: &[Source<'_>],
+    traces: &[Trace],
+) -> Result<Page, Unanswered>
+    requires { AreTraces (document_view spec.now).names traces.now }
+    ensures page { IfOk result (λ page. IsPageOfTraces (document_view spec.now) (sources_view sources.now)
+        (traces_view traces.now) (IsRefusedBy page.refusal) page.text.items) }
+    ensures refused { IfErr result (IsUnanswered (IsTracesReport (document_view spec.now)
+        (traces_view traces.now))) }
+{
+    let matched = messages_of(crew.runtime(), alloc, spec, traces)?;
+    let pairs = matched.pairs(alloc)?;
+    match build(alloc, spec, traces, matched) {
+        Ok(built) => {
+            let page = judged_page(crew, alloc, spec, sources, traces, &pairs, &built)?;
+            Ok(page)
+        }
+        Err(unanswered) => match unanswered {
+            Unanswered::Refused(refusal) => refused_page(
+                alloc, spec, sources, traces, &pairs, refusal,
+            ),
+            Unanswered::Memory => Err(Unanswered::Memory),
+        },
+    }
+}
+
+/// The page of the session of an inquiry's document and of what the streams' readers give, with where their events were
+/// recorded by these files, or why it comes to no page.
+pub(crate) fn page_of_session<
+    S: RandomSource + Threads + Wait + Sync,
+    R: ByteSource + Send + Drop,
+    G: Gate + Sync,
+>(
+    crew: &Crew<'_, '_, S, G>,
+    alloc: Global,
+    inquiry: Inquiry<'_, '_, '_>,
+    files: &[StreamFile<'_>],
+    readers: Vec<R>,
+) -> Result<Page, Unanswered>
+    requires { All (λ r. R.has_ended r ≡ false) readers.items }
+    ensures page { IfOk result (λ page. IsPageOfInputs (inquiry_view inquiry.entry) (files_view files.now)
+        (map R.left readers.items) (IsRefusedBy page.refusal) page.text.items) }
+    ensures refused { IfErr result (IsUnanswered
+        (IsReportOfInputs (inquiry_view inquiry.entry) (map R.left readers.items))) }
+{
+    let spec = read_inquiry(alloc, inquiry)?;
+    let gathered = read_streams(crew.runtime(), alloc, &spec, readers)?;
+    let traces = traces_of(alloc, &spec, gathered)?;
+    let sources = sources_of(alloc, &spec, files, &traces)?;
+    page_of_traces(crew, alloc, &spec, &sources, &traces)
+}

@@ -1,0 +1,80 @@
+-- The page of a session and of its report: the text before the data, the data, and the text after it. Both texts are
+-- the same for each session, and the data holds no `<`.
+use Rattle.std.specs.Prelude.{ℕ, Bool, true, false, List, ◌++◌, codes, decimal}
+use Rattle.def_model.specs.Events.{Computation, Place}
+use Rattle.def_format.specs.Documents.{Document}
+use Rattle.out_page.specs.JsonTexts.{listed}
+use Rattle.out_page.specs.PredicateData.{named_text}
+use Rattle.out_page.specs.EventData.{process_text, values_text, events_text, message_text}
+use Rattle.out_page.specs.AnswerData.{Outcome, outcome_text}
+use Rattle.out_page.specs.SourceData.{Source, source_text}
+use Rattle.out_page.specs.declared.text_before.TheConstants.{BEFORE}
+use Rattle.out_page.specs.declared.text_diagram.TheConstants.{DIAGRAM}
+use Rattle.out_page.specs.declared.text_main.TheConstants.{MAIN}
+use Rattle.out_page.specs.declared.text_panel.TheConstants.{PANEL}
+use Rattle.out_page.specs.declared.text_run.TheConstants.{RUN}
+
+abbrev pub truth_text : Bool → List ℕ
+truth_text true = codes "true"
+truth_text false = codes "false"
+
+-- the width, and whether more was asked for
+unfoldable pub limits_text : Document → List ℕ
+limits_text document =
+    codes "{\"format\":1,\n\"width\":" ++ decimal document.width ++ codes ",\n\"beyond_width\":"
+    ++ truth_text document.beyond_width
+
+-- the processes with their variables, and what these are before any event
+unfoldable pub session_text : Document → List ℕ
+session_text document =
+    codes ",\n\"processes\":[" ++ listed process_text document.names ++ codes "],\n\"initial\":["
+    ++ listed values_text document.initial ++ codes "]"
+
+-- where the events of each process were recorded
+unfoldable pub sources_text : List Source → List ℕ
+sources_text sources = codes ",\n\"sources\":[" ++ listed source_text sources ++ codes "]"
+
+-- the events of each process, and the messages
+unfoldable pub run_text : Computation → List (Place × Place) → List ℕ
+run_text events messages =
+    codes ",\n\"events\":[" ++ listed events_text events ++ codes "],\n\"messages\":[" ++ listed message_text messages
+    ++ codes "]"
+
+-- the predicates, and the answers for them, in their order; or the causal cycle
+unfoldable pub report_text : Document → Outcome → List ℕ
+report_text document outcome =
+    codes ",\n\"predicates\":[" ++ listed named_text document.predicates ++ codes "],\n"
+    ++ outcome_text document.names outcome
+
+-- What stands in the page for a document, the files of its processes, their events, the messages, each as its send and
+-- its receipt, and what is shown of the report: one object of JSON.
+unfoldable pub data_text : Document → List Source → Computation → List (Place × Place) → Outcome → List ℕ
+data_text document sources events messages outcome =
+    limits_text document ++ session_text document ++ sources_text sources ++ run_text events messages
+    ++ report_text document outcome
+    ++ codes "}\n"
+
+-- the page's text before its data
+unfoldable pub text_before : List ℕ
+text_before = BEFORE.now
+
+-- the page's scripts, and what stands around them
+unfoldable pub text_run : List ℕ
+text_run = RUN.now
+
+unfoldable pub text_diagram : List ℕ
+text_diagram = DIAGRAM.now
+
+unfoldable pub text_panel : List ℕ
+text_panel = PANEL.now
+
+unfoldable pub text_main : List ℕ
+text_main = MAIN.now
+
+-- the page's text after its data
+unfoldable pub text_after : List ℕ
+text_after = text_run ++ text_diagram ++ text_panel ++ text_main
+
+unfoldable pub page_text : Document → List Source → Computation → List (Place × Place) → Outcome → List ℕ
+page_text document sources events messages outcome =
+    text_before ++ data_text document sources events messages outcome ++ text_after

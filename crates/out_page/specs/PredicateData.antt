@@ -1,0 +1,49 @@
+-- What stands in a page for a predicate: its tree, as lists of JSON that begin with a word.
+use Rattle.std.specs.Prelude.{ℕ, List, ◌++◌, codes, decimal}
+use Rattle.def_model.specs.Predicates.{Predicate, Always, Never, Compare, Not, And, Or, Comparison, Equals, Differs, IsLess, IsAtMost, IsGreater, IsAtLeast, Sign, Plus, Minus, Term, Number, Variable, Times}
+use Rattle.def_format.specs.Documents.{NamedPredicate}
+use Rattle.out_page.specs.JsonTexts.{listed}
+
+abbrev pub sign_text : Sign → List ℕ
+sign_text Plus = codes "\"+\""
+sign_text Minus = codes "\"-\""
+
+-- After the sign of a term: a number; or the process and the variable, counted from 0; or a number and these. A number
+-- of a predicate is a text.
+unfoldable pub term_fields : Term → List ℕ
+term_fields (Number n) = codes ",\"" ++ decimal n ++ codes "\""
+term_fields (Variable process var) = codes "," ++ decimal process ++ codes "," ++ decimal var
+term_fields (Times factor process var) =
+    codes ",\"" ++ decimal factor ++ codes "\"," ++ decimal process ++ codes "," ++ decimal var
+
+abbrev pub term_text : Sign × Term → List ℕ
+term_text (sign, term) = codes "[" ++ sign_text sign ++ term_fields term ++ codes "]"
+
+abbrev pub sum_text : List (Sign × Term) → List ℕ
+sum_text terms = codes "[" ++ listed term_text terms ++ codes "]"
+
+abbrev pub comparison_word : Comparison → List ℕ
+comparison_word Equals = codes "equals"
+comparison_word Differs = codes "differs"
+comparison_word IsLess = codes "less"
+comparison_word IsAtMost = codes "at most"
+comparison_word IsGreater = codes "greater"
+comparison_word IsAtLeast = codes "at least"
+
+unfoldable pub comparison_text : Comparison → (left right : List (Sign × Term)) → List ℕ
+comparison_text comparison left right =
+    codes "[\"" ++ comparison_word comparison ++ codes "\"," ++ sum_text left ++ codes "," ++ sum_text right
+    ++ codes "]"
+
+abbrev pub predicate_text : Predicate → List ℕ
+predicate_text Always = codes "[\"true\"]"
+predicate_text Never = codes "[\"false\"]"
+predicate_text (Compare left comparison right) = comparison_text comparison left right
+predicate_text (Not inner) = codes "[\"not\"," ++ predicate_text inner ++ codes "]"
+predicate_text (And left right) =
+    codes "[\"and\"," ++ predicate_text left ++ codes "," ++ predicate_text right ++ codes "]"
+predicate_text (Or left right) =
+    codes "[\"or\"," ++ predicate_text left ++ codes "," ++ predicate_text right ++ codes "]"
+
+abbrev pub named_text : NamedPredicate → List ℕ
+named_text named = predicate_text named.predicate

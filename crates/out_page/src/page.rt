@@ -1,0 +1,115 @@
+//! A page's text, also written.
+ghost use Rattle.pd_match.specs.Views.{pairs_view};
+ghost use Rattle.out_page.specs.Pages.{page_text, text_after, text_before, text_diagram, text_main, text_panel, text_run};
+ghost use Rattle.out_page.specs.Views.{outcome_view, sources_view};
+ghost use Rattle.pd_spec.specs.Views.{document_view};
+ghost use Rattle.read_traces.specs.Views.{computation_view};
+ghost use Rattle.std.specs.Io.KnownBytes.{Appends, Keeps};
+ghost use Rattle.std.specs.Prelude.{◌≡◌, ◌<◌, ◌++◌, ℕ, length, take, Err, IfOk, OnOk};
+
+use super::Content;
+use super::page_data::push_data;
+use super::text_before::BEFORE;
+use super::text_diagram::DIAGRAM;
+use super::text_main::MAIN;
+use super::text_panel::PANEL;
+use super::text_run::RUN;
+use pd_report::{WriteFault, push_bytes, write_all};
+use std::alloc::{AllocError, Global};
+use std::io::Write;
+
+/// The page's text before its data.
+#[tactic(auto, unfolding(crate::specs::Pages::text_before))]
+fn text_before() -> &'static [u8]
+    ensures { result.now ≡ text_before }
+{
+    BEFORE
+}
+
+/// The text with the script that knows what follows from the data.
+#[tactic(auto, unfolding(crate::specs::Pages::text_run))]
+fn text_run() -> &'static [u8]
+    ensures { result.now ≡ text_run }
+{
+    RUN
+}
+
+/// The text with the script that draws the run.
+#[tactic(auto, unfolding(crate::specs::Pages::text_diagram))]
+fn text_diagram() -> &'static [u8]
+    ensures { result.now ≡ text_diagram }
+{
+    DIAGRAM
+}
+
+/// The text with the script that shows what stands beside the run.
+#[tactic(auto, unfolding(crate::specs::Pages::text_panel))]
+fn text_panel() -> &'static [u8]
+    ensures { result.now ≡ text_panel }
+{
+    PANEL
+}
+
+/// The text with the script that starts the page, and the page's end.
+#[tactic(auto, unfolding(crate::specs::Pages::text_main))]
+fn text_main() -> &'static [u8]
+    ensures { result.now ≡ text_main }
+{
+    MAIN
+}
+
+/// Appends the page's text after its data.
+#[tactic(auto, unfolding(crate::specs::Pages::text_after))]
+fn push_after(out: &mut Vec<u8>) -> Result<(), AllocError>
+    ensures { OnOk result (out.new.items ≡ out.old.items ++ text_after) }
+{
+    push_bytes(out, text_run())?;
+    push_bytes(out, text_diagram())?;
+    push_bytes(out, text_panel())?;
+    push_bytes(out, text_main())
+}
+
+/// A page's text: the text before the data, the data, and the text after it.
+///
+/// # Errors
+/// Out of memory.
+#[tactic(auto, unfolding(crate::specs::Pages::page_text))]
+pub fn text(alloc: Global, content: &Content<'_, '_>) -> Result<Vec<u8>, AllocError>
+    ensures { IfOk result (λ text. text.items ≡ page_text (document_view content.now.spec.now)
+        (sources_view content.now.sources.now) (computation_view content.now.traces.now)
+        (pairs_view content.now.pairs.now) (outcome_view content.now.outcome)) }
+{
+    let mut out = Vec::new(alloc);
+    push_bytes(&mut out, text_before())?;
+    push_data(&mut out, content)?;
+    push_after(&mut out)?;
+    Ok(out)
+}
+
+/// Writes a page's text. It doesn't flush the writer.
+///
+/// # Errors
+/// `Memory` leaves nothing written. `Write`, if the writer fails, in whatever way, or takes nothing, leaves a prefix
+/// of the text written, and not all of it.
+pub fn write<W: Write>(
+    alloc: Global,
+    content: &Content<'_, '_>,
+    writer: &mut W,
+) -> Result<(), WriteFault>
+    ensures written { OnOk result (Appends (W.contents writer.old) (W.contents writer.new)
+        (page_text (document_view content.now.spec.now) (sources_view content.now.sources.now)
+        (computation_view content.now.traces.now)
+        (pairs_view content.now.pairs.now) (outcome_view content.now.outcome))) }
+    ensures part { result ≡ Err WriteFault.Write → (taken : ℕ)
+        × (taken < length (page_text (document_view content.now.spec.now) (sources_view content.now.sources.now)
+        (computation_view content.now.traces.now)
+        (pairs_view content.now.pairs.now) (outcome_view content.now.outcome)))
+        × Appends (W.contents writer.old) (W.contents writer.new)
+        (take taken (page_text (document_view content.now.spec.now) (sources_view content.now.sources.now)
+        (computation_view content.now.traces.now)
+        (pairs_view content.now.pairs.now) (outcome_view content.now.outcome))) }
+    ensures memory { result ≡ Err WriteFault.Memory → Keeps (W.contents writer.old) (W.contents writer.new) }
+{
+    let text = text(alloc, content)?;
+    write_all(&text, writer)
+}

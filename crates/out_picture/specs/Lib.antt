@@ -1,0 +1,10 @@
+pub mod Columns
+pub mod Flights
+pub mod Layout
+pub mod Rooms
+pub mod Shapes
+pub mod Tables
+pub mod Pictures
+pub mod Cycles
+pub mod CycleTables
+pub mod Wishes

@@ -1,0 +1,7 @@
+-- What the loop of `push_shapes` keeps.
+use Rattle.std.proofs.Common.{◌≡◌, ◌++◌, take}
+use Rattle.out_svg.specs.Svg.{shapes_text}
+use Rattle.out_svg.proofs.shape_text.push_shapes.Given as goal
+
+abbrev pub invariant-loop-shape : goal.invariant-loop-shape
+invariant-loop-shape l = l.out.items ≡ l.initial.out.items ++ shapes_text (take l.shape-index l.shapes)

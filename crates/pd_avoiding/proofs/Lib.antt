@@ -1,2 +1,0 @@
--- The modules of lemmas of this crate.
-pub mod Going

@@ -1,7 +1,0 @@
--- What the loop of `marks_in_turn` keeps.
-use Rattle.std.proofs.Common.{◌≡◌, map, take}
-use Rattle.pd_avoiding.specs.CompiledTests.{meaning_of}
-use Rattle.pd_avoiding.proofs.by_tables.marks_in_turn.Given as goal
-
-abbrev pub invariant-loop-i : goal.invariant-loop-i
-invariant-loop-i l = l.marks.items ≡ map (meaning_of l.test) (take l.i l.level.cuts)

@@ -1,3 +1,0 @@
-pub mod CompiledTests
-pub mod Listed
-pub mod Questions

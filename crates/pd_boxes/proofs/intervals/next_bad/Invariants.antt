@@ -1,6 +1,0 @@
--- What the loop of `next_bad` keeps.
-use Rattle.std.proofs.Common.{◌≡◌, ℕ, ◌<◌, ◌≤◌, true}
-use Rattle.pd_boxes.proofs.intervals.next_bad.Given as goal
-
-abbrev pub invariant-loop-count : goal.invariant-loop-count
-invariant-loop-count g l = (n : ℕ) → l.from ≤ n → n < l.count → g.G.GoodCounts.good l.wanted l.p n ≡ true

@@ -1,7 +1,0 @@
--- What the loop of `first_early` keeps.
-use Rattle.std.proofs.Common.{ℕ, ◌<◌, get_or}
-use Rattle.pd_boxes.specs.Intervals.{IsLeftInTime}
-use Rattle.pd_boxes.proofs.least.first_early.Given as goal
-
-abbrev pub invariant-loop-q : goal.invariant-loop-q
-invariant-loop-q l = (k : ℕ) → k < l.q → IsLeftInTime l.computation.events l.starts k (get_or l.leaves k 0)

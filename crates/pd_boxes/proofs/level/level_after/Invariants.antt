@@ -1,6 +1,0 @@
--- What the loop of `level_after` keeps.
-use Rattle.pd_boxes.proofs.LevelAfter.{IsLevelOfFirst}
-use Rattle.pd_boxes.proofs.level.level_after.Given as goal
-
-abbrev pub invariant-loop-p : goal.invariant-loop-p
-invariant-loop-p l = IsLevelOfFirst l.computation.events l.counts l.p l.level

@@ -1,6 +1,0 @@
--- What is found of a report, if the session is refused.
-use Rattle.pd_check.specs.Found.{of_refused_session}
-use Rattle.pd_check.proofs.claims.find_refused.Goals as goal
-
-pub returns : goal.returns
-returns c = of_refused_session c.is_refusal.result c.is_refusal.ensures

@@ -1,5 +1,0 @@
--- The modules of lemmas of this crate.
-pub mod SessionFindings
-pub mod SessionDrawings
-pub mod StatedCycles
-pub mod WrittenPictures

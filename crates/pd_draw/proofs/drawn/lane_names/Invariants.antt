@@ -1,8 +1,0 @@
--- The names of the processes so far.
-use Rattle.std.proofs.Common.{◌≡◌, map, take}
-use Rattle.pd_format.specs.Names.{ProcessNames}
-use Rattle.pd_picture.specs.Pictures.{texts_view}
-use Rattle.pd_draw.proofs.drawn.lane_names.Given as goal
-
-abbrev pub invariant-loop-p : goal.invariant-loop-p
-invariant-loop-p l = texts_view l.lanes.items ≡ map (λ (process : ProcessNames). process.name) (take l.p l.names)

@@ -1,6 +1,0 @@
--- What the loops of `feed_in_turns` keep.
-use Rattle.std.proofs.Common.{◌≡◌, length}
-use Rattle.pd_engine_tests.proofs.turns.feed_in_turns.Given as goal
-
-abbrev pub invariant-loop-at : goal.invariant-loop-at
-invariant-loop-at l = length l.core ≡ 2

@@ -1,6 +1,0 @@
--- The law of a stream's lines.
-use Rattle.pd_explore.proofs.EventLines.{events_recorded}
-use Rattle.pd_explore.proofs.sources.events_are_recorded.Goals as goal
-
-pub returns : goal.returns
-returns c = events_recorded

@@ -1,3 +1,0 @@
--- The modules of lemmas of this crate.
-mod Lists
-mod Parts

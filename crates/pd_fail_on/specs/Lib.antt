@@ -1,3 +1,0 @@
--- The modules of definitions of this crate.
-pub mod Conditions
-pub mod Views

@@ -1,8 +1,0 @@
--- What the program's version of a document stands for.
-use Rattle.pd_model.specs.Messages as messages
-use Rattle.pd_format.specs.declared.version.Version.{Version}
-use Rattle.pd_format.specs.declared.version.Version.TheVariants as versions
-
-abbrev pub version_view : Version → messages.Version
-version_view versions.One = messages.One
-version_view versions.Two = messages.Two

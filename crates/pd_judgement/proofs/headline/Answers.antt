@@ -1,6 +1,0 @@
--- The report of traces says the truth.
-use Rattle.pd_judgement.proofs.HeadlineFacts.{headline_lem}
-use Rattle.pd_judgement.proofs.headline.Goals as goal
-
-pub returns : goal.returns
-returns c = headline_lem

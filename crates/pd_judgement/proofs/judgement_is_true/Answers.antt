@@ -1,6 +1,0 @@
--- The report of a document's bytes and of streams is true.
-use Rattle.pd_judgement.proofs.TrueReports.{judgement_is_true_lem}
-use Rattle.pd_judgement.proofs.judgement_is_true.Goals as goal
-
-pub returns : goal.returns
-returns c = judgement_is_true_lem

@@ -1,6 +1,0 @@
--- A check finds one thing.
-use Rattle.pd_judgement.proofs.FindingsAreSingle.{one_finding_lem}
-use Rattle.pd_judgement.proofs.one_finding.Goals as goal
-
-pub returns : goal.returns
-returns c = one_finding_lem

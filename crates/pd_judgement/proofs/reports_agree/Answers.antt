@@ -1,6 +1,0 @@
--- In the report of traces the answers agree, at every width.
-use Rattle.pd_judgement.proofs.HeadlineFacts.{reports_agree_lem}
-use Rattle.pd_judgement.proofs.reports_agree.Goals as goal
-
-pub returns : goal.returns
-returns c = reports_agree_lem

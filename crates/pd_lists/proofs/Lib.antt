@@ -1,4 +1,0 @@
--- The modules of lemmas of this crate.
-pub mod Keeping
-pub mod Ending
-pub mod Roots

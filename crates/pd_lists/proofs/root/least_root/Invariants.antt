@@ -1,6 +1,0 @@
--- What the loop of `least_root` keeps.
-use Rattle.std.proofs.Common.{◌*◌, ◌<◌, ℕ}
-use Rattle.pd_lists.proofs.root.least_root.Given as goal
-
-abbrev pub invariant-loop-root : goal.invariant-loop-root
-invariant-loop-root l = (r : ℕ) → r < l.root → r * r < l.n

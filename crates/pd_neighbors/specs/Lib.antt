@@ -1,2 +1,0 @@
--- The cuts that a test answers for at once.
-pub mod Neighbors

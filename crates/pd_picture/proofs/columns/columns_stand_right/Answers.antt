@@ -1,6 +1,0 @@
--- A chain that goes on is longer.
-use Rattle.pd_picture.proofs.ColumnLaws.{stand_right}
-use Rattle.pd_picture.proofs.columns.columns_stand_right.Goals as goal
-
-pub returns : goal.returns
-returns c = stand_right

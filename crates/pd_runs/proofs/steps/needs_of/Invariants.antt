@@ -1,6 +1,0 @@
--- What the loops of `needs_of` keep.
-use Rattle.pd_runs.specs.Needs.{HasNeeds}
-use Rattle.pd_runs.proofs.steps.needs_of.Given as goal
-
-abbrev pub invariant-loop-n : goal.invariant-loop-n
-invariant-loop-n l = HasNeeds l.computation.events l.p l.n l.row.items

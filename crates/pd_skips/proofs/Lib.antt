@@ -1,2 +1,0 @@
--- The lemmas behind the words of the runs.
-pub mod Words

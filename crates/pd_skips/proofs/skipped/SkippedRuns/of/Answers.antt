@@ -1,9 +1,0 @@
--- With no bit no run is skipped.
-use Rattle.std.proofs.Common.{slice_index_or}
-use Rattle.pd_model.specs.Predicates.{test_of}
-use Rattle.pd_skips.proofs.skipped.SkippedRuns.of.Goals as goal
-
-pub returns : goal.returns
-returns c tests test level are lt =
-    c.none.ensures (slice_index_or tests c.args.q test).recorded.events
-    (test_of (slice_index_or tests c.args.q test).recorded (slice_index_or tests c.args.q test).predicate) level.runs

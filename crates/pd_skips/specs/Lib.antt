@@ -1,2 +1,0 @@
--- What the skipped of a whole level are.
-pub mod SkippedRuns

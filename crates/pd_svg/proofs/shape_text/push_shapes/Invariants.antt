@@ -1,7 +1,0 @@
--- What the loop of `push_shapes` keeps.
-use Rattle.std.proofs.Common.{◌≡◌, ◌++◌, take}
-use Rattle.pd_svg.specs.Svg.{shapes_text}
-use Rattle.pd_svg.proofs.shape_text.push_shapes.Given as goal
-
-abbrev pub invariant-loop-shape : goal.invariant-loop-shape
-invariant-loop-shape l = l.out.items ≡ l.initial.out.items ++ shapes_text (take l.shape-index l.shapes)

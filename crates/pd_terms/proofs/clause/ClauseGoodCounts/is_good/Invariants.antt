@@ -1,9 +1,0 @@
--- No comparison that is seen holds at the count.
-use Rattle.std.proofs.Common.{◌≡◌, drop}
-use Rattle.pd_terms.specs.Ors.{clause_good}
-use Rattle.pd_terms.proofs.clause.ClauseGoodCounts.is_good.Given as goal
-
-abbrev pub invariant-loop-row : goal.invariant-loop-row
-invariant-loop-row l =
-    clause_good l.self.rows.items l.process l.count
-    ≡ clause_good (drop l.row-index l.self.rows.items) l.process l.count

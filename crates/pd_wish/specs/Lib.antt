@@ -1,2 +1,0 @@
--- The modules of specs of this crate.
-pub mod Wishes

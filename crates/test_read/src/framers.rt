@@ -1,0 +1,162 @@
+//! Lines from pieces: `Framer::feed`, `copy` and `finish`, again after a refusal, in pieces of any size, at a fault.
+ghost use Rattle.std.specs.Prelude.{◌≡◌, ◌<◌, IfSome, false};
+
+use def_format::LINE_BYTE_LIMIT;
+use pd_frames::{Batch, FrameFault, Framer, Line, has_line_feed};
+use std::alloc::{AllocError, Global};
+use std::test::Fail;
+
+/// What a piece gives. If memory is refused the framer stands where it stood, and the piece is fed again.
+fn feed<'piece>(framer: &mut Framer, piece: &'piece [u8], again: &mut bool) -> Option<Batch<'piece>>
+    requires { framer.old.finished ≡ false }
+    ensures { framer.new.finished ≡ false }
+{
+    let line = framer.line();
+    if let Ok(batch) = framer.feed(piece) {
+        return Some(batch);
+    }
+    *again = true;
+    if framer.line() != line {
+        return None;
+    }
+    framer.feed(piece).ok()
+}
+
+/// A copy of the framer, which is asked for again if memory is refused.
+fn copy(framer: &Framer, again: &mut bool) -> Option<Framer>
+    ensures { IfSome result (λ other. other ≡ framer.now) }
+{
+    if let Ok(other) = framer.copy() {
+        return Some(other);
+    }
+    *again = true;
+    framer.copy().ok()
+}
+
+/// What the end gives. If memory is refused the framer stands where it stood, and the end is taken again.
+fn finish(framer: &mut Framer, again: &mut bool) -> Option<Batch<'static>>
+    requires { framer.old.finished ≡ false }
+{
+    let line = framer.line();
+    if let Ok(batch) = framer.finish() {
+        return Some(batch);
+    }
+    *again = true;
+    if framer.line() != line || framer.is_finished() {
+        return None;
+    }
+    framer.finish().ok()
+}
+
+/// Whether a line has this number and these bytes.
+fn is_line(line: &Line<'_>, want: (u64, &str)) -> bool {
+    line.number == want.0 && line.bytes.as_slice() == want.1.as_bytes()
+}
+
+/// Whether a batch has these lines, with their numbers, and no fault.
+fn has_lines(batch: &Batch<'_>, want: &[(u64, &str)]) -> bool {
+    if batch.fault.is_some() || batch.lines.len() != want.len() {
+        return false;
+    }
+    for i in 0..want.len() {
+        if !is_line(&batch.lines[i], want[i]) {
+            return false;
+        }
+    }
+    true
+}
+
+/// Whether the lines of a stream in three pieces come out, of a framer and of a copy. Nothing if a call isn't answered.
+fn are_lines(alloc: Global, again: &mut bool) -> Option<bool> {
+    let mut framer = Framer::new(alloc);
+    let first = feed(&mut framer, b"one\ntwo\nth", again)?;
+    let second = feed(&mut framer, b"ree\n\nfo", again)?;
+    let mut other = copy(&framer, again)?;
+    let third = feed(&mut framer, b"ur", again)?;
+    let last = finish(&mut framer, again)?;
+    let short = finish(&mut other, again)?;
+    Some(
+        has_lines(&first, &[(1, "one"), (2, "two")])
+            && has_lines(&second, &[(3, "three")])
+            && has_lines(&third, &[])
+            && has_lines(&last, &[(5, "four")])
+            && has_lines(&short, &[(5, "fo")])
+            && framer.is_finished()
+            && framer.line() == 6,
+    )
+}
+
+#[test]
+fn lines_come_again(rt: HostRuntime) -> Result<(), Fail> {
+    let mut again = false;
+    let right = are_lines(rt.alloc(), &mut again);
+    assert!(rt; right == Some(true));
+    if again {
+        println!(rt; "a call was made again")?;
+    }
+    Ok(())
+}
+
+/// What a stream gives that comes in pieces of this size, and the number of the line at its end.
+fn framed<'a>(alloc: Global, stream: &'a [u8], size: usize) -> Result<(Batch<'a>, u64), AllocError>
+    requires { 0 < size }
+{
+    let mut framer = Framer::new(alloc);
+    let mut lines = Vec::new(alloc);
+    for piece in stream.chunks(size) {
+        let mut batch = framer.feed(piece)?;
+        lines.append(&mut batch.lines)?;
+    }
+    let mut last = framer.finish()?;
+    lines.append(&mut last.lines)?;
+    let fault = last.fault;
+    Ok((Batch { lines, fault }, framer.line()))
+}
+
+#[test]
+fn lines_come_in_pieces_of_any_size(rt: HostRuntime) -> Result<(), Fail> {
+    let want = [(1, "a\r"), (4, "bc"), (5, "d")];
+    for size in [1usize, 2, 3, 5, 100] {
+        let (batch, line) = framed(rt.alloc(), b"a\r\n\n \t\r\nbc\nd", size)?;
+        assert!(rt; has_lines(&batch, &want) && line == 6, "at {size}");
+    }
+    Ok(())
+}
+
+/// Whether a batch has no line but this fault.
+fn is_fault_alone(batch: &Batch<'_>, fault: FrameFault) -> bool {
+    batch.lines.is_empty() && batch.fault == Some(fault) && fault.line() == 2
+}
+
+/// Whether a framer gives the fault of a line of this many bytes again and again, and no more lines.
+fn stays_at_fault(alloc: Global, size: usize) -> Result<bool, AllocError> {
+    let fault = FrameFault::LineTooLong(2);
+    let long = vec![in alloc; b'x'; size]?;
+    let mut framer = Framer::new(alloc);
+    let first = framer.feed(b"one\n")?;
+    let at_fault = framer.feed(&long)?;
+    let after = framer.feed(b"\nmore\n")?;
+    let line = framer.line();
+    let last = framer.finish()?;
+    Ok(
+        has_lines(&first, &[(1, "one")])
+            && is_fault_alone(&at_fault, fault)
+            && is_fault_alone(&after, fault)
+            && is_fault_alone(&last, fault)
+            && line == 2
+            && framer.line() == 2
+            && framer.is_finished(),
+    )
+}
+
+#[test]
+fn a_framer_stays_at_its_fault(rt: HostRuntime) -> Result<(), Fail> {
+    assert!(rt; stays_at_fault(rt.alloc(), LINE_BYTE_LIMIT + 1)?);
+    Ok(())
+}
+
+#[test]
+fn a_line_feed_is_found(rt: HostRuntime) {
+    assert!(rt; has_line_feed(b"a\n") && !has_line_feed(b"a\r"));
+    assert!(rt; FrameFault::StreamTooLong(7).line() == 7);
+}

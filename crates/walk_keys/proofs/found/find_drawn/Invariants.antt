@@ -1,0 +1,6 @@
+-- All that was found so far was found of its number.
+use Rattle.std.proofs.Common.{◌<◌, All}
+use Rattle.walk_keys.proofs.found.find_drawn.Given as goal
+
+abbrev pub invariant-loop : goal.invariant-loop
+invariant-loop g l = All (λ f. (f.number < l.count) × g.F.Fn.post l.work (f.number, tt) f.value) l.found.items

@@ -1,0 +1,4 @@
+pub mod Words
+pub mod Keys
+pub mod Pairs
+pub mod Neighbors

@@ -1,0 +1,5 @@
+pub mod RunPlaces
+pub mod Skips
+pub mod Marks
+pub mod Spots
+pub mod SkippedRuns

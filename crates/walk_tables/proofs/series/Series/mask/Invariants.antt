@@ -1,0 +1,13 @@
+-- What the comparisons that were asked say of each cut.
+use Rattle.std.proofs.Common.{◌≡◌, ℕ, ◌+◌, ◌-◌, ◌<◌, ◌≤◌, length, drop, false}
+use Rattle.walk_keys.specs.Words.{has_bit}
+use Rattle.walk_tables.specs.Series.{parts_hold}
+use Rattle.walk_tables.proofs.series.Series.mask.Given as goal
+
+abbrev pub invariant-loop-i : goal.invariant-loop-i
+invariant-loop-i l = record {
+  within : (j : ℕ) → j < l.n → has_bit l.found j
+      ≡ parts_hold l.self.is_and (drop (length l.self.parts.items - l.i) l.self.parts.items) l.prefix (l.x + j)
+      (l.y - j);
+  beyond : (j : ℕ) → l.n ≤ j → has_bit l.found j ≡ false;
+}

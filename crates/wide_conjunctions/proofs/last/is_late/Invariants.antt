@@ -1,0 +1,8 @@
+-- What the loop of `is_late` keeps.
+use Rattle.std.proofs.Common.{ℕ, ◌<◌, get_or}
+use Rattle.wide_conjunctions.specs.Ways.{IsInTimeAt}
+use Rattle.wide_conjunctions.proofs.last.is_late.Given as goal
+
+abbrev pub invariant-loop-q : goal.invariant-loop-q
+invariant-loop-q l =
+    (k : ℕ) → k < l.q → IsInTimeAt l.computation.events l.cut l.starts k (get_or l.leaves k 0) l.r

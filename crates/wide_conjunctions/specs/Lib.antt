@@ -1,0 +1,11 @@
+pub mod Boxes
+pub mod Holds
+pub mod Intervals
+pub mod Passages
+pub mod Rows
+pub mod Ways
+pub mod Clauses
+pub mod Firsts
+pub mod LeastCuts
+pub mod CutOrder
+pub mod Raises

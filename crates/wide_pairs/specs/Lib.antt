@@ -1,0 +1,14 @@
+pub mod Pairs
+pub mod LeastCuts
+pub mod Rows
+pub mod FirstCuts
+pub mod Avoiding
+pub mod Grids
+pub mod Mosts
+pub mod Levels
+pub mod Ways
+pub mod Passages
+pub mod Twos
+pub mod Parts
+pub mod Tests
+pub mod Answers
