@@ -1,4 +1,4 @@
-"""The part of pages.py that looks at the rows of docs/PROMISES.md, such as
+"""The part of pages.py that looks at the rows of docs/PROMISES.md and docs/CLAUSES.md, such as
 
     | After a fault the same fault comes again. | `Framer::feed`: `faulty` | [framer.rt:120][41] |
 
@@ -59,7 +59,7 @@ def places(file, path):
 @functools.lru_cache(None)
 def files():
     found = glob.glob("crates/*/src/**/*.rt", recursive=True) + glob.glob("crates/*/specs/**/*.antt", recursive=True)
-    return sorted(file for file in found if not file.split("/")[1].endswith("_tests"))
+    return sorted(file for file in found if not file.split("/")[1].startswith("test_"))
 
 
 def find(path, file, line, others=()):

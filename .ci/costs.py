@@ -23,22 +23,14 @@ import sys
 import threading
 import time
 
+sys.dont_write_bytecode = True
+from layout import libraries  # noqa: E402
+
 ROOT = os.path.dirname(os.path.dirname(os.path.abspath(__file__)))
 TICK = os.sysconf("SC_CLK_TCK")
 PAUSE = 0.25
 KINDS = ("proof", "tests", "edits", "runs", "rt")
 HEADS = ("proof", "tests", "edits", "runs", "rt itself")
-
-
-def libraries():
-    """Of each crate the libraries that its line in crates.txt names, those of the kit too."""
-    direct = {}
-    with open(os.path.join(ROOT, "crates.txt"), encoding="utf-8") as lines:
-        for line in lines:
-            name, colon, others = line.split("#")[0].partition(":")
-            if colon:
-                direct[name.split()[0]] = others.split()
-    return direct
 
 
 class Process:

@@ -19,6 +19,9 @@ import subprocess
 import sys
 import tempfile
 
+sys.dont_write_bytecode = True
+from layout import libraries  # noqa: E402
+
 ROOT = os.path.dirname(os.path.dirname(os.path.abspath(__file__)))
 FOLDERS = ("must-fail", "edits")
 PARTS = ("src", "specs", "proofs")
@@ -29,8 +32,7 @@ SAID = re.compile(r"rt: .*(NOT PROVED|NOT REFUSED|BAD EDIT|NOT TRIED)|(\S+:\d+:\
 
 def crates():
     """The names of the crates, as crates.txt has them."""
-    with open(os.path.join(ROOT, "crates.txt"), encoding="utf-8") as lines:
-        return [line.split(":")[0].split()[0] for line in lines if ":" in line.split("#")[0]]
+    return list(libraries())
 
 
 def edits_of(name, folder):

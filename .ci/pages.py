@@ -1,10 +1,10 @@
 #!/usr/bin/env python3
 """pages.py [--write] [--crates]: checks the pages, that is each `.md` file of the repository: that each relative link
 leads to a file; that no line is over 120 columns, but for the definitions of links, and for tables on the pages of
-WIDE; that the limits in docs/SPECIFICATION.md are those of the definitions; that the line counts in docs/READING.md are
-those of the files; and of docs/PROMISES.md that each name of code stands in the crates, that each row of a table with a
-column *Where* names a clause and links to the line that declares it (see .ci/clauses.py), and that the line below a
-heading names the crates of its rows. With --write it puts the right counts, lines, files and crates into the pages.
+WIDE; that the limits in docs/SPECIFICATION.md are those of the definitions; and of docs/PROMISES.md and docs/CLAUSES.md
+that each name of code stands in the crates, that each row of a table with a column *Where* names a clause and links to
+the line that declares it (see .ci/clauses.py), and that the line below a heading names the crates of its rows; and that docs/DESIGN.md
+has the tables of the crates by layers. With --write it puts the right lines, files, crates and tables into the pages.
 With --crates it looks too that no line of a crate's `.rt` and `.antt` files is over 120 columns, but for imports. The
 status is 1 if anything was wrong."""
 import glob
@@ -14,16 +14,16 @@ import sys
 
 sys.dont_write_bytecode = True
 import clauses  # noqa: E402
+import layout  # noqa: E402
 
 os.chdir(os.path.join(os.path.dirname(os.path.abspath(__file__)), ".."))
 COLUMNS = 120
-WIDE = ("README.md", "docs/READING.md", "docs/RECORDING.md", "docs/SPECIFICATION.md")
-COUNTED, PROMISES, LIMITED = "docs/READING.md", "docs/PROMISES.md", "docs/SPECIFICATION.md"
+WIDE = ("README.md", "docs/DESIGN.md", "docs/RECORDING.md", "docs/SPECIFICATION.md", "docs/TRUST.md")
+LINKED, LIMITED, PLAN = ("docs/PROMISES.md", "docs/CLAUSES.md"), "docs/SPECIFICATION.md", "docs/DESIGN.md"
 LINK = re.compile(r"\]\(([^)#: ]+)(?:#[^)]*)?\)")
 DEFINITION = re.compile(r"^\[[^]]+\]: ([^#: \n]+)(?:#(?!L\d)\S*)?$", re.M)
 TO_LINE = re.compile(r"(?:\]\(|^\[[^]]+\]: )([^) ]+#L\d+)", re.M)
 IMPORT = re.compile(r"\s*(?:pub |ghost )?use ")
-COUNT = re.compile(r"^(\| \[[^]]*\]\(([^)]+)\) \| )(\d+)( \|)", re.M)
 found_wrong = []
 
 
@@ -50,9 +50,9 @@ def look_at_links(page, text):
     for link in LINK.findall(prose) + DEFINITION.findall(prose):
         if not os.path.exists(os.path.join(os.path.dirname(page), link)):
             wrong(f"{page} links to {link}, which isn't there")
-    unseen = re.sub(r"^\[\w+\]: .*$", "", prose, flags=re.M) if page == PROMISES else prose
+    unseen = re.sub(r"^\[\w+\]: .*$", "", prose, flags=re.M) if page in LINKED else prose
     for link in TO_LINE.findall(unseen):
-        wrong(f"{page} links to the line {link}, which is looked at only if a row of a table in {PROMISES} does")
+        wrong(f"{page} links to the line {link}, which is looked at only if a row of a table in {LINKED[0]} or {LINKED[1]} does")
 
 
 def look_at_width(page, text):
@@ -77,29 +77,26 @@ def look_at_limits():
             wrong(f"{name} is {int(number):,}, and {LIMITED} has no such row")
 
 
-def look_at_names(text):
+def look_at_names(page, text):
     known = {"crates"}
     for path in [*glob.glob("crates/*/src/**/*.rt", recursive=True), *glob.glob("crates/*/specs/*.antt"), "crates.txt"]:
         known.update(path.replace("/", ".").split("."))
         known.update(re.findall(r"\w+", read(path)))
     for name in sorted(set(re.findall(r"`((?:\w+::)*[A-Za-z]\w+)`", text))):
         if not known.issuperset(name.split("::")):
-            wrong(f"{PROMISES} names {name}, which stands in no crate")
+            wrong(f"{page} names {name}, which stands in no crate")
 
 
-def counted(row):
-    """The row of a file in docs/READING.md, with the number of its lines, and with its path if it was moved."""
-    head, link, number, tail = row.groups()
-    folder = os.path.dirname(COUNTED)
-    moved = glob.glob(f"crates/*/*/{os.path.basename(link)}") if not os.path.exists(f"{folder}/{link}") else []
-    if len(moved) == 1:
-        head = head.replace(f"({link})", f"({os.path.relpath(moved[0], folder)})")
-        link = os.path.relpath(moved[0], folder)
-    path = f"{folder}/{link}"
-    lines = read(path).count("\n") if os.path.isfile(path) else int(number)
-    if lines != int(number):
-        wrong(f"{link} has {lines} lines, and {COUNTED} says {number}")
-    return f"{head}{lines}{tail}"
+def with_crates(page, text):
+    """The page with the tables of the crates, each with its first sentence."""
+    tables = ""
+    for head, names in layout.layers():
+        rows = "".join(f"| `{name}` | {layout.first_sentence(name)} |\n" for name in names)
+        tables += f"\n**{head}**\n\n| Crate | What it is |\n|---|---|\n{rows}"
+    made = re.sub(r"(<!-- crates -->\n).*?(\n<!-- end -->)", lambda it: it[1] + tables + it[2], text, flags=re.S)
+    if made != text:
+        wrong(f"{page} hasn't the crates of crates.txt with the first sentences of their root files")
+    return made
 
 
 def main():
@@ -110,9 +107,10 @@ def main():
     if "--crates" in sys.argv[1:]:
         look_at_code()
     look_at_limits()
-    look_at_names(read(PROMISES))
-    mended = {COUNTED: COUNT.sub(counted, read(COUNTED)), PROMISES: clauses.mended(PROMISES, read(PROMISES), wrong)}
-    for page, text in mended.items():
+    for page in LINKED:
+        look_at_names(page, read(page))
+    mended = {page: clauses.mended(page, read(page), wrong) for page in LINKED}
+    for page, text in {**mended, PLAN: with_crates(PLAN, read(PLAN))}.items():
         if "--write" in sys.argv[1:] and text != read(page):
             with open(page, "w", encoding="utf-8") as file:
                 file.write(text)

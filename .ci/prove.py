@@ -17,23 +17,10 @@ import tempfile
 import threading
 import time
 
+sys.dont_write_bytecode = True
+import layout  # noqa: E402
+
 ROOT = os.path.dirname(os.path.dirname(os.path.abspath(__file__)))
-
-
-def libraries():
-    """Of each crate the crates of the repository that it stands on, those below them too."""
-    direct = {}
-    with open(os.path.join(ROOT, "crates.txt"), encoding="utf-8") as lines:
-        for line in lines:
-            name, colon, others = line.split("#")[0].partition(":")
-            if colon:
-                direct[name.split()[0]] = others.split()
-
-    def below(name):
-        found = [other for other in direct[name] if other in direct]
-        return set(found).union(*(below(other) for other in found))
-
-    return {name: below(name) for name in direct}
 
 
 def lines_of(name):
@@ -144,7 +131,8 @@ def main():
     parser.add_argument("-j", type=int, default=len(os.sched_getaffinity(0)), metavar="N")
     parser.add_argument("crates", nargs="*")
     given = parser.parse_args()
-    below = libraries()
+    direct = layout.libraries()
+    below = {name: set(layout.below(name, direct)) for name in direct}
     unknown = [name for name in given.crates if name not in below]
     if unknown:
         sys.exit(f"prove: crates.txt has no crate {' '.join(unknown)}")

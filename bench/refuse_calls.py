@@ -1,6 +1,6 @@
 #!/usr/bin/env python3
-"""refuse_calls.py [TESTS..]: refuses each allocation of tests in turn, of `test_read`, `test_read`,
-`test_walk` and `test_threads`.
+"""refuse_calls.py [TESTS..]: refuses each allocation of tests in turn, of `test_read`, `test_walk` and
+`test_threads`.
 
 TESTS are programs of tests; without them those that `rt test` left in the `out` folders of the crates. Each test whose
 name ends in `_again` makes each of its calls once more if memory is refused, looks that nothing has changed by then,
@@ -16,7 +16,7 @@ import tempfile
 from refusals import asked_for, make_shim, surroundings
 
 CRATES = os.path.join(os.path.dirname(os.path.dirname(os.path.abspath(__file__))), "crates")
-NAMES = ["test_read", "test_read", "test_walk", "test_threads"]
+NAMES = ["test_read", "test_walk", "test_threads"]
 RUN_SECONDS = 60
 # More allocations than any of the tests makes.
 MOST_RUNS = 20_000

@@ -1,6 +1,7 @@
 #!/usr/bin/env python3
 """explanations.py [PROGRAM] [--write]: causes each refusal, each fault and unknown answers, and compares what the
-program explains of them with docs/EXPLANATIONS.md, which is made of the same cases by --write.
+program explains of them with explanations.md, which is made of the same cases by --write. Each example of
+docs/EXPLANATIONS.md has to stand there too.
 
 PROGRAM is ../crates/monitor/out/monitor if it isn't given. Each case is run as it stands, where the errors have to hold
 the fixed line and nothing else, and with `--explain` at three places of its arguments, where the output and the status
@@ -25,7 +26,9 @@ import tempfile
 import listening
 
 HERE = os.path.dirname(os.path.abspath(__file__))
-PAGE = os.path.join(HERE, "..", "docs", "EXPLANATIONS.md")
+PAGE = os.path.join(HERE, "explanations.md")
+EXAMPLES = os.path.join(HERE, "..", "docs", "EXPLANATIONS.md")
+EXAMPLE = re.compile(r"^\*\*[^\n]+\*\*\n\n(?:    [^\n]*\n)+\n```\n.*?^```\n", re.M | re.S)
 SPECS = os.path.join(HERE, "..", "crates", "def_format", "specs", "RefusalWords.antt")
 SECONDS = 60
 FIXED = ("read", "write", "memory", "network", "bundle too long")
@@ -370,6 +373,13 @@ def page(cases, results):
     return "\n".join(out).rstrip("\n") + "\n"
 
 
+def other_examples(made):
+    """The examples for readers that the page of all explanations hasn't."""
+    with open(EXAMPLES, encoding="utf-8") as file:
+        examples = EXAMPLE.findall(file.read())
+    return [example.split("\n")[0] for example in examples if example not in made] if examples else ["no example"]
+
+
 def main():
     parser = argparse.ArgumentParser(description=__doc__, formatter_class=argparse.RawDescriptionHelpFormatter)
     parser.add_argument("program", nargs="?", default=os.path.join(HERE, "..", "crates", "monitor", "out", "monitor"))
@@ -404,6 +414,9 @@ def main():
     if stored != made:
         differing += 1
         print("\n".join(difflib.unified_diff(stored.splitlines(), made.splitlines(), "the page", "made", lineterm="")))
+    for name in other_examples(made):
+        differing += 1
+        print(f"explanations: docs/EXPLANATIONS.md has {name}, which isn't explained so")
     print(f"explanations: {len(flat)} cases, {differing} differ")
     sys.exit(1 if differing else 0)
 

@@ -283,21 +283,18 @@ kind_text Definitely = codes "definitely"
 -- the kind of evidence of this word, or none if there is no word
 abbrev pub NamesKind : Option Text → Option Kind → Type 0
 NamesKind None None = Unit {0}
-NamesKind None (Some kind) = ⊥
-NamesKind (Some text) None = ⊥
 NamesKind (Some text) (Some kind) = text ≡ kind_text kind
+NamesKind _ _ = ⊥
 
 -- the first column, if its option has a number
 abbrev pub first_column : Extent → Option ℕ
-first_column Around = None
 first_column (From column) = Some column
-first_column All = None
+first_column _ = None
 
 -- all columns are asked for
 abbrev pub is_all : Extent → Bool
-is_all Around = false
-is_all (From column) = false
 is_all All = true
+is_all _ = false
 
 -- how much of the run is asked for: all columns, or those from one on, and not both
 abbrev pub NamesExtent : List Row → Extent → Type 0

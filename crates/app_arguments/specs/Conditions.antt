@@ -59,33 +59,27 @@ list_text conditions = with_commas (map condition_text conditions)
 
 abbrev pub is_possibly_yes : Possibly → Bool
 is_possibly_yes (Possibly.Yes counts) = true
-is_possibly_yes Possibly.No = false
-is_possibly_yes (Possibly.Unknown level) = false
+is_possibly_yes _ = false
 
 abbrev pub is_possibly_no : Possibly → Bool
-is_possibly_no (Possibly.Yes counts) = false
 is_possibly_no Possibly.No = true
-is_possibly_no (Possibly.Unknown level) = false
+is_possibly_no _ = false
 
 abbrev pub is_possibly_unknown : Possibly → Bool
-is_possibly_unknown (Possibly.Yes counts) = false
-is_possibly_unknown Possibly.No = false
 is_possibly_unknown (Possibly.Unknown level) = true
+is_possibly_unknown _ = false
 
 abbrev pub is_definitely_yes : Definitely → Bool
 is_definitely_yes (Definitely.Yes level) = true
-is_definitely_yes (Definitely.No path) = false
-is_definitely_yes (Definitely.Unknown level) = false
+is_definitely_yes _ = false
 
 abbrev pub is_definitely_no : Definitely → Bool
-is_definitely_no (Definitely.Yes level) = false
 is_definitely_no (Definitely.No path) = true
-is_definitely_no (Definitely.Unknown level) = false
+is_definitely_no _ = false
 
 abbrev pub is_definitely_unknown : Definitely → Bool
-is_definitely_unknown (Definitely.Yes level) = false
-is_definitely_unknown (Definitely.No path) = false
 is_definitely_unknown (Definitely.Unknown level) = true
+is_definitely_unknown _ = false
 
 -- an answer is of this kind
 abbrev pub is_of_kind : Kind → Answer → Bool

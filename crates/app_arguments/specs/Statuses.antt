@@ -86,10 +86,7 @@ pub data Ending : Type 0 where
 
 abbrev pub status_of_failure : Failure → ℕ
 status_of_failure MemoryFailure = 4
-status_of_failure ReadFailure = 3
-status_of_failure WriteFailure = 3
-status_of_failure BundleFailure = 3
-status_of_failure NetworkFailure = 3
+status_of_failure _ = 3
 
 -- the exit status
 abbrev pub status_of : Ending → ℕ
@@ -124,12 +121,10 @@ IsNoPredicateLine text = text ≡ codes "monitor: no predicate of this name\n"
 -- Nothing is reported of what succeeds, is found bad or is to fail; of a predicate that isn't there and of a failure
 -- its line, or a prefix of it if the errors take no more. What is reported of refused arguments is the parser's.
 abbrev pub Reports : Ending → (old new : Option (List ℕ)) → Type 0
-Reports Success old new = Keeps old new
-Reports Negative old new = Keeps old new
-Reports Alarm old new = Keeps old new
 Reports NoPredicate old new = WritesUpTo IsNoPredicateLine old new
 Reports Misuse old new = ⊤
 Reports (Failed failure) old new = WritesUpTo (IsLineOf failure) old new
+Reports _ old new = Keeps old new
 
 -- ---- what stands on the output
 
@@ -138,14 +133,11 @@ Reports (Failed failure) old new = WritesUpTo (IsLineOf failure) old new
 abbrev pub JudgementLeaves : (input : Source) → Ending → (old new : Option (List ℕ)) → Type 0
 JudgementLeaves input Success old new = Writes (IsTextOfBundle input IsJudged) Whole old new
 JudgementLeaves input Negative old new = Writes (IsTextOfBundle input IsRefused) Whole old new
-JudgementLeaves input Alarm old new = ⊥
-JudgementLeaves input NoPredicate old new = ⊥
-JudgementLeaves input Misuse old new = ⊥
 JudgementLeaves input (Failed MemoryFailure) old new = Keeps old new
 JudgementLeaves input (Failed ReadFailure) old new = IsBrokenOff input × Keeps old new
 JudgementLeaves input (Failed WriteFailure) old new = WritesUpTo (IsTextOfBundle input IsAnyReport) old new
 JudgementLeaves input (Failed BundleFailure) old new = IsTooLong input × Keeps old new
-JudgementLeaves input (Failed NetworkFailure) old new = ⊥
+JudgementLeaves input _ old new = ⊥
 
 -- P holds of the document in this file, with what is asked.
 pub record OfDocument (options : Options) (document : File) (P : Inquiry → Type 0) : Type 0 where
@@ -159,20 +151,8 @@ abbrev pub LeavesOf : (options : Options) (document : File) (IsUnread : Type 0)
     (P : Inquiry → Ending → (old new : Option (List ℕ)) → Type 0) → Ending → (old new : Option (List ℕ)) → Type 0
 LeavesOf options document IsUnread P (Failed MemoryFailure) old new = Keeps old new
 LeavesOf options document IsUnread P (Failed ReadFailure) old new = IsUnread × Keeps old new
-LeavesOf options document IsUnread P (Failed WriteFailure) old new =
-    OfDocument options document (λ inquiry. P inquiry (Failed WriteFailure) old new)
-LeavesOf options document IsUnread P (Failed BundleFailure) old new =
-    OfDocument options document (λ inquiry. P inquiry (Failed BundleFailure) old new)
-LeavesOf options document IsUnread P (Failed NetworkFailure) old new =
-    OfDocument options document (λ inquiry. P inquiry (Failed NetworkFailure) old new)
-LeavesOf options document IsUnread P Success old new =
-    OfDocument options document (λ inquiry. P inquiry Success old new)
-LeavesOf options document IsUnread P Negative old new =
-    OfDocument options document (λ inquiry. P inquiry Negative old new)
-LeavesOf options document IsUnread P Alarm old new = OfDocument options document (λ inquiry. P inquiry Alarm old new)
-LeavesOf options document IsUnread P NoPredicate old new =
-    OfDocument options document (λ inquiry. P inquiry NoPredicate old new)
-LeavesOf options document IsUnread P Misuse old new = OfDocument options document (λ inquiry. P inquiry Misuse old new)
+LeavesOf options document IsUnread P ending old new =
+    OfDocument options document (λ inquiry. P inquiry ending old new)
 
 -- a report comes to this, under these conditions
 abbrev pub ComesTo : (fail_on : List Condition) → Conclusion → Report → Type 0
@@ -187,12 +167,8 @@ OfReport IsText fail_on Success old new = Writes (IsText (ComesTo fail_on condit
 OfReport IsText fail_on Negative old new = Writes (IsText IsRefused) Whole old new
 OfReport IsText fail_on Alarm old new = Writes (IsText (ComesTo fail_on conditions.Met)) Whole old new
 OfReport IsText fail_on NoPredicate old new = Writes (IsText (ComesTo fail_on conditions.NoPredicate)) Whole old new
-OfReport IsText fail_on Misuse old new = ⊥
-OfReport IsText fail_on (Failed MemoryFailure) old new = ⊥
-OfReport IsText fail_on (Failed ReadFailure) old new = ⊥
 OfReport IsText fail_on (Failed WriteFailure) old new = WritesUpTo (IsText IsAnyReport) old new
-OfReport IsText fail_on (Failed BundleFailure) old new = ⊥
-OfReport IsText fail_on (Failed NetworkFailure) old new = ⊥
+OfReport IsText fail_on _ old new = ⊥
 
 -- of a document and of streams that these sources give
 abbrev pub OfStreams : (streams : List Source) (fail_on : List Condition) → Inquiry → Ending
@@ -228,18 +204,8 @@ OfConnections G MayNotServe IsKept fail_on inquiry (Failed NetworkFailure) old n
 OfConnections G MayNotServe IsKept fail_on inquiry (Failed WriteFailure) old new =
     WritesUpTo (IsTextOfAccepted inquiry G IsAnyReport) old new
     ⊎ (IsKept × HoldsDocument inquiry × Keeps old new)
-OfConnections G MayNotServe IsKept fail_on inquiry (Failed MemoryFailure) old new = ⊥
-OfConnections G MayNotServe IsKept fail_on inquiry (Failed ReadFailure) old new = ⊥
-OfConnections G MayNotServe IsKept fail_on inquiry (Failed BundleFailure) old new = ⊥
-OfConnections G MayNotServe IsKept fail_on inquiry Success old new =
-    OfReport (IsTextOfAccepted inquiry G) fail_on Success old new
-OfConnections G MayNotServe IsKept fail_on inquiry Negative old new =
-    OfReport (IsTextOfAccepted inquiry G) fail_on Negative old new
-OfConnections G MayNotServe IsKept fail_on inquiry Alarm old new =
-    OfReport (IsTextOfAccepted inquiry G) fail_on Alarm old new
-OfConnections G MayNotServe IsKept fail_on inquiry NoPredicate old new =
-    OfReport (IsTextOfAccepted inquiry G) fail_on NoPredicate old new
-OfConnections G MayNotServe IsKept fail_on inquiry Misuse old new = ⊥
+OfConnections G MayNotServe IsKept fail_on inquiry ending old new =
+    OfReport (IsTextOfAccepted inquiry G) fail_on ending old new
 
 -- P holds of the bytes of a report, which are all that its source had left, and not too many.
 pub record OfClaim (report : Source) (P : List ℕ → Type 0) : Type 0 where
@@ -256,28 +222,16 @@ OfFinding report streams inquiry Success old new =
     OfClaim report (λ r. Writes (IsFindingTextOf inquiry r streams (Some true)) Whole old new)
 OfFinding report streams inquiry Negative old new =
     OfClaim report (λ r. Writes (IsFindingTextOf inquiry r streams (Some false)) Whole old new)
-OfFinding report streams inquiry Alarm old new = ⊥
-OfFinding report streams inquiry NoPredicate old new = ⊥
-OfFinding report streams inquiry Misuse old new = ⊥
-OfFinding report streams inquiry (Failed MemoryFailure) old new = ⊥
-OfFinding report streams inquiry (Failed ReadFailure) old new = ⊥
 OfFinding report streams inquiry (Failed WriteFailure) old new =
     OfClaim report (λ r. WritesUpTo (IsFindingTextOf inquiry r streams None) old new)
-OfFinding report streams inquiry (Failed BundleFailure) old new = ⊥
-OfFinding report streams inquiry (Failed NetworkFailure) old new = ⊥
+OfFinding report streams inquiry _ old new = ⊥
 
 -- The help is the parser's text: it is shown, or the output fails.
 abbrev pub HelpLeaves : Ending → (old new : Option (List ℕ)) → Type 0
 HelpLeaves Success old new = ⊤
-HelpLeaves Negative old new = ⊥
-HelpLeaves Alarm old new = ⊥
-HelpLeaves NoPredicate old new = ⊥
-HelpLeaves Misuse old new = ⊥
 HelpLeaves (Failed MemoryFailure) old new = Keeps old new
-HelpLeaves (Failed ReadFailure) old new = ⊥
 HelpLeaves (Failed WriteFailure) old new = ⊤
-HelpLeaves (Failed BundleFailure) old new = ⊥
-HelpLeaves (Failed NetworkFailure) old new = ⊥
+HelpLeaves _ old new = ⊥
 
 -- the line that names the program and its version
 abbrev pub IsVersionLine : List ℕ → Type 0
@@ -286,28 +240,15 @@ IsVersionLine text = text ≡ codes "monitor 1.0.0\n"
 -- That line is written, or the output fails: that line or a prefix of it.
 abbrev pub VersionLeaves : Ending → (old new : Option (List ℕ)) → Type 0
 VersionLeaves Success old new = Writes IsVersionLine Whole old new
-VersionLeaves Negative old new = ⊥
-VersionLeaves Alarm old new = ⊥
-VersionLeaves NoPredicate old new = ⊥
-VersionLeaves Misuse old new = ⊥
 VersionLeaves (Failed MemoryFailure) old new = Keeps old new
-VersionLeaves (Failed ReadFailure) old new = ⊥
 VersionLeaves (Failed WriteFailure) old new = WritesUpTo IsVersionLine old new
-VersionLeaves (Failed BundleFailure) old new = ⊥
-VersionLeaves (Failed NetworkFailure) old new = ⊥
+VersionLeaves _ old new = ⊥
 
 -- Arguments that ask for nothing are refused, and nothing is written.
 abbrev pub MisuseLeaves : Ending → (old new : Option (List ℕ)) → Type 0
-MisuseLeaves Success old new = ⊥
-MisuseLeaves Negative old new = ⊥
-MisuseLeaves Alarm old new = ⊥
-MisuseLeaves NoPredicate old new = ⊥
 MisuseLeaves Misuse old new = Keeps old new
 MisuseLeaves (Failed MemoryFailure) old new = Keeps old new
-MisuseLeaves (Failed ReadFailure) old new = ⊥
-MisuseLeaves (Failed WriteFailure) old new = ⊥
-MisuseLeaves (Failed BundleFailure) old new = ⊥
-MisuseLeaves (Failed NetworkFailure) old new = ⊥
+MisuseLeaves _ old new = ⊥
 
 -- What is left of a run whose document and streams stand in files of these names, by what P says of the streams'
 -- sources.

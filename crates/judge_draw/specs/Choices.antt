@@ -11,9 +11,8 @@ use Rattle.judge_draw.specs.declared.choice.Choice.TheVariants.{Alone, Of, Unkno
 
 -- evidence is printed, if this is the verdict on it
 abbrev pub is_printed : Verdict → Bool
-is_printed Good = true
-is_printed Bad = true
 is_printed Unchecked = false
+is_printed _ = true
 
 -- a predicate has evidence, of this kind if one is asked for
 abbrev pub has_evidence : Option Kind → Checked → Bool
@@ -66,16 +65,11 @@ has_bad_in (Some checked) = has_bad checked
 
 -- whether a verdict on the evidence of the predicate that is drawn is bad
 abbrev pub is_chosen_bad : List Checked → Choice → Bool
-is_chosen_bad checked Alone = false
 is_chosen_bad checked (Of i) = has_bad_in (slice_get checked i)
-is_chosen_bad checked Unknown = false
-is_chosen_bad checked Lacking = false
+is_chosen_bad checked _ = false
 
 -- Something in the finding stands against the picture: the report isn't read, or it is a refusal or the session is
 -- refused, or the counts or the names are wrong, or the evidence that would be drawn is bad.
 abbrev pub stands_against : Wished → Finding → Bool
-stands_against wish (NotRead line) = true
-stands_against wish (OfRefusal good) = true
-stands_against wish (OfSession false found) = true
-stands_against wish (OfSession true None) = true
 stands_against wish (OfSession true (Some checked)) = is_chosen_bad checked (choice wish checked)
+stands_against wish _ = true

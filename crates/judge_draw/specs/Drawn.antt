@@ -39,8 +39,7 @@ abbrev pub ShowsChoice : Option Kind → Document → List Trace → List Answer
 ShowsChoice kind document traces answers Alone evidence title = ShowsNothing evidence × (title ≡ run_title)
 ShowsChoice kind document traces answers (Of i) evidence title =
     ShowsPredicate kind document traces answers i evidence title
-ShowsChoice kind document traces answers Unknown evidence title = ⊥
-ShowsChoice kind document traces answers Lacking evidence title = ⊥
+ShowsChoice kind document traces answers _ evidence title = ⊥
 
 abbrev pub process_names : Document → List (List ℕ)
 process_names document = map (λ (process : ProcessNames). process.name) document.names

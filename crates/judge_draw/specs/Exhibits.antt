@@ -37,33 +37,29 @@ LeadsThrough c cut path =
 -- this cut, which is consistent and satisfies, with what the variables that the predicate names are worth there, and an
 -- observation through it
 abbrev pub ShowsCut : List ProcessNames → Recorded → Predicate → List ℕ → Evidence → Type 0
-ShowsCut names recorded predicate cut Absent = ⊥
 ShowsCut names recorded predicate cut (Cut counts values path) =
     (counts.items ≡ cut) × IsGoodCut recorded.events (test_of recorded predicate) cut
     × (texts_view values.items ≡ value_texts names (state_at recorded.initial recorded.events cut) predicate)
     × LeadsThrough recorded.events cut path.items
-ShowsCut names recorded predicate cut (Observation path) = ⊥
+ShowsCut names recorded predicate cut _ = ⊥
 
 -- an observation with no satisfying cut, whose processes have these names
 abbrev pub ShowsPath : List ProcessNames → Recorded → Predicate → List (List ℕ) → Evidence → Type 0
-ShowsPath names recorded predicate reported Absent = ⊥
-ShowsPath names recorded predicate reported (Cut counts values path) = ⊥
 ShowsPath names recorded predicate reported (Observation path) =
     (map (name_of_process names) path.items ≡ reported)
     × IsAvoidingObservation recorded.events (test_of recorded predicate) path.items
+ShowsPath names recorded predicate reported _ = ⊥
 
 -- nothing
 abbrev pub ShowsNothing : Evidence → Type 0
 ShowsNothing Absent = Unit {0}
-ShowsNothing (Cut counts values path) = ⊥
-ShowsNothing (Observation path) = ⊥
+ShowsNothing _ = ⊥
 
 -- what is shown of an answer whose `possibly` has no cut: the observation, if its `definitely` has one
 abbrev pub ShowsDefinitely : List ProcessNames → Recorded → Predicate → Definitely → Evidence → Type 0
-ShowsDefinitely names recorded predicate (Definitely.Yes level) evidence = ShowsNothing evidence
 ShowsDefinitely names recorded predicate (Definitely.No reported) evidence =
     ShowsPath names recorded predicate reported evidence
-ShowsDefinitely names recorded predicate (Definitely.Unknown level) evidence = ShowsNothing evidence
+ShowsDefinitely names recorded predicate _ evidence = ShowsNothing evidence
 
 abbrev pub ShowsPossibly : List ProcessNames → Recorded → Predicate → Possibly → Definitely → Evidence → Type 0
 ShowsPossibly names recorded predicate (Possibly.Yes cut) definitely evidence =
@@ -76,8 +72,7 @@ ShowsPossibly names recorded predicate (Possibly.Unknown level) definitely evide
 -- what is shown of a *possibly* alone: its cut, if it has one
 abbrev pub ShowsCutAlone : List ProcessNames → Recorded → Predicate → Possibly → Evidence → Type 0
 ShowsCutAlone names recorded predicate (Possibly.Yes cut) evidence = ShowsCut names recorded predicate cut evidence
-ShowsCutAlone names recorded predicate Possibly.No evidence = ShowsNothing evidence
-ShowsCutAlone names recorded predicate (Possibly.Unknown level) evidence = ShowsNothing evidence
+ShowsCutAlone names recorded predicate _ evidence = ShowsNothing evidence
 
 -- What is shown of an answer: the cut of a *possibly yes* and an observation through it, else the observation of a
 -- *definitely no*, else nothing. If evidence of one kind is asked for, it is that or nothing.

@@ -32,9 +32,7 @@ stream_file name bytes = file_of_lines name (finished_lines bytes)
 
 abbrev pub is_join_of : ℕ → Result LineRecord RecordFault → Bool
 is_join_of process (Ok (Joins other)) = other == process
-is_join_of process (Ok (Happens event)) = false
-is_join_of process (Ok Ends) = false
-is_join_of process (Err fault) = false
+is_join_of process _ = false
 
 -- whether the file's first line joins this process
 abbrev pub joins : List ProcessNames → ℕ → StreamFile → Bool

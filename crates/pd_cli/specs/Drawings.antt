@@ -28,11 +28,8 @@ pub record IsNoticeOf (document : Inquiry) (report : List ℕ) (streams : List S
 
 -- the notice of this finding
 abbrev pub IsNoticed : (found : List ℕ) → DrawOutcome → Type 0
-IsNoticed found Written = ⊥
-IsNoticed found CycleWritten = ⊥
 IsNoticed found (Refused notice) = notice.items ≡ refusal_heading ++ found
-IsNoticed found NoPredicate = ⊥
-IsNoticed found NoEvidence = ⊥
+IsNoticed found _ = ⊥
 
 -- The picture is written of a document, a report of this source and streams, that of a cycle too: its whole text. The
 -- output fails: that text or a prefix of it. Something stands against the picture: nothing.
@@ -48,34 +45,26 @@ OfDrawing report streams wish inquiry (Ok NoPredicate) old new =
     OfClaim report (λ r. LacksPredicate inquiry r streams wish) × Keeps old new
 OfDrawing report streams wish inquiry (Ok NoEvidence) old new =
     OfClaim report (λ r. LacksKind inquiry r streams wish) × Keeps old new
-OfDrawing report streams wish inquiry (Err Memory) old new = ⊥
-OfDrawing report streams wish inquiry (Err Read) old new = ⊥
 OfDrawing report streams wish inquiry (Err Write) old new =
     OfClaim report (λ r. WritesUpTo (IsAnyTextOf inquiry r streams wish) old new)
-OfDrawing report streams wish inquiry (Err BundleLong) old new = ⊥
+OfDrawing report streams wish inquiry _ old new = ⊥
 
 -- What a call leaves to which the document was handed: nothing if memory runs out, and else what P says.
 abbrev pub DrawReadLeaves : (P : Result DrawOutcome EngineFault → (old new : Option (List ℕ)) → Type 0)
     → Result DrawOutcome EngineFault → (old new : Option (List ℕ)) → Type 0
-DrawReadLeaves P (Ok outcome) old new = P (Ok outcome) old new
 DrawReadLeaves P (Err Memory) old new = Keeps old new
 DrawReadLeaves P (Err Read) old new = ⊥
-DrawReadLeaves P (Err Write) old new = P (Err Write) old new
-DrawReadLeaves P (Err BundleLong) old new = P (Err BundleLong) old new
+DrawReadLeaves P ending old new = P ending old new
 
 -- What is left of a run whose document stands in this file: nothing if memory runs out, nothing if a file can't be
 -- opened or read, which is so only if that may be, and else what P says of the document with what is asked.
 abbrev pub DrawLeaves : (options : Options) (document : File) (IsUnread : Type 0)
     (P : Inquiry → Result DrawOutcome EngineFault → (old new : Option (List ℕ)) → Type 0)
     → Result DrawOutcome EngineFault → (old new : Option (List ℕ)) → Type 0
-DrawLeaves options document IsUnread P (Ok outcome) old new =
-    OfDocument options document (λ inquiry. P inquiry (Ok outcome) old new)
 DrawLeaves options document IsUnread P (Err Memory) old new = Keeps old new
 DrawLeaves options document IsUnread P (Err Read) old new = IsUnread × Keeps old new
-DrawLeaves options document IsUnread P (Err Write) old new =
-    OfDocument options document (λ inquiry. P inquiry (Err Write) old new)
-DrawLeaves options document IsUnread P (Err BundleLong) old new =
-    OfDocument options document (λ inquiry. P inquiry (Err BundleLong) old new)
+DrawLeaves options document IsUnread P ending old new =
+    OfDocument options document (λ inquiry. P inquiry ending old new)
 
 -- how a drawing ends after the flush: a picture stays written, and of a finding its notice is made
 abbrev pub Finishes : DrawOutcome → Result DrawOutcome EngineFault → (middle new : Option (List ℕ)) → Type 0
@@ -89,21 +78,19 @@ Finishes NoEvidence result middle new = (result ≡ Ok NoEvidence) × Keeps midd
 
 -- the exit status
 abbrev pub draw_status : Result DrawOutcome EngineFault → ℕ
-draw_status (Ok Written) = 0
-draw_status (Ok CycleWritten) = 0
 draw_status (Ok (Refused notice)) = 1
 draw_status (Ok NoPredicate) = 2
 draw_status (Ok NoEvidence) = 2
 draw_status (Err fault) = status_of_failure (failure_view fault)
+draw_status _ = 0
 
 -- what is reported
 abbrev pub draw_notice : Result DrawOutcome EngineFault → List ℕ
-draw_notice (Ok Written) = []
-draw_notice (Ok CycleWritten) = []
 draw_notice (Ok (Refused notice)) = notice.items
 draw_notice (Ok NoPredicate) = codes "monitor: no predicate of this name\n"
 draw_notice (Ok NoEvidence) = codes "monitor: no evidence of this kind\n"
 draw_notice (Err fault) = line_of_failure (failure_view fault)
+draw_notice _ = []
 
 -- A run that draws came to some end, by which this is left on the output and on the errors.
 pub record EndsDrawn (files : List ℕ → File) (options : Options) (document report : List ℕ) (streams : List (List ℕ))

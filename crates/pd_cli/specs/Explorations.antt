@@ -23,15 +23,9 @@ OfPage AreFiles streams inquiry Success old new =
     Writes (IsOwedWith AreFiles inquiry streams (Some true)) Whole old new
 OfPage AreFiles streams inquiry Negative old new =
     Writes (IsOwedWith AreFiles inquiry streams (Some false)) Whole old new
-OfPage AreFiles streams inquiry Misuse old new = ⊥
-OfPage AreFiles streams inquiry Alarm old new = ⊥
-OfPage AreFiles streams inquiry NoPredicate old new = ⊥
-OfPage AreFiles streams inquiry (Failed MemoryFailure) old new = ⊥
-OfPage AreFiles streams inquiry (Failed ReadFailure) old new = ⊥
 OfPage AreFiles streams inquiry (Failed WriteFailure) old new =
     WritesUpTo (IsOwedWith AreFiles inquiry streams None) old new
-OfPage AreFiles streams inquiry (Failed BundleFailure) old new = ⊥
-OfPage AreFiles streams inquiry (Failed NetworkFailure) old new = ⊥
+OfPage AreFiles streams inquiry _ old new = ⊥
 
 -- the arguments ask for a page, and the run came to such an end
 pub record ExploresAsAsked (arguments : List Text) (files : List ℕ → File) (status : ℕ)

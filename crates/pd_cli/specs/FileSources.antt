@@ -35,11 +35,4 @@ abbrev pub ReadLeaves : (P : Ending → (old new : Option (List ℕ)) → Type 0
     → Type 0
 ReadLeaves P (Failed MemoryFailure) old new = Keeps old new
 ReadLeaves P (Failed ReadFailure) old new = ⊥
-ReadLeaves P (Failed WriteFailure) old new = P (Failed WriteFailure) old new
-ReadLeaves P (Failed BundleFailure) old new = P (Failed BundleFailure) old new
-ReadLeaves P (Failed NetworkFailure) old new = P (Failed NetworkFailure) old new
-ReadLeaves P Success old new = P Success old new
-ReadLeaves P Negative old new = P Negative old new
-ReadLeaves P Alarm old new = P Alarm old new
-ReadLeaves P NoPredicate old new = P NoPredicate old new
-ReadLeaves P Misuse old new = P Misuse old new
+ReadLeaves P ending old new = P ending old new

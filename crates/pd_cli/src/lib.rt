@@ -2,16 +2,15 @@
 //!
 //! With no argument beyond the program's name a bundle is read from the input, judged, and its report written to the
 //! output. If the status is 0 or 1, what was written is the text of the report that the input's bytes make: judged at
-//! 0, refused at 1. Further arguments go to the command line's parser (`app_arguments`). `judge` with the names of files
-//! does the same with a session document and streams that stand in files. `check` with the names of files checks a
-//! report's evidence: at status 0 nothing that it found is bad, and at 1 something is. `draw` with the names of files
+//! 0, refused at 1. Further arguments go to the command line's parser (`app_arguments`). `judge` with the names of
+//! files does the same with a session document and streams that stand in files. `check` with the names of files checks
+//! a report's evidence: at status 0 nothing that it found is bad, and at 1 something is. `draw` with the names of files
 //! draws a report: at status 0 the picture is written, and at 1 something that a check finds stands against it. `serve`
 //! with a port judges streams that come by connections to that port. `explore` with the names of files judges as
 //! `judge` does: at status 0 the page is written on which the run is explored, and at 1 the report of a refusal, or the
-//! page of a causal cycle.
-//! Whatever fails is reported in one line on the errors, after an explanation if one is wanted. What each status says
-//! stands in `specs/Drawings.antt` for `draw`, in `specs/Explorations.antt` for `explore`, and for the others in
-//! `app_arguments/specs/Statuses.antt`.
+//! page of a causal cycle. Whatever fails is reported in one line on the errors, after an explanation if one is wanted.
+//! What each status says stands in `specs/Drawings.antt` for `draw`, in `specs/Explorations.antt` for `explore`, and
+//! for the others in `app_arguments/specs/Statuses.antt`.
 //!
 //! - `program`: one run of the program, from its arguments to its exit status
 //! - `parser_error`: reports what the command line's parser has to say

@@ -2,9 +2,9 @@
 //!
 //! Such a predicate says which counts of each process are good.
 //!
-//! - *The least cut.* For Possibly of a conjunction, the least consistent cut at which the count of each process is good
-//!   is found directly. Where a predicate is a disjunction of such conjunctions, the first of their least cuts is the
-//!   first satisfying one.
+//! - *The least cut.* For Possibly of a conjunction, the least consistent cut at which the count of each process is
+//!   good is found directly. Where a predicate is a disjunction of such conjunctions, the first of their least cuts is
+//!   the first satisfying one.
 //! - *Clauses.* For Definitely of a disjunction: every observation comes to each count of each process, so it passes
 //!   through a satisfying cut if there is a good count at all. The avoiding cuts are those in which no process has come
 //!   to a good count, and the greatest of them tells the level from which on there is none.

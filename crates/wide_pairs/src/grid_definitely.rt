@@ -23,7 +23,7 @@ pub enum Passage {
 /// `q`, counted from 0; with the least level that has no avoiding cut, or the path that is printed. No level is walked,
 /// whatever their width: each pair of counts that a consistent cut can have is asked for once at most, and takes a bit.
 ///
-/// Source: `docs/DESIGN.md` has the argument for the grid of pairs; its least cuts are those of Garg and Waldecker,
+/// Source: `docs/ANY-WIDTH.md` has the argument for the grid of pairs; its least cuts are those of Garg and Waldecker,
 /// Detection of Weak Unstable Predicates in Distributed Programs, 1994.
 ///
 /// # Errors

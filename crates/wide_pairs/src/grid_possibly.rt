@@ -101,7 +101,7 @@ fn first_of_rows<G: GoodPairs>(
 /// from 0. No level is walked, whatever their width: each pair of counts that a consistent cut can have is asked for
 /// once at most, and each count of `p` takes time for the processes.
 ///
-/// Source: `docs/DESIGN.md` has the argument for the grid of pairs; its least cuts are those of Garg and Waldecker,
+/// Source: `docs/ANY-WIDTH.md` has the argument for the grid of pairs; its least cuts are those of Garg and Waldecker,
 /// Detection of Weak Unstable Predicates in Distributed Programs, 1994.
 ///
 /// # Errors

@@ -25,7 +25,7 @@ pub enum FirstOfTwo {
 /// is walked: each pair of counts of the two that a consistent cut can have is looked at once at most, and each count
 /// of the one takes time for the processes.
 ///
-/// Source: `docs/DESIGN.md` has the argument for the grid of pairs; its least cuts are those of Garg and Waldecker,
+/// Source: `docs/ANY-WIDTH.md` has the argument for the grid of pairs; its least cuts are those of Garg and Waldecker,
 /// Detection of Weak Unstable Predicates in Distributed Programs, 1994.
 ///
 /// # Errors

@@ -1,6 +1,6 @@
 #!/usr/bin/env python3
-"""build.py [-j N]: proves and builds the program, and judges the stored session with it.
-build.py --unproved [OUT]: builds it in two to three minutes without its proofs, for those who want to try it first.
+"""./x build [-j N]: proves and builds the program, and judges the stored session with it.
+./x build --unproved [OUT]: builds it in two to three minutes without its proofs, for those who want to try it first.
 
 The first proves all that the program stands on, side by side, with a line for each crate, and then builds
 crates/monitor/out/monitor. It is the gate, `rt ci`, on a copy that has these crates alone, without the edits that must
@@ -16,32 +16,23 @@ import sys
 import tempfile
 import time
 
-ROOT = os.path.dirname(os.path.abspath(__file__))
+sys.dont_write_bytecode = True
+import layout  # noqa: E402
+
+ROOT = layout.ROOT
 CRATE = os.path.join(ROOT, "crates", "monitor")
 HEAD = re.compile(r"== \w")
 PROVED = re.compile(r"rt: (\w+) (proved$|is kept: )")
 NOT_PROVED = re.compile(r"rt: \w+ NOT PROVED")
 
 
-def lines_of_crates():
-    """Each crate's line in crates.txt, in the file's order."""
-    with open(os.path.join(ROOT, "crates.txt"), encoding="utf-8") as lines:
-        found = [line.split("#")[0].split() for line in lines]
-    return {line[0].rstrip(":"): line for line in found if line}
-
-
-def below(name, lines):
-    """The crate and those that it stands on."""
-    return {name}.union(*(below(other, lines) for other in lines[name][1:] if other in lines))
-
-
 def copy_crates(to):
     """Copies the crates that the program stands on, and gives how many there are."""
-    lines = lines_of_crates()
-    names = below("monitor", lines)
+    direct = layout.libraries()
+    names = [*layout.below("monitor", direct), "monitor"]
     shutil.copy2(os.path.join(ROOT, "HANDLES"), to)
     with open(os.path.join(to, "crates.txt"), "w", encoding="utf-8") as file:
-        file.writelines(" ".join(line) + "\n" for name, line in lines.items() if name in names)
+        file.writelines(f"{name}: {' '.join(direct[name])}\n" for name in names)
     for name in names:
         shutil.copytree(os.path.join(ROOT, "crates", name), os.path.join(to, "crates", name),
                         ignore=lambda at, _: {"out", "edits", "must-fail"} if os.path.basename(at) == name else set())
