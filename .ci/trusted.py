@@ -19,7 +19,7 @@ from layout import ROOT, libraries  # noqa: E402
 PAGE = os.path.join(ROOT, "docs", "TRUST.md")
 RUN = "crates/pd_cli/src/program.rt"
 # The traits of what a run stands on, whose contracts say what a file, a connection and a reader give.
-TRAITS = {"FileSource": "crates/pd_cli/src/file_source.rt", "Network": "crates/pd_cli/src/network.rt",
+TRAITS = {"FileSource": "crates/app_host/src/file_source.rt", "Network": "crates/app_host/src/network.rt",
           "ByteSource": "crates/pd_gather/src/byte_source.rt"}
 NAME = r"[A-Za-z_][\w'-]*"
 HEAD = re.compile(rf"(?:(?:abbrev|unfoldable|record|data|law|pub)\s+)+({NAME})")

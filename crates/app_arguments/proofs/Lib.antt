@@ -4,8 +4,7 @@ pub mod Conditions
 pub mod Flags
 pub mod Numbers
 pub mod Parsed
-pub mod ParserEnds
 pub mod ServicePorts
-pub mod Wishes
+pub mod Scopes
 mod Lists
 mod Parts

@@ -11,12 +11,12 @@ use Rattle.clap.specs.declared.error.kind.ErrorKind.TheVariants.{DisplayHelp, Di
 use Rattle.def_format.specs.Documents.{Options}
 use Rattle.def_format.specs.Limits.{width_limit, worker_limit}
 use Rattle.app_arguments.specs.Conditions.{AreLawful, Condition, list_text}
-use Rattle.out_picture.specs.Wishes.{Wished}
+use Rattle.out_picture.specs.Scopes.{Scope}
 use Rattle.out_picture.specs.declared.extent.Extent.{Extent}
 use Rattle.out_picture.specs.declared.extent.Extent.TheVariants.{Around, From, All}
 use Rattle.out_picture.specs.declared.kind.Kind.{Kind}
 use Rattle.out_picture.specs.declared.kind.Kind.TheVariants.{Possibly, Definitely}
-use Rattle.app_arguments.specs.Statuses.{Request, JudgeInput, JudgeFiles, CheckFiles, ServeStreams, ShowHelp, ShowVersion, Unclear}
+use Rattle.app_arguments.specs.Statuses.{Request, JudgeInput, JudgeFiles, CheckFiles, DrawFiles, ServeStreams, ExploreFiles, ShowHelp, ShowVersion, Unclear}
 
 -- ---- limits
 
@@ -302,14 +302,14 @@ NamesExtent rows extent =
     MayNameNumber rows (codes "COLUMN") (first_column extent) × SaysFlag rows (codes "ALL") (is_all extent)
 
 -- what is asked of a picture
-pub record NamesWish (rows : List Row) (wish : Wished) : Type 0 where
-  pub names_predicate : first_of (codes "PREDICATE") rows ≡ wish.name
-  pub names_kind : NamesKind (first_of (codes "KIND") rows) wish.kind
-  pub names_extent : NamesExtent rows wish.extent
+pub record NamesScope (rows : List Row) (scope : Scope) : Type 0 where
+  pub names_predicate : first_of (codes "PREDICATE") rows ≡ scope.name
+  pub names_kind : NamesKind (first_of (codes "KIND") rows) scope.kind
+  pub names_extent : NamesExtent rows scope.extent
 
 -- the word is that of no kind, or all columns are asked for and those from one on
-abbrev pub LacksWish : List Row → Type 0
-LacksWish rows = (wish : Wished) → ¬ NamesWish rows wish
+abbrev pub LacksScope : List Row → Type 0
+LacksScope rows = (scope : Scope) → ¬ NamesScope rows scope
 
 -- ---- what is asked for
 
@@ -349,12 +349,20 @@ pub data AsksFor (arguments : List Text) : Request → Type 0 where
       → AreTaken arguments → AreOf (codes "check") arguments rows → NamesSession rows document streams
       → NamesOptions rows options → options.beyond_width ≡ false → NamesReport rows report
       → AsksFor arguments (CheckFiles options document report streams)
+  of_draw : (rows : List Row) (document report : Text) (streams : List Text) (options : Options) (scope : Scope)
+      → AreTaken arguments → AreOf (codes "draw") arguments rows → NamesSession rows document streams
+      → NamesOptions rows options → options.beyond_width ≡ false → NamesReport rows report → NamesScope rows scope
+      → AsksFor arguments (DrawFiles options scope document report streams)
   of_serve : (rows : List Row) (document : Text) (port watchers workers : ℕ) (wait : Option ℕ) (keep : Option Text)
       (options : Options) (fail_on : List Condition) → AreTaken arguments → AreOf (codes "serve") arguments rows
       → NamesService rows document port watchers → NamesWait rows wait → NamesKeep rows keep
       → NamesOptions rows options → SaysBeyondWidth rows options.beyond_width → NamesWorkers rows workers
       → NamesConditions rows fail_on
       → AsksFor arguments (ServeStreams options fail_on document port watchers wait keep)
+  of_explore : (rows : List Row) (document : Text) (streams : List Text) (workers : ℕ) (options : Options)
+      → AreTaken arguments → AreOf (codes "explore") arguments rows → NamesSession rows document streams
+      → NamesOptions rows options → SaysBeyondWidth rows options.beyond_width → NamesWorkers rows workers
+      → AsksFor arguments (ExploreFiles options document streams)
   of_help : HasFault arguments DisplayHelp → AsksFor arguments ShowHelp
   of_version : HasFault arguments DisplayVersion → AsksFor arguments ShowVersion
   of_fault : (kind : ErrorKind) → ¬ IsShownKind kind → HasFault arguments kind → AsksFor arguments Unclear
@@ -368,32 +376,7 @@ pub data AsksFor (arguments : List Text) : Request → Type 0 where
       → LacksWorkers rows → AsksFor arguments Unclear
   of_no_conditions : (command : Text) (rows : List Row) → IsJudging command → AreOf command arguments rows
       → LacksConditions rows → AsksFor arguments Unclear
-  of_no_wish : (rows : List Row) → AreOf (codes "draw") arguments rows → LacksWish rows → AsksFor arguments Unclear
-
--- The arguments ask for this picture of a session in files of these names.
-pub record AsksToDraw (arguments : List Text) (options : Options) (document report : Text) (streams : List Text)
-    (wish : Wished) : Type 0 where
-  pub rows : List Row
-  pub are_taken : AreTaken arguments
-  pub are_of : AreOf (codes "draw") arguments rows
-  pub names_session : NamesSession rows document streams
-  pub names_options : NamesOptions rows options
-  pub within_width : options.beyond_width ≡ false
-  pub names_report : NamesReport rows report
-  pub names_wish : NamesWish rows wish
-
--- The arguments ask for the page of a session in files of these names, with what is asked beside the document. How many
--- workers there are changes nothing of it.
-pub record AsksToExplore (arguments : List Text) (options : Options) (document : Text) (streams : List Text) :
-    Type 0 where
-  pub rows : List Row
-  pub are_taken : AreTaken arguments
-  pub are_of : AreOf (codes "explore") arguments rows
-  pub names_session : NamesSession rows document streams
-  pub names_options : NamesOptions rows options
-  pub says_beyond_width : SaysBeyondWidth rows options.beyond_width
-  pub workers : ℕ
-  pub names_workers : NamesWorkers rows workers
+  of_no_scope : (rows : List Row) → AreOf (codes "draw") arguments rows → LacksScope rows → AsksFor arguments Unclear
 
 -- A parse that gives no request says why by its error: the help or the version is asked for, or something is wrong; or
 -- memory ran out.
@@ -425,6 +408,6 @@ FindsExtent rows None = (extent : Extent) → ¬ NamesExtent rows extent
 FindsExtent rows (Some extent) = NamesExtent rows extent
 
 -- what is asked of a picture, or that nothing could be
-abbrev pub FindsWish : List Row → Option Wished → Type 0
-FindsWish rows None = LacksWish rows
-FindsWish rows (Some wish) = NamesWish rows wish
+abbrev pub FindsScope : List Row → Option Scope → Type 0
+FindsScope rows None = LacksScope rows
+FindsScope rows (Some scope) = NamesScope rows scope

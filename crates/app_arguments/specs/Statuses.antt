@@ -6,6 +6,7 @@ use Rattle.def_format.specs.Limits.{document_byte_limit, report_byte_limit}
 use Rattle.def_format.specs.Reports.{Report}
 use Rattle.app_arguments.specs.Conditions as conditions
 use Rattle.app_arguments.specs.Conditions.{Condition, Conclusion, conclusion}
+use Rattle.out_picture.specs.Scopes.{Scope}
 use Rattle.def_judgement.specs.Writes.{Source, Writes, Whole, Partial, IsAnyReport, IsBrokenOff, IsJudged, IsRefused, IsWholeInput, IsTextOfBundle, IsTextOfStreams, IsTooLong, IsFindingTextOf}
 
 -- ---- what a run is asked for
@@ -19,11 +20,17 @@ pub data Request : Type 0 where
   -- to check a report by a session document, with what is asked beside it, and streams of events, each in a file of
   -- this name
   CheckFiles : (options : Options) (document report : List ℕ) (streams : List (List ℕ)) → Request
+  -- to draw a report with a session document, with what is asked beside it, and streams of events, each in a file of
+  -- this name: as much of it as this
+  DrawFiles : (options : Options) (scope : Scope) (document report : List ℕ) (streams : List (List ℕ)) → Request
   -- to judge a session document, in the file of this name, and streams of events that come by connections to this port,
   -- in the same way; to show meanwhile how far they are read to this many watchers; to wait no longer than this many
   -- seconds for the connections, and to keep the session in the folder of this name, if that is asked for
   ServeStreams : (options : Options) (fail_on : List Condition) (document : List ℕ) (port watchers : ℕ)
       (wait : Option ℕ) (keep : Option (List ℕ)) → Request
+  -- to write a page of a session document, with what is asked beside it, and streams of events, each in a file of this
+  -- name
+  ExploreFiles : (options : Options) (document : List ℕ) (streams : List (List ℕ)) → Request
   -- to show the help
   ShowHelp : Request
   -- to say which version of the program this is
@@ -266,33 +273,7 @@ UnreadClaim files document report streams =
     MayBeUnread (files document ∷ files report ∷ map files streams) (files document ∷ files report ∷ [])
     ⊎ IsLongReport (files report).source
 
--- By what is asked for, where of the input and of the file of each name this is known, a connection to each port may be
--- such a source, and the network serves or may fail to.
-abbrev pub Leaves : (input : Source) (files : List ℕ → File) (connections : ℕ → Source → Type 0)
-    (network_serves : Bool) → Request → Ending → (old new : Option (List ℕ)) → Type 0
-Leaves input files connections network_serves JudgeInput ending old new = JudgementLeaves input ending old new
-Leaves input files connections network_serves (JudgeFiles options fail_on document streams) ending old new =
-    SessionLeaves files options document streams (λ sources. OfStreams sources fail_on) ending old new
-Leaves input files connections network_serves (CheckFiles options document report streams) ending old new =
-    LeavesOf options (files document) (UnreadClaim files document report streams)
-    (OfFinding (files report).source (sources_of (map files streams))) ending old new
-Leaves input files connections network_serves (ServeStreams options fail_on document port watchers wait keep) ending
-    old new =
-    LeavesOf options (files document) (MayBeUnread (files document ∷ []) (files document ∷ []))
-    (OfConnections (connections port) (ServiceMayFail wait network_serves) (keep ≢ None) fail_on) ending old new
-Leaves input files connections network_serves ShowHelp ending old new = HelpLeaves ending old new
-Leaves input files connections network_serves ShowVersion ending old new = VersionLeaves ending old new
-Leaves input files connections network_serves Unclear ending old new = MisuseLeaves ending old new
-
 -- ---- a run
-
--- Memory runs out before it is known what is asked for, and nothing is written; or the arguments ask for something, and
--- what is left on the output is by that and by how the run ends.
-abbrev pub DoesAsAsked : (IsAsked : Request → Type 0) (input : Source) (files : List ℕ → File)
-    (connections : ℕ → Source → Type 0) (network_serves : Bool) → Ending → (old new : Option (List ℕ)) → Type 0
-DoesAsAsked IsAsked input files connections network_serves ending old new =
-    ((ending ≡ Failed MemoryFailure) × Keeps old new)
-    ⊎ (request : Request) × IsAsked request × Leaves input files connections network_serves request ending old new
 
 -- A run with this exit status came to some end, by which this is left on the output.
 pub record Ends (IsLeft : Ending → Type 0) (status : ℕ) (errors_old errors_new : Option (List ℕ)) : Type 0 where
@@ -300,11 +281,3 @@ pub record Ends (IsLeft : Ending → Type 0) (status : ℕ) (errors_old errors_n
   pub is_status : status ≡ status_of ending
   pub output : IsLeft ending
   pub errors : Reports ending errors_old errors_new
-
--- A run did what its arguments ask for: requests of which this holds.
-abbrev pub EndsAsAsked : (IsAsked : Request → Type 0) (input : Source) (files : List ℕ → File)
-    (connections : ℕ → Source → Type 0) (network_serves : Bool) (status : ℕ)
-    (old new errors_old errors_new : Option (List ℕ)) → Type 0
-EndsAsAsked IsAsked input files connections network_serves status old new errors_old errors_new =
-    Ends (λ ending. DoesAsAsked IsAsked input files connections network_serves ending old new) status errors_old
-    errors_new

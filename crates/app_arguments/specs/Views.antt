@@ -5,8 +5,8 @@ use Rattle.app_arguments.specs.Statuses as asked
 use Rattle.clap.specs.Words.{Text}
 use Rattle.pd_spec.specs.Views.{options_view}
 use Rattle.app_arguments.specs.ConditionViews.{fail_on_view}
-use Rattle.out_picture.specs.Wishes.{wish_view}
-use Rattle.app_arguments.specs.Arguments.{AsksFor, AsksToDraw, AsksToExplore}
+use Rattle.out_picture.specs.Scopes.{scope_view}
+use Rattle.app_arguments.specs.Arguments.{AsksFor}
 use Rattle.app_arguments.specs.declared.request.Request.{Request}
 use Rattle.app_arguments.specs.declared.request.Request.TheVariants.{Bundle, Judge, Check, Draw, Serve, Explore}
 use Rattle.app_arguments.specs.declared.request.SessionNames.{SessionNames}
@@ -19,24 +19,27 @@ session_view names = (names.spec.now, map (λ name. name.now) names.streams.item
 abbrev pub keep_view : Option (Bor (List ℕ)) → Option (List ℕ)
 keep_view keep = option_map (λ (folder : Bor (List ℕ)). folder.now) keep
 
+-- what is asked for
+abbrev pub request_view : Request → asked.Request
+request_view Bundle = asked.JudgeInput
+request_view (Judge judgement) =
+    asked.JudgeFiles (options_view judgement.names.options) (fail_on_view judgement.fail_on)
+    (session_view judgement.names).0 (session_view judgement.names).1
+request_view (Check report names) =
+    asked.CheckFiles (options_view names.options) (session_view names).0 report.now (session_view names).1
+request_view (Draw report scope names) =
+    asked.DrawFiles (options_view names.options) (scope_view scope) (session_view names).0 report.now
+    (session_view names).1
+request_view (Serve service) =
+    asked.ServeStreams (options_view service.options) (fail_on_view service.fail_on) service.spec.now service.port
+    service.watchers service.wait (keep_view service.keep)
+request_view (Explore exploration) =
+    asked.ExploreFiles (options_view exploration.names.options) (session_view exploration.names).0
+    (session_view exploration.names).1
+
 -- the arguments ask for this
 abbrev pub IsAsked : List Text → Request → Type 0
-IsAsked arguments Bundle = AsksFor arguments asked.JudgeInput
-IsAsked arguments (Judge judgement) =
-    AsksFor arguments (asked.JudgeFiles (options_view judgement.names.options) (fail_on_view judgement.fail_on)
-    (session_view judgement.names).0 (session_view judgement.names).1)
-IsAsked arguments (Check report names) =
-    AsksFor arguments (asked.CheckFiles (options_view names.options) (session_view names).0 report.now
-    (session_view names).1)
-IsAsked arguments (Draw report wish names) =
-    AsksToDraw arguments (options_view names.options) (session_view names).0 report.now (session_view names).1
-    (wish_view wish)
-IsAsked arguments (Serve service) =
-    AsksFor arguments (asked.ServeStreams (options_view service.options) (fail_on_view service.fail_on)
-    service.spec.now service.port service.watchers service.wait (keep_view service.keep))
-IsAsked arguments (Explore exploration) =
-    AsksToExplore arguments (options_view exploration.names.options) (session_view exploration.names).0
-    (session_view exploration.names).1
+IsAsked arguments request = AsksFor arguments (request_view request)
 
 -- the same of a request; with none the arguments ask for nothing that can be done
 abbrev pub IsAskedIf : List Text → Option Request → Type 0

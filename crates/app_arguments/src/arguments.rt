@@ -3,11 +3,11 @@ ghost use Rattle.clap.specs.Matches.{found_of};
 ghost use Rattle.clap.specs.Simple.{app_of, subcommand_of, subcommand_rows_of};
 ghost use Rattle.clap.specs.Values.{kind_of};
 ghost use Rattle.clap.specs.Walk.{Text, all_of, rows_of};
-ghost use Rattle.app_arguments.specs.Arguments.{AreOf, AreTaken, FindsConditions, FindsExtent, FindsSession, FindsWish, IsErrorOf, IsNumberText, IsPort, IsShownKind, NamesConditions, NamesNumber, NamesOptions, NamesPredicates, NamesWait, NamesWidth, NamesWorkers, SaysBeyondWidth, SaysFlag, extent_by, kind_text, monitor_app};
+ghost use Rattle.app_arguments.specs.Arguments.{AreOf, AreTaken, FindsConditions, FindsExtent, FindsSession, FindsScope, IsErrorOf, IsNumberText, IsPort, IsShownKind, NamesConditions, NamesNumber, NamesOptions, NamesPredicates, NamesWait, NamesWidth, NamesWorkers, SaysBeyondWidth, SaysFlag, extent_by, kind_text, monitor_app};
 ghost use Rattle.app_arguments.specs.ConditionViews.{fail_on_view};
 ghost use Rattle.app_arguments.specs.Views.{IsAsked, IsAskedIf, session_view};
 ghost use Rattle.pd_spec.specs.Views.{options_view};
-ghost use Rattle.out_picture.specs.Wishes.{wish_view};
+ghost use Rattle.out_picture.specs.Scopes.{scope_view};
 ghost use Rattle.out_picture.specs.declared.kind.Kind as kinds;
 ghost use Rattle.std.specs.Prelude.{◌≡◌, ◌≢◌, ℕ, IfErr, IfOk, IfSome, List, MatchOption, None, codes, false, map, option_map, true};
 
@@ -19,7 +19,7 @@ use super::request::{Exploration, Judgement, Request, Service, SessionNames};
 use super::workers::Workers;
 use clap::error::ErrorKind;
 use clap::{ArgMatches, Command, Error};
-use out_picture::{Extent, Kind, Wish};
+use out_picture::{DrawOptions, Extent, Kind};
 use pd_spec::Options;
 use std::alloc::{AllocError, Global};
 
@@ -184,15 +184,15 @@ fn extent_of(matches: &ArgMatches<'_>) -> Option<Extent>
 }
 
 /// What is asked of a picture, if it is something that could be.
-fn wish_of<'a>(matches: &ArgMatches<'a>) -> Option<Wish<'a>>
-    ensures { FindsWish (rows_of (found_of matches.now)) (option_map wish_view result) }
+fn scope_of<'a>(matches: &ArgMatches<'a>) -> Option<DrawOptions<'a>>
+    ensures { FindsScope (rows_of (found_of matches.now)) (option_map scope_view result) }
 {
     let predicate = matches.get_str("PREDICATE");
     let Some(extent) = extent_of(matches) else {
         return None;
     };
     let Some(word) = matches.get_str("KIND") else {
-        return Some(Wish {
+        return Some(DrawOptions {
             predicate,
             kind: None,
             extent,
@@ -201,7 +201,7 @@ fn wish_of<'a>(matches: &ArgMatches<'a>) -> Option<Wish<'a>>
     let Some(kind) = kind_of(word.as_bytes()) else {
         return None;
     };
-    Some(Wish {
+    Some(DrawOptions {
         predicate,
         kind: Some(kind),
         extent,
@@ -217,7 +217,7 @@ fn draw_request<'a>(
         → AreOf (codes "draw") arguments (rows_of (found_of matches.now))
         → IsAskedIf arguments request) }
 {
-    let Some(wish) = wish_of(matches) else {
+    let Some(scope) = scope_of(matches) else {
         return Ok(None);
     };
     let Some(report) = matches.get_str("REPORT") else {
@@ -226,7 +226,7 @@ fn draw_request<'a>(
     let Some(names) = session_names(alloc, matches, false)? else {
         return Ok(None);
     };
-    Ok(Some(Request::Draw(report, wish, names)))
+    Ok(Some(Request::Draw(report, scope, names)))
 }
 
 /// The number that this text is, if it is one of 64 bits.

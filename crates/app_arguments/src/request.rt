@@ -2,7 +2,7 @@
 
 use super::fail_on::FailOn;
 use super::workers::Workers;
-use out_picture::Wish;
+use out_picture::DrawOptions;
 use pd_spec::Options;
 
 /// The names of the files of a session, and what is asked of it.
@@ -67,7 +67,7 @@ pub enum Request<'a> {
     /// To check the report in the file of this name against a session document and streams.
     Check(&'a str, SessionNames<'a>),
     /// To draw the report in the file of this name with a session document and streams, as it is asked for.
-    Draw(&'a str, Wish<'a>, SessionNames<'a>),
+    Draw(&'a str, DrawOptions<'a>, SessionNames<'a>),
     /// To judge a session document and streams that come by connections.
     Serve(Service<'a>),
     /// To write the page on which the run of a session document and streams is explored.

@@ -1,8 +1,8 @@
 //! Files that are shown while they are read.
 use super::screen::Screen;
 use super::shown_file::ShownFile;
+use app_host::FileSource;
 use judge_session::EngineFault;
-use pd_cli::FileSource;
 use pd_engine::Reached;
 use std::alloc::{AllocError, Global};
 use std::io;

@@ -14,7 +14,7 @@ use Rattle.def_format.specs.Reports.{Answer, Judged, Report}
 use Rattle.def_judgement.specs.Findings.{IsAnswersFinding, IsChecked, IsCheckedFor, has_bad, is_bad, of_verdicts}
 use Rattle.def_judgement.specs.Judgements.{recorded_of}
 use Rattle.judge_check.specs.Found.{IsFoundOf, of_session}
-use Rattle.out_picture.specs.Wishes.{Wished}
+use Rattle.out_picture.specs.Scopes.{Scope}
 use Rattle.out_picture.specs.declared.kind.Kind.{Kind}
 use Rattle.judge_draw.specs.Choices.{by_evidence, by_kind, by_name, choice, choice_of, has_bad_in, has_evidence, has_evidence_in, is_chosen_bad, stands_against}
 use Rattle.judge_draw.specs.Drawn.{IsGoodAt, IsGoodChoice, IsLetBy}
@@ -111,19 +111,19 @@ of_there (Some name) kind checked i is =
     (position-Some (λ (c : Checked). bytes_eq c.name name) checked i nothing
     (by_name_at kind checked (position (λ (c : Checked). bytes_eq c.name name) checked) i is)).0
 
-chosen_there : (wish : Wished) (checked : List Checked) (i : ℕ) → choice wish checked ≡ Of i → i < length checked
-chosen_there wish checked i is = of_there wish.name wish.kind checked i is
+chosen_there : (scope : Scope) (checked : List Checked) (i : ℕ) → choice scope checked ≡ Of i → i < length checked
+chosen_there scope checked i is = of_there scope.name scope.kind checked i is
 
 same_answers : (p e m q f n : ℕ) (answers others : List Answer) → Judged p e m answers ≡ Judged q f n others
     → answers ≡ others
 same_answers p e m q f n answers others same = cc
 
-module _ (document : Document) (traces : List Trace) (wish : Wished) (i : ℕ) where
+module _ (document : Document) (traces : List Trace) (scope : Scope) (i : ℕ) where
   good_at : (answers : List Answer) (checked : List Checked) → IsAnswersFinding document traces answers (Some checked)
-      → choice wish checked ≡ Of i → stands_against wish (OfSession true (Some checked)) ≡ false
+      → choice scope checked ≡ Of i → stands_against scope (OfSession true (Some checked)) ≡ false
       → IsGoodAt document (recorded_of document traces) answers i
   good_at answers checked (of_verdicts _ names all) is stands =
-      let there : i < length checked = chosen_there wish checked i is in
+      let there : i < length checked = chosen_there scope checked i is in
       let both = zipped_there (IsCheckedFor document traces) document.predicates answers checked i all there in
       let found : slice_get checked i ≡ Some (get_or checked i nothing) =
       slice_get-get_or checked i nothing there in
@@ -140,7 +140,7 @@ module _ (document : Document) (traces : List Trace) (wish : Wished) (i : ℕ) w
   found_at : (messages : ℕ) (claimed : Report) (p e m : ℕ) (answers : List Answer)
       (checked : List Checked) → claimed ≡ Judged p e m answers
       → IsFoundOf document traces messages claimed (OfSession true (Some checked))
-      → choice wish checked ≡ Of i → stands_against wish (OfSession true (Some checked)) ≡ false
+      → choice scope checked ≡ Of i → stands_against scope (OfSession true (Some checked)) ≡ false
       → IsGoodAt document (recorded_of document traces) answers i
   found_at messages claimed p e m answers checked judged
       (of_session processes events matched others good found is counts verdicts) chosen stands =
@@ -151,15 +151,15 @@ module _ (document : Document) (traces : List Trace) (wish : Wished) (i : ℕ) w
 
 -- what the choice draws is good
 pub good_choice : (document : Document) (traces : List Trace) (messages : ℕ) (recorded : Recorded)
-    (claimed : Report) (p e m : ℕ) (answers : List Answer) (wish : Wished) (finding : Finding)
+    (claimed : Report) (p e m : ℕ) (answers : List Answer) (scope : Scope) (finding : Finding)
     (chosen : Choice) → recorded ≡ recorded_of document traces → claimed ≡ Judged p e m answers
-    → IsFoundOf document traces messages claimed finding → IsLetBy wish finding (Some chosen)
+    → IsFoundOf document traces messages claimed finding → IsLetBy scope finding (Some chosen)
     → IsGoodChoice document recorded answers chosen
-good_choice document traces messages recorded claimed p e m answers wish finding Alone same judged found lets = tt
-good_choice document traces messages recorded claimed p e m answers wish finding Unknown same judged found lets = tt
-good_choice document traces messages recorded claimed p e m answers wish finding Lacking same judged found lets = tt
-good_choice document traces messages recorded claimed p e m answers wish finding (Of i) same judged found lets =
+good_choice document traces messages recorded claimed p e m answers scope finding Alone same judged found lets = tt
+good_choice document traces messages recorded claimed p e m answers scope finding Unknown same judged found lets = tt
+good_choice document traces messages recorded claimed p e m answers scope finding Lacking same judged found lets = tt
+good_choice document traces messages recorded claimed p e m answers scope finding (Of i) same judged found lets =
     subst (λ (r : Recorded). IsGoodAt document r answers i) (sym same)
-    (found_at document traces wish i messages claimed p e m answers lets.0 judged
+    (found_at document traces scope i messages claimed p e m answers lets.0 judged
     (subst (IsFoundOf document traces messages claimed) lets.1 found) (sym lets.3)
-    (subst (λ (f : Finding). stands_against wish f ≡ false) lets.1 lets.2))
+    (subst (λ (f : Finding). stands_against scope f ≡ false) lets.1 lets.2))

@@ -17,7 +17,7 @@ use Rattle.out_svg.specs.declared.drawing.Drawing.{Drawing as Picture}
 use Rattle.judge_check.specs.Found.{IsFoundOfRefused, of_refused_session}
 use Rattle.judge_check.specs.Views.{finding_view}
 use Rattle.judge_check.proofs.SessionFindings.{finding_of_session}
-use Rattle.out_picture.specs.Wishes.{Wished}
+use Rattle.out_picture.specs.Scopes.{Scope}
 use Rattle.out_picture.specs.declared.extent.Extent.{Extent}
 use Rattle.judge_draw.specs.Choices.{stands_against}
 use Rattle.judge_draw.specs.Cycles.{IsRefusalDrawn}
@@ -47,12 +47,12 @@ pairs_recorded document traces recorded count pairs well list =
 
 -- what comes of a session's traces
 pub formed_drawn : (document : Document) (traces : List Read) (recorded : Recorded) (messages : ℕ)
-    (pairs : List (Place × Place)) (claimed : Report) (wish : Wished) (given : Drawn)
+    (pairs : List (Place × Place)) (claimed : Report) (scope : Scope) (given : Drawn)
     → AreWellFormed document (traces_view traces) recorded messages
     → IsMessageList (computation_view traces) pairs
-    → Comes document (traces_view traces) pairs messages claimed wish given
-    → DrawsFormed document (traces_view traces) claimed wish given
-formed_drawn document traces recorded messages pairs claimed wish given well list comes = record {
+    → Comes document (traces_view traces) pairs messages claimed scope given
+    → DrawsFormed document (traces_view traces) claimed scope given
+formed_drawn document traces recorded messages pairs claimed scope given well list comes = record {
   messages = messages;
   formed = well.formed;
   counted = well.counted;
@@ -63,20 +63,20 @@ formed_drawn document traces recorded messages pairs claimed wish given well lis
 
 -- the same, whatever comes
 pub traces_drawn : (document : Document) (traces : List Read) (recorded : Recorded) (messages : ℕ)
-    (pairs : List (Place × Place)) (claimed : Report) (wish : Wished) (given : Drawn)
+    (pairs : List (Place × Place)) (claimed : Report) (scope : Scope) (given : Drawn)
     → AreWellFormed document (traces_view traces) recorded messages
     → IsMessageList (computation_view traces) pairs
-    → Comes document (traces_view traces) pairs messages claimed wish given
-    → DrawsTraces document (traces_view traces) claimed wish given
-traces_drawn document traces recorded messages pairs claimed wish (drawn.Picture picture) well list comes =
-    formed_drawn document traces recorded messages pairs claimed wish (drawn.Picture picture) well list comes
-traces_drawn document traces recorded messages pairs claimed wish (drawn.Bad finding) well list comes =
-    formed_drawn document traces recorded messages pairs claimed wish (drawn.Bad finding) well list comes
-traces_drawn document traces recorded messages pairs claimed wish drawn.NoPredicate well list comes =
-    formed_drawn document traces recorded messages pairs claimed wish drawn.NoPredicate well list comes
-traces_drawn document traces recorded messages pairs claimed wish drawn.NoEvidence well list comes =
-    formed_drawn document traces recorded messages pairs claimed wish drawn.NoEvidence well list comes
-traces_drawn document traces recorded messages pairs claimed wish (drawn.Cycle picture) well list comes = absurd comes
+    → Comes document (traces_view traces) pairs messages claimed scope given
+    → DrawsTraces document (traces_view traces) claimed scope given
+traces_drawn document traces recorded messages pairs claimed scope (drawn.Picture picture) well list comes =
+    formed_drawn document traces recorded messages pairs claimed scope (drawn.Picture picture) well list comes
+traces_drawn document traces recorded messages pairs claimed scope (drawn.Bad finding) well list comes =
+    formed_drawn document traces recorded messages pairs claimed scope (drawn.Bad finding) well list comes
+traces_drawn document traces recorded messages pairs claimed scope drawn.NoPredicate well list comes =
+    formed_drawn document traces recorded messages pairs claimed scope drawn.NoPredicate well list comes
+traces_drawn document traces recorded messages pairs claimed scope drawn.NoEvidence well list comes =
+    formed_drawn document traces recorded messages pairs claimed scope drawn.NoEvidence well list comes
+traces_drawn document traces recorded messages pairs claimed scope (drawn.Cycle picture) well list comes = absurd comes
 
 -- the picture of a refused cycle
 pub cycle_drawn : (document : Document) (traces : List Read) (pairs : List (Place × Place)) (claimed : Report)
@@ -95,9 +95,9 @@ cycle_drawn document traces pairs claimed refusal extent picture list refused sa
 
 -- a session that was read
 module _ (inquiry : Inquiry) (inputs : List Source) (document : Document)
-    (traces : List Trace) (claimed : Report) (wish : Wished)
+    (traces : List Trace) (claimed : Report) (scope : Scope)
     (read : IsRead inquiry inputs document traces) where
-  held : (given : Drawn) → (draws : DrawsFormed document traces claimed wish given)
+  held : (given : Drawn) → (draws : DrawsFormed document traces claimed scope given)
       → IsSessionOf inquiry read.streams document traces draws.messages
   held given draws = record {
     read = read.is_document;
@@ -108,8 +108,8 @@ module _ (inquiry : Inquiry) (inputs : List Source) (document : Document)
     counted = draws.counted;
   }
 
-  pub session_drawn : (given : Drawn) → DrawsTraces document traces claimed wish given
-      → DrawsOf inquiry claimed inputs wish given
+  pub session_drawn : (given : Drawn) → DrawsTraces document traces claimed scope given
+      → DrawsOf inquiry claimed inputs scope given
   session_drawn (drawn.Picture picture) draws report is_report = record {
     streams = read.streams;
     are_given = read.are_given;
@@ -163,28 +163,28 @@ module _ (inquiry : Inquiry) (inputs : List Source) (document : Document)
   }
 
 -- a refused session
-refusal_stands : (refusal : Refusal) (claimed : Report) (wish : Wished) (finding : Finding)
-    → IsFoundOfRefused refusal claimed finding → stands_against wish finding ≡ true
-refusal_stands refusal claimed wish finding (of_refused_session good right) = refl
+refusal_stands : (refusal : Refusal) (claimed : Report) (scope : Scope) (finding : Finding)
+    → IsFoundOfRefused refusal claimed finding → stands_against scope finding ≡ true
+refusal_stands refusal claimed scope finding (of_refused_session good right) = refl
 
 pub refusal_drawn : (inquiry : Inquiry) (inputs : List Source) (refusal : Refusal)
     (claimed : Report)
-    (wish : Wished) (finding : Finding) → IsReportOfInputs inquiry inputs (Refused refusal)
+    (scope : Scope) (finding : Finding) → IsReportOfInputs inquiry inputs (Refused refusal)
     → NeedsNoPicture claimed (Refused refusal) → IsFoundOfRefused refusal claimed finding
-    → (report : List ℕ) → IsReport report claimed → IsAgainst inquiry report inputs wish finding
-refusal_drawn inquiry inputs refusal claimed wish finding refused undrawn found report is_report =
+    → (report : List ℕ) → IsReport report claimed → IsAgainst inquiry report inputs scope finding
+refusal_drawn inquiry inputs refusal claimed scope finding refused undrawn found report is_report =
     let finds = refusal_found inquiry inputs refusal claimed finding refused found in record {
       streams = finds.streams;
       are_given = finds.are_given;
       right = finds.right report is_report;
-      stands = refusal_stands refusal claimed wish finding found;
+      stands = refusal_stands refusal claimed scope finding found;
       undrawn = refused_undrawn report refusal claimed finding found is_report undrawn;
     }
 
 -- a report that isn't read
-pub unread_drawn : (inquiry : Inquiry) (report : List ℕ) (inputs : List Source) (wish : Wished)
-    (line : ℕ) → IsNoReport report line → IsAgainst inquiry report inputs wish (NotRead line)
-unread_drawn inquiry report inputs wish line none =
+pub unread_drawn : (inquiry : Inquiry) (report : List ℕ) (inputs : List Source) (scope : Scope)
+    (line : ℕ) → IsNoReport report line → IsAgainst inquiry report inputs scope (NotRead line)
+unread_drawn inquiry report inputs scope line none =
     let finds = unread_found inquiry report inputs line none in record {
       streams = finds.streams;
       are_given = finds.are_given;

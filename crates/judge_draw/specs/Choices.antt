@@ -3,7 +3,7 @@ use Rattle.std.specs.Prelude.{◌≡◌, ℕ, Bool, true, false, ◌||◌, if◌
 use Rattle.std.specs.Str.{bytes_eq}
 use Rattle.def_format.specs.OtherTexts.{Checked, Finding, NotRead, OfRefusal, OfSession, Verdict, Good, Bad, Unchecked}
 use Rattle.def_judgement.specs.Findings.{has_bad}
-use Rattle.out_picture.specs.Wishes.{Wished}
+use Rattle.out_picture.specs.Scopes.{Scope}
 use Rattle.out_picture.specs.declared.kind.Kind.{Kind}
 use Rattle.out_picture.specs.declared.kind.Kind.TheVariants.{Possibly, Definitely}
 use Rattle.judge_draw.specs.declared.choice.Choice.{Choice}
@@ -48,16 +48,16 @@ choice_of (Some name) kind checked = by_name kind checked (position (λ (c : Che
 
 -- The predicate that is drawn: the one of the name that is asked for, and without a name the first that has evidence;
 -- of the kind that is asked for, if one is.
-abbrev pub choice : Wished → List Checked → Choice
-choice wish checked = choice_of wish.name wish.kind checked
+abbrev pub choice : Scope → List Checked → Choice
+choice scope checked = choice_of scope.name scope.kind checked
 
 -- there is no predicate of the name that is asked for
-abbrev pub LacksName : Wished → List Checked → Type 0
-LacksName wish checked = choice wish checked ≡ Unknown
+abbrev pub LacksName : Scope → List Checked → Type 0
+LacksName scope checked = choice scope checked ≡ Unknown
 
 -- there is no evidence of the kind that is asked for
-abbrev pub LacksEvidence : Wished → List Checked → Type 0
-LacksEvidence wish checked = choice wish checked ≡ Lacking
+abbrev pub LacksEvidence : Scope → List Checked → Type 0
+LacksEvidence scope checked = choice scope checked ≡ Lacking
 
 abbrev pub has_bad_in : Option Checked → Bool
 has_bad_in None = false
@@ -70,6 +70,6 @@ is_chosen_bad checked _ = false
 
 -- Something in the finding stands against the picture: the report isn't read, or it is a refusal or the session is
 -- refused, or the counts or the names are wrong, or the evidence that would be drawn is bad.
-abbrev pub stands_against : Wished → Finding → Bool
-stands_against wish (OfSession true (Some checked)) = is_chosen_bad checked (choice wish checked)
-stands_against wish _ = true
+abbrev pub stands_against : Scope → Finding → Bool
+stands_against scope (OfSession true (Some checked)) = is_chosen_bad checked (choice scope checked)
+stands_against scope _ = true

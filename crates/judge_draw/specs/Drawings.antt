@@ -17,7 +17,7 @@ use Rattle.def_judgement.specs.Writes.{IsGivenAs, Whole, Writes, Source}
 use Rattle.judge_check.specs.Views.{finding_view}
 use Rattle.out_svg.specs.Svg.{drawing_text}
 use Rattle.out_svg.specs.declared.drawing.Drawing.{Drawing as Picture}
-use Rattle.out_picture.specs.Wishes.{Wished}
+use Rattle.out_picture.specs.Scopes.{Scope}
 use Rattle.out_picture.specs.declared.extent.Extent.{Extent}
 use Rattle.judge_draw.specs.Choices.{LacksEvidence, LacksName, stands_against}
 use Rattle.judge_draw.specs.Cycles.{IsRefusalDrawn}
@@ -30,14 +30,14 @@ use Rattle.judge_draw.specs.declared.drawings.DrawOutcome.TheVariants.{Written, 
 use Rattle.judge_session.specs.declared.fault.EngineFault.{EngineFault}
 
 -- what comes of the traces of a well-formed session and a report on it
-pub record DrawsFormed (document : Document) (traces : List Trace) (claimed : Report) (wish : Wished)
+pub record DrawsFormed (document : Document) (traces : List Trace) (claimed : Report) (scope : Scope)
     (given : Drawn) : Type 0 where
   pub messages : ℕ
   pub formed : IsWellFormed document.version (events_of_traces traces)
   pub counted : HasMessages (events_of_traces traces) messages
   pub pairs : List (Place × Place)
   pub are_pairs : IsMessageList (events_of_traces traces) pairs
-  pub comes : Comes document traces pairs messages claimed wish given
+  pub comes : Comes document traces pairs messages claimed scope given
 
 -- the picture of traces that are refused for a causal cycle, as the report says
 pub record DrawsCycle (document : Document) (traces : List Trace) (claimed : Report) (extent : Extent)
@@ -55,21 +55,21 @@ NeedsNoPicture claimed due =
     claimed ≡ due → (places : List NamedPlace) → due ≢ reports.Refused (reports.Cycle places)
 
 -- what comes of a session's traces and a report on it
-abbrev pub DrawsTraces : (document : Document) (traces : List Trace) (claimed : Report) (wish : Wished) → Drawn
+abbrev pub DrawsTraces : (document : Document) (traces : List Trace) (claimed : Report) (scope : Scope) → Drawn
     → Type 0
-DrawsTraces document traces claimed wish (drawn.Picture picture) =
-    DrawsFormed document traces claimed wish (drawn.Picture picture)
-DrawsTraces document traces claimed wish (drawn.Bad finding) =
-    DrawsFormed document traces claimed wish (drawn.Bad finding)
-DrawsTraces document traces claimed wish drawn.NoPredicate =
-    DrawsFormed document traces claimed wish drawn.NoPredicate
-DrawsTraces document traces claimed wish drawn.NoEvidence = DrawsFormed document traces claimed wish drawn.NoEvidence
-DrawsTraces document traces claimed wish (drawn.Cycle picture) =
-    DrawsCycle document traces claimed wish.extent picture
+DrawsTraces document traces claimed scope (drawn.Picture picture) =
+    DrawsFormed document traces claimed scope (drawn.Picture picture)
+DrawsTraces document traces claimed scope (drawn.Bad finding) =
+    DrawsFormed document traces claimed scope (drawn.Bad finding)
+DrawsTraces document traces claimed scope drawn.NoPredicate =
+    DrawsFormed document traces claimed scope drawn.NoPredicate
+DrawsTraces document traces claimed scope drawn.NoEvidence = DrawsFormed document traces claimed scope drawn.NoEvidence
+DrawsTraces document traces claimed scope (drawn.Cycle picture) =
+    DrawsCycle document traces claimed scope.extent picture
 
 -- the picture of the session that the streams hold which these sources gave, and of the report in these bytes
 pub record IsPictureOf (inquiry : Inquiry) (report : List ℕ) (inputs : List Source)
-    (wish : Wished) (picture : Picture) : Type 0 where
+    (scope : Scope) (picture : Picture) : Type 0 where
   pub streams : List RawStream
   pub are_given : AllZip IsGivenAs inputs streams
   pub document : Document
@@ -80,7 +80,7 @@ pub record IsPictureOf (inquiry : Inquiry) (report : List ℕ) (inputs : List So
   pub are_pairs : IsMessageList (events_of_traces traces) pairs
   pub claimed : Report
   pub read : IsReport report claimed
-  pub drawn : IsDrawn document traces pairs messages claimed wish picture
+  pub drawn : IsDrawn document traces pairs messages claimed scope picture
 
 -- The picture of a session that is refused for a causal cycle, as the report in these bytes says, of the streams that
 -- these sources gave.
@@ -101,63 +101,63 @@ pub record IsPictureOfCycle (inquiry : Inquiry) (report : List ℕ) (inputs : Li
 -- What a check finds, which stands against a picture. It isn't that the session is refused for a causal cycle as the
 -- report says: that cycle is drawn.
 pub record IsAgainst (inquiry : Inquiry) (report : List ℕ) (inputs : List Source)
-    (wish : Wished) (finding : Finding) : Type 0 where
+    (scope : Scope) (finding : Finding) : Type 0 where
   pub streams : List RawStream
   pub are_given : AllZip IsGivenAs inputs streams
   pub right : IsFinding inquiry report streams finding
-  pub stands : stands_against wish finding ≡ true
+  pub stands : stands_against scope finding ≡ true
   pub undrawn : finding ≡ OfRefusal true → (places : List NamedPlace)
       → ¬ IsReport report (reports.Refused (reports.Cycle places))
 
 -- a check finds verdicts on predicates of which none has this name
 pub record LacksPredicate (inquiry : Inquiry) (report : List ℕ) (inputs : List Source)
-    (wish : Wished) : Type 0 where
+    (scope : Scope) : Type 0 where
   pub streams : List RawStream
   pub are_given : AllZip IsGivenAs inputs streams
   pub checked : List Checked
   pub right : IsFinding inquiry report streams (OfSession true (Some checked))
-  pub is_unknown : LacksName wish checked
+  pub is_unknown : LacksName scope checked
 
 -- a check finds verdicts on predicates without evidence of the kind that is asked for
-pub record LacksKind (inquiry : Inquiry) (report : List ℕ) (inputs : List Source) (wish : Wished) :
+pub record LacksKind (inquiry : Inquiry) (report : List ℕ) (inputs : List Source) (scope : Scope) :
     Type 0 where
   pub streams : List RawStream
   pub are_given : AllZip IsGivenAs inputs streams
   pub checked : List Checked
   pub right : IsFinding inquiry report streams (OfSession true (Some checked))
-  pub is_lacking : LacksEvidence wish checked
+  pub is_lacking : LacksEvidence scope checked
 
 abbrev pub Draws : (inquiry : Inquiry) (report : List ℕ) (inputs : List Source)
-    (wish : Wished) → Drawn → Type 0
-Draws inquiry report inputs wish (drawn.Picture picture) =
-    IsPictureOf inquiry report inputs wish picture
-Draws inquiry report inputs wish (drawn.Bad finding) =
-    IsAgainst inquiry report inputs wish (finding_view finding)
-Draws inquiry report inputs wish drawn.NoPredicate = LacksPredicate inquiry report inputs wish
-Draws inquiry report inputs wish drawn.NoEvidence = LacksKind inquiry report inputs wish
-Draws inquiry report inputs wish (drawn.Cycle picture) =
-    IsPictureOfCycle inquiry report inputs wish.extent picture
+    (scope : Scope) → Drawn → Type 0
+Draws inquiry report inputs scope (drawn.Picture picture) =
+    IsPictureOf inquiry report inputs scope picture
+Draws inquiry report inputs scope (drawn.Bad finding) =
+    IsAgainst inquiry report inputs scope (finding_view finding)
+Draws inquiry report inputs scope drawn.NoPredicate = LacksPredicate inquiry report inputs scope
+Draws inquiry report inputs scope drawn.NoEvidence = LacksKind inquiry report inputs scope
+Draws inquiry report inputs scope (drawn.Cycle picture) =
+    IsPictureOfCycle inquiry report inputs scope.extent picture
 
 -- the same of any bytes that are this report
 abbrev pub DrawsOf : (inquiry : Inquiry) (claimed : Report) (inputs : List Source)
-    (wish : Wished) → Drawn → Type 0
-DrawsOf inquiry claimed inputs wish given =
-    (report : List ℕ) → IsReport report claimed → Draws inquiry report inputs wish given
+    (scope : Scope) → Drawn → Type 0
+DrawsOf inquiry claimed inputs scope given =
+    (report : List ℕ) → IsReport report claimed → Draws inquiry report inputs scope given
 
 -- ---- what is written, and what is given
 
 -- the text of the picture
 pub record IsDrawingTextOf (inquiry : Inquiry) (report : List ℕ) (inputs : List Source)
-    (wish : Wished) (text : List ℕ) : Type 0 where
+    (scope : Scope) (text : List ℕ) : Type 0 where
   pub picture : Picture
-  pub is_picture : IsPictureOf inquiry report inputs wish picture
+  pub is_picture : IsPictureOf inquiry report inputs scope picture
   pub is_text : text ≡ drawing_text picture
 
 -- the text of what a check finds, which stands against a picture
 pub record IsRefusalTextOf (inquiry : Inquiry) (report : List ℕ) (inputs : List Source)
-    (wish : Wished) (text : List ℕ) : Type 0 where
+    (scope : Scope) (text : List ℕ) : Type 0 where
   pub finding : Finding
-  pub is_against : IsAgainst inquiry report inputs wish finding
+  pub is_against : IsAgainst inquiry report inputs scope finding
   pub is_text : text ≡ check_text finding
 
 -- the text of the picture of a cycle
@@ -169,30 +169,30 @@ pub record IsCycleTextOf (inquiry : Inquiry) (report : List ℕ) (inputs : List 
 
 -- the text of one picture or of the other
 abbrev pub IsAnyTextOf : (inquiry : Inquiry) (report : List ℕ) (inputs : List Source)
-    (wish : Wished) → (text : List ℕ) → Type 0
-IsAnyTextOf inquiry report inputs wish text =
-    IsDrawingTextOf inquiry report inputs wish text
-    ⊎ IsCycleTextOf inquiry report inputs wish.extent text
+    (scope : Scope) → (text : List ℕ) → Type 0
+IsAnyTextOf inquiry report inputs scope text =
+    IsDrawingTextOf inquiry report inputs scope text
+    ⊎ IsCycleTextOf inquiry report inputs scope.extent text
 
 -- what is left on the output
 abbrev pub WritesPicture : (inquiry : Inquiry) (report : List ℕ) (inputs : List Source)
-    (wish : Wished) → Result DrawOutcome EngineFault → (old new : Option (List ℕ)) → Type 0
-WritesPicture inquiry report inputs wish (Ok Written) old new =
-    Writes (IsDrawingTextOf inquiry report inputs wish) Whole old new
-WritesPicture inquiry report inputs wish (Ok CycleWritten) old new =
-    Writes (IsCycleTextOf inquiry report inputs wish.extent) Whole old new
-WritesPicture inquiry report inputs wish (Ok (Refused text)) old new = Keeps old new
-WritesPicture inquiry report inputs wish (Ok NoPredicate) old new = Keeps old new
-WritesPicture inquiry report inputs wish (Ok NoEvidence) old new = Keeps old new
-WritesPicture inquiry report inputs wish (Err fault) old new =
-    Writes (IsAnyTextOf inquiry report inputs wish) (fault_end fault) old new
+    (scope : Scope) → Result DrawOutcome EngineFault → (old new : Option (List ℕ)) → Type 0
+WritesPicture inquiry report inputs scope (Ok Written) old new =
+    Writes (IsDrawingTextOf inquiry report inputs scope) Whole old new
+WritesPicture inquiry report inputs scope (Ok CycleWritten) old new =
+    Writes (IsCycleTextOf inquiry report inputs scope.extent) Whole old new
+WritesPicture inquiry report inputs scope (Ok (Refused text)) old new = Keeps old new
+WritesPicture inquiry report inputs scope (Ok NoPredicate) old new = Keeps old new
+WritesPicture inquiry report inputs scope (Ok NoEvidence) old new = Keeps old new
+WritesPicture inquiry report inputs scope (Err fault) old new =
+    Writes (IsAnyTextOf inquiry report inputs scope) (fault_end fault) old new
 
 -- what stands against the picture, if none is written
 abbrev pub ShowsEnd : (inquiry : Inquiry) (report : List ℕ) (inputs : List Source)
-    (wish : Wished) → DrawOutcome → Type 0
-ShowsEnd inquiry report inputs wish Written = Unit {0}
-ShowsEnd inquiry report inputs wish CycleWritten = Unit {0}
-ShowsEnd inquiry report inputs wish (Refused text) =
-    IsRefusalTextOf inquiry report inputs wish text.items
-ShowsEnd inquiry report inputs wish NoPredicate = LacksPredicate inquiry report inputs wish
-ShowsEnd inquiry report inputs wish NoEvidence = LacksKind inquiry report inputs wish
+    (scope : Scope) → DrawOutcome → Type 0
+ShowsEnd inquiry report inputs scope Written = Unit {0}
+ShowsEnd inquiry report inputs scope CycleWritten = Unit {0}
+ShowsEnd inquiry report inputs scope (Refused text) =
+    IsRefusalTextOf inquiry report inputs scope text.items
+ShowsEnd inquiry report inputs scope NoPredicate = LacksPredicate inquiry report inputs scope
+ShowsEnd inquiry report inputs scope NoEvidence = LacksKind inquiry report inputs scope

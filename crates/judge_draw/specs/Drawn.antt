@@ -11,7 +11,7 @@ use Rattle.judge_check.specs.Found.{IsFoundOf}
 use Rattle.out_picture.specs.Pictures.{IsPicture}
 use Rattle.out_picture.specs.declared.evidence.Evidence.{Evidence}
 use Rattle.out_svg.specs.declared.drawing.Drawing.{Drawing}
-use Rattle.out_picture.specs.Wishes.{Wished}
+use Rattle.out_picture.specs.Scopes.{Scope}
 use Rattle.out_picture.specs.declared.extent.Extent.{Extent}
 use Rattle.out_picture.specs.declared.kind.Kind.{Kind}
 use Rattle.judge_draw.specs.Choices.{LacksEvidence, LacksName, choice, stands_against}
@@ -56,7 +56,7 @@ pub record IsPictureOf (document : Document) (traces : List Trace) (pairs : List
 -- session, and the evidence is that of the predicate of the name that is asked for, or without a name of the first with
 -- evidence; of the kind that is asked for, if one is.
 pub record IsDrawn (document : Document) (traces : List Trace) (pairs : List (Place × Place)) (messages : ℕ)
-    (claimed : Report) (wish : Wished) (drawing : Drawing) : Type 0 where
+    (claimed : Report) (scope : Scope) (drawing : Drawing) : Type 0 where
   pub processes : ℕ
   pub events : ℕ
   pub matched : ℕ
@@ -64,49 +64,49 @@ pub record IsDrawn (document : Document) (traces : List Trace) (pairs : List (Pl
   pub is_judged : claimed ≡ Judged processes events matched answers
   pub checked : List Checked
   pub found : IsFoundOf document traces messages claimed (OfSession true (Some checked))
-  pub stands : stands_against wish (OfSession true (Some checked)) ≡ false
+  pub stands : stands_against scope (OfSession true (Some checked)) ≡ false
   pub shows : IsPictureOf document traces pairs
-      (ShowsChoice wish.kind document traces answers (choice wish checked)) wish.extent drawing
+      (ShowsChoice scope.kind document traces answers (choice scope checked)) scope.extent drawing
 
 -- the finding, which stands against a picture
 pub record IsUndrawn (document : Document) (traces : List Trace) (messages : ℕ) (claimed : Report)
-    (wish : Wished) (finding : Finding) : Type 0 where
+    (scope : Scope) (finding : Finding) : Type 0 where
   pub found : IsFoundOf document traces messages claimed finding
-  pub stands : stands_against wish finding ≡ true
+  pub stands : stands_against scope finding ≡ true
 
 -- nothing else stands against a picture, but there is no predicate of this name
-pub record IsUnknown (document : Document) (traces : List Trace) (messages : ℕ) (claimed : Report) (wish : Wished) :
+pub record IsUnknown (document : Document) (traces : List Trace) (messages : ℕ) (claimed : Report) (scope : Scope) :
     Type 0 where
   pub checked : List Checked
   pub found : IsFoundOf document traces messages claimed (OfSession true (Some checked))
-  pub is_unknown : LacksName wish checked
+  pub is_unknown : LacksName scope checked
 
 -- nothing else stands against a picture, but there is no evidence of the kind that is asked for
-pub record IsLacking (document : Document) (traces : List Trace) (messages : ℕ) (claimed : Report) (wish : Wished) :
+pub record IsLacking (document : Document) (traces : List Trace) (messages : ℕ) (claimed : Report) (scope : Scope) :
     Type 0 where
   pub checked : List Checked
   pub found : IsFoundOf document traces messages claimed (OfSession true (Some checked))
-  pub is_lacking : LacksEvidence wish checked
+  pub is_lacking : LacksEvidence scope checked
 
 -- what comes of it: the picture, or what stands against it
-abbrev pub Comes : Document → List Trace → (pairs : List (Place × Place)) → (messages : ℕ) → Report → Wished → Drawn
+abbrev pub Comes : Document → List Trace → (pairs : List (Place × Place)) → (messages : ℕ) → Report → Scope → Drawn
     → Type 0
-Comes document traces pairs messages claimed wish (Picture drawing) =
-    IsDrawn document traces pairs messages claimed wish drawing
-Comes document traces pairs messages claimed wish (Bad finding) =
-    IsUndrawn document traces messages claimed wish (finding_view finding)
-Comes document traces pairs messages claimed wish NoPredicate = IsUnknown document traces messages claimed wish
-Comes document traces pairs messages claimed wish NoEvidence = IsLacking document traces messages claimed wish
-Comes document traces pairs messages claimed wish (Cycle drawing) = ⊥
+Comes document traces pairs messages claimed scope (Picture drawing) =
+    IsDrawn document traces pairs messages claimed scope drawing
+Comes document traces pairs messages claimed scope (Bad finding) =
+    IsUndrawn document traces messages claimed scope (finding_view finding)
+Comes document traces pairs messages claimed scope NoPredicate = IsUnknown document traces messages claimed scope
+Comes document traces pairs messages claimed scope NoEvidence = IsLacking document traces messages claimed scope
+Comes document traces pairs messages claimed scope (Cycle drawing) = ⊥
 
 -- ---- on the way
 
 -- the finding lets this choice be drawn, or it stands against the picture
-abbrev pub IsLetBy : Wished → Finding → Option Choice → Type 0
-IsLetBy wish finding None = stands_against wish finding ≡ true
-IsLetBy wish finding (Some chosen) =
-    (checked : List Checked) × (finding ≡ OfSession true (Some checked)) × (stands_against wish finding ≡ false)
-    × (chosen ≡ choice wish checked)
+abbrev pub IsLetBy : Scope → Finding → Option Choice → Type 0
+IsLetBy scope finding None = stands_against scope finding ≡ true
+IsLetBy scope finding (Some chosen) =
+    (checked : List Checked) × (finding ≡ OfSession true (Some checked)) × (stands_against scope finding ≡ false)
+    × (chosen ≡ choice scope checked)
 
 -- the evidence of the answer with this number shows what it is printed for
 pub record IsGoodAt (document : Document) (recorded : Recorded) (answers : List Answer) (i : ℕ) : Type 0 where
@@ -123,11 +123,11 @@ IsGoodChoice document recorded answers Unknown = Unit {0}
 IsGoodChoice document recorded answers Lacking = Unit {0}
 
 -- the picture by this choice; there is none of a predicate that isn't there
-abbrev pub IsChosenPicture : Document → List Trace → (pairs : List (Place × Place)) → List Answer → Wished → Choice
+abbrev pub IsChosenPicture : Document → List Trace → (pairs : List (Place × Place)) → List Answer → Scope → Choice
     → Option Drawing → Type 0
-IsChosenPicture document traces pairs answers wish chosen None = chosen ≡ Unknown
-IsChosenPicture document traces pairs answers wish chosen (Some drawing) =
-    IsPictureOf document traces pairs (ShowsChoice wish.kind document traces answers chosen) wish.extent drawing
+IsChosenPicture document traces pairs answers scope chosen None = chosen ≡ Unknown
+IsChosenPicture document traces pairs answers scope chosen (Some drawing) =
+    IsPictureOf document traces pairs (ShowsChoice scope.kind document traces answers chosen) scope.extent drawing
 
 -- the report has these answers
 pub record IsJudged (claimed : Report) (answers : List Answer) : Type 0 where

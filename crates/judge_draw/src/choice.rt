@@ -3,12 +3,12 @@ ghost use Rattle.judge_check.specs.Views.{checked_view, verdict_view};
 ghost use Rattle.judge_draw.specs.Choices.{by_evidence, by_kind, by_name, choice, has_evidence, has_evidence_in, is_chosen_bad, is_printed, without_evidence};
 ghost use Rattle.judge_draw.specs.declared.choice.Choice.TheVariants.{Lacking};
 ghost use Rattle.def_judgement.specs.Findings.{has_bad};
-ghost use Rattle.out_picture.specs.Wishes.{wish_view};
+ghost use Rattle.out_picture.specs.Scopes.{scope_view};
 ghost use Rattle.std.specs.Prelude.{◌≡◌, ◌≢◌, false, map, position, slice_get, string_bytes, true};
 ghost use Rattle.std.specs.Str.{bytes_eq};
 
 use judge_check::{Checked, Verdict};
-use out_picture::{Kind, Wish};
+use out_picture::{DrawOptions, Kind};
 
 /// Which predicate is drawn.
 #[derive(Clone, Copy, Debug, PartialEq, Eq)]
@@ -119,12 +119,12 @@ fn of_name(kind: Option<Kind>, checked: &[Checked], name: &str) -> Choice
 
 /// Which predicate is drawn: the one of the name that is asked for, and without a name the first that has evidence; of
 /// the kind that is asked for, if one is.
-pub(crate) fn chosen(checked: &[Checked], wish: &Wish<'_>) -> Choice
-    ensures { result ≡ choice (wish_view wish.now) (map checked_view checked.now) }
+pub(crate) fn chosen(checked: &[Checked], scope: &DrawOptions<'_>) -> Choice
+    ensures { result ≡ choice (scope_view scope.now) (map checked_view checked.now) }
 {
-    match wish.predicate {
-        Some(name) => of_name(wish.kind, checked, name),
-        None => first_with_evidence(wish.kind, checked),
+    match scope.predicate {
+        Some(name) => of_name(scope.kind, checked, name),
+        None => first_with_evidence(scope.kind, checked),
     }
 }
 

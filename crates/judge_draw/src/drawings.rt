@@ -15,7 +15,7 @@ ghost use Rattle.def_judgement.specs.Writes.{Writes};
 ghost use Rattle.pd_report.specs.Views.{report_view};
 ghost use Rattle.pd_spec.specs.Views.{document_view};
 ghost use Rattle.out_svg.specs.Svg.{drawing_text};
-ghost use Rattle.out_picture.specs.Wishes.{wish_view};
+ghost use Rattle.out_picture.specs.Scopes.{scope_view};
 ghost use Rattle.std.specs.Prelude.{◌≡◌, ◌⊎◌, All, IfErr, IfOk, IsOkUnless, false, map};
 
 use super::drawn::Drawn;
@@ -24,7 +24,7 @@ use super::run::Run;
 use super::session::read_session;
 use judge_check::{Finding, find_refused, text};
 use judge_session::{EngineFault, Inquiry, Unanswered, build, messages_of};
-use out_picture::Wish;
+use out_picture::DrawOptions;
 use pd_gather::ByteSource;
 use pd_match::Place;
 use pd_report::{Report, ReportFault, WriteFault};
@@ -57,15 +57,15 @@ fn draw_formed(
     run: &Run<'_, '_>,
     claimed: &Report,
     messages: u64,
-    wish: &Wish<'_>,
+    scope: &DrawOptions<'_>,
 ) -> Result<Drawn, AllocError>
     requires formed { AreWellFormed (document_view run.now.spec.now) (traces_view run.now.traces.now)
         run.now.computation.now messages }
     requires pairs { IsMessageList (computation_view run.now.traces.now) (pairs_view run.now.pairs.now) }
     ensures { IfOk result (DrawsTraces (document_view run.now.spec.now) (traces_view run.now.traces.now)
-        (report_view claimed.now) (wish_view wish.now)) }
+        (report_view claimed.now) (scope_view scope.now)) }
 {
-    let drawn = super::drawn::draw(alloc, run, claimed, messages, wish)?;
+    let drawn = super::drawn::draw(alloc, run, claimed, messages, scope)?;
     Ok(drawn)
 }
 
@@ -77,21 +77,21 @@ fn draw_unanswered(
     claimed: &Report,
     traces: &[Trace],
     pairs: &[(Place, Place)],
-    wish: &Wish<'_>,
+    scope: &DrawOptions<'_>,
     unanswered: Unanswered,
 ) -> Result<Drawn, Unanswered>
     requires messages { IsMessageList (computation_view traces.now) (pairs_view pairs.now) }
     requires traces { AreTraces (document_view spec.now).names traces.now }
     requires refused { IsUnanswered (IsTracesReport (document_view spec.now) (traces_view traces.now)) unanswered }
     ensures drawn { IfOk result (DrawsTraces (document_view spec.now) (traces_view traces.now)
-        (report_view claimed.now) (wish_view wish.now)) }
+        (report_view claimed.now) (scope_view scope.now)) }
     ensures refused { IfErr result (IsUnanswered (IsTracesReport (document_view spec.now)
         (traces_view traces.now))) }
     ensures undrawn { IfErr result (IsUnanswered (NeedsNoPicture (report_view claimed.now))) }
 {
     match unanswered {
         Unanswered::Refused(refusal) => {
-            let drawn = draw_cycle(alloc, spec, claimed, traces, pairs, &refusal, wish.extent)?;
+            let drawn = draw_cycle(alloc, spec, claimed, traces, pairs, &refusal, scope.extent)?;
             match drawn {
                 Some(picture) => Ok(Drawn::Cycle(picture)),
                 None => Err(Unanswered::Refused(refusal)),
@@ -108,11 +108,11 @@ fn draw_traces<S: RandomSource>(
     spec: &Spec,
     claimed: &Report,
     traces: &[Trace],
-    wish: &Wish<'_>,
+    scope: &DrawOptions<'_>,
 ) -> Result<Drawn, Unanswered>
     requires { AreTraces (document_view spec.now).names traces.now }
     ensures drawn { IfOk result (DrawsTraces (document_view spec.now) (traces_view traces.now)
-        (report_view claimed.now) (wish_view wish.now)) }
+        (report_view claimed.now) (scope_view scope.now)) }
     ensures refused { IfErr result (IsUnanswered (IsTracesReport (document_view spec.now)
         (traces_view traces.now))) }
     ensures undrawn { IfErr result (IsUnanswered (NeedsNoPicture (report_view claimed.now))) }
@@ -127,10 +127,10 @@ fn draw_traces<S: RandomSource>(
                 traces,
                 pairs: &pairs,
             };
-            let drawn = draw_formed(alloc, &run, claimed, messages, wish)?;
+            let drawn = draw_formed(alloc, &run, claimed, messages, scope)?;
             Ok(drawn)
         }
-        Err(unanswered) => draw_unanswered(alloc, spec, claimed, traces, &pairs, wish, unanswered),
+        Err(unanswered) => draw_unanswered(alloc, spec, claimed, traces, &pairs, scope, unanswered),
     }
 }
 
@@ -141,17 +141,17 @@ fn draw_session<S: RandomSource + Threads + Wait + Sync, R: ByteSource + Send + 
     claimed: &Report,
     inquiry: Inquiry<'_, '_, '_>,
     streams: Vec<R>,
-    wish: &Wish<'_>,
+    scope: &DrawOptions<'_>,
 ) -> Result<Drawn, Unanswered>
     requires open { All (λ r. R.has_ended r ≡ false) streams.items }
     ensures drawn { IfOk result (DrawsOf (inquiry_view inquiry.entry) (report_view claimed.now)
-        (map R.left streams.items) (wish_view wish.now)) }
+        (map R.left streams.items) (scope_view scope.now)) }
     ensures refused { IfErr result (IsUnanswered
         (IsReportOfInputs (inquiry_view inquiry.entry) (map R.left streams.items))) }
     ensures undrawn { IfErr result (IsUnanswered (NeedsNoPicture (report_view claimed.now))) }
 {
     let session = read_session(rt, alloc, inquiry, streams)?;
-    let drawn = draw_traces(rt, alloc, &session.spec, claimed, &session.traces, wish)?;
+    let drawn = draw_traces(rt, alloc, &session.spec, claimed, &session.traces, scope)?;
     Ok(drawn)
 }
 
@@ -162,14 +162,14 @@ fn draw_claimed<S: RandomSource + Threads + Wait + Sync, R: ByteSource + Send + 
     claimed: &Report,
     inquiry: Inquiry<'_, '_, '_>,
     streams: Vec<R>,
-    wish: &Wish<'_>,
+    scope: &DrawOptions<'_>,
 ) -> Result<Drawn, EngineFault>
     requires open { All (λ r. R.has_ended r ≡ false) streams.items }
     ensures drawn { IfOk result (DrawsOf (inquiry_view inquiry.entry) (report_view claimed.now)
-        (map R.left streams.items) (wish_view wish.now)) }
+        (map R.left streams.items) (scope_view scope.now)) }
     ensures err { IsOkUnless result EngineFault.Memory }
 {
-    match draw_session(rt, alloc, claimed, inquiry, streams, wish) {
+    match draw_session(rt, alloc, claimed, inquiry, streams, scope) {
         Ok(drawn) => Ok(drawn),
         Err(unanswered) => match unanswered {
             Unanswered::Refused(refusal) => Ok(Drawn::Bad(find_refused(claimed, &refusal))),
@@ -185,15 +185,15 @@ fn draw_read<S: RandomSource + Threads + Wait + Sync, R: ByteSource + Send + Dro
     inquiry: Inquiry<'_, '_, '_>,
     report: &[u8],
     streams: Vec<R>,
-    wish: &Wish<'_>,
+    scope: &DrawOptions<'_>,
 ) -> Result<Drawn, EngineFault>
     requires open { All (λ r. R.has_ended r ≡ false) streams.items }
     ensures drawn { IfOk result (Draws (inquiry_view inquiry.entry) report.now (map R.left streams.items)
-        (wish_view wish.now)) }
+        (scope_view scope.now)) }
     ensures err { IsOkUnless result EngineFault.Memory }
 {
     match pd_report::read(alloc, report) {
-        Ok(claimed) => draw_claimed(rt, alloc, &claimed, inquiry, streams, wish),
+        Ok(claimed) => draw_claimed(rt, alloc, &claimed, inquiry, streams, scope),
         Err(ReportFault::Line(line)) => Ok(Drawn::Bad(Finding::NotRead(line))),
         Err(ReportFault::Memory) => Err(EngineFault::Memory),
     }
@@ -239,20 +239,20 @@ pub fn draw<S: RandomSource + Threads + Wait + Sync, R: ByteSource + Send + Drop
     inquiry: Inquiry<'_, '_, '_>,
     report: &[u8],
     streams: Vec<R>,
-    wish: &Wish<'_>,
+    scope: &DrawOptions<'_>,
     writer: &mut W,
 ) -> Result<DrawOutcome, EngineFault>
     requires open { All (λ r. R.has_ended r ≡ false) streams.items }
     // The picture's text is written whole, or a write fails and a prefix of it is; else nothing is.
     ensures written { WritesPicture (inquiry_view inquiry.entry) report.now (map R.left streams.items)
-        (wish_view wish.now) result (W.contents writer.old) (W.contents writer.new) }
+        (scope_view scope.now) result (W.contents writer.old) (W.contents writer.new) }
     // What stands against a picture is what a check finds, or that no predicate has the name, or the evidence,
     // that is asked for; and never that the session is refused for a causal cycle as the report says.
     ensures shown { IfOk result (ShowsEnd (inquiry_view inquiry.entry) report.now (map R.left streams.items)
-        (wish_view wish.now)) }
+        (scope_view scope.now)) }
     ensures err { IfErr result (λ fault. (fault ≡ EngineFault.Memory) ⊎ (fault ≡ EngineFault.Write)) }
 {
-    let drawn = draw_read(rt, alloc, inquiry, report, streams, wish)?;
+    let drawn = draw_read(rt, alloc, inquiry, report, streams, scope)?;
     match drawn {
         Drawn::Picture(picture) => write_picture(alloc, &picture, writer, DrawOutcome::Written),
         Drawn::Cycle(picture) => write_picture(alloc, &picture, writer, DrawOutcome::CycleWritten),

@@ -11,7 +11,7 @@ ghost use Rattle.def_model.specs.Messages.{HasMessages};
 ghost use Rattle.out_picture.specs.Pictures.{IsPicture, texts_view};
 ghost use Rattle.pd_report.specs.Views as views;
 ghost use Rattle.pd_spec.specs.Views.{document_view};
-ghost use Rattle.out_picture.specs.Wishes.{wish_view};
+ghost use Rattle.out_picture.specs.Scopes.{scope_view};
 ghost use Rattle.judge_draw.specs.declared.choice.Choice.TheVariants.{Lacking};
 ghost use Rattle.std.specs.Prelude.{◌≡◌, ◌≢◌, ℕ, IfOk, map};
 
@@ -19,7 +19,7 @@ use super::choice::{Choice, chosen, is_chosen_bad, is_lacking};
 use super::exhibit::{evidence_of, title_of};
 use super::run::Run;
 use judge_check::{Finding, find_formed};
-use out_picture::{Evidence, Extent, Wish, picture};
+use out_picture::{DrawOptions, Evidence, Extent, picture};
 use out_svg::Drawing;
 use pd_pred::Names;
 use pd_report::{Answer, Report};
@@ -41,8 +41,8 @@ pub enum Drawn {
 }
 
 /// Which predicate is drawn, unless what is found stands against the picture.
-fn let_by(finding: &Finding, wish: &Wish<'_>) -> Option<Choice>
-    ensures { IsLetBy (wish_view wish.now) (finding_view finding.now) result }
+fn let_by(finding: &Finding, scope: &DrawOptions<'_>) -> Option<Choice>
+    ensures { IsLetBy (scope_view scope.now) (finding_view finding.now) result }
 {
     match finding {
         Finding::NotRead(_) | Finding::OfRefusal(_) => None,
@@ -52,7 +52,7 @@ fn let_by(finding: &Finding, wish: &Wish<'_>) -> Option<Choice>
             }
             match found {
                 Some(checked) => {
-                    let chosen = chosen(checked, wish);
+                    let chosen = chosen(checked, scope);
                     if is_chosen_bad(checked, chosen) {
                         None
                     } else {
@@ -116,28 +116,28 @@ fn draw_predicate(
     run: &Run<'_, '_>,
     answers: &[Answer],
     i: usize,
-    wish: &Wish<'_>,
+    scope: &DrawOptions<'_>,
 ) -> Result<Drawing, AllocError>
     requires read { IsRun run.now }
     requires good { IsGoodAt (document_view run.now.spec.now) run.now.computation.now
         (map views.answer_view answers.now) i }
     ensures { IfOk result (IsPictureOf (document_view run.now.spec.now) (traces_view run.now.traces.now)
-        (pairs_view run.now.pairs.now) (ShowsPredicate wish.now.kind (document_view run.now.spec.now)
-        (traces_view run.now.traces.now) (map views.answer_view answers.now) i) wish.now.extent) }
+        (pairs_view run.now.pairs.now) (ShowsPredicate scope.now.kind (document_view run.now.spec.now)
+        (traces_view run.now.traces.now) (map views.answer_view answers.now) i) scope.now.extent) }
 {
     let spec = run.spec;
     let asked = &spec.predicates()[i];
     let answer = &answers[i];
     let evidence = evidence_of(
         alloc,
-        wish.kind,
+        scope.kind,
         spec.names(),
         run.computation,
         asked,
         answer,
     )?;
     let title = title_of(alloc, &asked.name, answer)?;
-    run_picture(alloc, run, &title, &evidence, wish.extent)
+    run_picture(alloc, run, &title, &evidence, scope.extent)
 }
 
 /// The picture by this choice of a predicate, unless there is none of the name that was asked for.
@@ -146,23 +146,23 @@ fn draw_choice(
     run: &Run<'_, '_>,
     answers: &[Answer],
     chosen: Choice,
-    wish: &Wish<'_>,
+    scope: &DrawOptions<'_>,
 ) -> Result<Option<Drawing>, AllocError>
     requires read { IsRun run.now }
     requires there { chosen ≢ Lacking }
     requires good { IsGoodChoice (document_view run.now.spec.now) run.now.computation.now
         (map views.answer_view answers.now) chosen }
     ensures { IfOk result (IsChosenPicture (document_view run.now.spec.now) (traces_view run.now.traces.now)
-        (pairs_view run.now.pairs.now) (map views.answer_view answers.now) (wish_view wish.now) chosen) }
+        (pairs_view run.now.pairs.now) (map views.answer_view answers.now) (scope_view scope.now) chosen) }
 {
     match chosen {
         Choice::Unknown | Choice::Lacking => Ok(None),
         Choice::Alone => {
-            let drawing = draw_run(alloc, run, wish.extent)?;
+            let drawing = draw_run(alloc, run, scope.extent)?;
             Ok(Some(drawing))
         }
         Choice::Of(i) => {
-            let drawing = draw_predicate(alloc, run, answers, i, wish)?;
+            let drawing = draw_predicate(alloc, run, answers, i, scope)?;
             Ok(Some(drawing))
         }
     }
@@ -174,7 +174,7 @@ fn draw_found(
     run: &Run<'_, '_>,
     finding: Finding,
     answers: &[Answer],
-    wish: &Wish<'_>,
+    scope: &DrawOptions<'_>,
 ) -> Result<Drawn, AllocError>
     requires read { IsRun run.now }
     requires found { IsFoundFor (document_view run.now.spec.now) (traces_view run.now.traces.now)
@@ -184,15 +184,15 @@ fn draw_found(
         → IsFoundOf (document_view run.now.spec.now) (traces_view run.now.traces.now) messages claimed
         (finding_view finding)
         → Comes (document_view run.now.spec.now) (traces_view run.now.traces.now) (pairs_view run.now.pairs.now)
-        messages claimed (wish_view wish.now) drawn) }
+        messages claimed (scope_view scope.now) drawn) }
 {
-    let Some(chosen) = let_by(&finding, wish) else {
+    let Some(chosen) = let_by(&finding, scope) else {
         return Ok(Drawn::Bad(finding));
     };
     if is_lacking(chosen) {
         return Ok(Drawn::NoEvidence);
     }
-    match draw_choice(alloc, run, answers, chosen, wish)? {
+    match draw_choice(alloc, run, answers, chosen, scope)? {
         Some(drawing) => Ok(Drawn::Picture(drawing)),
         None => Ok(Drawn::NoPredicate),
     }
@@ -210,18 +210,18 @@ pub fn draw(
     run: &Run<'_, '_>,
     claimed: &Report,
     messages: u64,
-    wish: &Wish<'_>,
+    scope: &DrawOptions<'_>,
 ) -> Result<Drawn, AllocError>
     requires read { IsRun run.now }
     requires counted { HasMessages run.now.computation.now.events messages }
     ensures { IfOk result (Comes (document_view run.now.spec.now) (traces_view run.now.traces.now)
-        (pairs_view run.now.pairs.now) messages (views.report_view claimed.now) (wish_view wish.now)) }
+        (pairs_view run.now.pairs.now) messages (views.report_view claimed.now) (scope_view scope.now)) }
 {
     match claimed {
         Report::Refused(_) => Ok(Drawn::Bad(Finding::OfRefusal(false))),
         Report::Judged { answers, .. } => {
             let finding = find_formed(alloc, run.spec, claimed, run.computation, messages)?;
-            draw_found(alloc, run, finding, answers, wish)
+            draw_found(alloc, run, finding, answers, scope)
         }
     }
 }

@@ -7,4 +7,4 @@ pub mod Tables
 pub mod Pictures
 pub mod Cycles
 pub mod CycleTables
-pub mod Wishes
+pub mod Scopes

@@ -29,7 +29,7 @@
 //! - `cycle_pictures`: the picture of a run in which there is a causal cycle
 //! - `kind`: the kinds of evidence
 //! - `extent`: how much of a run is shown
-//! - `wish`: all that is asked of a picture
+//! - `draw_options`: all that is asked of a picture
 #![tactic(auto)]
 
 mod columns;
@@ -38,6 +38,7 @@ mod cycle_columns;
 mod cycle_marks;
 mod cycle_pictures;
 mod dots;
+mod draw_options;
 mod ends;
 mod evidence;
 mod extent;
@@ -52,13 +53,12 @@ mod shapes;
 mod steps;
 mod texts;
 mod window;
-mod wish;
 
 pub use columns::columns_stand_right;
 pub use cut::values_stand_clear;
 pub use cycle_pictures::cycle_picture;
+pub use draw_options::DrawOptions;
 pub use evidence::Evidence;
 pub use extent::Extent;
 pub use kind::Kind;
 pub use pictures::picture;
-pub use wish::Wish;

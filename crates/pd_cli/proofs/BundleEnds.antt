@@ -2,10 +2,11 @@
 use Rattle.std.proofs.Common.{◌≡◌, ◌≤◌, ℕ, List, [], ◌∷◌, drop, map, length, refl, sym, subst, arith, Option, inr}
 use Rattle.std.specs.Prelude.{Bool}
 use Rattle.clap.specs.Walk.{Text}
-use Rattle.app_arguments.specs.Statuses.{Ending, Success, Negative, Alarm, NoPredicate, Misuse, Failed, MemoryFailure, ReadFailure, WriteFailure, BundleFailure, NetworkFailure, Ends, EndsAsAsked, JudgeInput, JudgementLeaves, File, status_of}
+use Rattle.app_arguments.specs.Statuses.{Ending, Success, Negative, Alarm, NoPredicate, Misuse, Failed, MemoryFailure, ReadFailure, WriteFailure, BundleFailure, NetworkFailure, Ends, JudgeInput, JudgementLeaves, File, status_of}
 use Rattle.def_judgement.specs.Writes.{IsJudged, IsRefused, Source, WritesTruthOfBundle}
 use Rattle.def_judgement.proofs.TextsOwed.{truth_of_bundle_text}
 use Rattle.app_arguments.specs.Arguments.{AsksFor, of_input}
+use Rattle.pd_cli.specs.Runs.{RunsAsAsked}
 use Rattle.app_arguments.proofs.Parsed.{nothing_is_no_command, nothing_is_taken}
 
 none_asks : AsksFor [] JudgeInput
@@ -24,13 +25,9 @@ pub as_asked_by_none : (arguments : List Text) (input : Source) (files : List �
     (connections : ℕ → Source → Type 0) (network_serves : Bool) (status : ℕ)
     (old new errors_old errors_new : Option (List ℕ)) → arguments ≡ []
     → Ends (λ ending. JudgementLeaves input ending old new) status errors_old errors_new
-    → EndsAsAsked (AsksFor arguments) input files connections network_serves status old new errors_old errors_new
-as_asked_by_none arguments input files connections network_serves status old new errors_old errors_new none h = record {
-  ending = h.ending;
-  is_status = h.is_status;
-  output = inr (JudgeInput, subst (λ (l : List Text). AsksFor l JudgeInput) (sym none) none_asks, h.output);
-  errors = h.errors;
-}
+    → RunsAsAsked arguments input files connections network_serves status old new errors_old errors_new
+as_asked_by_none arguments input files connections network_serves status old new errors_old errors_new none h =
+    inr (JudgeInput, subst (λ (l : List Text). AsksFor l JudgeInput) (sym none) none_asks, h)
 
 truth_of_end : (input : Source) (ending : Ending) (old new : Option (List ℕ))
     → status_of ending ≤ 1 → JudgementLeaves input ending old new → WritesTruthOfBundle input

@@ -6,15 +6,15 @@ use Rattle.def_format.specs.Documents.{Inquiry}
 use Rattle.def_format.specs.Limits.{report_byte_limit}
 use Rattle.app_arguments.specs.Statuses.{OfClaim}
 use Rattle.def_judgement.specs.Writes.{Source, whole_source}
-use Rattle.pd_cli.proofs.FilesRead.{whole_is_whole}
-use Rattle.out_picture.specs.Wishes.{Wished}
+use Rattle.app_host.proofs.FilesRead.{whole_is_whole}
+use Rattle.out_picture.specs.Scopes.{Scope}
 use Rattle.judge_draw.specs.Drawings.{ShowsEnd, WritesPicture}
 use Rattle.judge_draw.specs.declared.drawings.DrawOutcome.{DrawOutcome}
 use Rattle.judge_draw.specs.declared.drawings.DrawOutcome.TheVariants.{Written, CycleWritten, Refused, NoPredicate, NoEvidence}
 use Rattle.judge_session.specs.declared.fault.EngineFault.{EngineFault}
 use Rattle.judge_session.specs.declared.fault.EngineFault.TheVariants.{Memory, Write, Read, BundleLong}
 use Rattle.pd_cli.specs.Drawings.{DrawReadLeaves, Finishes, IsNoticeOf, OfDrawing}
-use Rattle.pd_cli.proofs.WrittenSoFar.{appends_kept}
+use Rattle.app_host.proofs.WrittenSoFar.{appends_kept}
 
 -- what is kept twice is kept
 kept_on : (a b c : Option (List ℕ)) → Keeps a b → Keeps b c → Keeps a c
@@ -23,10 +23,10 @@ kept_on (Some old) None c first then = absurd first
 kept_on (Some old) (Some mid) None first then = absurd then
 kept_on (Some old) (Some mid) (Some new) first then = then ∙ first
 
-module _ (document : Inquiry) (report : List ℕ) (inputs : List Source) (wish : Wished)
+module _ (document : Inquiry) (report : List ℕ) (inputs : List Source) (scope : Scope)
     (short : length report ≤ report_byte_limit) where
   abbrev Leaves : Result DrawOutcome EngineFault → (old new : Option (List ℕ)) → Type 0
-  Leaves result old new = DrawReadLeaves (OfDrawing (whole_source report) inputs wish document) result old new
+  Leaves result old new = DrawReadLeaves (OfDrawing (whole_source report) inputs scope document) result old new
 
   -- what holds of the bytes that were read
   of_read : (P : List ℕ → Type 0) → P report → OfClaim (whole_source report) P
@@ -34,7 +34,7 @@ module _ (document : Inquiry) (report : List ℕ) (inputs : List Source) (wish :
 
   -- the call failed
   pub drawing_failed : (fault : EngineFault) (old new : Option (List ℕ)) → (fault ≡ Memory) ⊎ (fault ≡ Write)
-      → WritesPicture document report inputs wish (Err fault) old new
+      → WritesPicture document report inputs scope (Err fault) old new
       → Leaves (Err fault) old new
   drawing_failed Memory old new is written = written
   drawing_failed Write old new is written = of_read _ (inr written)
@@ -46,8 +46,8 @@ module _ (document : Inquiry) (report : List ℕ) (inputs : List Source) (wish :
   -- the call came to an end, and then the output was flushed
   pub drawing_finished : (drawing : DrawOutcome) (result : Result DrawOutcome EngineFault)
       (old middle new : Option (List ℕ))
-      → WritesPicture document report inputs wish (Ok drawing) old middle
-      → ShowsEnd document report inputs wish drawing → Finishes drawing result middle new
+      → WritesPicture document report inputs scope (Ok drawing) old middle
+      → ShowsEnd document report inputs scope drawing → Finishes drawing result middle new
       → Leaves result old new
   drawing_finished Written result old middle new written shows (inl is, keeps) =
       subst (λ (r : Result DrawOutcome EngineFault). Leaves r old new) (sym is)
@@ -68,7 +68,7 @@ module _ (document : Inquiry) (report : List ℕ) (inputs : List Source) (wish :
   drawing_finished (Refused found) (Ok NoPredicate) old middle new written shows (inr is, keeps) = absurd is
   drawing_finished (Refused found) (Ok NoEvidence) old middle new written shows (inr is, keeps) = absurd is
   drawing_finished (Refused found) (Ok (Refused notice)) old middle new written shows (inr is, keeps) = (
-    of_read (λ r. IsNoticeOf document r inputs wish notice.items)
+    of_read (λ r. IsNoticeOf document r inputs scope notice.items)
         (record { found = found.items; is_against = shows; is_notice = is }),
     kept_on old middle new written keeps,
   )

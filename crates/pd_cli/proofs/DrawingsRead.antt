@@ -6,21 +6,21 @@ use Rattle.app_arguments.specs.Statuses.{File, OfDocument}
 use Rattle.def_format.specs.Documents.{Options, inquiry_of}
 use Rattle.def_judgement.specs.Writes.{IsWholeInput, Source, Whole, whole_source}
 use Rattle.def_judgement.proofs.Writing.{writes_weaker}
-use Rattle.out_picture.specs.Wishes.{Wished}
+use Rattle.out_picture.specs.Scopes.{Scope}
 use Rattle.judge_draw.specs.Drawings.{IsAnyTextOf, IsCycleTextOf, IsDrawingTextOf, LacksKind, LacksPredicate}
 use Rattle.judge_draw.specs.declared.drawings.DrawOutcome.{DrawOutcome}
 use Rattle.judge_draw.specs.declared.drawings.DrawOutcome.TheVariants.{Written, CycleWritten, Refused, NoPredicate, NoEvidence}
 use Rattle.judge_session.specs.declared.fault.EngineFault.{EngineFault}
 use Rattle.judge_session.specs.declared.fault.EngineFault.TheVariants.{Memory, Write, Read, BundleLong}
 use Rattle.pd_cli.specs.Drawings.{DrawLeaves, DrawReadLeaves, IsNoticeOf, OfDrawing}
-use Rattle.pd_cli.specs.FileSources.{IsReadOf, Knows, SameOutline}
-use Rattle.pd_cli.proofs.DocumentPrefixes.{same_document, same_finding, same_session}
-use Rattle.pd_cli.proofs.FilesRead.{given_as_files, of_claim, of_document, up_to_weaker}
+use Rattle.app_host.specs.FileSources.{IsReadOf, Knows, SameOutline}
+use Rattle.app_host.proofs.DocumentPrefixes.{same_document, same_finding, same_session}
+use Rattle.app_host.proofs.FilesRead.{given_as_files, of_claim, of_document, up_to_weaker}
 
-module _ (options : Options) (read document report : List ℕ) (files lefts : List Source) (wish : Wished)
+module _ (options : Options) (read document report : List ℕ) (files lefts : List Source) (scope : Scope)
     (same : SameOutline options read document) (are : AllZip Knows files lefts) where
-  drawing_of_files : (text : List ℕ) → IsDrawingTextOf (inquiry_of options read) report lefts wish text
-      → IsDrawingTextOf (inquiry_of options document) report files wish text
+  drawing_of_files : (text : List ℕ) → IsDrawingTextOf (inquiry_of options read) report lefts scope text
+      → IsDrawingTextOf (inquiry_of options document) report files scope text
   drawing_of_files text h =
       let is = h.is_picture in record {
         picture = h.picture;
@@ -40,8 +40,8 @@ module _ (options : Options) (read document report : List ℕ) (files lefts : Li
         is_text = h.is_text;
       }
 
-  cycle_of_files : (text : List ℕ) → IsCycleTextOf (inquiry_of options read) report lefts wish.extent text
-      → IsCycleTextOf (inquiry_of options document) report files wish.extent text
+  cycle_of_files : (text : List ℕ) → IsCycleTextOf (inquiry_of options read) report lefts scope.extent text
+      → IsCycleTextOf (inquiry_of options document) report files scope.extent text
   cycle_of_files text h =
       let is = h.is_picture in record {
         picture = h.picture;
@@ -61,13 +61,13 @@ module _ (options : Options) (read document report : List ℕ) (files lefts : Li
         is_text = h.is_text;
       }
 
-  any_of_files : (text : List ℕ) → IsAnyTextOf (inquiry_of options read) report lefts wish text
-      → IsAnyTextOf (inquiry_of options document) report files wish text
+  any_of_files : (text : List ℕ) → IsAnyTextOf (inquiry_of options read) report lefts scope text
+      → IsAnyTextOf (inquiry_of options document) report files scope text
   any_of_files text (inl h) = inl (drawing_of_files text h)
   any_of_files text (inr h) = inr (cycle_of_files text h)
 
-  notice_of_files : (notice : List ℕ) → IsNoticeOf (inquiry_of options read) report lefts wish notice
-      → IsNoticeOf (inquiry_of options document) report files wish notice
+  notice_of_files : (notice : List ℕ) → IsNoticeOf (inquiry_of options read) report lefts scope notice
+      → IsNoticeOf (inquiry_of options document) report files scope notice
   notice_of_files notice h =
       let is = h.is_against.is_against in record {
         found = h.found;
@@ -85,8 +85,8 @@ module _ (options : Options) (read document report : List ℕ) (files lefts : Li
         is_notice = h.is_notice;
       }
 
-  lack_of_files : LacksPredicate (inquiry_of options read) report lefts wish
-      → LacksPredicate (inquiry_of options document) report files wish
+  lack_of_files : LacksPredicate (inquiry_of options read) report lefts scope
+      → LacksPredicate (inquiry_of options document) report files scope
   lack_of_files h = record {
     streams = h.streams;
     are_given = given_as_files files lefts h.streams are h.are_given;
@@ -95,8 +95,8 @@ module _ (options : Options) (read document report : List ℕ) (files lefts : Li
     is_unknown = h.is_unknown;
   }
 
-  kind_of_files : LacksKind (inquiry_of options read) report lefts wish
-      → LacksKind (inquiry_of options document) report files wish
+  kind_of_files : LacksKind (inquiry_of options read) report lefts scope
+      → LacksKind (inquiry_of options document) report files scope
   kind_of_files h = record {
     streams = h.streams;
     are_given = given_as_files files lefts h.streams are h.are_given;
@@ -106,53 +106,53 @@ module _ (options : Options) (read document report : List ℕ) (files lefts : Li
   }
 
 module _ (options : Options) (read document : List ℕ) (file : Source) (claimed : List ℕ) (files lefts : List Source)
-    (wish : Wished) (old new : Option (List ℕ)) (whole : IsWholeInput file claimed) (are : AllZip Knows files lefts)
+    (scope : Scope) (old new : Option (List ℕ)) (whole : IsWholeInput file claimed) (are : AllZip Knows files lefts)
     (same : SameOutline options read document) where
   picture_of_files : (result : Result DrawOutcome EngineFault)
-      → OfDrawing (whole_source claimed) lefts wish (inquiry_of options read) result old new
-      → OfDrawing file files wish (inquiry_of options document) result old new
+      → OfDrawing (whole_source claimed) lefts scope (inquiry_of options read) result old new
+      → OfDrawing file files scope (inquiry_of options document) result old new
   picture_of_files (Ok Written) left =
       of_claim file claimed _ _ whole (λ report. writes_weaker _ _ Whole old new
-      (drawing_of_files options read document report files lefts wish same are)) left
+      (drawing_of_files options read document report files lefts scope same are)) left
   picture_of_files (Ok CycleWritten) left =
       of_claim file claimed _ _ whole (λ report. writes_weaker _ _ Whole old new
-      (cycle_of_files options read document report files lefts wish same are)) left
+      (cycle_of_files options read document report files lefts scope same are)) left
   picture_of_files (Ok (Refused notice)) left = (
     of_claim file claimed _ _ whole
-        (λ report. notice_of_files options read document report files lefts wish same are notice.items) left.0,
+        (λ report. notice_of_files options read document report files lefts scope same are notice.items) left.0,
     left.1,
   )
   picture_of_files (Ok NoPredicate) left = (
     of_claim file claimed _ _ whole
-        (λ report. lack_of_files options read document report files lefts wish same are) left.0,
+        (λ report. lack_of_files options read document report files lefts scope same are) left.0,
     left.1,
   )
   picture_of_files (Ok NoEvidence) left = (
     of_claim file claimed _ _ whole
-        (λ report. kind_of_files options read document report files lefts wish same are) left.0,
+        (λ report. kind_of_files options read document report files lefts scope same are) left.0,
     left.1,
   )
   picture_of_files (Err Memory) left = left
   picture_of_files (Err Read) left = left
   picture_of_files (Err Write) left =
       of_claim file claimed _ _ whole (λ report. up_to_weaker _ _ old new
-      (any_of_files options read document report files lefts wish same are)) left
+      (any_of_files options read document report files lefts scope same are)) left
   picture_of_files (Err BundleLong) left = left
 
 module _ (options : Options) (document : File) (read : List ℕ) (file : Source) (claimed : List ℕ)
-    (files lefts : List Source) (IsUnread : Type 0) (wish : Wished) (old new : Option (List ℕ))
+    (files lefts : List Source) (IsUnread : Type 0) (scope : Scope) (old new : Option (List ℕ))
     (is : IsReadOf read document.source) (whole : IsWholeInput file claimed) (are : AllZip Knows files lefts) where
   at : (result : Result DrawOutcome EngineFault)
-      → OfDrawing (whole_source claimed) lefts wish (inquiry_of options read) result old new
-      → OfDocument options document (λ inquiry. OfDrawing file files wish inquiry result old new)
+      → OfDrawing (whole_source claimed) lefts scope (inquiry_of options read) result old new
+      → OfDocument options document (λ inquiry. OfDrawing file files scope inquiry result old new)
   at result left =
-      of_document options document read _ (λ inquiry. OfDrawing file files wish inquiry result old new) is
-      (λ bytes same. picture_of_files options read bytes file claimed files lefts wish old new whole are same result)
+      of_document options document read _ (λ inquiry. OfDrawing file files scope inquiry result old new) is
+      (λ bytes same. picture_of_files options read bytes file claimed files lefts scope old new whole are same result)
       left
 
   pub drawn_of_files : (result : Result DrawOutcome EngineFault)
-      → DrawReadLeaves (OfDrawing (whole_source claimed) lefts wish (inquiry_of options read)) result old new
-      → DrawLeaves options document IsUnread (OfDrawing file files wish) result old new
+      → DrawReadLeaves (OfDrawing (whole_source claimed) lefts scope (inquiry_of options read)) result old new
+      → DrawLeaves options document IsUnread (OfDrawing file files scope) result old new
   drawn_of_files (Ok outcome) left = at (Ok outcome) left
   drawn_of_files (Err Memory) left = left
   drawn_of_files (Err Read) left = absurd left

@@ -16,11 +16,11 @@ use Rattle.judge_explore.specs.Explored.{IsCycle, IsOtherRefusal, IsOwed, IsPage
 use Rattle.judge_explore.specs.Sources.{StreamFile}
 use Rattle.judge_explore.proofs.Written.{page_weaker}
 use Rattle.pd_cli.specs.Explorations.{IsOwedWith, OfPage}
-use Rattle.pd_cli.specs.Faults.{exploration_ending}
-use Rattle.pd_cli.specs.FileSources.{Knows, ReadLeaves, SameOutline}
-use Rattle.pd_cli.proofs.DocumentPrefixes.{same_holding, same_judgement, same_truth}
-use Rattle.pd_cli.proofs.FilesRead.{given_as_files, report_text_of_files, up_to_weaker}
-use Rattle.pd_cli.proofs.WrittenSoFar.{appends_kept}
+use Rattle.app_host.specs.Faults.{exploration_ending}
+use Rattle.app_host.specs.FileSources.{Knows, ReadLeaves, SameOutline}
+use Rattle.app_host.proofs.DocumentPrefixes.{same_holding, same_judgement, same_truth}
+use Rattle.app_host.proofs.FilesRead.{given_as_files, report_text_of_files, up_to_weaker}
+use Rattle.app_host.proofs.WrittenSoFar.{appends_kept}
 
 -- ---- after the flush
 

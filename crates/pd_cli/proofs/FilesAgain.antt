@@ -6,7 +6,7 @@ use Rattle.std.proofs.lemmas.List.{map-append}
 use Rattle.std.proofs.Math.Seq.{take-suc}
 use Rattle.def_format.specs.Lines.{Line, finished_lines}
 use Rattle.judge_explore.specs.Sources.{IsFileOf, StreamFile, file_of_lines, stream_bytes, stream_file, unread_file}
-use Rattle.pd_cli.proofs.FilesRead.{zip_on}
+use Rattle.app_host.proofs.FilesRead.{zip_on}
 
 named : (name : List ℕ) (lines : List Line) → (file_of_lines name lines).name ≡ name
 named name [] = refl

@@ -1,29 +1,26 @@
 -- What a run that draws leaves on its output and on its errors.
 use Rattle.std.specs.Prelude.{◌≡◌, ◌⊎◌, ℕ, Bool, List, [], ◌++◌, codes, map, Option, Result, Ok, Err, IsOkAnd}
 use Rattle.std.specs.Io.KnownBytes.{Keeps}
-use Rattle.clap.specs.Words.{Text}
 use Rattle.def_format.specs.Documents.{Inquiry, Options}
-use Rattle.app_arguments.specs.Statuses.{EndsAsAsked, File, OfClaim, OfDocument, UnreadClaim, WritesUpTo, line_of_failure, sources_of, status_of_failure}
+use Rattle.app_arguments.specs.Statuses.{File, OfClaim, OfDocument, UnreadClaim, WritesUpTo, line_of_failure, sources_of, status_of_failure}
 use Rattle.def_judgement.specs.Writes.{Source, Whole, Writes}
-use Rattle.out_picture.specs.Wishes.{Wished}
+use Rattle.out_picture.specs.Scopes.{Scope}
 use Rattle.judge_draw.specs.Drawings.{IsAnyTextOf, IsCycleTextOf, IsDrawingTextOf, IsRefusalTextOf, LacksKind, LacksPredicate}
 use Rattle.judge_draw.specs.declared.drawings.DrawOutcome.{DrawOutcome}
 use Rattle.judge_draw.specs.declared.drawings.DrawOutcome.TheVariants.{Written, CycleWritten, Refused, NoPredicate, NoEvidence}
 use Rattle.judge_session.specs.declared.fault.EngineFault.{EngineFault}
 use Rattle.judge_session.specs.declared.fault.EngineFault.TheVariants.{Memory, Write, Read, BundleLong}
-use Rattle.app_arguments.specs.Arguments.{AsksFor, AsksToDraw}
-use Rattle.pd_cli.specs.Explorations.{ExploresAsAsked}
-use Rattle.pd_cli.specs.Faults.{failure_view}
+use Rattle.app_host.specs.Faults.{failure_view}
 
 -- the line above what a check finds
 abbrev pub refusal_heading : List ℕ
 refusal_heading = codes "monitor: no picture, for a check finds:\n"
 
 -- what is reported of a check's finding that stands against the picture: a line, and the text of what it finds
-pub record IsNoticeOf (document : Inquiry) (report : List ℕ) (streams : List Source) (wish : Wished)
+pub record IsNoticeOf (document : Inquiry) (report : List ℕ) (streams : List Source) (scope : Scope)
     (notice : List ℕ) : Type 0 where
   pub found : List ℕ
-  pub is_against : IsRefusalTextOf document report streams wish found
+  pub is_against : IsRefusalTextOf document report streams scope found
   pub is_notice : notice ≡ refusal_heading ++ found
 
 -- the notice of this finding
@@ -33,21 +30,21 @@ IsNoticed found _ = ⊥
 
 -- The picture is written of a document, a report of this source and streams, that of a cycle too: its whole text. The
 -- output fails: that text or a prefix of it. Something stands against the picture: nothing.
-abbrev pub OfDrawing : (report : Source) (streams : List Source) (wish : Wished) → Inquiry
+abbrev pub OfDrawing : (report : Source) (streams : List Source) (scope : Scope) → Inquiry
     → Result DrawOutcome EngineFault → (old new : Option (List ℕ)) → Type 0
-OfDrawing report streams wish inquiry (Ok Written) old new =
-    OfClaim report (λ r. Writes (IsDrawingTextOf inquiry r streams wish) Whole old new)
-OfDrawing report streams wish inquiry (Ok CycleWritten) old new =
-    OfClaim report (λ r. Writes (IsCycleTextOf inquiry r streams wish.extent) Whole old new)
-OfDrawing report streams wish inquiry (Ok (Refused notice)) old new =
-    OfClaim report (λ r. IsNoticeOf inquiry r streams wish notice.items) × Keeps old new
-OfDrawing report streams wish inquiry (Ok NoPredicate) old new =
-    OfClaim report (λ r. LacksPredicate inquiry r streams wish) × Keeps old new
-OfDrawing report streams wish inquiry (Ok NoEvidence) old new =
-    OfClaim report (λ r. LacksKind inquiry r streams wish) × Keeps old new
-OfDrawing report streams wish inquiry (Err Write) old new =
-    OfClaim report (λ r. WritesUpTo (IsAnyTextOf inquiry r streams wish) old new)
-OfDrawing report streams wish inquiry _ old new = ⊥
+OfDrawing report streams scope inquiry (Ok Written) old new =
+    OfClaim report (λ r. Writes (IsDrawingTextOf inquiry r streams scope) Whole old new)
+OfDrawing report streams scope inquiry (Ok CycleWritten) old new =
+    OfClaim report (λ r. Writes (IsCycleTextOf inquiry r streams scope.extent) Whole old new)
+OfDrawing report streams scope inquiry (Ok (Refused notice)) old new =
+    OfClaim report (λ r. IsNoticeOf inquiry r streams scope notice.items) × Keeps old new
+OfDrawing report streams scope inquiry (Ok NoPredicate) old new =
+    OfClaim report (λ r. LacksPredicate inquiry r streams scope) × Keeps old new
+OfDrawing report streams scope inquiry (Ok NoEvidence) old new =
+    OfClaim report (λ r. LacksKind inquiry r streams scope) × Keeps old new
+OfDrawing report streams scope inquiry (Err Write) old new =
+    OfClaim report (λ r. WritesUpTo (IsAnyTextOf inquiry r streams scope) old new)
+OfDrawing report streams scope inquiry _ old new = ⊥
 
 -- What a call leaves to which the document was handed: nothing if memory runs out, and else what P says.
 abbrev pub DrawReadLeaves : (P : Result DrawOutcome EngineFault → (old new : Option (List ℕ)) → Type 0)
@@ -94,28 +91,9 @@ draw_notice _ = []
 
 -- A run that draws came to some end, by which this is left on the output and on the errors.
 pub record EndsDrawn (files : List ℕ → File) (options : Options) (document report : List ℕ) (streams : List (List ℕ))
-    (wish : Wished) (status : ℕ) (old new errors_old errors_new : Option (List ℕ)) : Type 0 where
+    (scope : Scope) (status : ℕ) (old new errors_old errors_new : Option (List ℕ)) : Type 0 where
   pub ending : Result DrawOutcome EngineFault
   pub is_status : status ≡ draw_status ending
   pub output : DrawLeaves options (files document) (UnreadClaim files document report streams)
-      (OfDrawing (files report).source (sources_of (map files streams)) wish) ending old new
+      (OfDrawing (files report).source (sources_of (map files streams)) scope) ending old new
   pub errors : WritesUpTo (λ text. text ≡ draw_notice ending) errors_old errors_new
-
--- the arguments ask for a picture, and the run came to such an end
-pub record DrawsAsAsked (arguments : List Text) (files : List ℕ → File) (status : ℕ)
-    (old new errors_old errors_new : Option (List ℕ)) : Type 0 where
-  pub options : Options
-  pub document : Text
-  pub report : Text
-  pub streams : List Text
-  pub wish : Wished
-  pub asked : AsksToDraw arguments options document report streams wish
-  pub ends : EndsDrawn files options document report streams wish status old new errors_old errors_new
-
--- A run did what its arguments ask for.
-abbrev pub RunsAsAsked : List Text → (input : Source) (files : List ℕ → File) (connections : ℕ → Source → Type 0)
-    (network_serves : Bool) (status : ℕ) (old new errors_old errors_new : Option (List ℕ)) → Type 0
-RunsAsAsked arguments input files connections network_serves status old new errors_old errors_new =
-    EndsAsAsked (AsksFor arguments) input files connections network_serves status old new errors_old errors_new
-    ⊎ DrawsAsAsked arguments files status old new errors_old errors_new
-    ⊎ ExploresAsAsked arguments files status old new errors_old errors_new

@@ -1,13 +1,10 @@
 -- What a run that explores leaves on its output.
 use Rattle.std.specs.Prelude.{ℕ, Bool, true, false, List, Option, Some, None}
-use Rattle.clap.specs.Words.{Text}
-use Rattle.def_format.specs.Documents.{Inquiry, Options}
-use Rattle.app_arguments.specs.Statuses.{Alarm, BundleFailure, Ending, Ends, Failed, File, MemoryFailure, Misuse, Negative, NetworkFailure, NoPredicate, ReadFailure, SessionLeaves, Success, WriteFailure, WritesUpTo}
+use Rattle.def_format.specs.Documents.{Inquiry}
+use Rattle.app_arguments.specs.Statuses.{Ending, Failed, Negative, Success, WriteFailure, WritesUpTo}
 use Rattle.def_judgement.specs.Writes.{Source, Whole, Writes}
 use Rattle.judge_explore.specs.Explored.{IsOwed}
-use Rattle.judge_explore.specs.Sources.{StreamFile, AreFilesOf}
-use Rattle.app_arguments.specs.Arguments.{AsksToExplore}
-use Rattle.pd_cli.specs.FileSources.{bytes_in}
+use Rattle.judge_explore.specs.Sources.{StreamFile}
 
 -- the text that is owed of a session with some files of which this holds
 abbrev pub IsOwedWith : (AreFiles : List StreamFile → Type 0) → Inquiry → (streams : List Source)
@@ -26,13 +23,3 @@ OfPage AreFiles streams inquiry Negative old new =
 OfPage AreFiles streams inquiry (Failed WriteFailure) old new =
     WritesUpTo (IsOwedWith AreFiles inquiry streams None) old new
 OfPage AreFiles streams inquiry _ old new = ⊥
-
--- the arguments ask for a page, and the run came to such an end
-pub record ExploresAsAsked (arguments : List Text) (files : List ℕ → File) (status : ℕ)
-    (old new errors_old errors_new : Option (List ℕ)) : Type 0 where
-  pub options : Options
-  pub document : Text
-  pub streams : List Text
-  pub asked : AsksToExplore arguments options document streams
-  pub ends : Ends (λ ending. SessionLeaves files options document streams
-      (OfPage (AreFilesOf (bytes_in files) streams)) ending old new) status errors_old errors_new

@@ -1,5 +1,4 @@
 pub mod Drawings
 pub mod Explorations
 pub mod Explained
-pub mod Faults
-pub mod FileSources
+pub mod Runs

@@ -6,23 +6,17 @@ ghost use Rattle.def_format.specs.Limits.{report_byte_limit};
 ghost use Rattle.def_judgement.specs.Writes.{whole_source};
 ghost use Rattle.judge_session.specs.Inquiries.{inquiry_view};
 ghost use Rattle.pd_spec.specs.Views.{options_view};
-ghost use Rattle.out_picture.specs.Wishes.{wish_view};
+ghost use Rattle.out_picture.specs.Scopes.{scope_view};
 ghost use Rattle.std.specs.Prelude.{◌≡◌, ◌≤◌, ◌++◌, All, IfOk, false, length, map};
 
-use super::claim_files::read_claim;
-use super::file_source::FileSource;
-use super::line::write_line;
-use super::status::{MISUSED, REFUSED, SUCCESS, report_fault};
 use app_arguments::SessionNames;
+use app_host::{MISUSED, REFUSED, SUCCESS, System, World, read_claim, report_fault, write_line};
 use judge_draw::{DrawOutcome, draw};
 use judge_session::EngineFault;
-use out_picture::Wish;
+use out_picture::DrawOptions;
 use pd_engine::{ByteSource, Inquiry};
 use std::alloc::{AllocError, Global};
 use std::io::Write;
-use std::random::RandomSource;
-use std::sync::Wait;
-use std::thread::Threads;
 
 /// What is reported of a check's finding that stands against the picture: a line, and the text of what it finds.
 fn notice(alloc: Global, found: &[u8]) -> Result<Vec<u8>, AllocError>
@@ -66,22 +60,29 @@ fn finish<O: Write>(
 /// # Errors
 /// `Memory` leaves nothing written. `Write` leaves a part of the picture written, or all of it if only the flush
 /// failed.
-fn draw_read<S: RandomSource + Threads + Wait + Sync, R: ByteSource + Send + Drop, O: Write>(
-    rt: &S,
-    alloc: Global,
+fn draw_read<Y: System, R: ByteSource + Send + Drop, O: Write>(
+    world: &World<'_, Y>,
     inquiry: Inquiry<'_, '_, '_>,
     report: &[u8],
     streams: Vec<R>,
-    wish: &Wish<'_>,
+    scope: &DrawOptions<'_>,
     output: &mut O,
 ) -> Result<DrawOutcome, EngineFault>
     requires open { All (λ stream. R.has_ended stream ≡ false) streams.items }
     requires short { length report.now ≤ report_byte_limit }
-    ensures { DrawReadLeaves (OfDrawing (whole_source report.now) (map R.left streams.items) (wish_view wish.now)
+    ensures { DrawReadLeaves (OfDrawing (whole_source report.now) (map R.left streams.items) (scope_view scope.now)
         (inquiry_view inquiry.entry)) result (O.contents output.old) (O.contents output.new) }
 {
-    let drawing = draw(rt, alloc, inquiry, report, streams, wish, output)?;
-    finish(alloc, drawing, output)
+    let drawing = draw(
+        world.rt,
+        world.alloc,
+        inquiry,
+        report,
+        streams,
+        scope,
+        output,
+    )?;
+    finish(world.alloc, drawing, output)
 }
 
 /// Opens the files of a picture, the document, the report and then the streams, reads the document and the report,
@@ -92,29 +93,27 @@ fn draw_read<S: RandomSource + Threads + Wait + Sync, R: ByteSource + Send + Dro
 /// `Read`, if a file can't be opened, or the document or the report can't be read, or the report has more than
 /// `REPORT_BYTE_LIMIT` bytes, and `Memory` leave nothing written. `Write` leaves a part of the picture written, or all
 /// of it if only the flush failed.
-pub(crate) fn draw_files<S: RandomSource + Threads + Wait + Sync, F: FileSource, O: Write>(
-    rt: &S,
-    files: &F,
-    alloc: Global,
+pub(crate) fn draw_files<Y: System, O: Write>(
+    world: &World<'_, Y>,
     report: &str,
-    wish: &Wish<'_>,
+    scope: &DrawOptions<'_>,
     names: &SessionNames<'_>,
     output: &mut O,
 ) -> Result<DrawOutcome, EngineFault>
-    ensures { DrawLeaves (options_view names.now.options) (F.file_of files.now names.now.spec.now)
-        (UnreadClaim (F.file_of files.now) names.now.spec.now report.now (session_view names.now).1)
-        (OfDrawing (F.file_of files.now report.now).source
-        (sources_of (map (F.file_of files.now) (session_view names.now).1)) (wish_view wish.now))
+    ensures { DrawLeaves (options_view names.now.options) (Y.Files.file_of world.now.files.now names.now.spec.now)
+        (UnreadClaim (Y.Files.file_of world.now.files.now) names.now.spec.now report.now (session_view names.now).1)
+        (OfDrawing (Y.Files.file_of world.now.files.now report.now).source
+        (sources_of (map (Y.Files.file_of world.now.files.now) (session_view names.now).1)) (scope_view scope.now))
         result (O.contents output.old) (O.contents output.new) }
 {
-    match read_claim(files, alloc, report, names) {
+    match read_claim(world, report, names) {
         Ok(read) => {
             let streams = read.streams;
             let inquiry = Inquiry {
                 document: &read.document,
                 options: &names.options,
             };
-            draw_read(rt, alloc, inquiry, &read.report, streams, wish, output)
+            draw_read(world, inquiry, &read.report, streams, scope, output)
         }
         Err(fault) => Err(fault),
     }

@@ -1,7 +1,7 @@
 //! Writes an explanation to the errors.
 ghost use Rattle.pd_cli.specs.Explained.{IsExplained};
 
-use super::line::write_line;
+use app_host::write_line;
 use std::io::Write;
 
 /// Writes the text of an explanation, if one is wanted. What of it can't be written is left off.

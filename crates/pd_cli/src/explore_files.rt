@@ -2,41 +2,30 @@
 ghost use Rattle.app_arguments.specs.Statuses.{SessionLeaves};
 ghost use Rattle.app_arguments.specs.Views.{session_view};
 ghost use Rattle.pd_cli.specs.Explorations.{OfPage};
-ghost use Rattle.pd_cli.specs.Faults.{exploration_ending};
-ghost use Rattle.pd_cli.specs.FileSources.{ReadLeaves, bytes_in};
+ghost use Rattle.app_host.specs.Faults.{exploration_ending};
+ghost use Rattle.app_host.specs.FileSources.{ReadLeaves, bytes_in};
 ghost use Rattle.judge_explore.specs.FileViews.{file_view, files_view};
 ghost use Rattle.judge_explore.specs.Sources.{AreFilesOf, IsFileOf, stream_bytes};
 ghost use Rattle.judge_session.specs.Inquiries.{inquiry_view};
 ghost use Rattle.pd_spec.specs.Views.{options_view};
 ghost use Rattle.std.specs.Prelude.{◌≡◌, All, IfOk, IfSome, false, map};
 
-use super::file_source::FileSource;
-use super::level_gate::LevelGate;
-use super::session_files::read_session;
 use app_arguments::{Exploration, Workers};
+use app_host::{FileSource, LevelGate, System, World, read_session};
 use def_format::STREAM_BYTE_LIMIT;
 use judge_explore::{StreamFile, explore};
 use judge_session::{EngineFault, read_upto};
 use pd_engine::{ByteSource, Gate, Inquiry, Report};
 use std::alloc::{AllocError, Global};
 use std::io::Write;
-use std::random::RandomSource;
-use std::sync::Wait;
-use std::thread::Threads;
 
 /// Explores a document, with what is asked, and the streams, writes the page or the report of a refusal, and flushes
 /// the output. It gives the report, if the session is refused.
 ///
 /// # Errors
 /// `Memory` leaves nothing written. `Write` leaves a part of the text written, or all of it if only the flush failed.
-fn explore_read<
-    S: RandomSource + Threads + Wait + Sync,
-    R: ByteSource + Send + Drop,
-    G: Gate + Sync,
-    O: Write,
->(
-    rt: &S,
-    alloc: Global,
+fn explore_read<Y: System, R: ByteSource + Send + Drop, G: Gate + Sync, O: Write>(
+    world: &World<'_, Y>,
     inquiry: Inquiry<'_, '_, '_>,
     sources: &[StreamFile<'_>],
     streams: Vec<R>,
@@ -49,8 +38,8 @@ fn explore_read<
         (inquiry_view inquiry.entry)) (exploration_ending result) (O.contents output.old) (O.contents output.new) }
 {
     let refusal = explore(
-        rt,
-        alloc,
+        world.rt,
+        world.alloc,
         inquiry,
         sources,
         streams,
@@ -84,19 +73,15 @@ fn stream_left<R: ByteSource + Drop>(alloc: Global, file: R) -> Result<Option<Ve
 ///
 /// # Errors
 /// Out of memory.
-fn read_again<F: FileSource>(
-    files: &F,
-    alloc: Global,
-    name: &str,
-) -> Result<Option<Vec<u8>>, AllocError>
-    ensures { IfOk result (λ found. IfSome found (λ found. IfSome (bytes_in (F.file_of files.now) name.now)
-        (λ bytes. found.items ≡ stream_bytes bytes))) }
+fn read_again<Y: System>(world: &World<'_, Y>, name: &str) -> Result<Option<Vec<u8>>, AllocError>
+    ensures { IfOk result (λ found. IfSome found (λ found. IfSome (bytes_in (Y.Files.file_of world.now.files.now)
+        name.now) (λ bytes. found.items ≡ stream_bytes bytes))) }
 {
-    if !files.can_be_reread(name) {
+    if !world.files.can_be_reread(name) {
         return Ok(None);
     }
-    match files.open(name) {
-        Ok(file) => stream_left(alloc, file),
+    match world.files.open(name) {
+        Ok(file) => stream_left(world.alloc, file),
         Err(_) => Ok(None),
     }
 }
@@ -105,17 +90,17 @@ fn read_again<F: FileSource>(
 ///
 /// # Errors
 /// Out of memory.
-fn stream_file<'a, F: FileSource>(
-    files: &F,
-    alloc: Global,
+fn stream_file<'a, Y: System>(
+    world: &World<'_, Y>,
     name: &'a str,
 ) -> Result<StreamFile<'a>, AllocError>
-    ensures { IfOk result (λ file. IsFileOf (bytes_in (F.file_of files.now)) name.now (file_view file)) }
+    ensures { IfOk result (λ file. IsFileOf (bytes_in (Y.Files.file_of world.now.files.now)) name.now (file_view
+        file)) }
 {
-    let found = read_again(files, alloc, name)?;
+    let found = read_again(world, name)?;
     match found {
-        Some(bytes) => StreamFile::read(alloc, name, &bytes),
-        None => Ok(StreamFile::unread(alloc, name)),
+        Some(bytes) => StreamFile::read(world.alloc, name, &bytes),
+        None => Ok(StreamFile::unread(world.alloc, name)),
     }
 }
 
@@ -123,17 +108,16 @@ fn stream_file<'a, F: FileSource>(
 ///
 /// # Errors
 /// Out of memory.
-fn stream_files<'a, F: FileSource>(
-    files: &F,
-    alloc: Global,
+fn stream_files<'a, Y: System>(
+    world: &World<'_, Y>,
     names: &[&'a str],
 ) -> Result<Vec<StreamFile<'a>>, AllocError>
-    ensures { IfOk result (λ found. AreFilesOf (bytes_in (F.file_of files.now)) (map (λ name. name.now) names.now)
-        (files_view found.items)) }
+    ensures { IfOk result (λ found. AreFilesOf (bytes_in (Y.Files.file_of world.now.files.now)) (map (λ name. name.now)
+        names.now) (files_view found.items)) }
 {
-    let mut found = Vec::new(alloc);
+    let mut found = Vec::new(world.alloc);
     for name in names {
-        found.push(stream_file(files, alloc, name)?)?;
+        found.push(stream_file(world, name)?)?;
     }
     Ok(found)
 }
@@ -146,30 +130,27 @@ fn stream_files<'a, F: FileSource>(
 /// # Errors
 /// `Read`, if a file can't be opened or the document can't be read, and `Memory` leave nothing written. `Write` leaves
 /// a part of the text written, or all of it if only the flush failed.
-pub(crate) fn explore_files<S: RandomSource + Threads + Wait + Sync, F: FileSource, O: Write>(
-    rt: &S,
-    files: &F,
-    alloc: Global,
+pub(crate) fn explore_files<Y: System, O: Write>(
+    world: &World<'_, Y>,
     exploration: &Exploration<'_>,
     output: &mut O,
 ) -> Result<Option<Report>, EngineFault>
-    ensures { SessionLeaves (F.file_of files.now) (options_view exploration.now.names.options)
+    ensures { SessionLeaves (Y.Files.file_of world.now.files.now) (options_view exploration.now.names.options)
         exploration.now.names.spec.now (session_view exploration.now.names).1
-        (OfPage (AreFilesOf (bytes_in (F.file_of files.now)) (session_view exploration.now.names).1))
+        (OfPage (AreFilesOf (bytes_in (Y.Files.file_of world.now.files.now)) (session_view exploration.now.names).1))
         (exploration_ending result) (O.contents output.old) (O.contents output.new) }
 {
-    match read_session(files, alloc, &exploration.names) {
+    match read_session(world, &exploration.names) {
         Ok(read) => {
-            let sources = stream_files(files, alloc, &exploration.names.streams)?;
+            let sources = stream_files(world, &exploration.names.streams)?;
             let streams = read.streams;
             let inquiry = Inquiry {
                 document: &read.document,
                 options: &exploration.names.options,
             };
-            let gate = LevelGate::new(files);
+            let gate = LevelGate::new(world.files);
             explore_read(
-                rt,
-                alloc,
+                world,
                 inquiry,
                 &sources,
                 streams,

@@ -15,61 +15,21 @@
 //! - `program`: one run of the program, from its arguments to its exit status
 //! - `parser_error`: reports what the command line's parser has to say
 //! - `bundle`: judges the bundle on the input
-//! - `judge_files`: judges the session in files
-//! - `claim_files`: the files of a report and of the session that it is said to be of
-//! - `check_files`: checks a report against the session in files
 //! - `draw_files`: draws a report with the session in files
 //! - `explore_files`: explores the session in files
-//! - `server`: judges a session whose streams come by connections
-//! - `host`: what a server works with
-//! - `kept_session`: keeps the session of a server as files of a folder
-//! - `watchers`: shows watchers how far the streams are read
-//! - `network`: where connections come from
-//! - `service_fault`: why a server gives no report
-//! - `service_notices`: tells at once what becomes of a server's session
-//! - `level_gate`: the gate of a walk over a session in files
-//! - `session_files`: opens and reads the files of a session
-//! - `file_source`: where files are read
-//! - `status`: exit statuses, and the lines that report faults
-//! - `line`: writes a line to the errors
 //! - `explaining`: whether the arguments ask for explanations
 //! - `explanation`: writes an explanation to the errors
-//! - `explained_ends`, `explained_refusals`, `explained_services`: explains how a run ended, by a second look at what
-//!   it was asked for
-//! - `senders`: who sent the streams of a server
-//! - `second_look`: reads the files of a session again
 #![tactic(auto)]
 
 mod bundle;
-mod check_files;
-mod claim_files;
 mod draw_files;
-mod explained_ends;
-mod explained_refusals;
-mod explained_services;
 mod explaining;
 mod explanation;
 mod explore_files;
-mod file_source;
-mod host;
-mod judge_files;
-mod kept_session;
-mod level_gate;
-mod line;
-mod network;
 mod parser_error;
 mod program;
-mod second_look;
-mod senders;
-mod server;
-mod service_fault;
-mod service_notices;
-mod session_files;
-mod status;
-mod watchers;
 
+pub use app_host::{FileSource, Network};
 pub use explaining::without_explain;
-pub use file_source::FileSource;
-pub use network::Network;
 pub use parser_error::report_unread_arguments;
 pub use program::run;

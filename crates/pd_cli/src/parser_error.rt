@@ -1,15 +1,14 @@
 //! Reports what the command line's parser has to say.
 ghost use Rattle.clap.specs.Values.{kind_of};
 ghost use Rattle.app_arguments.specs.Arguments.{IsShownKind};
-ghost use Rattle.pd_cli.specs.Faults.{IsUnreadLine};
+ghost use Rattle.pd_cli.specs.Runs.{IsUnreadLine};
 ghost use Rattle.app_arguments.specs.Statuses.{Ends, HelpLeaves, VersionLeaves, MisuseLeaves, IsLineOf, MemoryFailure, Failed, WritesUpTo};
 ghost use Rattle.std.specs.IoError.{error_kind};
 ghost use Rattle.std.specs.Io.KnownBytes.{Keeps};
 ghost use Rattle.std.specs.Prelude.{◌≡◌, ◌≢◌};
 
-use super::line::write_line;
-use super::status::{MISUSED, SUCCESS, report_fault};
 use app_arguments::version_line;
+use app_host::{MISUSED, SUCCESS, report_fault, write_line};
 use clap::Error;
 use clap::error::ErrorKind;
 use judge_session::EngineFault;

@@ -1,11 +1,12 @@
 //! One run of the program.
 ghost use Rattle.app_arguments.specs.Arguments.{port_limit};
-ghost use Rattle.pd_cli.specs.Drawings.{EndsDrawn, RunsAsAsked};
-ghost use Rattle.pd_cli.specs.FileSources.{bytes_in};
+ghost use Rattle.pd_cli.specs.Drawings.{EndsDrawn};
+ghost use Rattle.app_host.specs.FileSources.{bytes_in};
 ghost use Rattle.pd_cli.specs.Explained.{Explained};
 ghost use Rattle.pd_cli.specs.Explorations.{OfPage};
+ghost use Rattle.pd_cli.specs.Runs.{RunsAsAsked};
 ghost use Rattle.judge_explore.specs.Sources.{AreFilesOf};
-ghost use Rattle.out_picture.specs.Wishes.{wish_view};
+ghost use Rattle.out_picture.specs.Scopes.{scope_view};
 ghost use Rattle.app_arguments.specs.ConditionViews.{fail_on_view};
 ghost use Rattle.app_arguments.specs.Statuses.{Ends, JudgementLeaves, LeavesOf, MayBeUnread, OfConnections, OfFinding, OfStreams, ServiceMayFail, SessionLeaves, UnreadClaim, sources_of};
 ghost use Rattle.app_arguments.specs.Views.{keep_view, session_view};
@@ -14,27 +15,18 @@ ghost use Rattle.pd_spec.specs.Views.{options_view};
 ghost use Rattle.std.specs.Prelude.{◌≡◌, ◌≢◌, ◌≤◌, ◌∷◌, [], drop, false, length, map, vec_len, None};
 
 use super::bundle::judge_input;
-use super::check_files::check_files;
 use super::draw_files::{draw_files, report_drawing};
-use super::explained_ends::{
-    bundle_text, check_text, drawing_text, exploration_text, judgement_text,
-};
-use super::explained_services::service_text;
 use super::explanation::write_explanation;
 use super::explore_files::explore_files;
-use super::file_source::FileSource;
-use super::host::Host;
-use super::judge_files::judge_files;
-use super::level_gate::LevelGate;
-use super::network::Network;
 use super::parser_error::report_parser_error;
-use super::server::serve;
-use super::status::{
-    report_bundle, report_end, report_exploration, report_judgement, report_service_end,
-};
 use app_arguments::{Exploration, Judgement, Request, Service, SessionNames, parse};
-use app_peers::Peers;
-use out_picture::Wish;
+use app_host::{
+    FileSource, LevelGate, Network, System, World, check_files, judge_files, report_bundle,
+    report_end, report_exploration, report_judgement,
+};
+use app_look::{bundle_text, check_text, drawing_text, exploration_text, judgement_text};
+use app_serve::{Host, Peers, report_service_end, serve, service_text};
+use out_picture::DrawOptions;
 use pd_engine::ByteSource;
 use std::alloc::Global;
 use std::io::Write;
@@ -43,203 +35,159 @@ use std::sync::Wait;
 use std::thread::Threads;
 
 /// Checks the report in the file of this name against files, and gives the exit status.
-fn run_check<S: RandomSource + Threads + Wait + Sync, F: FileSource, O: Write, E: Write>(
-    rt: &S,
-    files: &F,
-    alloc: Global,
+fn run_check<Y: System, O: Write, E: Write>(
+    world: &World<'_, Y>,
     report: &str,
     names: &SessionNames<'_>,
-    explain: bool,
     output: &mut O,
     errors: &mut E,
 ) -> u8
-    ensures { Explained explain (λ start. Ends (λ ending. LeavesOf (options_view names.now.options)
-        (F.file_of files.now names.now.spec.now)
-        (UnreadClaim (F.file_of files.now) names.now.spec.now report.now (session_view names.now).1)
-        (OfFinding (F.file_of files.now report.now).source
-        (sources_of (map (F.file_of files.now) (session_view names.now).1)))
+    ensures { Explained world.now.explain (λ start. Ends (λ ending. LeavesOf (options_view names.now.options)
+        (Y.Files.file_of world.now.files.now names.now.spec.now)
+        (UnreadClaim (Y.Files.file_of world.now.files.now) names.now.spec.now report.now (session_view names.now).1)
+        (OfFinding (Y.Files.file_of world.now.files.now report.now).source
+        (sources_of (map (Y.Files.file_of world.now.files.now) (session_view names.now).1)))
         ending (O.contents output.old) (O.contents output.new)) result start (E.contents errors.new))
         (E.contents errors.old) }
 {
-    let end = check_files(rt, files, alloc, report, names, output);
-    let text = check_text(explain, rt, files, alloc, report, names, &end);
-    write_explanation(explain, &text, errors);
+    let end = check_files(world, report, names, output);
+    let text = check_text(world, report, names, &end);
+    write_explanation(world.explain, &text, errors);
     report_end(&end, errors)
 }
 
 /// Draws the report in the file of this name with files, and gives the exit status.
-fn run_draw<S: RandomSource + Threads + Wait + Sync, F: FileSource, O: Write, E: Write>(
-    rt: &S,
-    files: &F,
-    alloc: Global,
+fn run_draw<Y: System, O: Write, E: Write>(
+    world: &World<'_, Y>,
     report: &str,
-    wish: &Wish<'_>,
+    scope: &DrawOptions<'_>,
     names: &SessionNames<'_>,
-    explain: bool,
     output: &mut O,
     errors: &mut E,
 ) -> u8
-    ensures { Explained explain (λ start. EndsDrawn (F.file_of files.now) (options_view names.now.options)
-        names.now.spec.now report.now (session_view names.now).1 (wish_view wish.now) result (O.contents output.old)
-        (O.contents output.new) start (E.contents errors.new)) (E.contents errors.old) }
+    ensures { Explained world.now.explain (λ start. EndsDrawn (Y.Files.file_of world.now.files.now) (options_view
+        names.now.options) names.now.spec.now report.now (session_view names.now).1 (scope_view scope.now) result
+        (O.contents output.old) (O.contents output.new) start (E.contents errors.new)) (E.contents errors.old) }
 {
-    let end = draw_files(rt, files, alloc, report, wish, names, output);
-    let text = drawing_text(explain, files, alloc, report, names, &end);
-    write_explanation(explain, &text, errors);
+    let end = draw_files(world, report, scope, names, output);
+    let text = drawing_text(world, report, names, &end);
+    write_explanation(world.explain, &text, errors);
     report_drawing(&end, errors)
 }
 
 /// Judges a session whose streams come by connections, and gives the exit status. The port is from 1 to 65,534.
-fn run_service<
-    S: RandomSource + Threads + Wait + Sync,
-    F: FileSource,
-    N: Network + Sync,
-    O: Write,
-    E: Write,
->(
-    rt: &S,
-    files: &F,
-    network: &N,
-    alloc: Global,
+fn run_service<Y: System, O: Write, E: Write>(
+    world: &World<'_, Y>,
     service: &Service<'_>,
-    explain: bool,
     output: &mut O,
     errors: &mut E,
 ) -> u8
     requires some { 1 ≤ service.now.port }
     requires port { service.now.port ≤ port_limit }
-    ensures { Explained explain (λ start. Ends (λ ending. LeavesOf (options_view service.now.options)
-        (F.file_of files.now service.now.spec.now) (MayBeUnread (F.file_of files.now service.now.spec.now ∷ [])
-        (F.file_of files.now service.now.spec.now ∷ []))
-        (OfConnections (N.may_give network.now service.now.port) (ServiceMayFail service.now.wait N.never_fails)
-        (keep_view service.now.keep ≢ None) (fail_on_view service.now.fail_on))
-        ending (O.contents output.old) (O.contents output.new)) result start (E.contents errors.new))
-        (E.contents errors.old) }
+    ensures { Explained world.now.explain (λ start. Ends (λ ending. LeavesOf (options_view service.now.options)
+        (Y.Files.file_of world.now.files.now service.now.spec.now) (MayBeUnread (Y.Files.file_of world.now.files.now
+        service.now.spec.now ∷ []) (Y.Files.file_of world.now.files.now service.now.spec.now ∷ [])) (OfConnections
+        (Y.Network.may_give world.now.network.now service.now.port) (ServiceMayFail service.now.wait
+        Y.Network.never_fails) (keep_view service.now.keep ≢ None) (fail_on_view service.now.fail_on)) ending
+        (O.contents output.old) (O.contents output.new)) result start (E.contents errors.new)) (E.contents errors.old) }
 {
-    let peers = Peers::new(alloc, explain || service.keep.is_some());
-    let gate = LevelGate::new(files);
+    let peers = Peers::new(world.alloc, world.explain || service.keep.is_some());
+    let gate = LevelGate::new(world.files);
     let host = Host {
-        files,
-        network,
-        alloc,
+        files: world.files,
+        network: world.network,
+        alloc: world.alloc,
         service,
         peers: &peers,
         gate: &gate,
-        explain,
+        explain: world.explain,
     };
-    let end = serve(rt, &host, output);
-    let text = service_text(&host, &end);
-    write_explanation(explain, &text, errors);
+    let end = serve(world, &host, output);
+    let text = service_text(world, &host, &end);
+    write_explanation(world.explain, &text, errors);
     report_service_end(&service.fail_on, &end, errors)
 }
 
 /// Judges the session in files, and gives the exit status.
-fn run_files<S: RandomSource + Threads + Wait + Sync, F: FileSource, O: Write, E: Write>(
-    rt: &S,
-    files: &F,
-    alloc: Global,
+fn run_files<Y: System, O: Write, E: Write>(
+    world: &World<'_, Y>,
     judgement: &Judgement<'_>,
-    explain: bool,
     output: &mut O,
     errors: &mut E,
 ) -> u8
-    ensures { Explained explain (λ start. Ends (λ ending. SessionLeaves (F.file_of files.now)
+    ensures { Explained world.now.explain (λ start. Ends (λ ending. SessionLeaves (Y.Files.file_of world.now.files.now)
         (options_view judgement.now.names.options) judgement.now.names.spec.now (session_view judgement.now.names).1
         (λ sources. OfStreams sources (fail_on_view judgement.now.fail_on)) ending (O.contents output.old)
         (O.contents output.new)) result start (E.contents errors.new)) (E.contents errors.old) }
 {
-    let gate = LevelGate::new(files);
-    let end = judge_files(rt, files, alloc, judgement, &gate, output);
-    let text = judgement_text(explain, files, alloc, judgement, gate.widest(), &end);
-    write_explanation(explain, &text, errors);
+    let gate = LevelGate::new(world.files);
+    let end = judge_files(world, judgement, &gate, output);
+    let text = judgement_text(world, judgement, gate.widest(), &end);
+    write_explanation(world.explain, &text, errors);
     report_judgement(&judgement.fail_on, &end, errors)
 }
 
 /// Explores the session in files, and gives the exit status.
-fn run_explore<S: RandomSource + Threads + Wait + Sync, F: FileSource, O: Write, E: Write>(
-    rt: &S,
-    files: &F,
-    alloc: Global,
+fn run_explore<Y: System, O: Write, E: Write>(
+    world: &World<'_, Y>,
     exploration: &Exploration<'_>,
-    explain: bool,
     output: &mut O,
     errors: &mut E,
 ) -> u8
-    ensures { Explained explain (λ start. Ends (λ ending. SessionLeaves (F.file_of files.now)
+    ensures { Explained world.now.explain (λ start. Ends (λ ending. SessionLeaves (Y.Files.file_of world.now.files.now)
         (options_view exploration.now.names.options) exploration.now.names.spec.now
         (session_view exploration.now.names).1
-        (OfPage (AreFilesOf (bytes_in (F.file_of files.now)) (session_view exploration.now.names).1))
+        (OfPage (AreFilesOf (bytes_in (Y.Files.file_of world.now.files.now)) (session_view exploration.now.names).1))
         ending (O.contents output.old) (O.contents output.new)) result start (E.contents errors.new))
         (E.contents errors.old) }
 {
-    let end = explore_files(rt, files, alloc, exploration, output);
-    let text = exploration_text(explain, files, alloc, exploration, &end);
-    write_explanation(explain, &text, errors);
+    let end = explore_files(world, exploration, output);
+    let text = exploration_text(world, exploration, &end);
+    write_explanation(world.explain, &text, errors);
     report_exploration(&end, errors)
 }
 
 /// Judges the bundle on the input, and gives the exit status.
-fn run_bundle<
-    S: RandomSource + Threads + Wait + Sync,
-    F: FileSource,
-    I: ByteSource + Drop,
-    O: Write,
-    E: Write,
->(rt: &S, files: &F, alloc: Global, input: I, explain: bool, output: &mut O, errors: &mut E) -> u8
-    requires { I.has_ended input ≡ false }
-    ensures { Explained explain (λ start. Ends (λ ending. JudgementLeaves (I.left input) ending
-        (O.contents output.old) (O.contents output.new)) result start (E.contents errors.new)) (E.contents errors.old) }
-{
-    let gate = LevelGate::new(files);
-    let end = judge_input(rt, alloc, input, &gate, output);
-    let text = bundle_text(explain, files, alloc, gate.widest(), &end);
-    write_explanation(explain, &text, errors);
-    report_bundle(&end, errors)
-}
-
-/// Does what the arguments after the program's name ask for, and gives the exit status.
-fn run_arguments<
-    S: RandomSource + Threads + Wait + Sync,
-    F: FileSource,
-    N: Network + Sync,
-    I: ByteSource + Drop,
-    O: Write,
-    E: Write,
->(
-    rt: &S,
-    files: &F,
-    network: &N,
-    alloc: Global,
-    arguments: &[String],
+fn run_bundle<Y: System, I: ByteSource + Drop, O: Write, E: Write>(
+    world: &World<'_, Y>,
     input: I,
-    explain: bool,
     output: &mut O,
     errors: &mut E,
 ) -> u8
     requires { I.has_ended input ≡ false }
-    ensures ends { Explained explain (λ start. RunsAsAsked (map (λ argument. argument.bytes.items) arguments.now)
-        (I.left input) (F.file_of files.now) (N.may_give network.now) N.never_fails result
-        (O.contents output.old) (O.contents output.new) start (E.contents errors.new)) (E.contents errors.old) }
+    ensures { Explained world.now.explain (λ start. Ends (λ ending. JudgementLeaves (I.left input) ending
+        (O.contents output.old) (O.contents output.new)) result start (E.contents errors.new)) (E.contents errors.old) }
 {
-    match parse(alloc, arguments) {
-        Ok(Request::Bundle) => run_bundle(rt, files, alloc, input, explain, output, errors),
-        Ok(Request::Judge(judgement)) => {
-            run_files(rt, files, alloc, &judgement, explain, output, errors)
-        },
-        Ok(Request::Check(report, names)) => {
-            run_check(rt, files, alloc, report, &names, explain, output, errors)
+    let gate = LevelGate::new(world.files);
+    let end = judge_input(world, input, &gate, output);
+    let text = bundle_text(world, gate.widest(), &end);
+    write_explanation(world.explain, &text, errors);
+    report_bundle(&end, errors)
+}
+
+/// Does what the arguments after the program's name ask for, and gives the exit status.
+fn run_arguments<Y: System, I: ByteSource + Drop, O: Write, E: Write>(
+    world: &World<'_, Y>,
+    arguments: &[String],
+    input: I,
+    output: &mut O,
+    errors: &mut E,
+) -> u8
+    requires { I.has_ended input ≡ false }
+    ensures ends { Explained world.now.explain (λ start. RunsAsAsked (map (λ argument. argument.bytes.items)
+        arguments.now) (I.left input) (Y.Files.file_of world.now.files.now) (Y.Network.may_give world.now.network.now)
+        Y.Network.never_fails result (O.contents output.old) (O.contents output.new) start (E.contents errors.new))
+        (E.contents errors.old) }
+{
+    match parse(world.alloc, arguments) {
+        Ok(Request::Bundle) => run_bundle(world, input, output, errors),
+        Ok(Request::Judge(judgement)) => { run_files(world, &judgement, output, errors) },
+        Ok(Request::Check(report, names)) => { run_check(world, report, &names, output, errors) }
+        Ok(Request::Draw(report, scope, names)) => {
+            run_draw(world, report, &scope, &names, output, errors)
         }
-        Ok(Request::Draw(report, wish, names)) => {
-            run_draw(
-                rt, files, alloc, report, &wish, &names, explain, output, errors,
-            )
-        }
-        Ok(Request::Serve(service)) => {
-            run_service(rt, files, network, alloc, &service, explain, output, errors)
-        }
-        Ok(Request::Explore(exploration)) => {
-            run_explore(rt, files, alloc, &exploration, explain, output, errors)
-        }
+        Ok(Request::Serve(service)) => { run_service(world, &service, output, errors) }
+        Ok(Request::Explore(exploration)) => { run_explore(world, &exploration, output, errors) }
         Err(error) => report_parser_error(&error, output, errors),
     }
 }
@@ -300,18 +248,15 @@ pub fn run<
     ensures headline { vec_len arguments ≤ 1 → result ≤ 1 → WritesTruthOfBundle (I.left input) (result ≡ 0)
         (O.contents output.old) (O.contents output.new) }
 {
-    if arguments.len() <= 1 {
-        return run_bundle(rt, files, alloc, input, explain, output, errors);
-    }
-    run_arguments(
+    let world = World::<'_, (S, F, N)> {
         rt,
         files,
         network,
         alloc,
-        without_first(&arguments),
-        input,
         explain,
-        output,
-        errors,
-    )
+    };
+    if arguments.len() <= 1 {
+        return run_bundle(&world, input, output, errors);
+    }
+    run_arguments(&world, without_first(&arguments), input, output, errors)
 }

@@ -72,7 +72,7 @@ impl Write for Kept {
 pub(crate) struct Files;
 
 impl FileSource for Files {
-    ghost use Rattle.pd_cli.specs.FileSources.{unknown_file};
+    ghost use Rattle.app_host.specs.FileSources.{unknown_file};
 
     type File = &'static [u8];
 

@@ -1,6 +1,6 @@
 //! One shape of each kind, and a drawing that is written: `text` and `write` of a drawing.
+use crate::text_writers::Limited;
 use crate::values::string;
-use crate::writers::Limited;
 use out_svg::{Anchor, Class, Drawing, Point, Shape, escaped, text, write};
 use pd_report::WriteFault;
 use std::alloc::{AllocError, Global};

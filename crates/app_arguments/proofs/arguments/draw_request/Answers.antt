@@ -5,19 +5,20 @@ use Rattle.clap.specs.Walk.{rows_of}
 use Rattle.clap.proofs.WalkLemmas.{first_value-rows}
 use Rattle.std.specs.Prelude.{IfSome}
 use Rattle.pd_spec.specs.Views.{options_view}
-use Rattle.app_arguments.specs.Arguments.{NamesOptions, FindsSession, FindsWish, of_missing, of_missing_report, of_no_wish}
+use Rattle.app_arguments.specs.Arguments.{NamesOptions, FindsSession, FindsScope, of_draw, of_missing, of_missing_report, of_no_scope}
 use Rattle.app_arguments.specs.Views.{session_view}
-use Rattle.out_picture.specs.Wishes.{wish_view}
-use Rattle.out_picture.specs.declared.wish.Wish.{Wish}
+use Rattle.out_picture.specs.Scopes.{scope_view}
+use Rattle.out_picture.specs.declared.draw_options.DrawOptions.{DrawOptions}
 use Rattle.app_arguments.specs.declared.request.SessionNames.{SessionNames}
 use Rattle.app_arguments.proofs.Parsed.{not_none}
 use Rattle.app_arguments.proofs.arguments.draw_request.Goals as goal
 
 pub returns-in_default : goal.returns-in_default
 returns-in_default c arguments taken are =
-    of_no_wish (rows_of (found_of c.args.matches.now)) are
-    (subst (λ (wish : Option Wish). FindsWish (rows_of (found_of c.args.matches.now)) (option_map wish_view wish))
-    c.in_default.is c.wish_of.ensures)
+    of_no_scope (rows_of (found_of c.args.matches.now)) are
+    (subst (λ (scope : Option DrawOptions). FindsScope (rows_of (found_of c.args.matches.now)) (option_map scope_view
+    scope))
+    c.in_default.is c.scope_of.ensures)
 
 pub returns-in_default-get_str : goal.returns-in_default-get_str
 returns-in_default-get_str c arguments taken are =
@@ -33,18 +34,15 @@ returns-in_default-2 c arguments taken are =
     (option_map session_view names)) c.in_default-2.is c.in_ok-names.ensures.names)
 
 pub returns : goal.returns
-returns c arguments taken are = record {
-  rows = rows_of (found_of c.args.matches.now);
-  are_taken = taken;
-  are_of = are;
-  names_session = subst (λ (names : Option SessionNames). FindsSession (rows_of (found_of c.args.matches.now))
-      (option_map session_view names)) c.in-Some-2.is c.in_ok-names.ensures.names;
-  names_options = subst (λ (names : Option SessionNames). IfSome names (λ names.
-      NamesOptions (rows_of (found_of c.args.matches.now)) (options_view names.options))) c.in-Some-2.is
-      c.in_ok-names.ensures.options;
-  within_width = subst (λ (names : Option SessionNames). IfSome names (λ names. names.options.beyond_width ≡ false))
-      c.in-Some-2.is c.in_ok-names.ensures.beyond;
-  names_report = sym (first_value-rows (found_of c.args.matches.now) (codes "REPORT")) ∙ sym c.in-Some-get_str.ensures;
-  names_wish = subst (λ (wish : Option Wish). FindsWish (rows_of (found_of c.args.matches.now))
-      (option_map wish_view wish)) c.in-Some.is c.wish_of.ensures;
-}
+returns c arguments taken are =
+    of_draw (rows_of (found_of c.args.matches.now)) _ _ _ _ _ taken are
+    (subst (λ (names : Option SessionNames). FindsSession (rows_of (found_of c.args.matches.now))
+    (option_map session_view names)) c.in-Some-2.is c.in_ok-names.ensures.names)
+    (subst (λ (names : Option SessionNames). IfSome names (λ names.
+    NamesOptions (rows_of (found_of c.args.matches.now)) (options_view names.options))) c.in-Some-2.is
+    c.in_ok-names.ensures.options)
+    (subst (λ (names : Option SessionNames). IfSome names (λ names. names.options.beyond_width ≡ false))
+    c.in-Some-2.is c.in_ok-names.ensures.beyond)
+    (sym (first_value-rows (found_of c.args.matches.now) (codes "REPORT")) ∙ sym c.in-Some-get_str.ensures)
+    (subst (λ (scope : Option DrawOptions). FindsScope (rows_of (found_of c.args.matches.now))
+    (option_map scope_view scope)) c.in-Some.is c.scope_of.ensures)

@@ -4,7 +4,7 @@ use Rattle.clap.specs.Matches.{found_of}
 use Rattle.clap.specs.Walk.{rows_of}
 use Rattle.std.specs.Prelude.{IfSome}
 use Rattle.pd_spec.specs.Views.{options_view}
-use Rattle.app_arguments.specs.Arguments.{NamesOptions, FindsSession, SaysBeyondWidth, of_missing, of_missing_workers}
+use Rattle.app_arguments.specs.Arguments.{NamesOptions, FindsSession, SaysBeyondWidth, of_explore, of_missing, of_missing_workers}
 use Rattle.app_arguments.specs.Views.{session_view}
 use Rattle.app_arguments.specs.declared.request.SessionNames.{SessionNames}
 use Rattle.app_arguments.proofs.Numbers.{lacks_workers}
@@ -23,20 +23,16 @@ returns-in_default-2 c arguments taken are =
     (option_map session_view names)) c.in_default-2.is c.in_ok-names.ensures.names)
 
 pub returns : goal.returns
-returns c arguments taken are = record {
-  rows = rows_of (found_of c.args.matches.now);
-  are_taken = taken;
-  are_of = are;
-  names_session = subst (λ (names : Option SessionNames). FindsSession (rows_of (found_of c.args.matches.now))
-      (option_map session_view names)) c.in-Some-2.is c.in_ok-names.ensures.names;
-  names_options = subst (λ (names : Option SessionNames). IfSome names (λ names.
-      NamesOptions (rows_of (found_of c.args.matches.now)) (options_view names.options))) c.in-Some-2.is
-      c.in_ok-names.ensures.options;
-  says_beyond_width = subst (λ (beyond : Bool). SaysBeyondWidth (rows_of (found_of c.args.matches.now)) beyond)
-      (sym (subst (λ (names : Option SessionNames). IfSome names
-      (λ names. names.options.beyond_width ≡ c.flag_of-beyond_width.result))
-      c.in-Some-2.is c.in_ok-names.ensures.beyond))
-      c.flag_of-beyond_width.ensures;
-  workers = _;
-  names_workers = c.in-Some.ensures.some;
-}
+returns c arguments taken are =
+    of_explore (rows_of (found_of c.args.matches.now)) _ _ _ _ taken are
+    (subst (λ (names : Option SessionNames). FindsSession (rows_of (found_of c.args.matches.now))
+    (option_map session_view names)) c.in-Some-2.is c.in_ok-names.ensures.names)
+    (subst (λ (names : Option SessionNames). IfSome names (λ names.
+    NamesOptions (rows_of (found_of c.args.matches.now)) (options_view names.options))) c.in-Some-2.is
+    c.in_ok-names.ensures.options)
+    (subst (λ (beyond : Bool). SaysBeyondWidth (rows_of (found_of c.args.matches.now)) beyond)
+    (sym (subst (λ (names : Option SessionNames). IfSome names
+    (λ names. names.options.beyond_width ≡ c.flag_of-beyond_width.result))
+    c.in-Some-2.is c.in_ok-names.ensures.beyond))
+    c.flag_of-beyond_width.ensures)
+    c.in-Some.ensures.some

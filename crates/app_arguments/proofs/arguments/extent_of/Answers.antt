@@ -5,7 +5,7 @@ use Rattle.clap.specs.Walk.{rows_of}
 use Rattle.out_picture.specs.declared.extent.Extent.{Extent}
 use Rattle.app_arguments.specs.Arguments.{FindsExtent}
 use Rattle.app_arguments.proofs.Numbers.{number_found}
-use Rattle.app_arguments.proofs.Wishes.{extent_found}
+use Rattle.app_arguments.proofs.Scopes.{extent_found}
 use Rattle.app_arguments.proofs.arguments.extent_of.Goals as goal
 
 pub returns : goal.returns

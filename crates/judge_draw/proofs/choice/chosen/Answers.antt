@@ -11,7 +11,7 @@ pub returns-in-Some : goal.returns-in-Some
 returns-in-Some c =
     rw c.in-Some.is
     (c.of_name.ensures
-    ∙ ap (by_name c.args.wish.now.kind (map checked_view c.args.checked.now))
+    ∙ ap (by_name c.args.scope.now.kind (map checked_view c.args.checked.now))
     (sym (position-map (λ (checked : Checked). bytes_eq checked.name c.in-Some.name.now) checked_view
     c.args.checked.now)))
 
@@ -19,5 +19,5 @@ pub returns-in-None : goal.returns-in-None
 returns-in-None c =
     rw c.in-None.is
     (c.first_with_evidence.ensures
-    ∙ ap (by_evidence c.args.wish.now.kind) (sym (position-map (has_evidence c.args.wish.now.kind) checked_view
+    ∙ ap (by_evidence c.args.scope.now.kind) (sym (position-map (has_evidence c.args.scope.now.kind) checked_view
     c.args.checked.now)))

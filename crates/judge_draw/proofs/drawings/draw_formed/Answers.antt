@@ -1,5 +1,5 @@
 -- What is drawn of a well-formed session.
-use Rattle.out_picture.specs.Wishes.{wish_view}
+use Rattle.out_picture.specs.Scopes.{scope_view}
 use Rattle.pd_gather.specs.Views.{traces_view}
 use Rattle.pd_match.specs.Views.{pairs_view}
 use Rattle.pd_report.specs.Views.{report_view}
@@ -28,5 +28,5 @@ draw-requires-clause-read c =
 pub returns : goal.returns
 returns c =
     traces_drawn (document_view c.args.run.now.spec.now) c.args.run.now.traces.now c.args.run.now.computation.now
-    c.args.messages (pairs_view c.args.run.now.pairs.now) (report_view c.args.claimed.now) (wish_view c.args.wish.now)
+    c.args.messages (pairs_view c.args.run.now.pairs.now) (report_view c.args.claimed.now) (scope_view c.args.scope.now)
     c.in_ok-drawn.drawn c.requires.formed c.requires.pairs c.in_ok-drawn.ensures

@@ -1,6 +1,6 @@
 -- What is drawn by the session, or why it comes to no answers.
 use Rattle.std.proofs.Common.{List, map, subst}
-use Rattle.out_picture.specs.Wishes.{wish_view}
+use Rattle.out_picture.specs.Scopes.{scope_view}
 use Rattle.read_traces.specs.declared.event.Trace.{Trace}
 use Rattle.pd_gather.specs.Views.{traces_view}
 use Rattle.def_judgement.specs.Judgements.{IsTracesReport}
@@ -47,7 +47,7 @@ returns-clause-drawn g c =
     let document = document_view c.in_ok-session.session.spec in
     let traces = traces_view c.in_ok-session.session.traces.items in
     session_drawn (inquiry_view c.args.inquiry) (map g.R.ByteSource.left c.args.streams.items)
-    document traces (report_view c.args.claimed.now) (wish_view c.args.wish.now) c.in_ok-session.ensures.read
+    document traces (report_view c.args.claimed.now) (scope_view c.args.scope.now) c.in_ok-session.ensures.read
     c.in_ok-drawn.drawn
     (subst (λ (all : List Trace). DrawsTraces document (traces_view all) (report_view c.args.claimed.now)
-    (wish_view c.args.wish.now) c.in_ok-drawn.drawn) c.deref.ensures.value c.in_ok-drawn.ensures.drawn)
+    (scope_view c.args.scope.now) c.in_ok-drawn.drawn) c.deref.ensures.value c.in_ok-drawn.ensures.drawn)

@@ -32,7 +32,7 @@ returns c =
     let asked = named_view c.index-predicates-i.result in
     let answer = views.answer_view c.index-answers-i.result in
     let evidence = c.in_ok-evidence.evidence in
-    let kind = c.args.wish.now.kind in
+    let kind = c.args.scope.now.kind in
     let shows : Shows kind document.names (recorded_of document traces) asked.predicate answer evidence =
     subst (λ (names : List ProcessNames). Shows kind names (recorded_of document traces) asked.predicate answer
     evidence)
@@ -40,7 +40,7 @@ returns c =
     c.requires.read.recorded c.in_ok-evidence.ensures) in
     pictured document traces (pairs_view c.args.run.now.pairs.now) c.args.run.now.computation.now
     (ShowsPredicate kind document traces answers c.args.i) c.run_picture.result evidence c.deref-2.result.now
-    c.args.wish.now.extent
+    c.args.scope.now.extent
     c.requires.read.recorded
     (record {
       asked = asked;

@@ -1,5 +1,5 @@
 -- A flush changes nothing of what is written.
-use Rattle.pd_cli.proofs.FlushedTexts.{judged_bundle_ends, unflushed_bundle_ends}
+use Rattle.app_host.proofs.FlushedTexts.{judged_bundle_ends, unflushed_bundle_ends}
 use Rattle.pd_cli.proofs.bundle.judge_input.Goals as goal
 
 pub returns-then-is_err : goal.returns-then-is_err

@@ -8,21 +8,21 @@ use Rattle.judge_explore.specs.declared.stream_file.StreamFile.{StreamFile as Us
 use Rattle.def_format.specs.Documents.{inquiry_of}
 use Rattle.pd_spec.specs.Views.{options_view}
 use Rattle.pd_cli.specs.Explorations.{OfPage}
-use Rattle.pd_cli.specs.Faults.{exploration_ending}
-use Rattle.pd_cli.specs.FileSources.{IsReadOf, bytes_in}
+use Rattle.app_host.specs.Faults.{exploration_ending}
+use Rattle.app_host.specs.FileSources.{IsReadOf, bytes_in}
 use Rattle.pd_cli.proofs.ExplorationEnds.{exploration_of_files}
-use Rattle.pd_cli.proofs.FilesRead.{leaves_of_read}
-use Rattle.pd_cli.proofs.UnreadFiles.{unread_exploration}
+use Rattle.app_host.proofs.FilesRead.{leaves_of_read}
+use Rattle.app_host.proofs.UnreadFiles.{unread_exploration}
 use Rattle.pd_cli.proofs.explore_files.explore_files.Goals as goal
 
 pub returns-in_ok-sources-in-Ok : goal.returns-in_ok-sources-in-Ok
 returns-in_ok-sources-in-Ok g c =
     let options = options_view c.args.exploration.now.names.options in
-    let files = g.F.FileSource.file_of c.args.files.now in
+    let files = g.Y.Files.FileSource.file_of c.args.world.now.files.now in
     let document = files c.args.exploration.now.names.spec.now in
     let names = (session_view c.args.exploration.now.names).1 in
     let sources = sources_of (map files names) in
-    let lefts = map g.F.File.ByteSource.left c.in-Ok.read.streams.items in
+    let lefts = map g.Y.Files.File.ByteSource.left c.in-Ok.read.streams.items in
     let old = g.O.Write.contents c.args.output.now in
     let new = g.O.Write.contents c.explore_read.new.output in
     let used = files_view c.deref-in-Ok-2.result.now in
@@ -44,7 +44,7 @@ returns-in_ok-sources-in-Ok g c =
 
 pub returns-in-Err : goal.returns-in-Err
 returns-in-Err g c =
-    let files = g.F.FileSource.file_of c.args.files.now in
+    let files = g.Y.Files.FileSource.file_of c.args.world.now.files.now in
     let document = files c.args.exploration.now.names.spec.now in
     let names = (session_view c.args.exploration.now.names).1 in
     unread_exploration (options_view c.args.exploration.now.names.options) document

@@ -6,7 +6,7 @@ use Rattle.judge_explore.specs.Sources.{StreamFile}
 use Rattle.judge_session.specs.Inquiries.{inquiry_view}
 use Rattle.pd_cli.specs.Explorations.{IsOwedWith}
 use Rattle.pd_cli.proofs.ExplorationEnds.{explored_ends, explored_fails, unsaid_of_owed}
-use Rattle.pd_cli.proofs.FlushedTexts.{flushed_up_to}
+use Rattle.app_host.proofs.FlushedTexts.{flushed_up_to}
 use Rattle.pd_cli.proofs.explore_files.explore_read.Goals as goal
 
 pub returns-then-is_err : goal.returns-then-is_err

@@ -5,8 +5,8 @@ use Rattle.std.specs.Prelude.{IfSome, Vec}
 use Rattle.std.proofs.lemmas.Result.{IfOk-weaker}
 use Rattle.judge_explore.specs.Sources.{stream_bytes}
 use Rattle.def_judgement.specs.Writes.{Source}
-use Rattle.pd_cli.specs.FileSources.{Knows}
-use Rattle.pd_cli.proofs.FilesRead.{of_known_bytes}
+use Rattle.app_host.specs.FileSources.{Knows}
+use Rattle.app_host.proofs.FilesRead.{of_known_bytes}
 use Rattle.pd_cli.proofs.explore_files.read_again.Goals as goal
 
 found_again : (found : Option (Vec ℕ Global)) (file left : Source) → Knows file left
@@ -18,7 +18,7 @@ found_again (Some bytes) file left knows all =
 
 pub returns-in-Ok : goal.returns-in-Ok
 returns-in-Ok g c =
-    let file = (g.F.FileSource.file_of c.args.files.now c.args.name.now).source in
-    let left = g.F.File.ByteSource.left c.in-Ok.file in
+    let file = (g.Y.Files.FileSource.file_of c.args.world.now.files.now c.args.name.now).source in
+    let left = g.Y.Files.File.ByteSource.left c.in-Ok.file in
     IfOk-weaker c.stream_left.result _ _ (λ found all. found_again found file left c.in-Ok.ensures.file all)
     c.stream_left.ensures

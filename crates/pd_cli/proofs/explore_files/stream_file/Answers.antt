@@ -4,13 +4,13 @@ use Rattle.std.specs.Prelude.{IfSome}
 use Rattle.std.proofs.lemmas.Result.{IfOk-weaker}
 use Rattle.judge_explore.specs.FileViews.{file_view}
 use Rattle.judge_explore.specs.Sources.{IsFileOf, stream_bytes, stream_file}
-use Rattle.pd_cli.specs.FileSources.{bytes_in}
+use Rattle.app_host.specs.FileSources.{bytes_in}
 use Rattle.pd_cli.proofs.FilesAgain.{file_read, file_unread}
 use Rattle.pd_cli.proofs.explore_files.stream_file.Goals as goal
 
 pub returns-in-Some : goal.returns-in-Some
 returns-in-Some g c =
-    let bytes_of : List ℕ → Option (List ℕ) = bytes_in (g.F.FileSource.file_of c.args.files.now) in
+    let bytes_of : List ℕ → Option (List ℕ) = bytes_in (g.Y.Files.FileSource.file_of c.args.world.now.files.now) in
     let name = c.args.name.now in
     let known : IfSome (bytes_of name) (λ bytes. c.deref.result.now ≡ stream_bytes bytes) =
     subst (λ (given : List ℕ). IfSome (bytes_of name) (λ bytes. given ≡ stream_bytes bytes))
@@ -21,4 +21,4 @@ returns-in-Some g c =
 
 pub returns-in-None : goal.returns-in-None
 returns-in-None g c =
-    file_unread (bytes_in (g.F.FileSource.file_of c.args.files.now)) c.args.name.now _ c.unread.ensures
+    file_unread (bytes_in (g.Y.Files.FileSource.file_of c.args.world.now.files.now)) c.args.name.now _ c.unread.ensures

@@ -2,10 +2,11 @@
 use Rattle.std.proofs.Common.{map, take}
 use Rattle.judge_explore.specs.FileViews.{files_view}
 use Rattle.judge_explore.specs.Sources.{AreFilesOf}
-use Rattle.pd_cli.specs.FileSources.{bytes_in}
+use Rattle.app_host.specs.FileSources.{bytes_in}
 use Rattle.pd_cli.proofs.explore_files.stream_files.Given as goal
 
 abbrev pub invariant-loop-name : goal.invariant-loop-name
 invariant-loop-name g l =
-    AreFilesOf (bytes_in (g.F.FileSource.file_of l.files)) (map (λ name. name.now) (take l.name-index l.names))
+    AreFilesOf (bytes_in (g.Y.Files.FileSource.file_of l.world.files.now)) (map (λ name. name.now) (take l.name-index
+    l.names))
     (files_view l.found.items)

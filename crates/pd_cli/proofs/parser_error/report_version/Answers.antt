@@ -1,7 +1,7 @@
 -- The line is written whole, or the output fails: on the way, or once the line is written.
 use Rattle.std.proofs.Common.{◌∙◌, inr}
 use Rattle.app_arguments.specs.Statuses.{Failed, IsVersionLine, WriteFailure}
-use Rattle.pd_cli.proofs.FlushedTexts.{flushed_up_to}
+use Rattle.app_host.proofs.FlushedTexts.{flushed_up_to}
 use Rattle.pd_cli.proofs.parser_error.report_version.Goals as goal
 
 pub returns-then-is_err : goal.returns-then-is_err

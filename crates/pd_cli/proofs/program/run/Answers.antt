@@ -1,8 +1,8 @@
 -- With no further argument the bundle on the input is judged.
-use Rattle.std.proofs.Common.{ℕ, List, String, arith, inl, map, drop, ap, sym, ◌∙◌, subst}
+use Rattle.std.proofs.Common.{ℕ, List, String, arith, map, drop, ap, sym, ◌∙◌, subst}
 use Rattle.std.specs.Global.{Global}
 use Rattle.std.proofs.lemmas.List.{drop-map}
-use Rattle.pd_cli.specs.Drawings.{RunsAsAsked}
+use Rattle.pd_cli.specs.Runs.{RunsAsAsked}
 use Rattle.pd_cli.specs.Explained.{Explained}
 use Rattle.pd_cli.proofs.BundleEnds.{as_asked_by_none, none_left, truth_of_status}
 use Rattle.pd_cli.proofs.program.run.Goals as goal
@@ -11,14 +11,14 @@ pub returns-then-len-le1-clause-ends : goal.returns-then-len-le1-clause-ends
 returns-then-len-le1-clause-ends g c = record {
   start = c.run_bundle.ensures.start;
   explanation = c.run_bundle.ensures.explanation;
-  reported = inl (as_asked_by_none _
+  reported = as_asked_by_none _
       (g.I.ByteSource.left c.args.input) (g.F.FileSource.file_of c.args.files.now)
       (g.N.Network.may_give c.args.network.now) g.N.Network.never_fails c.run_bundle.result
       (g.O.Write.contents c.args.output.now)
       (g.O.Write.contents c.run_bundle.new.output)
       c.run_bundle.ensures.start (g.E.Write.contents c.run_bundle.new.errors)
       (none_left _ c.args.arguments.items (omega (arith, c.args.arguments.ok.0, c.len.ensures, c.if-len-le1.true)))
-      c.run_bundle.ensures.reported);
+      c.run_bundle.ensures.reported;
 }
 
 pub returns-clause-ends : goal.returns-clause-ends

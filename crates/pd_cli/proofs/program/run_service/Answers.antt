@@ -1,6 +1,6 @@
 -- What is left is said for the answers on which this run is to fail.
 use Rattle.app_arguments.specs.ConditionViews.{fail_on_view}
-use Rattle.pd_cli.specs.Faults.{service_ending}
+use Rattle.app_serve.specs.ServiceFaults.{service_ending}
 use Rattle.pd_cli.proofs.program.run_service.Goals as goal
 
 pub returns : goal.returns

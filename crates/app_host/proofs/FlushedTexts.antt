@@ -1,0 +1,140 @@
+-- A flush changes nothing of what is written, and a text of which something is said is one of which nothing is said.
+use Rattle.std.proofs.Common.{◌≡◌, ◌≤◌, ◌∙◌, ℕ, List, ap, length, None, Some, Option, Ok, Err, inl, refl, true, false}
+use Rattle.std.specs.Prelude.{Bool, if◌then◌else◌}
+use Rattle.std.specs.List.{list_any}
+use Rattle.std.specs.Io.KnownBytes.{Keeps}
+use Rattle.def_format.specs.Documents.{Inquiry}
+use Rattle.def_format.specs.Limits.{report_byte_limit}
+use Rattle.def_format.specs.Reports as formats
+use Rattle.def_judgement.specs.Headline.{is_judged}
+use Rattle.app_arguments.specs.Statuses.{ComesTo, JudgementLeaves, OfFinding, OfStreams, WritesUpTo}
+use Rattle.def_judgement.specs.Writes.{Source, Whole, Writes, IsAnyReport, IsFindingTextOf, IsJudged, IsRefused, IsTextOfBundle, IsTextOfStreams, whole_source}
+use Rattle.def_judgement.proofs.TextsOwed.{weaker_said_of_bundle, weaker_said_of_streams}
+use Rattle.app_host.proofs.FilesRead.{whole_is_whole}
+use Rattle.pd_report.specs.Views.{report_view}
+use Rattle.pd_report.specs.declared.report.Report.{Report}
+use Rattle.judge_session.specs.declared.fault.EngineFault.TheVariants.{Write}
+use Rattle.pd_engine.specs.Ends.{IsGiven}
+use Rattle.app_arguments.specs.Conditions as conditions
+use Rattle.app_arguments.specs.Conditions.{Conclusion, Condition, conclusion, is_met, lacks_predicate}
+use Rattle.app_host.specs.Faults.{concluded_ending, ending_view, judged_ending, judgement_ending, report_ending}
+use Rattle.app_host.specs.FileSources.{ReadLeaves}
+use Rattle.app_host.proofs.WrittenSoFar.{appends_kept}
+
+-- ---- a flush
+
+pub flushed_up_to : (P Q : List ℕ → Type 0) (old middle new : Option (List ℕ)) → ((text : List ℕ) → P text → Q text)
+    → Writes P Whole old middle → Keeps middle new → WritesUpTo Q old new
+flushed_up_to P Q old middle new weaker written keeps =
+    inl (written.0, weaker written.0 written.1, appends_kept old middle new written.0 written.2 keeps)
+
+-- ---- nothing is said of a text
+
+pub unsaid_of_finding : (document : Inquiry) (report : List ℕ) (inputs : List Source) (good : Option Bool)
+    (text : List ℕ) → IsFindingTextOf document report inputs good text
+    → IsFindingTextOf document report inputs None text
+unsaid_of_finding document report inputs good text h = record {
+  streams = h.streams;
+  are_given = h.are_given;
+  finding = h.finding;
+  right = h.right;
+  clean = tt;
+  is_text = h.is_text;
+}
+
+-- ---- the ends of a judgement
+
+no_refusal : (lacks meets : Bool) → ¬ ((if lacks then conditions.NoPredicate
+    else (if meets then conditions.Met else conditions.Unmet)) ≡ conditions.OfRefusal)
+no_refusal true meets is = cc
+no_refusal false true is = cc
+no_refusal false false is = cc
+
+-- a report that comes to a refusal is one
+is_refusal : (fail_on : List Condition) (report : formats.Report) → ComesTo fail_on conditions.OfRefusal report
+    → is_judged report ≡ false
+is_refusal fail_on (formats.Refused refusal) is = refl
+is_refusal fail_on (formats.Judged processes events messages answers) is =
+    absurd (no_refusal (list_any (lacks_predicate answers) fail_on) (list_any (is_met answers) fail_on) is)
+
+-- a judgement's report is written, and then the output is flushed
+pub judged_ends : (document : Inquiry) (inputs : List Source) (given : Report) (old middle new : Option (List ℕ))
+    → Writes (IsTextOfStreams document inputs (IsGiven (Ok given))) Whole old middle → Keeps middle new
+    → (fail_on : List Condition)
+    → ReadLeaves (OfStreams inputs fail_on document) (judgement_ending fail_on (Ok given)) old new
+judged_ends document inputs given old middle new written keeps fail_on =
+    go (conclusion fail_on (report_view given)) refl
+  where
+    leaves : (IsSaid : formats.Report → Type 0) → ((report : formats.Report) → IsGiven (Ok given) report
+        → IsSaid report) → Writes (IsTextOfStreams document inputs IsSaid) Whole old new
+    leaves IsSaid tell = (
+      written.0,
+      weaker_said_of_streams document inputs (IsGiven (Ok given)) IsSaid written.0 tell written.1,
+      appends_kept old middle new written.0 written.2 keeps,
+    )
+
+    go : (end : Conclusion) → conclusion fail_on (report_view given) ≡ end
+        → ReadLeaves (OfStreams inputs fail_on document) (concluded_ending end) old new
+    go conditions.OfRefusal is = leaves IsRefused
+        (λ report same. is_refusal fail_on report (ap (conclusion fail_on) same ∙ is))
+    go conditions.NoPredicate is = leaves (ComesTo fail_on conditions.NoPredicate)
+        (λ report same. ap (conclusion fail_on) same ∙ is)
+    go conditions.Met is = leaves (ComesTo fail_on conditions.Met) (λ report same. ap (conclusion fail_on) same ∙ is)
+    go conditions.Unmet is = leaves (ComesTo fail_on conditions.Unmet)
+        (λ report same. ap (conclusion fail_on) same ∙ is)
+
+-- or the flush fails
+pub unflushed_ends : (document : Inquiry) (inputs : List Source) (given : Report) (old middle new : Option (List ℕ))
+    → Writes (IsTextOfStreams document inputs (IsGiven (Ok given))) Whole old middle → Keeps middle new
+    → (fail_on : List Condition)
+    → ReadLeaves (OfStreams inputs fail_on document) (judgement_ending fail_on (Err Write)) old new
+unflushed_ends document inputs given old middle new written keeps fail_on =
+    flushed_up_to (IsTextOfStreams document inputs (IsGiven (Ok given))) (IsTextOfStreams document inputs IsAnyReport)
+    old middle new
+    (λ text. weaker_said_of_streams document inputs (IsGiven (Ok given)) IsAnyReport text (λ _ _. tt)) written keeps
+
+-- the same of a bundle
+pub judged_bundle_ends : (input : Source) (given : Report)
+    (old middle new : Option (List ℕ)) → Writes (IsTextOfBundle input (IsGiven (Ok given))) Whole old middle
+    → Keeps middle new → JudgementLeaves input (report_ending (Ok given)) old new
+judged_bundle_ends input given old middle new written keeps =
+    go (is_judged (report_view given)) refl
+  where
+    leaves : (IsSaid : formats.Report → Type 0) → ((report : formats.Report) → IsGiven (Ok given) report
+        → IsSaid report) → Writes (IsTextOfBundle input IsSaid) Whole old new
+    leaves IsSaid tell = (
+      written.0,
+      weaker_said_of_bundle input (IsGiven (Ok given)) IsSaid written.0 tell written.1,
+      appends_kept old middle new written.0 written.2 keeps,
+    )
+
+    go : (judged : Bool) → is_judged (report_view given) ≡ judged → JudgementLeaves input
+        (judged_ending judged) old new
+    go true is = leaves IsJudged (λ report same. ap is_judged same ∙ is)
+    go false is = leaves IsRefused (λ report same. ap is_judged same ∙ is)
+
+pub unflushed_bundle_ends : (input : Source) (given : Report)
+    (old middle new : Option (List ℕ)) → Writes (IsTextOfBundle input (IsGiven (Ok given))) Whole old middle
+    → Keeps middle new → JudgementLeaves input (report_ending (Err Write)) old new
+unflushed_bundle_ends input given old middle new written keeps =
+    flushed_up_to (IsTextOfBundle input (IsGiven (Ok given))) (IsTextOfBundle input IsAnyReport) old middle new
+    (λ text. weaker_said_of_bundle input (IsGiven (Ok given)) IsAnyReport text (λ _ _. tt)) written keeps
+
+-- ---- the ends of a check by bytes that were read
+
+pub check_ends : (document : Inquiry) (report : List ℕ) (inputs : List Source) (good : Bool)
+    (old middle new : Option (List ℕ)) → length report ≤ report_byte_limit
+    → Writes (IsFindingTextOf document report inputs (Some good)) Whole old middle → Keeps middle new
+    → ReadLeaves (OfFinding (whole_source report) inputs document) (ending_view (Ok good)) old new
+check_ends document report inputs true old middle new short written keeps = record {
+  bytes = report;
+  whole = whole_is_whole report;
+  fits = short;
+  holds = (written.0, written.1, appends_kept old middle new written.0 written.2 keeps);
+}
+check_ends document report inputs false old middle new short written keeps = record {
+  bytes = report;
+  whole = whole_is_whole report;
+  fits = short;
+  holds = (written.0, written.1, appends_kept old middle new written.0 written.2 keeps);
+}

@@ -1,0 +1,6 @@
+-- The modules of lemmas of this crate.
+pub mod DocumentPrefixes
+pub mod FilesRead
+pub mod FlushedTexts
+pub mod UnreadFiles
+pub mod WrittenSoFar

@@ -1,0 +1,2 @@
+pub mod FileSources
+pub mod Faults

@@ -1,0 +1,209 @@
+//! Where files are read, and those of a session that is kept are written; and what hears how far a walk has come.
+use judge_session::EngineFault;
+use pd_engine::{ByteSource, Reached};
+use std::alloc::{AllocError, Global};
+use std::io::{ErrorKind, Read, Write};
+use std::os::unix::fs::FileTypeExt;
+use std::rt::Files;
+use std::{fs, io};
+
+/// The name by which the system knows the output.
+const OUTPUT: &str = "/dev/stdout";
+
+/// The name by which the system knows the input.
+const INPUT: &str = "/dev/stdin";
+
+/// The name by which the system knows the file of this name: `-` is the input.
+fn system_name(name: &str) -> &str {
+    if name == "-" { INPUT } else { name }
+}
+
+/// Opens files by their names. What each holds may be known, as it is in proofs over files that are made up; of the
+/// system's files nothing is known.
+pub trait FileSource: Sync {
+    ghost use Rattle.app_arguments.specs.Statuses.{File};
+    ghost use Rattle.app_host.specs.FileSources.{Knows};
+    ghost use Rattle.judge_session.specs.declared.fault.EngineFault.TheVariants as faults;
+    ghost use Rattle.std.specs.Prelude.{◌≡◌, IfOk, IsOk, IsOkUnless, ℕ, List, false, true};
+
+    type File: ByteSource + Send + Drop;
+
+    /// A file that is written.
+    type Sink: Write + Send + Drop;
+
+    // What is known of the file of each name.
+    ghost file_of: { Self → List ℕ → File };
+
+    /// Opens the file of this name to read it from its start.
+    ///
+    /// # Errors
+    /// `Read`, if it can't be opened.
+    fn open(&self, name: &str) -> Result<Self::File, EngineFault>
+        ensures file { IfOk result (λ file. Knows (file_of self.now name.now).source (Self.File.left file)) }
+        ensures open { IfOk result (λ file. Self.File.has_ended file ≡ false) }
+        ensures sure { (file_of self.now name.now).opens ≡ true → IsOk result }
+        ensures err { IsOkUnless result faults.Read };
+
+    /// Makes the file of this name, to write it from its start.
+    ///
+    /// # Errors
+    /// If it is there already, or can't be made.
+    fn create(&self, name: &str) -> io::Result<Self::Sink>;
+
+    /// Makes the folder of this name, unless there is one in which nothing is.
+    ///
+    /// # Errors
+    /// If something else of that name is there, or it can't be made.
+    fn make_folder(&self, alloc: Global, name: &str) -> io::Result<()>;
+
+    /// Gives a file another name, in place of the file that has that one.
+    ///
+    /// # Errors
+    /// If it can't be given that.
+    fn rename(&self, name: &str, other: &str) -> io::Result<()>;
+
+    /// How many bytes the file of this name has, if it can be read a second time and that is known, and else 0.
+    fn size(&self, _name: &str) -> u64 {
+        0
+    }
+
+    /// Whether the file of this name can be read a second time: a pipe or a terminal has nothing to give then, and is
+    /// waited for.
+    fn can_be_reread(&self, _name: &str) -> bool {
+        true
+    }
+
+    /// Hears that a walk over a session in these files has come to this level.
+    fn on_level(&self, _level: Reached) {}
+
+    /// Whether the output is a pipe or a connection: a write to it fails only once whoever reads it has ended.
+    fn output_is_read(&self) -> bool {
+        false
+    }
+
+    /// Why the file of this name can't be opened, or not be read to its end, in the words of the system, if that is so
+    /// and known: it is tried again, unless it is a pipe or a terminal.
+    ///
+    /// # Errors
+    /// Out of memory.
+    fn failure(&self, _alloc: Global, _name: &str) -> Result<Option<String>, AllocError> {
+        Ok(None)
+    }
+}
+
+/// The first error of the reads of a file up to its end, if one fails. A read that is interrupted is tried again.
+fn read_failure<R: Read>(file: &mut R) -> Option<io::Error> {
+    let mut piece = [0u8; 256];
+    for _read in 0..u64::MAX {
+        match file.read(&mut piece) {
+            Ok(0) => return None,
+            Ok(_) => {}
+            Err(error) if error.kind() == ErrorKind::Interrupted => {}
+            Err(error) => return Some(error),
+        }
+    }
+    None
+}
+
+/// The error of opening this file, or the first one of its reads up to its end.
+fn open_failure<R: Files>(files: &R, name: &str) -> Option<io::Error> {
+    match fs::open(files, name) {
+        Ok(file) => {
+            let mut file = file;
+            read_failure(&mut file)
+        }
+        Err(error) => Some(error),
+    }
+}
+
+/// Whether there is a name of a file among these names of a folder, each of which is ended by a NUL.
+fn names_file(names: &[u8]) -> bool {
+    names
+        .split(|byte| *byte == 0)
+        .any(|name| !matches!(name, b"" | b"." | b".."))
+}
+
+/// Whether a folder that reads as its names has any files.
+fn has_files<D: Read>(folder: &mut D) -> io::Result<bool> {
+    let mut piece = [0u8; 4096];
+    for _read in 0..u64::MAX {
+        let count = folder.read(&mut piece)?;
+        if count == 0 {
+            return Ok(false);
+        }
+        if names_file(piece.get(..count).unwrap_or(&[])) {
+            return Ok(true);
+        }
+    }
+    Ok(true)
+}
+
+impl<R: Files + Sync> FileSource for R
+where
+    R::File: Send,
+{
+    ghost use Rattle.app_host.specs.FileSources.{unknown_file};
+
+    type File = R::File;
+
+    type Sink = R::File;
+
+    ghost file_of = { λ _ _. unknown_file };
+
+    fn open(&self, name: &str) -> Result<R::File, EngineFault> {
+        fs::open(self, system_name(name)).map_err(|_| EngineFault::Read)
+    }
+
+    fn create(&self, name: &str) -> io::Result<R::File> {
+        fs::File::create_new(self, name)
+    }
+
+    fn make_folder(&self, alloc: Global, name: &str) -> io::Result<()> {
+        match fs::create_dir(self, name) {
+            Err(error) if error.kind() == ErrorKind::AlreadyExists => {}
+            made => return made,
+        }
+        let path = format!(in alloc; "{name}/")?;
+        if has_files(&mut self.open_dir(&path)?)? {
+            return Err(io::Error::from(ErrorKind::DirectoryNotEmpty));
+        }
+        Ok(())
+    }
+
+    fn rename(&self, name: &str, other: &str) -> io::Result<()> {
+        fs::rename(self, name, other)
+    }
+
+    fn size(&self, name: &str) -> u64 {
+        match fs::metadata(self, system_name(name)) {
+            Ok(found) if found.is_file() => found.len(),
+            _ => 0,
+        }
+    }
+
+    fn can_be_reread(&self, name: &str) -> bool {
+        match fs::metadata(self, system_name(name)) {
+            Ok(found) => found.is_file(),
+            Err(_) => false,
+        }
+    }
+
+    fn output_is_read(&self) -> bool {
+        match fs::metadata(self, OUTPUT) {
+            Ok(found) => found.file_type().is_fifo() || found.file_type().is_socket(),
+            Err(_) => false,
+        }
+    }
+
+    fn failure(&self, alloc: Global, name: &str) -> Result<Option<String>, AllocError> {
+        let found = match fs::metadata(self, system_name(name)) {
+            Ok(found) if found.is_file() || found.is_dir() => open_failure(self, system_name(name)),
+            Ok(_) => None,
+            Err(error) => Some(error),
+        };
+        match found {
+            Some(error) => Ok(Some(format!(in alloc; "{error}")?)),
+            None => Ok(None),
+        }
+    }
+}

@@ -1,0 +1,42 @@
+//! What a run of the program stands on, and the files of a session: opened, read, judged and checked.
+//!
+//! `World` is made once, by the function that runs the program, and handed on. What files and connections give is known
+//! by the clauses of `FileSource` and `Network`; of the system's own nothing is known. What each exit status says
+//! stands in `app_arguments/specs/Statuses.antt`, and how faults and results are ends of a run in `specs/Faults.antt`.
+//!
+//! - `world`: what a run stands on
+//! - `file_source`: where files are read
+//! - `network`: where connections come from
+//! - `level_gate`: the gate of a walk over a session in files
+//! - `line`: writes a line to the errors
+//! - `status`: exit statuses, and the lines that report faults
+//! - `session_files`: opens and reads the files of a session
+//! - `claim_files`: the files of a report and of the session that it is said to be of
+//! - `judgements`: judges the session in files
+//! - `checks`: checks a report against the session in files
+#![tactic(auto)]
+
+mod checks;
+mod claim_files;
+mod file_source;
+mod judgements;
+mod level_gate;
+mod line;
+mod network;
+mod session_files;
+mod status;
+mod world;
+
+pub use checks::check_files;
+pub use claim_files::read_claim;
+pub use file_source::FileSource;
+pub use judgements::{judge_files, judge_read};
+pub use level_gate::LevelGate;
+pub use line::write_line;
+pub use network::Network;
+pub use session_files::{read_document, read_session};
+pub use status::{
+    FAILED, MISUSED, REFUSED, SUCCESS, report_bundle, report_conclusion, report_end,
+    report_exploration, report_fault, report_judgement,
+};
+pub use world::{System, World};

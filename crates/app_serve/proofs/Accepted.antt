@@ -1,0 +1,269 @@
+-- What is left written of streams that were accepted, by what is left written of streams with these bytes.
+use Rattle.std.proofs.Common.{◌≡◌, ℕ, List, [], length, refl, sym, ap, subst, ◌∙◌, Some, None, Option, true, false, arith, inl, inr}
+use Rattle.std.specs.Prelude.{◌⊎◌, All, Bool, IfErr, IfOk, MatchOption, MatchResult, Result, Ok, Err}
+use Rattle.def_format.specs.Documents.{Document, DocumentFault, IsDocument, IsRefusedDocument, Inquiry, Options, inquiry_of}
+use Rattle.def_judgement.specs.OneReport.{DocumentNotRefused, OneDocument}
+use Rattle.def_format.specs.Reports as formats
+use Rattle.def_format.specs.Reports.{Report}
+use Rattle.def_judgement.specs.Headline.{is_judged}
+use Rattle.def_judgement.specs.Judgements.{IsJudgement, RawStream, of_read, of_refused}
+use Rattle.app_arguments.specs.Statuses.{Ending, Success, Negative, Alarm, NoPredicate, Misuse, Failed, ComesTo, File, MemoryFailure, ReadFailure, WriteFailure, BundleFailure, NetworkFailure, IsTextOfAccepted, LeavesOf, OfConnections, OfReport, OfStreams}
+use Rattle.def_judgement.specs.Writes.{Source, Whole, IsAnyReport, IsRefused, IsTextOfStreams}
+use Rattle.def_judgement.proofs.TextsOwed.{weaker_said}
+use Rattle.def_judgement.proofs.Writing.{writes_weaker}
+use Rattle.pd_pred.specs.Views.{predicate_fault_view}
+use Rattle.def_format.specs.Documents as faults
+use Rattle.def_format.specs.PredicateTexts.{PredicateFault}
+use Rattle.pd_spec.specs.Views.{IsFaultOf}
+use Rattle.pd_spec.specs.declared.fault.SpecFault.{SpecFault}
+use Rattle.pd_spec.specs.declared.fault.SpecFault.TheVariants as kinds
+use Rattle.app_arguments.specs.Conditions as conditions
+use Rattle.app_arguments.specs.Conditions.{Condition, Conclusion, conclusion}
+use Rattle.pd_report.specs.Views.{report_view}
+use Rattle.pd_report.specs.declared.report.Report as programs
+use Rattle.pd_report.specs.declared.report.Report.TheVariants.{Judged, Refused}
+use Rattle.app_host.specs.Faults.{concluded_ending, judgement_ending}
+use Rattle.app_serve.specs.ServiceFaults.{is_out_of_memory, service_ending}
+use Rattle.app_serve.specs.declared.service_fault.ServiceFault.{ServiceFault}
+use Rattle.app_serve.specs.declared.service_fault.ServiceFault.TheVariants.{Engine, Unkept}
+use Rattle.judge_session.specs.declared.fault.EngineFault.{EngineFault}
+use Rattle.judge_session.specs.declared.fault.EngineFault.TheVariants.{Memory, Write}
+use Rattle.app_host.specs.FileSources.{IsReadOf, ReadLeaves, SameOutline}
+use Rattle.app_host.proofs.DocumentPrefixes.{same_document, same_refusal, same_report_text}
+use Rattle.app_host.proofs.FilesRead.{leaves_of_read, report_weaker}
+
+-- The streams are those of accepted connections: as many as the document has processes, and none if it is refused.
+pub record AreAccepted (document : Inquiry) (G : Source → Type 0) (inputs : List Source) : Type 0 where
+  pub accepted : All G inputs
+  pub one_each : (read : Document) → IsDocument document read → length inputs ≡ length read.names
+  pub none_refused : (fault : DocumentFault) → IsRefusedDocument document fault → inputs ≡ []
+
+-- of a document that is read
+pub accepted_of_read : (document : Inquiry) (G : Source → Type 0) (inputs : List Source)
+    (read : Document) → OneDocument → DocumentNotRefused → IsDocument document read → All G inputs
+    → length inputs ≡ length read.names → AreAccepted document G inputs
+accepted_of_read document G inputs read one not_refused is all count = record {
+  accepted = all;
+  one_each = λ other other_is.
+      count ∙ ap (λ (d : Document). length d.names) (one document read other is other_is);
+  none_refused = λ fault refused. absurd (not_refused document read fault is refused);
+}
+
+-- of a document that is refused
+pub accepted_of_refused : (document : Inquiry) (G : Source → Type 0) (fault : DocumentFault)
+    → DocumentNotRefused → IsRefusedDocument document fault → AreAccepted document G []
+accepted_of_refused document G fault not_refused refused = record {
+  accepted = λ k d lt. absurd (omega (arith, lt));
+  one_each = λ read is. absurd (not_refused document read fault is refused);
+  none_refused = λ other _. refl;
+}
+
+-- a fault that isn't out of memory refuses the document
+pub refused_unless_memory : (document : Inquiry) (fault : SpecFault) → is_out_of_memory fault ≡ false
+    → IsFaultOf document fault → (refused : DocumentFault) × IsRefusedDocument document refused
+refused_unless_memory document kinds.Long e h = (faults.Long, h)
+refused_unless_memory document kinds.Json e h = (faults.Json, h)
+refused_unless_memory document kinds.Shape e h = (faults.Shape, h)
+refused_unless_memory document kinds.Processes e h = (faults.Processes, h)
+refused_unless_memory document kinds.Name e h = (faults.Name, h)
+refused_unless_memory document kinds.NameTwice e h = (faults.NameTwice, h)
+refused_unless_memory document kinds.Vars e h = (faults.Vars, h)
+refused_unless_memory document kinds.Predicates e h = (faults.Predicates, h)
+refused_unless_memory document kinds.Width e h = (faults.Width, h)
+refused_unless_memory document (kinds.Predicate number error) e h = go (predicate_fault_view error.kind) h
+  where
+    go : (o : Option PredicateFault)
+        → MatchOption o ⊥ (λ fault. IsRefusedDocument document (faults.InPredicate number fault error.at))
+        → (refused : DocumentFault) × IsRefusedDocument document refused
+    go None h = absurd h
+    go (Some fault) h = (faults.InPredicate number fault error.at, h)
+refused_unless_memory document kinds.Version e h = (faults.OtherVersion, h)
+refused_unless_memory document kinds.Memory e h = cc
+
+accepted_text : (document : Inquiry) (G : Source → Type 0) (inputs : List Source) (IsSaid : Report → Type 0)
+    (text : List ℕ) → AreAccepted document G inputs → IsTextOfStreams document inputs IsSaid text
+    → IsTextOfAccepted document G IsSaid text
+accepted_text document G inputs IsSaid text are is = record {
+  inputs = inputs;
+  accepted = are.accepted;
+  one_each = are.one_each;
+  none_refused = are.none_refused;
+  is_text = is;
+}
+
+-- what is left by these streams is what is to be left by accepted ones
+module _ (fail_on : List Condition) (document : Inquiry) (G : Source → Type 0) (inputs : List Source)
+    (MayNotServe IsKept : Type 0) (old new : Option (List ℕ)) (are : AreAccepted document G inputs) where
+  accepted : (ending : Ending) → OfStreams inputs fail_on document ending old new
+      → OfReport (IsTextOfAccepted document G) fail_on ending old new
+  accepted = report_weaker (IsTextOfStreams document inputs) (IsTextOfAccepted document G) fail_on old new
+      (λ IsSaid text. accepted_text document G inputs IsSaid text are)
+
+  pub service_of_judgement : (ending : Ending) → ReadLeaves (OfStreams inputs fail_on document) ending old new
+      → ReadLeaves (OfConnections G MayNotServe IsKept fail_on document) ending old new
+  service_of_judgement Success left = accepted Success left
+  service_of_judgement Negative left = accepted Negative left
+  service_of_judgement Alarm left = accepted Alarm left
+  service_of_judgement NoPredicate left = accepted NoPredicate left
+  service_of_judgement Misuse left = left
+  service_of_judgement (Failed MemoryFailure) left = left
+  service_of_judgement (Failed ReadFailure) left = left
+  service_of_judgement (Failed WriteFailure) left = inl (accepted (Failed WriteFailure) left)
+  service_of_judgement (Failed BundleFailure) left = left
+  service_of_judgement (Failed NetworkFailure) left = absurd left
+
+-- ---- how a session ends
+
+-- of accepted streams: memory ran out, or the output failed
+abbrev pub IsJudgementFault : EngineFault → Type 0
+IsJudgementFault fault = (fault ≡ Memory) ⊎ (fault ≡ Write)
+
+abbrev pub IsServiceFault : ServiceFault → Type 0
+IsServiceFault fault = (fault ≡ Engine Memory) ⊎ (fault ≡ Engine Write)
+
+-- a server ends as its judgement does
+pub service_faults : (end : Result programs.Report EngineFault) (result : Result programs.Report ServiceFault)
+    → MatchResult end (λ report. result ≡ Ok report) (λ fault. result ≡ Err (Engine fault))
+    → IfErr end IsJudgementFault → IfErr result IsServiceFault
+service_faults (Ok report) result same two =
+    subst (λ (r : Result programs.Report ServiceFault). IfErr r IsServiceFault) (sym same) tt
+service_faults (Err fault) result same two =
+    subst (λ (r : Result programs.Report ServiceFault). IfErr r IsServiceFault) (sym same) (go two)
+  where
+    go : IsJudgementFault fault → IsServiceFault (Engine fault)
+    go (inl e) = inl (ap Engine e)
+    go (inr e) = inr (ap Engine e)
+
+pub service_outcome : (end : Result programs.Report EngineFault) (result : Result programs.Report ServiceFault)
+    (P : programs.Report → Type 0)
+    → MatchResult end (λ report. result ≡ Ok report) (λ fault. result ≡ Err (Engine fault))
+    → IfOk end P → IfOk result P
+service_outcome (Ok report) result P same holds =
+    subst (λ (r : Result programs.Report ServiceFault). IfOk r P) (sym same) holds
+service_outcome (Err fault) result P same holds =
+    subst (λ (r : Result programs.Report ServiceFault). IfOk r P) (sym same) tt
+
+-- the report of a refused document is its refusal
+refused_report : (document : Inquiry) (streams : List RawStream) (report : Report) (fault : DocumentFault)
+    → DocumentNotRefused → IsRefusedDocument document fault → IsJudgement document streams report
+    → is_judged report ≡ false
+refused_report document streams report fault not_refused refused (of_refused other _ e) = ap is_judged e
+refused_report document streams report fault not_refused refused (of_read read results is _ _) =
+    absurd (not_refused document read fault is refused)
+
+-- a report that comes to some end is judged
+concluded_is_judged : (fail_on : List Condition) (report : Report) → ComesTo fail_on conditions.Unmet report
+    → is_judged report ≡ true
+concluded_is_judged fail_on (formats.Judged processes events messages answers) is = refl
+concluded_is_judged fail_on (formats.Refused refusal) is = cc
+
+-- so a document that is refused isn't judged
+pub refused_outcome : (document : Inquiry) (inputs : List Source) (end : Result programs.Report EngineFault)
+    (old new : Option (List ℕ)) (fault : DocumentFault) → DocumentNotRefused → IsRefusedDocument document fault
+    → ReadLeaves (OfStreams inputs [] document) (judgement_ending [] end) old new
+    → IfOk end (λ report. is_judged (report_view report) ≡ false)
+refused_outcome document inputs (Err fault) old new refusal not_refused refused left = tt
+refused_outcome document inputs (Ok (Refused r)) old new refusal not_refused refused left = refl
+refused_outcome document inputs (Ok (Judged processes events messages answers)) old new refusal not_refused refused
+    left =
+    let text = left.1.is_report_text in
+    sym (concluded_is_judged [] text.report text.said)
+    ∙ refused_report document left.1.streams text.report refusal not_refused refused text.right
+
+-- ---- a document that stands in a file
+
+accepted_of_file : (options : Options) (read document : List ℕ) (G : Source → Type 0) (IsSaid : Report → Type 0)
+    (text : List ℕ) → SameOutline options read document → IsTextOfAccepted (inquiry_of options read) G IsSaid text
+    → IsTextOfAccepted (inquiry_of options document) G IsSaid text
+accepted_of_file options read document G IsSaid text same h = record {
+  inputs = h.inputs;
+  accepted = h.accepted;
+  one_each = λ other is. h.one_each other (same_document options document read other (sym same) is);
+  none_refused = λ fault refused.
+      h.none_refused fault (same_refusal options document read fault (sym same) refused);
+  is_text = same_report_text options read document h.inputs IsSaid text same h.is_text;
+}
+
+module _ (options : Options) (read document : List ℕ) (G : Source → Type 0) (MayNotServe IsKept : Type 0)
+    (fail_on : List Condition) (old new : Option (List ℕ)) (same : SameOutline options read document) where
+  of_file : (ending : Ending) → OfReport (IsTextOfAccepted (inquiry_of options read) G) fail_on ending old new
+      → OfReport (IsTextOfAccepted (inquiry_of options document) G) fail_on ending old new
+  of_file = report_weaker (IsTextOfAccepted (inquiry_of options read) G)
+      (IsTextOfAccepted (inquiry_of options document) G) fail_on old new
+      (λ IsSaid text. accepted_of_file options read document G IsSaid text same)
+
+  connections_of_file : (ending : Ending)
+      → OfConnections G MayNotServe IsKept fail_on (inquiry_of options read) ending old new
+      → OfConnections G MayNotServe IsKept fail_on (inquiry_of options document) ending old new
+  connections_of_file Success left = of_file Success left
+  connections_of_file Negative left = of_file Negative left
+  connections_of_file Alarm left = of_file Alarm left
+  connections_of_file NoPredicate left = of_file NoPredicate left
+  connections_of_file Misuse left = left
+  connections_of_file (Failed MemoryFailure) left = left
+  connections_of_file (Failed ReadFailure) left = left
+  connections_of_file (Failed WriteFailure) (inl left) = inl (of_file (Failed WriteFailure) left)
+  connections_of_file (Failed WriteFailure) (inr left) =
+      inr (left.0, (left.1.0, same_document options read document left.1.0 same left.1.1), left.2)
+  connections_of_file (Failed BundleFailure) left = left
+  connections_of_file (Failed NetworkFailure) left =
+      (left.0, (left.1.0, same_document options read document left.1.0 same left.1.1), left.2)
+
+-- what is left by the bytes that were read is what is to be left by the file
+pub service_of_file : (options : Options) (file : File) (read : List ℕ) (IsUnread : Type 0) (G : Source → Type 0)
+    (MayNotServe IsKept : Type 0) (fail_on : List Condition) (ending : Ending) (old new : Option (List ℕ))
+    → IsReadOf read file.source
+    → ReadLeaves (OfConnections G MayNotServe IsKept fail_on (inquiry_of options read)) ending old new
+    → LeavesOf options file IsUnread (OfConnections G MayNotServe IsKept fail_on) ending old new
+service_of_file options file read IsUnread G MayNotServe IsKept fail_on ending old new is left =
+    leaves_of_read options file read IsUnread
+    (OfConnections G MayNotServe IsKept fail_on (inquiry_of options read))
+    (OfConnections G MayNotServe IsKept fail_on) old new is
+    (λ document same. connections_of_file options read document G MayNotServe IsKept fail_on old new same) ending left
+
+-- ---- a session that is kept
+
+any_accepted : (document : Inquiry) (G : Source → Type 0) (IsSaid : Report → Type 0) (text : List ℕ)
+    → IsTextOfAccepted document G IsSaid text → IsTextOfAccepted document G IsAnyReport text
+any_accepted document G IsSaid text h = record {
+  inputs = h.inputs;
+  accepted = h.accepted;
+  one_each = h.one_each;
+  none_refused = h.none_refused;
+  is_text = record {
+    streams = h.is_text.streams;
+    are_given = h.is_text.are_given;
+    is_report_text = weaker_said document h.is_text.streams IsSaid IsAnyReport text (λ _ _. tt)
+        h.is_text.is_report_text;
+  };
+}
+
+module _ (document : Inquiry) (G : Source → Type 0) (MayNotServe IsKept : Type 0) (fail_on : List Condition)
+    (old new : Option (List ℕ)) where
+  abbrev Leaves : Ending → Type 0
+  Leaves ending = ReadLeaves (OfConnections G MayNotServe IsKept fail_on document) ending old new
+
+  -- all of a report is written, whatever it comes to
+  unkept_left : (end : Conclusion) → Leaves (concluded_ending end) → Leaves (Failed WriteFailure)
+  unkept_left conditions.OfRefusal left =
+      inl (inl (writes_weaker _ _ Whole old new (any_accepted document G IsRefused) left))
+  unkept_left conditions.NoPredicate left =
+      inl (inl (writes_weaker _ _ Whole old new (any_accepted document G (ComesTo fail_on conditions.NoPredicate))
+      left))
+  unkept_left conditions.Met left =
+      inl (inl (writes_weaker _ _ Whole old new (any_accepted document G (ComesTo fail_on conditions.Met)) left))
+  unkept_left conditions.Unmet left =
+      inl (inl (writes_weaker _ _ Whole old new (any_accepted document G (ComesTo fail_on conditions.Unmet)) left))
+
+  -- how a server ends whose session is kept, or isn't
+  pub kept_service : (end result : Result programs.Report ServiceFault) (is_kept : Bool)
+      → (is_kept ≡ true → result ≡ end)
+      → (is_kept ≡ false → MatchResult end (λ _. result ≡ Err Unkept) (λ fault. result ≡ Err fault))
+      → Leaves (service_ending fail_on end) → Leaves (service_ending fail_on result)
+  kept_service end result true kept unkept left =
+      subst (λ (r : Result programs.Report ServiceFault). Leaves (service_ending fail_on r)) (sym (kept refl)) left
+  kept_service (Ok report) result false kept unkept left =
+      subst (λ (r : Result programs.Report ServiceFault). Leaves (service_ending fail_on r)) (sym (unkept refl))
+      (unkept_left (conclusion fail_on (report_view report)) left)
+  kept_service (Err fault) result false kept unkept left =
+      subst (λ (r : Result programs.Report ServiceFault). Leaves (service_ending fail_on r)) (sym (unkept refl)) left

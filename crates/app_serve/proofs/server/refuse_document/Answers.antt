@@ -1,0 +1,41 @@
+-- A refused document has no streams.
+use Rattle.std.proofs.Common.{◌≡◌, ◌≢◌, [], ◌∙◌, None, false, subst, sym}
+use Rattle.def_judgement.specs.Headline.{is_judged}
+use Rattle.pd_report.specs.Views.{report_view}
+use Rattle.app_arguments.specs.Statuses.{Ending, OfConnections, ServiceMayFail}
+use Rattle.judge_session.specs.Inquiries.{inquiry_view}
+use Rattle.app_serve.proofs.Accepted.{accepted_of_refused, refused_outcome, refused_unless_memory, service_faults, service_of_judgement, service_outcome}
+use Rattle.app_host.specs.Faults.{judgement_ending}
+use Rattle.app_host.specs.FileSources.{ReadLeaves}
+use Rattle.app_serve.proofs.server.refuse_document.Goals as goal
+
+pub returns-clause-written : goal.returns-clause-written
+returns-clause-written g c port fail_on wait keep =
+    let document = inquiry_view c.args.inquiry in
+    let G = g.Y.Network.Network.may_give c.args.host.now.network.now port in
+    let refused = refused_unless_memory document c.args.fault.now
+    (sym c.is_out_of_memory.ensures ∙ c.if-is_out_of_memory.false) c.requires in
+    subst (λ (e : Ending). ReadLeaves (OfConnections G (ServiceMayFail wait g.Y.Network.Network.never_fails) (keep ≢
+    None)
+    fail_on document) e (g.O.Write.contents c.args.output.now) (g.O.Write.contents c.judge_no_streams.new.output))
+    (sym (c.service_end.ensures.ending fail_on))
+    (service_of_judgement fail_on document G [] (ServiceMayFail wait g.Y.Network.Network.never_fails) (keep ≢ None)
+    (g.O.Write.contents c.args.output.now) (g.O.Write.contents c.judge_no_streams.new.output)
+    (accepted_of_refused document G refused.0 c.one_document.ensures.not_refused refused.1)
+    (judgement_ending fail_on c.judge_no_streams.result) (c.judge_no_streams.ensures.written fail_on))
+
+pub returns-clause-refused : goal.returns-clause-refused
+returns-clause-refused g c =
+    let document = inquiry_view c.args.inquiry in
+    let refused = refused_unless_memory document c.args.fault.now
+    (sym c.is_out_of_memory.ensures ∙ c.if-is_out_of_memory.false) c.requires in
+    service_outcome c.judge_no_streams.result c.service_end.result (λ report. is_judged (report_view report) ≡ false)
+    c.service_end.ensures.same
+    (refused_outcome document [] c.judge_no_streams.result (g.O.Write.contents c.args.output.now)
+    (g.O.Write.contents c.judge_no_streams.new.output) refused.0 c.one_document.ensures.not_refused refused.1
+    (c.judge_no_streams.ensures.written []))
+
+pub returns-clause-err : goal.returns-clause-err
+returns-clause-err g c =
+    service_faults c.judge_no_streams.result c.service_end.result c.service_end.ensures.same
+    c.judge_no_streams.ensures.err

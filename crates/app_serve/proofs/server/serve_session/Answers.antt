@@ -1,0 +1,41 @@
+-- The streams are as many as the document has processes, and each was accepted on the port.
+use Rattle.std.proofs.Common.{◌≡◌, ◌≢◌, ◌∙◌, None, List, ap, length, map, subst, sym}
+use Rattle.std.proofs.lemmas.List.{length-map}
+use Rattle.std.proofs.lemmas.List.Elements.{All-map}
+use Rattle.def_format.specs.Names.{ProcessNames}
+use Rattle.app_arguments.specs.Views.{keep_view}
+use Rattle.app_arguments.specs.Statuses.{Ending, OfConnections, ServiceMayFail}
+use Rattle.def_judgement.specs.Writes.{Source}
+use Rattle.judge_session.specs.Inquiries.{inquiry_view}
+use Rattle.app_serve.proofs.Accepted.{accepted_of_read, service_of_judgement}
+use Rattle.app_host.specs.Faults.{judgement_ending}
+use Rattle.app_host.specs.FileSources.{ReadLeaves}
+use Rattle.app_serve.specs.declared.service_notices.ServiceNotices.{ServiceNotices}
+use Rattle.app_serve.specs.declared.recording_source.RecordingSource.{RecordingSource}
+use Rattle.pd_spec.specs.Views.{document_view}
+use Rattle.app_serve.proofs.server.serve_session.Goals as goal
+
+pub returns-clause-written : goal.returns-clause-written
+returns-clause-written g c fail_on =
+    let service = c.args.host.now.service.now in
+    let port = service.port in
+    let G = g.N.Network.may_give c.args.host.now.network.now port in
+    let left : RecordingSource g.row.N-Connection.Denot g.row.F-Sink.Denot
+    (ServiceNotices g.row.F.Denot g.row.N.Denot) → Source =
+    λ stream. g.N.Connection.ByteSource.left stream.source in
+    let streams = c.in_ok-streams.streams.items in
+    let document = inquiry_view c.args.inquiry in
+    let MayNotServe = ServiceMayFail service.wait g.N.Network.never_fails in
+    let IsKept = keep_view service.keep ≢ None in
+    let count : length (map left streams) ≡ length (document_view c.args.spec.now).names =
+    length-map streams left ∙ (c.in_ok-streams.ensures.count ∙ (c.processes-count.ensures
+    ∙ ap (λ (names : List ProcessNames). length names) c.names.ensures)) in
+    let given = All-map G left streams (c.in_ok-streams.ensures.given port c.in_ok-listener.ensures.on) in
+    let are = accepted_of_read document G (map left streams) (document_view c.args.spec.now)
+    c.one_document.ensures.single c.one_document.ensures.not_refused c.requires.document given count in
+    subst (λ (e : Ending). ReadLeaves (OfConnections G MayNotServe IsKept fail_on document) e
+    (g.O.Write.contents c.args.output.now) (g.O.Write.contents c.judge_accepted.new.output))
+    (sym (c.service_end.ensures.ending fail_on))
+    (service_of_judgement fail_on document G (map left streams) MayNotServe IsKept
+    (g.O.Write.contents c.args.output.now) (g.O.Write.contents c.judge_accepted.new.output) are
+    (judgement_ending fail_on c.judge_accepted.result) (c.judge_accepted.ensures.written fail_on))

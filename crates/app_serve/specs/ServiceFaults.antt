@@ -1,0 +1,24 @@
+-- A server's faults and results, as ends of a run.
+use Rattle.std.specs.Prelude.{Bool, true, false, List, Result, Ok, Err}
+use Rattle.app_arguments.specs.Statuses.{WriteFailure, NetworkFailure, Ending, Failed}
+use Rattle.app_arguments.specs.Conditions.{Condition, conclusion}
+use Rattle.app_host.specs.Faults.{concluded_ending, failure_view}
+use Rattle.app_serve.specs.declared.service_fault.ServiceFault.{ServiceFault}
+use Rattle.app_serve.specs.declared.service_fault.ServiceFault.TheVariants.{Engine, Late, Network, Unkept}
+use Rattle.pd_report.specs.Views.{report_view}
+use Rattle.pd_report.specs.declared.report.Report.{Report}
+use Rattle.pd_spec.specs.declared.fault.SpecFault.{SpecFault}
+use Rattle.pd_spec.specs.declared.fault.SpecFault.TheVariants as spec_faults
+
+-- how a server ends that is to fail on these answers and comes to a report, or the fault
+abbrev pub service_ending : (fail_on : List Condition) → Result Report ServiceFault → Ending
+service_ending fail_on (Ok report) = concluded_ending (conclusion fail_on (report_view report))
+service_ending fail_on (Err (Engine fault)) = Failed (failure_view fault)
+service_ending fail_on (Err Network) = Failed NetworkFailure
+service_ending fail_on (Err Late) = Failed NetworkFailure
+service_ending fail_on (Err Unkept) = Failed WriteFailure
+
+-- whether a document's fault says nothing of the document
+abbrev pub is_out_of_memory : SpecFault → Bool
+is_out_of_memory spec_faults.Memory = true
+is_out_of_memory _ = false

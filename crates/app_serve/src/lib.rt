@@ -1,0 +1,45 @@
+//! Judges a session whose streams come by connections, and keeps it, if that is asked for.
+//!
+//! - `server`: judges a session whose streams come by connections
+//! - `host`: what a server works with
+//! - `service_fault`: why a server gives no report
+//! - `service_status`: the exit status of a server's run
+//! - `service_notices`: tells at once what becomes of a server's session
+//! - `watchers`: shows watchers how far the streams are read
+//! - `kept_session`: keeps the session of a server as files of a folder
+//! - `explained_services`: explains how a server's run ended
+//! - `senders`: who sent the streams of a server
+//! - `peer`: what is known of who sends one stream
+//! - `peers`: of each stream
+//! - `start_recorder`: records how a stream begins
+//! - `last_lines`: the last lines of a stream, of which one may be at fault
+//! - `kept_stream`: a stream that is kept while it is read
+//! - `keeping`: keeps a stream in a file
+//! - `notices`: what is told at once of the streams
+//! - `recording_source`: records a stream, and keeps it, while it is read
+#![tactic(auto)]
+
+mod explained_services;
+mod host;
+mod keeping;
+mod kept_session;
+mod kept_stream;
+mod last_lines;
+mod notices;
+mod peer;
+mod peers;
+mod recording_source;
+mod senders;
+mod server;
+mod service_fault;
+mod service_notices;
+mod service_status;
+mod start_recorder;
+mod watchers;
+
+pub use explained_services::service_text;
+pub use host::Host;
+pub use peers::Peers;
+pub use server::serve;
+pub use service_fault::ServiceFault;
+pub use service_status::report_service_end;

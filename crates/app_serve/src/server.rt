@@ -1,0 +1,484 @@
+//! Judges a session whose streams come by connections.
+ghost use Rattle.app_arguments.specs.Arguments.{port_limit};
+ghost use Rattle.app_host.specs.FileSources.{IsReadOf, ReadLeaves};
+ghost use Rattle.app_serve.specs.ServiceFaults.{is_out_of_memory, service_ending};
+ghost use Rattle.app_host.specs.Faults.{judgement_ending};
+ghost use Rattle.app_serve.specs.declared.service_fault.ServiceFault.TheVariants as faults;
+ghost use Rattle.app_arguments.specs.Conditions.{Condition};
+ghost use Rattle.def_format.specs.Documents.{IsDocument, inquiry_of};
+ghost use Rattle.def_judgement.specs.Headline.{is_judged};
+ghost use Rattle.app_arguments.specs.Statuses.{LeavesOf, MayBeUnread, OfConnections, OfStreams, ServiceMayFail};
+ghost use Rattle.app_arguments.specs.Views.{keep_view};
+ghost use Rattle.pd_report.specs.Views.{report_view};
+ghost use Rattle.judge_session.specs.Inquiries.{inquiry_view};
+ghost use Rattle.pd_spec.specs.Views.{IsFaultOf, document_view, options_view};
+ghost use Rattle.std.specs.Prelude.{◌≡◌, ◌≢◌, ◌⊎◌, ◌↔◌, ◌+◌, ◌<◌, ◌≤◌, ◌∷◌, ℕ, All, List, Option, Err, IfErr, IfOk, IfSome, IsOk, IsSome, MatchResult, None, Ok, Some, [], false, length, map, true};
+
+use super::host::Host;
+use super::keeping::Keeping;
+use super::kept_session::{begin_keeping, end_keeping};
+use super::notices::Notices;
+use super::peer::Peer;
+use super::recording_source::RecordingSource;
+use super::service_fault::ServiceFault;
+use super::service_notices::ServiceNotices;
+use super::watchers::Watchers;
+use app_arguments::Workers;
+use app_host::{FileSource, Network, System, World, judge_read, read_document};
+use def_judgement::one_document;
+use judge_session::EngineFault;
+use pd_engine::{
+    ByteSource, Crew, Inquiry, NoGate, Observer, Report, Spec, SpecFault, judge_inquiry_watched,
+};
+use std::alloc::{AllocError, Global};
+use std::io::Write;
+use std::random::RandomSource;
+use std::sync::Wait;
+use std::thread::Threads;
+use std::time::Instant;
+
+/// Binds a port.
+///
+/// # Errors
+/// `Network`, if it can't be bound.
+fn bind<N: Network>(network: &N, port: u16) -> Result<N::Listener, ServiceFault>
+    ensures on { IfOk result (λ listener. N.is_on listener port) }
+    ensures sure { N.never_fails ≡ true → IsOk result }
+    ensures err { IfErr result (λ fault. fault ≡ faults.Network) }
+{
+    match network.bind_port(port) {
+        Ok(listener) => Ok(listener),
+        Err(_) => Err(ServiceFault::Network),
+    }
+}
+
+/// Binds the port of the watchers, which is the next one after that of the streams, if any are to be accepted.
+///
+/// # Errors
+/// `Network`, if it can't be bound.
+fn bind_watchers<F, N: Network>(host: &Host<'_, F, N>) -> Result<Option<N::Listener>, ServiceFault>
+    ensures asked { IfOk result (λ listener. IsSome listener ↔ (0 < host.now.service.now.watchers)) }
+    ensures on { IfOk result (λ listener. IfSome listener (λ bound. N.is_on bound (host.now.service.now.port + 1))) }
+    ensures sure { N.never_fails ≡ true → host.now.service.now.port ≤ port_limit → IsOk result }
+    ensures err { IfErr result (λ fault. fault ≡ faults.Network) }
+{
+    if host.service.watchers == 0 {
+        return Ok(None);
+    }
+    let Some(port) = host.service.port.checked_add(1) else {
+        return Err(ServiceFault::Network);
+    };
+    Ok(Some(bind(host.network, port)?))
+}
+
+/// When the streams are waited for no longer, if there is such a moment.
+///
+/// # Errors
+/// `Network`, if the clock can't be read.
+fn wait_end<N: Network>(network: &N, wait: Option<u64>) -> Result<Option<Instant>, ServiceFault>
+    ensures endless { wait ≡ None → IfOk result (λ end. end ≡ None) }
+    ensures sure { N.never_fails ≡ true → IsOk result }
+    ensures err { IfErr result (λ fault. fault ≡ faults.Network) }
+{
+    let Some(seconds) = wait else {
+        return Ok(None);
+    };
+    match network.seconds_from_now(seconds) {
+        Ok(end) => Ok(Some(end)),
+        Err(_) => Err(ServiceFault::Network),
+    }
+}
+
+/// Notes the address of who made a connection; it is empty if that isn't known.
+fn note_address<F, N: Network>(
+    host: &Host<'_, F, N>,
+    connection: &N::Connection,
+    peer: Option<&Peer>,
+) {
+    if let Some(peer) = peer {
+        if let Ok(address) = host.network.peer_address(host.alloc, connection) {
+            peer.note_address(address.unwrap_or(String::new(host.alloc)));
+        }
+    }
+}
+
+/// Accepts the stream at this place on a port, and notes its address for its peer.
+///
+/// # Errors
+/// `Network`, if it can't be accepted, and `Late`, if it doesn't come in time.
+fn accept_stream<'a, F, N: Network, W: Write + Drop, T: Notices>(
+    host: &Host<'a, F, N>,
+    listener: &N::Listener,
+    end: Option<Instant>,
+    place: usize,
+    keeping: Option<Keeping<'a, W, T>>,
+    notices: &'a T,
+) -> Result<RecordingSource<'a, N::Connection, W, T>, ServiceFault>
+    ensures given { IfOk result (λ stream. (port : ℕ) → N.is_on listener.now port
+        → N.may_give host.now.network.now port (N.Connection.left stream.source)) }
+    ensures open { IfOk result (λ stream. N.Connection.has_ended stream.source ≡ false) }
+    ensures sure { end ≡ None → N.never_fails ≡ true → IsOk result }
+    ensures err { IfErr result (λ fault. (fault ≡ faults.Network) ⊎ (fault ≡ faults.Late)
+        ⊎ (fault ≡ faults.Engine EngineFault.Memory)) }
+{
+    match host.network.next_connection(listener, end) {
+        Ok(Some(connection)) => {
+            note_address(host, &connection, host.peers.at(place));
+            notices.has_connected(place);
+            Ok(RecordingSource::new(host.alloc, connection, place, host.peers, keeping, notices))
+        }
+        Ok(None) => Err(ServiceFault::Late),
+        Err(_) => Err(ServiceFault::Network),
+    }
+}
+
+/// Accepts this many streams on a port, and gives the port up. Of each it is noted who sends it; they are kept by
+/// these, from the last one on, as long as there are any.
+///
+/// # Errors
+/// `Network`, if one can't be accepted, `Late`, if one doesn't come in time, and `Memory`.
+fn accept_streams<'a, F, N: Network, W: Write + Drop, T: Notices>(
+    host: &Host<'a, F, N>,
+    listener: N::Listener,
+    count: usize,
+    end: Option<Instant>,
+    kept: Vec<Keeping<'a, W, T>>,
+    notices: &'a T,
+) -> Result<Vec<RecordingSource<'a, N::Connection, W, T>>, ServiceFault>
+    ensures count { IfOk result (λ streams. length streams.items ≡ count) }
+    ensures given { IfOk result (λ streams. (port : ℕ) → N.is_on listener port
+        → All (λ stream. N.may_give host.now.network.now port (N.Connection.left stream.source))
+        streams.items) }
+    ensures open { IfOk result (λ streams.
+        All (λ stream. N.Connection.has_ended stream.source ≡ false) streams.items) }
+    ensures sure { end ≡ None → N.never_fails ≡ true
+        → IfErr result (λ fault. fault ≡ faults.Engine EngineFault.Memory) }
+    ensures err { IfErr result (λ fault. (fault ≡ faults.Network) ⊎ (fault ≡ faults.Late)
+        ⊎ (fault ≡ faults.Engine EngineFault.Memory)) }
+{
+    let mut streams = Vec::new(host.alloc);
+    let mut kept = kept;
+    for place in 0..count {
+        let keeping = kept.pop();
+        match accept_stream(host, &listener, end, place, keeping, notices) {
+            Ok(stream) => streams.push(stream)?,
+            Err(fault) => {
+                note_starts(host, &streams);
+                return Err(fault);
+            }
+        }
+    }
+    Ok(streams)
+}
+
+/// Notes of each of these streams how it begins, as far as it has come.
+fn note_starts<F, N: Network, W, T>(
+    host: &Host<'_, F, N>,
+    streams: &[RecordingSource<'_, N::Connection, W, T>],
+) {
+    for (place, stream) in streams.iter().enumerate() {
+        if let Some(peer) = host.peers.at(place) {
+            let _ = note_start(host, &stream.source, peer);
+        }
+    }
+}
+
+/// Notes how a stream begins, as far as it has come.
+fn note_start<F, N: Network>(
+    host: &Host<'_, F, N>,
+    connection: &N::Connection,
+    peer: &Peer,
+) -> Result<(), AllocError> {
+    let mut piece = [0u8; 1024];
+    let count = host.network.first_bytes(connection, &mut piece);
+    let mut start = Vec::new(host.alloc);
+    for byte in piece.iter().take(count) {
+        start.push(*byte)?;
+        if *byte == b'\n' {
+            break;
+        }
+    }
+    peer.note_start(start);
+    Ok(())
+}
+
+/// How a server ends by how its judgement ends.
+fn service_end(end: Result<Report, EngineFault>) -> Result<Report, ServiceFault>
+    ensures ending { (fail_on : List Condition) → service_ending fail_on result ≡ judgement_ending fail_on end }
+    ensures same { MatchResult end (λ report. result ≡ Ok report) (λ fault. result ≡ Err (faults.Engine fault)) }
+{
+    match end {
+        Ok(report) => Ok(report),
+        Err(fault) => Err(ServiceFault::Engine(fault)),
+    }
+}
+
+/// Judges a document, with what is asked, and the streams while the observer runs, writes the
+/// report, and flushes the output. It gives the report.
+///
+/// # Errors
+/// `Memory` leaves nothing written. `Write` leaves a part of the report written, or all of it if only the flush failed.
+fn judge_accepted<
+    S: RandomSource + Threads + Wait + Sync,
+    F: FileSource,
+    N,
+    R: ByteSource + Send + Drop,
+    B: Observer + Sync,
+    O: Write,
+>(
+    rt: &S,
+    host: &Host<'_, F, N>,
+    inquiry: Inquiry<'_, '_, '_>,
+    streams: Vec<R>,
+    observer: &B,
+    output: &mut O,
+) -> Result<Report, EngineFault>
+    requires { All (λ stream. R.has_ended stream ≡ false) streams.items }
+    ensures written { (fail_on : List Condition) → ReadLeaves (OfStreams (map R.left streams.items) fail_on
+        (inquiry_view inquiry.entry)) (judgement_ending fail_on result) (O.contents output.old)
+        (O.contents output.new) }
+    ensures err { IfErr result (λ fault. (fault ≡ EngineFault.Memory) ⊎ (fault ≡ EngineFault.Write)) }
+{
+    let crew = Crew::new(rt, host.service.workers.count(), host.gate);
+    let report = judge_inquiry_watched(&crew, host.alloc, inquiry, streams, observer, output)?;
+    if output.flush().is_err() {
+        return Err(EngineFault::Write);
+    }
+    Ok(report)
+}
+
+/// Binds the ports, begins to keep the session, if it is to be kept, accepts a stream for each process of the document,
+/// judges the document and the streams, and writes the report. Meanwhile the watchers are accepted, and each is shown
+/// how far the streams are read.
+///
+/// # Errors
+/// As `serve`, but for `Read`; `Unkept` leaves nothing written.
+fn serve_session<
+    S: RandomSource + Threads + Wait + Sync,
+    F: FileSource,
+    N: Network + Sync,
+    O: Write,
+>(
+    rt: &S,
+    host: &Host<'_, F, N>,
+    inquiry: Inquiry<'_, '_, '_>,
+    spec: &Spec,
+    output: &mut O,
+) -> Result<Report, ServiceFault>
+    requires document { IsDocument (inquiry_view inquiry) (document_view spec.now) }
+    requires port { host.now.service.now.port ≤ port_limit }
+    ensures written { (fail_on : List Condition) → ReadLeaves (OfConnections
+        (N.may_give host.now.network.now host.now.service.now.port)
+        (ServiceMayFail host.now.service.now.wait N.never_fails) (keep_view host.now.service.now.keep ≢ None) fail_on
+        (inquiry_view inquiry.entry)) (service_ending fail_on result) (O.contents output.old) (O.contents output.new) }
+    ensures err { IfErr result (λ fault. (fault ≡ faults.Network) ⊎ (fault ≡ faults.Late)
+        ⊎ ((fault ≡ faults.Unkept) × (keep_view host.now.service.now.keep ≢ None))
+        ⊎ (fault ≡ faults.Engine EngineFault.Memory) ⊎ (fault ≡ faults.Engine EngineFault.Write)) }
+{
+    one_document();
+    let service = host.service;
+    let end = wait_end(host.network, service.wait)?;
+    let listener = bind(host.network, service.port)?;
+    let watchers = Watchers {
+        network: host.network,
+        listener: bind_watchers(host)?,
+        count: service.watchers,
+        spec,
+        alloc: host.alloc,
+    };
+    let notices = ServiceNotices { host, spec };
+    let kept = begin_keeping(host, inquiry, spec, &notices)?;
+    notices.listens();
+    let count = spec.names().processes();
+    let streams = accept_streams(host, listener, count, end, kept, &notices)?;
+    service_end(judge_accepted(rt, host, inquiry, streams, &watchers, output))
+}
+
+/// Judges a document, with what is asked, and no streams, writes the report, and flushes the output.
+///
+/// # Errors
+/// As `judge_read`.
+fn judge_no_streams<Y: System, O: Write>(
+    world: &World<'_, Y>,
+    inquiry: Inquiry<'_, '_, '_>,
+    workers: &Workers,
+    output: &mut O,
+) -> Result<Report, EngineFault>
+    ensures written { (fail_on : List Condition) → ReadLeaves (OfStreams [] fail_on (inquiry_view inquiry.entry))
+        (judgement_ending fail_on result) (O.contents output.old) (O.contents output.new) }
+    ensures err { IfErr result (λ fault. (fault ≡ EngineFault.Memory) ⊎ (fault ≡ EngineFault.Write)) }
+{
+    let streams = Vec::<<Y::Network as Network>::Connection>::new(world.alloc);
+    judge_read(world, inquiry, streams, workers, &NoGate, output)
+}
+
+/// Whether a document's fault is that memory ran out. If not, the document is refused.
+fn is_out_of_memory(fault: &SpecFault) -> bool
+    ensures { result ≡ is_out_of_memory fault.now }
+{
+    match fault {
+        SpecFault::Memory => true,
+        SpecFault::Long
+        | SpecFault::Json
+        | SpecFault::Shape
+        | SpecFault::Processes
+        | SpecFault::Name
+        | SpecFault::NameTwice
+        | SpecFault::Vars
+        | SpecFault::Predicates
+        | SpecFault::Width
+        | SpecFault::Predicate(_, _)
+        | SpecFault::Version => false,
+    }
+}
+
+/// Reports why a document is refused. No port is bound.
+///
+/// # Errors
+/// As `serve`, but for `Read` and `Network`.
+fn refuse_document<Y: System, O: Write>(
+    world: &World<'_, Y>,
+    host: &Host<'_, Y::Files, Y::Network>,
+    inquiry: Inquiry<'_, '_, '_>,
+    fault: &SpecFault,
+    output: &mut O,
+) -> Result<Report, ServiceFault>
+    requires { IsFaultOf (inquiry_view inquiry) fault.now }
+    ensures written { (port : ℕ) (fail_on : List Condition) (wait : Option ℕ)
+        (keep : Option (List ℕ)) → ReadLeaves (OfConnections (Y.Network.may_give host.now.network.now port)
+        (ServiceMayFail wait Y.Network.never_fails) (keep ≢ None) fail_on (inquiry_view inquiry.entry))
+        (service_ending fail_on result) (O.contents output.old) (O.contents output.new) }
+    // Its refusal is the report that is written whole, or the call fails.
+    ensures refused { IfOk result (λ report. is_judged (report_view report) ≡ false) }
+    ensures err { IfErr result (λ fault. (fault ≡ faults.Engine EngineFault.Memory)
+        ⊎ (fault ≡ faults.Engine EngineFault.Write)) }
+{
+    one_document();
+    if is_out_of_memory(fault) {
+        return Err(ServiceFault::Engine(EngineFault::Memory));
+    }
+    let workers = &host.service.workers;
+    service_end(judge_no_streams(world, inquiry, workers, output))
+}
+
+/// How a server ends whose session is kept, or isn't, by how it ended before that was known.
+fn kept_end(end: Result<Report, ServiceFault>, is_kept: bool) -> Result<Report, ServiceFault>
+    ensures kept { is_kept ≡ true → result ≡ end }
+    ensures unkept { is_kept ≡ false
+        → MatchResult end (λ _. result ≡ Err faults.Unkept) (λ fault. result ≡ Err fault) }
+{
+    match end {
+        Ok(report) => {
+            if is_kept {
+                Ok(report)
+            } else {
+                Err(ServiceFault::Unkept)
+            }
+        }
+        Err(fault) => Err(fault),
+    }
+}
+
+/// The report, if there is one.
+fn report_of(end: &Result<Report, ServiceFault>) -> Option<&Report> {
+    match end {
+        Ok(report) => Some(report),
+        Err(_) => None,
+    }
+}
+
+/// Keeps the session, if it is to be kept, while it is judged as by `serve_session`.
+///
+/// # Errors
+/// As `serve`, but for `Read`.
+fn serve_kept<S: RandomSource + Threads + Wait + Sync, F: FileSource, N: Network + Sync, O: Write>(
+    rt: &S,
+    host: &Host<'_, F, N>,
+    inquiry: Inquiry<'_, '_, '_>,
+    spec: &Spec,
+    output: &mut O,
+) -> Result<Report, ServiceFault>
+    requires document { IsDocument (inquiry_view inquiry) (document_view spec.now) }
+    requires port { host.now.service.now.port ≤ port_limit }
+    ensures { (fail_on : List Condition) → ReadLeaves (OfConnections
+        (N.may_give host.now.network.now host.now.service.now.port)
+        (ServiceMayFail host.now.service.now.wait N.never_fails) (keep_view host.now.service.now.keep ≢ None) fail_on
+        (inquiry_view inquiry.entry)) (service_ending fail_on result) (O.contents output.old) (O.contents output.new) }
+{
+    let end = serve_session(rt, host, inquiry, spec, output);
+    let is_kept = end_keeping(host, report_of(&end));
+    kept_end(end, is_kept)
+}
+
+/// Judges a document, with what is asked, and the streams that come, or reports why the document is refused.
+///
+/// # Errors
+/// As `serve`, but for `Read`.
+fn serve_document<Y: System, O: Write>(
+    world: &World<'_, Y>,
+    host: &Host<'_, Y::Files, Y::Network>,
+    document: &[u8],
+    output: &mut O,
+) -> Result<Report, ServiceFault>
+    requires { host.now.service.now.port ≤ port_limit }
+    ensures { (fail_on : List Condition) → ReadLeaves (OfConnections (Y.Network.may_give host.now.network.now
+        host.now.service.now.port) (ServiceMayFail host.now.service.now.wait Y.Network.never_fails) (keep_view
+        host.now.service.now.keep ≢ None) fail_on (inquiry_of (options_view host.now.service.now.options)
+        document.now)) (service_ending fail_on result) (O.contents output.old) (O.contents output.new) }
+{
+    let inquiry = Inquiry {
+        document,
+        options: &host.service.options,
+    };
+    match Spec::read_with_options(host.alloc, document, &host.service.options) {
+        Ok(spec) => serve_kept(world.rt, host, inquiry, &spec, output),
+        Err(fault) => refuse_document(world, host, inquiry, &fault, output),
+    }
+}
+
+/// Opens and reads the document of a server's session.
+///
+/// # Errors
+/// `Read`, if it can't be opened or read, and `Memory`.
+fn read_service<F: FileSource, N>(host: &Host<'_, F, N>) -> Result<Vec<u8>, EngineFault>
+    ensures document { IfOk result (λ bytes. IsReadOf bytes.items
+        (F.file_of host.now.files.now host.now.service.now.spec.now).source) }
+    ensures unread { result ≡ Err EngineFault.Read → MayBeUnread
+        (F.file_of host.now.files.now host.now.service.now.spec.now ∷ [])
+        (F.file_of host.now.files.now host.now.service.now.spec.now ∷ []) }
+    ensures err { IfErr result (λ fault. (fault ≡ EngineFault.Memory) ⊎ (fault ≡ EngineFault.Read)) }
+{
+    let file = host.files.open(host.service.spec)?;
+    let document = read_document(host.alloc, file)?;
+    Ok(document)
+}
+
+/// Opens and reads the document of a session; binds the ports, unless the document, with what is asked, is refused;
+/// accepts a stream for each process; judges the document and the streams, writes the report, and flushes the output.
+/// It gives the report, and notes for the host's peers who sends each stream. Meanwhile the watchers are accepted, and
+/// each is shown how far the streams are read; it returns once all of them have come, or one can't be accepted.
+///
+/// # Errors
+/// `Read`, if the document can't be opened or read, `Network`, if a port can't be bound or a stream not be accepted,
+/// `Late`, if a stream doesn't come in time, and `Memory` leave nothing written. `Write` leaves a part of the report
+/// written, or all of it if only the flush failed. `Unkept`, if the session can't be kept that is to be, leaves nothing
+/// written, or all of the report.
+pub fn serve<Y: System, O: Write>(
+    world: &World<'_, Y>,
+    host: &Host<'_, Y::Files, Y::Network>,
+    output: &mut O,
+) -> Result<Report, ServiceFault>
+    requires { host.now.service.now.port ≤ port_limit }
+    // This is said for all answers on which the run may be to fail.
+    ensures { (fail_on : List Condition) → LeavesOf (options_view host.now.service.now.options) (Y.Files.file_of
+        host.now.files.now host.now.service.now.spec.now) (MayBeUnread (Y.Files.file_of host.now.files.now
+        host.now.service.now.spec.now ∷ []) (Y.Files.file_of host.now.files.now host.now.service.now.spec.now ∷ []))
+        (OfConnections (Y.Network.may_give host.now.network.now host.now.service.now.port) (ServiceMayFail
+        host.now.service.now.wait Y.Network.never_fails) (keep_view host.now.service.now.keep ≢ None) fail_on)
+        (service_ending fail_on result) (O.contents output.old) (O.contents output.new) }
+{
+    match read_service(host) {
+        Ok(document) => serve_document(world, host, &document, output),
+        Err(fault) => Err(ServiceFault::Engine(fault)),
+    }
+}

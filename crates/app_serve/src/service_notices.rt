@@ -1,0 +1,182 @@
+//! Tells at once what becomes of a server's session.
+use super::host::Host;
+use super::kept_session::stream_names;
+use super::notices::Notices;
+use super::senders::{known_senders, senders};
+use app_explain::{
+    StreamFault as NamedFault, joined_name, tell_connection, tell_ports, tell_refusal, tell_start,
+    tell_stop,
+};
+use app_host::{FileSource, Network};
+use app_look::rows_of;
+use judge_session::stream_word;
+use pd_engine::{Spec, StreamFault};
+use std::alloc::{AllocError, Global};
+use std::io;
+use std::io::ErrorKind;
+
+/// Tells whoever runs a server at once what becomes of its session, if that is wanted, and gives the files that are
+/// kept the names of their processes.
+#[derive(Drop)]
+pub struct ServiceNotices<'a, F, N> {
+    pub host: &'a Host<'a, F, N>,
+    /// The document of the session.
+    pub spec: &'a Spec,
+}
+
+/// What is to be told of a stream.
+#[derive(Clone, Copy)]
+enum Event {
+    /// It has connected.
+    Connected,
+    /// It has said whose it is, or something else.
+    Begun,
+    /// It has a fault.
+    Refused(StreamFault),
+}
+
+/// What is told of a stream that isn't kept any more.
+fn stop_text(alloc: Global, path: &str, error: &io::Error) -> Result<Vec<u8>, AllocError> {
+    let why = format!(in alloc; "{error}")?;
+    let mut out = Vec::new(alloc);
+    tell_stop(&mut out, path, &why)?;
+    Ok(out)
+}
+
+/// What is told of the ports.
+fn ports_text<F, N>(host: &Host<'_, F, N>, spec: &Spec) -> Result<Vec<u8>, AllocError> {
+    let mut out = Vec::new(host.alloc);
+    let service = host.service;
+    tell_ports(
+        &mut out,
+        spec.names(),
+        service.port as u64,
+        service.watchers,
+    )?;
+    Ok(out)
+}
+
+/// What is told of the stream at this place.
+fn stream_text<F, N>(
+    host: &Host<'_, F, N>,
+    spec: &Spec,
+    place: usize,
+    event: Event,
+) -> Result<Vec<u8>, AllocError> {
+    let known = known_senders(host.alloc, host.peers, host.peers.count())?;
+    let senders = senders(host.alloc, host.peers, &known)?;
+    let mut out = Vec::new(host.alloc);
+    if let Some(sender) = senders.get(place) {
+        match event {
+            Event::Connected => {
+                tell_connection(&mut out, *sender, spec.names().processes() as u64)?
+            }
+            Event::Begun => tell_start(&mut out, spec.names(), *sender, &senders)?,
+            Event::Refused(fault) => {
+                let fault = NamedFault {
+                    stream: sender.stream,
+                    line: fault.line,
+                    word: stream_word(fault.kind),
+                };
+                tell_refusal(&mut out, host.alloc, spec.names(), fault, *sender)?
+            }
+        }
+    }
+    Ok(out)
+}
+
+/// The process of the document that the stream at this place has joined, if it has.
+fn process_at<'a, F, N>(
+    host: &Host<'_, F, N>,
+    spec: &'a Spec,
+    place: usize,
+) -> Result<Option<&'a str>, AllocError> {
+    let Some(start) = host.peers.at(place).and_then(|peer| peer.start()) else {
+        return Ok(None);
+    };
+    let Some(name) = joined_name(host.alloc, start)? else {
+        return Ok(None);
+    };
+    match spec.names().find(&name) {
+        Some(process) if process < spec.names().processes() => {
+            Ok(Some(spec.names().name(process)))
+        }
+        _ => Ok(None),
+    }
+}
+
+/// The name of the file in which the stream at this place is kept, and the one that it is given, if it is kept and has
+/// joined a process of the document.
+fn names_at<F, N>(
+    host: &Host<'_, F, N>,
+    spec: &Spec,
+    place: usize,
+) -> Result<Option<(String, String)>, AllocError> {
+    let Some(folder) = host.service.keep else {
+        return Ok(None);
+    };
+    match process_at(host, spec, place)? {
+        Some(process) => Ok(Some(stream_names(host.alloc, folder, place, process)?)),
+        None => Ok(None),
+    }
+}
+
+/// What is told, in rows, if explanations are wanted and it could be made.
+fn told_rows<F, N>(host: &Host<'_, F, N>, text: Result<Vec<u8>, AllocError>) -> Option<Vec<u8>> {
+    match text {
+        Ok(text) if host.explain => Some(rows_of(host.alloc, text)),
+        _ => None,
+    }
+}
+
+impl<'a, F, N: Network> ServiceNotices<'a, F, N> {
+    /// Tells on which ports the streams and watchers are waited for, if that is wanted.
+    pub fn listens(&self) {
+        if let Some(rows) = told_rows(self.host, ports_text(self.host, self.spec)) {
+            self.host.network.tell(&rows);
+        }
+    }
+}
+
+impl<'a, F: FileSource, N: Network> Notices for ServiceNotices<'a, F, N> {
+    fn has_connected(&self, place: usize) {
+        let text = stream_text(self.host, self.spec, place, Event::Connected);
+        if let Some(rows) = told_rows(self.host, text) {
+            self.host.network.tell(&rows);
+        }
+    }
+
+    /// Gives the stream's file the name of its process too, unless there is a file of that name, as another stream's of
+    /// the same process.
+    fn has_begun(&self, place: usize) -> Option<String> {
+        let text = stream_text(self.host, self.spec, place, Event::Begun);
+        if let Some(rows) = told_rows(self.host, text) {
+            self.host.network.tell(&rows);
+        }
+        let (numbered, named) = names_at(self.host, self.spec, place).unwrap_or(None)?;
+        let renamed = match self.host.files.create(&named) {
+            Ok(_) => self.host.files.rename(&numbered, &named),
+            Err(error) if error.kind() == ErrorKind::AlreadyExists => return None,
+            Err(error) => Err(error),
+        };
+        if let Err(error) = renamed {
+            self.host.peers.note_unkept(self.host.alloc, &named, &error);
+            return None;
+        }
+        Some(named)
+    }
+
+    fn has_fault(&self, place: usize, fault: StreamFault) {
+        let text = stream_text(self.host, self.spec, place, Event::Refused(fault));
+        if let Some(rows) = told_rows(self.host, text) {
+            self.host.network.tell(&rows);
+        }
+    }
+
+    fn stops_keeping(&self, path: &str, error: &io::Error) {
+        let text = stop_text(self.host.alloc, path, error);
+        if let Some(rows) = told_rows(self.host, text) {
+            self.host.network.tell(&rows);
+        }
+    }
+}

@@ -1,0 +1,50 @@
+-- What a run of the program leaves, by what its arguments ask for.
+use Rattle.std.specs.Prelude.{◌≡◌, ◌≢◌, ◌⊎◌, ◌∷◌, [], ℕ, Bool, List, Option, None, codes, map}
+use Rattle.std.specs.Io.KnownBytes.{Keeps}
+use Rattle.clap.specs.Words.{Text}
+use Rattle.def_judgement.specs.Writes.{Source}
+use Rattle.judge_explore.specs.Sources.{AreFilesOf}
+use Rattle.app_arguments.specs.Arguments.{AsksFor}
+use Rattle.app_arguments.specs.Statuses.{CheckFiles, DrawFiles, Ending, Ends, ExploreFiles, Failed, File, HelpLeaves, JudgeFiles, JudgeInput, JudgementLeaves, LeavesOf, MayBeUnread, MemoryFailure, MisuseLeaves, OfConnections, OfFinding, OfStreams, Request, ServeStreams, ServiceMayFail, SessionLeaves, ShowHelp, ShowVersion, Unclear, UnreadClaim, VersionLeaves, sources_of}
+use Rattle.pd_cli.specs.Drawings.{EndsDrawn}
+use Rattle.pd_cli.specs.Explorations.{OfPage}
+use Rattle.app_host.specs.FileSources.{bytes_in}
+
+-- a run with this exit status came to some end, by which this is left on the output and on the errors
+abbrev pub By : (IsLeft : Ending → (old new : Option (List ℕ)) → Type 0) → (status : ℕ)
+    (old new errors_old errors_new : Option (List ℕ)) → Type 0
+By IsLeft status old new errors_old errors_new = Ends (λ ending. IsLeft ending old new) status errors_old errors_new
+
+-- By what is asked for, where of the input and of the file of each name this is known, a connection to each port may be
+-- such a source, and the network serves or may fail to.
+abbrev pub Leaves : (input : Source) (files : List ℕ → File) (connections : ℕ → Source → Type 0)
+    (network_serves : Bool) → Request → (status : ℕ) (old new errors_old errors_new : Option (List ℕ)) → Type 0
+Leaves input files connections network_serves JudgeInput = By (JudgementLeaves input)
+Leaves input files connections network_serves (JudgeFiles options fail_on document streams) =
+    By (SessionLeaves files options document streams (λ sources. OfStreams sources fail_on))
+Leaves input files connections network_serves (CheckFiles options document report streams) =
+    By (LeavesOf options (files document) (UnreadClaim files document report streams)
+    (OfFinding (files report).source (sources_of (map files streams))))
+Leaves input files connections network_serves (DrawFiles options scope document report streams) =
+    EndsDrawn files options document report streams scope
+Leaves input files connections network_serves (ServeStreams options fail_on document port watchers wait keep) =
+    By (LeavesOf options (files document) (MayBeUnread (files document ∷ []) (files document ∷ []))
+    (OfConnections (connections port) (ServiceMayFail wait network_serves) (keep ≢ None) fail_on))
+Leaves input files connections network_serves (ExploreFiles options document streams) =
+    By (SessionLeaves files options document streams (OfPage (AreFilesOf (bytes_in files) streams)))
+Leaves input files connections network_serves ShowHelp = By HelpLeaves
+Leaves input files connections network_serves ShowVersion = By VersionLeaves
+Leaves input files connections network_serves Unclear = By MisuseLeaves
+
+-- Memory runs out before it is known what is asked for, and nothing is written; or the run did what its arguments ask
+-- for.
+abbrev pub RunsAsAsked : List Text → (input : Source) (files : List ℕ → File) (connections : ℕ → Source → Type 0)
+    (network_serves : Bool) (status : ℕ) (old new errors_old errors_new : Option (List ℕ)) → Type 0
+RunsAsAsked arguments input files connections network_serves status old new errors_old errors_new =
+    By (λ ending old new. (ending ≡ Failed MemoryFailure) × Keeps old new) status old new errors_old errors_new
+    ⊎ (request : Request) × AsksFor arguments request
+    × Leaves input files connections network_serves request status old new errors_old errors_new
+
+-- the line that reports an argument that isn't text
+abbrev pub IsUnreadLine : List ℕ → Type 0
+IsUnreadLine text = text ≡ codes "monitor: a word is not UTF-8\n"
