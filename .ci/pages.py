@@ -1,12 +1,12 @@
 #!/usr/bin/env python3
 """pages.py [--write] [--crates]: checks the pages, that is each `.md` file of the repository: that each relative link
 leads to a file; that no line is over 120 columns, but for the definitions of links, and for tables on the pages of
-WIDE; that the limits in docs/SPECIFICATION.md are those of the definitions; and of docs/PROMISES.md and docs/CLAUSES.md
+WIDE; that the limits in docs/SPECIFICATION.md are those of the definitions; of docs/PROMISES.md and docs/CLAUSES.md
 that each name of code stands in the crates, that each row of a table with a column *Where* names a clause and links to
-the line that declares it (see .ci/clauses.py), and that the line below a heading names the crates of its rows; and that docs/DESIGN.md
-has the tables of the crates by layers. With --write it puts the right lines, files, crates and tables into the pages.
-With --crates it looks too that no line of a crate's `.rt` and `.antt` files is over 120 columns, but for imports. The
-status is 1 if anything was wrong."""
+the line that declares it (see .ci/clauses.py), and that the line below a heading names the crates of its rows; that
+docs/DESIGN.md has the tables of the crates by layers; and of crates.txt that no crate stands on one of a later layer.
+With --write it puts the right lines, files, crates and tables into the pages. With --crates it looks too that no line
+of a crate's `.rt` and `.antt` files is over 120 columns, but for imports. The status is 1 if anything was wrong."""
 import glob
 import os
 import re
@@ -99,6 +99,20 @@ def with_crates(page, text):
     return made
 
 
+def look_at_layers():
+    """Looks that no crate stands on one of a later layer, and that the prefix of a name is that of its layer alone."""
+    layers = layout.layers()
+    place = {name: at for at, (_, names) in enumerate(layers) for name in names}
+    owners = {}
+    for name, others in layout.libraries().items():
+        for other in others:
+            if place.get(other, 0) > place[name]:
+                wrong(f"{name} stands on {other}, whose layer comes later in crates.txt")
+        prefix = name.split("_")[0]
+        if prefix not in ("pd", "monitor") and owners.setdefault(prefix, place[name]) != place[name]:
+            wrong(f"{name} stands in a layer whose crates have another prefix")
+
+
 def main():
     for page in pages():
         text = read(page)
@@ -107,6 +121,7 @@ def main():
     if "--crates" in sys.argv[1:]:
         look_at_code()
     look_at_limits()
+    look_at_layers()
     for page in LINKED:
         look_at_names(page, read(page))
     mended = {page: clauses.mended(page, read(page), wrong) for page in LINKED}
