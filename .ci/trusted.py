@@ -5,9 +5,10 @@ docs/TRUST.md that are made of them.
 A definition is reached if the contract names it, if a trait in the signature of `run` does, or if a definition that is
 reached does. Names are resolved as the prover resolves them: by a file's imports, and else in the file itself. The
 tables have each file with a reached definition, in the order of the layers in crates.txt, with the lines of these
-definitions, the comments before them counted too, and the file's first comment as what it says. Without --write the
-tables are compared with those of the page, and the status is 1 if they differ. With --names each reached definition is
-listed, with who names it first.
+definitions, the comments before them counted too, and the file's first comment as what it says. One more table has the
+types and constants of the code that reached definitions speak of. Without --write the tables are compared with those
+of the page, and the status is 1 if they differ. With --names each reached definition is listed, with who names it
+first.
 """
 import os
 import re
@@ -102,7 +103,7 @@ def words(code):
 
 class Closure:
     def __init__(self):
-        self.files, self.found = {}, {}
+        self.files, self.found, self.declared = {}, {}, set()
 
     def file(self, module):
         """The file of definitions that a module is, if it is one of the repository's."""
@@ -114,11 +115,19 @@ class Closure:
             self.files[path] = File(path) if os.path.isfile(os.path.join(ROOT, path)) else None
         return self.files[path]
 
+    def note_declared(self, module):
+        """Notes the type of the code that a module is, or the constants, if it is one of the repository's."""
+        parts = module.split(".")
+        if parts[1:3] == ["specs", "declared"] and os.path.isdir(os.path.join(ROOT, "crates", parts[0])):
+            name = f"constants of {parts[3]}" if parts[4] == "TheConstants" else parts[4]
+            self.declared.add((f"crates/{parts[0]}/src/{parts[3]}.rt", name))
+
     def reach(self, start, who):
         """Notes the definitions that are reached from these places, each a module and a name."""
         waiting = [(place, who) for place in start]
         while waiting:
             (module, name), who = waiting.pop()
+            self.note_declared(module)
             file = self.file(module)
             block = file and file.owner.get(name)
             if not block or (file.path, block) in self.found:
@@ -201,6 +210,9 @@ def tables():
     }
     lines = [line for path, block in whole.found for line in whole.files[path].blocks[block]]
     total, code = len(lines), sum(not line.strip().startswith("--") for line in lines)
+    types = sorted(whole.declared, key=lambda it: (list(libraries()).index(crate(it[0])), it))
+    made["declared"] = "\n".join(["| Type, or constants | Crate |", "|---|---|",
+                                  *(f"| [{name}](../{path}) | `{crate(path)}` |" for path, name in types)])
     made["sum"] = f"Together these are {total:,} lines in {len({path for path, _ in whole.found})} files, {code:,} without comments."
     return whole, made
 
