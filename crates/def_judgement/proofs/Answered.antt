@@ -2,7 +2,7 @@
 -- if the predicate is answered whatever the width. It is one.
 use Rattle.std.proofs.Common.{◌≡◌, ℕ, true}
 use Rattle.def_model.specs.Answers.{PossiblyAnswer, DefinitelyAnswer, IsPossiblyAnswer, IsDefinitelyAnswer}
-use Rattle.def_model.specs.Decided.{DecidesDefinitely, DecidesPossibly}
+use Rattle.def_wide.specs.Decided.{IsDefinitelyDecided, IsPossiblyDecided}
 use Rattle.def_model.specs.Predicates.{Predicate, Recorded, test_of}
 use Rattle.def_model.proofs.OneAnswer.{one_possibly_answer, one_definitely_answer}
 use Rattle.def_format.specs.Documents.{Document}
@@ -17,7 +17,7 @@ module _ (document : Document) (r : Recorded) (predicate : Predicate) where
     pub right : IsPossiblyAnswer r.events (test_of r predicate) width p
     -- if no level is over the document's width, or the predicate is answered whatever the width
     pub narrow : IsNarrow r.events document.width → IsNarrow r.events width
-    pub narrow_if_decided : document.beyond_width ≡ true → DecidesPossibly r predicate → IsNarrow r.events width
+    pub narrow_if_decided : document.beyond_width ≡ true → IsPossiblyDecided r predicate → IsNarrow r.events width
 
   pub possibly_at : (p : PossiblyAnswer) → AnswersPossibly document r predicate p → PossiblyAt p
   possibly_at p (possibly_beyond asked decided exact) =
@@ -40,7 +40,7 @@ module _ (document : Document) (r : Recorded) (predicate : Predicate) where
     pub width : ℕ
     pub right : IsDefinitelyAnswer r.events (test_of r predicate) width d
     pub narrow : IsNarrow r.events document.width → IsNarrow r.events width
-    pub narrow_if_decided : document.beyond_width ≡ true → DecidesDefinitely r predicate → IsNarrow r.events width
+    pub narrow_if_decided : document.beyond_width ≡ true → IsDefinitelyDecided r predicate → IsNarrow r.events width
 
   pub definitely_at : (d : DefinitelyAnswer) → AnswersDefinitely document r predicate d → DefinitelyAt d
   definitely_at d (definitely_beyond asked decided exact) =

@@ -5,19 +5,19 @@ use Rattle.std.proofs.lemmas.List.Elements.{All-nil, All-cons}
 use Rattle.std.specs.List.{AllZip}
 use Rattle.def_model.specs.Events.{Computation, Place}
 use Rattle.def_model.specs.Messages.{Version, Fault, SendTwice, Orphan, SelfMessage, ReceivedTwice, IsReported, HasLawfulMessages}
-use Rattle.def_model.specs.Order.{HasNoCycle, IsReportedCycle}
+use Rattle.def_model.specs.Order.{HasNoCycle, IsReportedCycle, IsWellFormed}
 use Rattle.def_model.specs.Observations as observations
 use Rattle.def_model.specs.Answers.{PossiblyAnswer, PossiblyYes, PossiblyNo, PossiblyUnknown, DefinitelyAnswer, DefinitelyYes, DefinitelyNo, DefinitelyUnknown, IsPossiblyAnswer, IsDefinitelyAnswer, IsFirstSatisfying, IsLeastFree, IsAvoidingObservation}
 use Rattle.def_model.specs.Predicates.{Recorded, test_of}
 use Rattle.def_format.specs.Names.{ProcessNames, name_of_process}
 use Rattle.def_format.specs.Readings.{Trace}
 use Rattle.def_format.specs.Documents.{Document, NamedPredicate}
-use Rattle.def_format.specs.Reports.{Possibly, Definitely, Answer}
-use Rattle.def_judgement.specs.Judgements.{events_of_traces, recorded_of, printed_possibly, printed_definitely, IsAnswered, of_messages, of_cycle, of_answers}
+use Rattle.def_format.specs.Reports.{Possibly, Definitely, Answer, Report}
+use Rattle.def_judgement.specs.Judgements.{events_of_traces, recorded_of, printed_possibly, printed_definitely, IsAnswered, IsTracesReport, of_messages, of_cycle, of_answers}
 use Rattle.def_model.proofs.OneAnswer.{definite_is_possible, cut_below_level}
 use Rattle.def_model.proofs.Paths.{path_avoids}
 use Rattle.def_model.proofs.Stuck.{none_stuck}
-use Rattle.def_judgement.specs.Headline.{IsNarrow, AnswersAgree, SaysPossibly, SaysDefinitely, SaysTruly, SaysDecided, AnswersTruly, AnswersDecided, Headline, HeadlineBeyondWidth, ReportsAgree}
+use Rattle.def_judgement.specs.Headline.{IsNarrow, AnswersAgree, SaysPossibly, SaysDefinitely, Coverage, SaysTruly, AnswersTruly, TellsTruth, each_predicate, each_decided, Headline, HeadlineBeyondWidth, ReportsAgree}
 use Rattle.def_judgement.proofs.Answered.{PossiblyAt, possibly_at, DefinitelyAt, definitely_at}
 use Rattle.def_judgement.proofs.Narrow.{level_is_narrow, avoided_narrowly}
 
@@ -143,24 +143,24 @@ module _ (document : Document) (r : Recorded) (acyclic : HasNoCycle r.events) (a
       answers_agree document.names r.events (test_of r asked.predicate) p.width d.width answer acyclic a.possibly
       a.possibly_reported p.right a.definitely a.definitely_reported d.right
 
-  says_truly : IsNarrow r.events document.width
-      → SaysTruly document.names r.events (test_of r asked.predicate) answer
-  says_truly narrow = record {
-    possibly = says_possibly r.events (test_of r asked.predicate) p.width answer.possibly a.possibly (p.narrow narrow)
-        a.possibly_reported p.right;
-    definitely = says_definitely document.names r.events (test_of r asked.predicate) d.width answer.definitely
-        a.definitely (d.narrow narrow) a.definitely_reported d.right;
+  says_truly : (coverage : Coverage) → (coverage.possibly r asked.predicate → IsNarrow r.events p.width)
+      → (coverage.definitely r asked.predicate → IsNarrow r.events d.width)
+      → SaysTruly coverage document.names r asked.predicate answer
+  says_truly coverage possibly_narrow definitely_narrow = record {
+    possibly = λ within. says_possibly r.events (test_of r asked.predicate) p.width answer.possibly a.possibly
+        (possibly_narrow within) a.possibly_reported p.right;
+    definitely = λ within. says_definitely document.names r.events (test_of r asked.predicate) d.width
+        answer.definitely a.definitely (definitely_narrow within) a.definitely_reported d.right;
     agrees = agrees;
   }
 
-  says_decided : document.beyond_width ≡ true → SaysDecided document.names r asked.predicate answer
-  says_decided beyond = record {
-    possibly = λ decided. says_possibly r.events (test_of r asked.predicate) p.width answer.possibly a.possibly
-        (p.narrow_if_decided beyond decided) a.possibly_reported p.right;
-    definitely = λ decided. says_definitely document.names r.events (test_of r asked.predicate) d.width
-        answer.definitely a.definitely (d.narrow_if_decided beyond decided) a.definitely_reported d.right;
-    agrees = agrees;
-  }
+  -- with no level over the width, of each predicate
+  says_each : IsNarrow r.events document.width → SaysTruly each_predicate document.names r asked.predicate answer
+  says_each narrow = says_truly each_predicate (λ _. p.narrow narrow) (λ _. d.narrow narrow)
+
+  -- if that is asked for, of each that is decided
+  says_decided : document.beyond_width ≡ true → SaysTruly each_decided document.names r asked.predicate answer
+  says_decided beyond = says_truly each_decided (p.narrow_if_decided beyond) (d.narrow_if_decided beyond)
 
 -- ---- the report
 
@@ -181,46 +181,35 @@ all_zip_map R S f [] (y ∷ ys) h = h
 all_zip_map R S f (x ∷ xs) [] h = h
 all_zip_map R S f (x ∷ xs) (y ∷ ys) h = (f x y h.0, all_zip_map R S f xs ys h.1)
 
-module _ (document : Document) (traces : List Trace) (acyclic : HasNoCycle (events_of_traces traces)) where
-  answers_truly : IsNarrow (events_of_traces traces) document.width → (asked : NamedPredicate) (answer : Answer)
-      → IsAnswered document (recorded_of document traces) asked answer → AnswersTruly document traces asked answer
-  answers_truly narrow asked answer a =
-      (a.name, says_truly document (recorded_of document traces) acyclic asked answer a narrow)
-
-  answers_decided : document.beyond_width ≡ true → (asked : NamedPredicate) (answer : Answer)
-      → IsAnswered document (recorded_of document traces) asked answer → AnswersDecided document traces asked answer
-  answers_decided beyond asked answer a =
-      (a.name, says_decided document (recorded_of document traces) acyclic asked answer a beyond)
+-- a report tells what each of its answers says
+tells_truth : (coverage : Coverage) (document : Document) (traces : List Trace) (report : Report)
+    → IsWellFormed document.version (events_of_traces traces)
+    → ((asked : NamedPredicate) (answer : Answer) → IsAnswered document (recorded_of document traces) asked answer
+    → SaysTruly coverage document.names (recorded_of document traces) asked.predicate answer)
+    → IsTracesReport document traces report → TellsTruth coverage document traces report
+tells_truth coverage document traces report formed says (of_messages fault r) =
+    absurd (no_fault document.version (events_of_traces traces) formed.messages fault r)
+tells_truth coverage document traces report formed says (of_cycle cycle lawful r) =
+    absurd (no_cycle_reported (events_of_traces traces) formed.no_cycle cycle r)
+tells_truth coverage document traces report formed says (of_answers messages answers formed' are answered) =
+    record {
+      messages = messages;
+      answers = answers;
+      reported = refl;
+      counted = are;
+      truly = all_zip_map (IsAnswered document (recorded_of document traces)) (AnswersTruly coverage document traces)
+          (λ asked answer a. (a.name, says asked answer a)) document.predicates answers answered;
+    }
 
 pub headline_lem : Headline
-headline_lem document traces report formed narrow (of_messages fault r) =
-    absurd (no_fault document.version (events_of_traces traces) formed.messages fault r)
-headline_lem document traces report formed narrow (of_cycle cycle lawful r) =
-    absurd (no_cycle_reported (events_of_traces traces) formed.no_cycle cycle r)
-headline_lem document traces report formed narrow (of_answers messages answers formed' are answered) =
-    record {
-      messages = messages;
-      answers = answers;
-      reported = refl;
-      counted = are;
-      truly = all_zip_map (IsAnswered document (recorded_of document traces)) (AnswersTruly document traces)
-          (answers_truly document traces formed.no_cycle narrow) document.predicates answers answered;
-    }
+headline_lem document traces report formed narrow right =
+    tells_truth each_predicate document traces report formed
+    (λ asked answer a. says_each document (recorded_of document traces) formed.no_cycle asked answer a narrow) right
 
 pub headline_beyond_width_lem : HeadlineBeyondWidth
-headline_beyond_width_lem document traces report formed beyond (of_messages fault r) =
-    absurd (no_fault document.version (events_of_traces traces) formed.messages fault r)
-headline_beyond_width_lem document traces report formed beyond (of_cycle cycle lawful r) =
-    absurd (no_cycle_reported (events_of_traces traces) formed.no_cycle cycle r)
-headline_beyond_width_lem document traces report formed beyond (of_answers messages answers formed' are answered) =
-    record {
-      messages = messages;
-      answers = answers;
-      reported = refl;
-      counted = are;
-      truly = all_zip_map (IsAnswered document (recorded_of document traces)) (AnswersDecided document traces)
-          (answers_decided document traces formed.no_cycle beyond) document.predicates answers answered;
-    }
+headline_beyond_width_lem document traces report formed beyond right =
+    tells_truth each_decided document traces report formed
+    (λ asked answer a. says_decided document (recorded_of document traces) formed.no_cycle asked answer a beyond) right
 
 -- ---- at every width
 

@@ -7,7 +7,7 @@ use Rattle.def_format.specs.Readings.{Trace}
 use Rattle.def_format.specs.Documents.{Document}
 use Rattle.def_format.specs.Reports.{Possibly, Definitely, Report, Judged}
 use Rattle.def_judgement.specs.Judgements.{IsTracesReport}
-use Rattle.def_judgement.specs.Headline.{IsNarrow, TellsTruth}
+use Rattle.def_judgement.specs.Headline.{IsNarrow, TellsTruth, each_predicate}
 
 -- Each level of the computation with one message has one cut.
 abbrev pub OneCutALevel : Type 0
@@ -38,4 +38,5 @@ both_report =
 -- Both are 1 after the receipt, and every observation comes there: the report says so, and it is true.
 abbrev pub OneTrueReport : Type 0
 OneTrueReport =
-    IsTracesReport asks_both message_traces both_report × TellsTruth asks_both message_traces both_report
+    IsTracesReport asks_both message_traces both_report
+    × TellsTruth each_predicate asks_both message_traces both_report

@@ -9,7 +9,7 @@ use Rattle.def_model.specs.Cuts.{IsConsistent, IsOfLevel, total}
 use Rattle.def_model.specs.Observations as observations
 use Rattle.def_model.specs.Answers.{IsListOf, MoreThan, IsAvoidingObservation}
 use Rattle.def_model.specs.Predicates.{Predicate, Recorded, test_of}
-use Rattle.def_model.specs.Decided.{DecidesDefinitely, DecidesPossibly}
+use Rattle.def_wide.specs.Decided.{IsDefinitelyDecided, IsPossiblyDecided}
 use Rattle.def_format.specs.Names.{ProcessNames, name_of_process}
 use Rattle.def_format.specs.Readings.{Trace}
 use Rattle.def_format.specs.Documents.{Document, NamedPredicate, Inquiry, IsDocument}
@@ -56,60 +56,49 @@ pub record SaysDefinitely (names : List ProcessNames) (c : Computation) (test : 
   pub path_avoids : (reported : List (List ℕ)) → answer ≡ Definitely.No reported → (path : List ℕ)
       × (reported ≡ map (name_of_process names) path) × IsAvoidingObservation c test path
 
--- The answer is the truth about the test of cuts, by both modalities, which agree.
-pub record SaysTruly (names : List ProcessNames) (c : Computation) (test : List ℕ → Bool) (answer : Answer) :
-    Type 0 where
-  pub possibly : SaysPossibly c test answer.possibly
-  pub definitely : SaysDefinitely names c test answer.definitely
+-- of which predicates an answer is said to be the truth, for each modality
+pub record Coverage : Type 1 where
+  pub possibly : Recorded → Predicate → Type 0
+  pub definitely : Recorded → Predicate → Type 0
+
+-- of each
+abbrev pub each_predicate : Coverage
+each_predicate = record { possibly = λ recorded predicate. ⊤; definitely = λ recorded predicate. ⊤ }
+
+-- of each that is decided at any width
+abbrev pub each_decided : Coverage
+each_decided = record { possibly = IsPossiblyDecided; definitely = IsDefinitelyDecided }
+
+-- The answer is the truth about the predicate by each modality of which the predicate is covered; both agree.
+pub record SaysTruly (coverage : Coverage) (names : List ProcessNames) (recorded : Recorded) (predicate : Predicate)
+    (answer : Answer) : Type 0 where
+  pub possibly : coverage.possibly recorded predicate
+      → SaysPossibly recorded.events (test_of recorded predicate) answer.possibly
+  pub definitely : coverage.definitely recorded predicate
+      → SaysDefinitely names recorded.events (test_of recorded predicate) answer.definitely
   pub agrees : AnswersAgree answer
 
 -- under the name of the predicate that is asked, the truth about it
-abbrev pub AnswersTruly : Document → List Trace → NamedPredicate → Answer → Type 0
-AnswersTruly document traces asked answer =
-    (answer.name ≡ asked.name) × SaysTruly document.names (events_of_traces traces)
-    (test_of (recorded_of document traces) asked.predicate) answer
+abbrev pub AnswersTruly : Coverage → Document → List Trace → NamedPredicate → Answer → Type 0
+AnswersTruly coverage document traces asked answer =
+    (answer.name ≡ asked.name)
+    × SaysTruly coverage document.names (recorded_of document traces) asked.predicate answer
 
--- The report counts the processes, the events and the messages, and answers each predicate of the document truly, in
--- their order.
-pub record TellsTruth (document : Document) (traces : List Trace) (report : Report) : Type 0 where
+-- The report counts the processes, the events and the messages, and answers each predicate of the document truly, as
+-- far as it is covered, in their order.
+pub record TellsTruth (coverage : Coverage) (document : Document) (traces : List Trace) (report : Report) : Type 0 where
   pub messages : ℕ
   pub answers : List Answer
   pub reported : report ≡ Judged (length document.names) (total (events_of_traces traces)) messages answers
   pub counted : HasMessages (events_of_traces traces) messages
-  pub truly : AllZip (AnswersTruly document traces) document.predicates answers
+  pub truly : AllZip (AnswersTruly coverage document traces) document.predicates answers
 
 -- A report of traces that make a well-formed computation with no level over the width says the truth.
 abbrev pub Headline : Type 0
 Headline =
     (document : Document) (traces : List Trace) (report : Report)
     → IsWellFormed document.version (events_of_traces traces) → IsNarrow (events_of_traces traces) document.width
-    → IsTracesReport document traces report → TellsTruth document traces report
-
--- ---- whatever the width
-
--- The answer is the truth about the predicate by each modality of which the predicate is one that decides it; both
--- agree.
-pub record SaysDecided (names : List ProcessNames) (recorded : Recorded) (predicate : Predicate) (answer : Answer) :
-    Type 0 where
-  pub possibly : DecidesPossibly recorded predicate
-      → SaysPossibly recorded.events (test_of recorded predicate) answer.possibly
-  pub definitely : DecidesDefinitely recorded predicate
-      → SaysDefinitely names recorded.events (test_of recorded predicate) answer.definitely
-  pub agrees : AnswersAgree answer
-
--- under the name of the predicate that is asked, the truth about it as far as it is decided
-abbrev pub AnswersDecided : Document → List Trace → NamedPredicate → Answer → Type 0
-AnswersDecided document traces asked answer =
-    (answer.name ≡ asked.name) × SaysDecided document.names (recorded_of document traces) asked.predicate answer
-
--- The report counts the processes, the events and the messages, and answers each predicate of the document truly as far
--- as it is decided, in their order.
-pub record TellsDecided (document : Document) (traces : List Trace) (report : Report) : Type 0 where
-  pub messages : ℕ
-  pub answers : List Answer
-  pub reported : report ≡ Judged (length document.names) (total (events_of_traces traces)) messages answers
-  pub counted : HasMessages (events_of_traces traces) messages
-  pub truly : AllZip (AnswersDecided document traces) document.predicates answers
+    → IsTracesReport document traces report → TellsTruth each_predicate document traces report
 
 -- A report of traces that make a well-formed computation, however wide, says the truth about what is decided, if the
 -- document asks for that.
@@ -117,7 +106,7 @@ abbrev pub HeadlineBeyondWidth : Type 0
 HeadlineBeyondWidth =
     (document : Document) (traces : List Trace) (report : Report)
     → IsWellFormed document.version (events_of_traces traces) → document.beyond_width ≡ true
-    → IsTracesReport document traces report → TellsDecided document traces report
+    → IsTracesReport document traces report → TellsTruth each_decided document traces report
 
 -- ---- at every width
 
@@ -157,10 +146,10 @@ pub record IsTrueReport (inquiry : Inquiry) (streams : List RawStream) (report :
       → IsWellFormed document.version (events_of_traces traces) → is_judged report ≡ true
   pub headline : (document : Document) (traces : List Trace) → HoldsSession inquiry streams document traces
       → IsWellFormed document.version (events_of_traces traces) → IsNarrow (events_of_traces traces) document.width
-      → TellsTruth document traces report
+      → TellsTruth each_predicate document traces report
   pub headline_beyond_width : inquiry.options.beyond_width ≡ true → (document : Document) (traces : List Trace)
       → HoldsSession inquiry streams document traces → IsWellFormed document.version (events_of_traces traces)
-      → TellsDecided document traces report
+      → TellsTruth each_decided document traces report
 
 -- The report of a document's bytes and of streams is true.
 abbrev pub JudgementIsTrue : Type 0

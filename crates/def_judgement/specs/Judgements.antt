@@ -7,7 +7,7 @@ use Rattle.def_model.specs.Order.{IsWellFormed, IsReportedCycle}
 use Rattle.def_model.specs.Cuts.{total}
 use Rattle.def_model.specs.Predicates.{Predicate, Recorded, test_of}
 use Rattle.def_model.specs.Answers.{PossiblyAnswer, PossiblyYes, PossiblyNo, PossiblyUnknown, IsExactPossibly, IsPossiblyAnswer, DefinitelyAnswer, DefinitelyYes, DefinitelyNo, DefinitelyUnknown, IsDefinitelyAnswer, IsExactDefinitely}
-use Rattle.def_model.specs.Decided.{DecidesDefinitely, DecidesPossibly}
+use Rattle.def_wide.specs.Decided.{IsDefinitelyDecided, IsPossiblyDecided}
 use Rattle.def_format.specs.Names.{ProcessNames, name_of_process}
 use Rattle.def_format.specs.Readings.{Ending, Ended, Trace, result_of, reading}
 use Rattle.def_format.specs.Documents.{Document, NamedPredicate, DocumentFault, Inquiry, IsDocument, IsRefusedDocument, plain}
@@ -37,24 +37,24 @@ printed_definitely names (DefinitelyYes level) = Definitely.Yes level
 printed_definitely names (DefinitelyNo path) = Definitely.No (map (name_of_process names) path)
 printed_definitely names (DefinitelyUnknown level) = Definitely.Unknown level
 
--- Whether some consistent cut satisfies a predicate: whatever the width if the document asks for that and the predicate
--- is one that decides it, and else under the document's width.
+-- Whether some consistent cut satisfies a predicate: whatever the width if the document asks for that and it is decided
+-- so, and else under the document's width.
 pub data AnswersPossibly (document : Document) (recorded : Recorded) (predicate : Predicate) (answer : PossiblyAnswer) :
     Type 0 where
-  possibly_beyond : document.beyond_width ≡ true → DecidesPossibly recorded predicate
+  possibly_beyond : document.beyond_width ≡ true → IsPossiblyDecided recorded predicate
       → IsExactPossibly recorded.events (test_of recorded predicate) answer
       → AnswersPossibly document recorded predicate answer
-  possibly_within : (document.beyond_width ≡ true → ¬ DecidesPossibly recorded predicate)
+  possibly_within : (document.beyond_width ≡ true → ¬ IsPossiblyDecided recorded predicate)
       → IsPossiblyAnswer recorded.events (test_of recorded predicate) document.width answer
       → AnswersPossibly document recorded predicate answer
 
 -- Whether every observation passes through a cut that satisfies a predicate, in the same way.
 pub data AnswersDefinitely (document : Document) (recorded : Recorded) (predicate : Predicate)
     (answer : DefinitelyAnswer) : Type 0 where
-  definitely_beyond : document.beyond_width ≡ true → DecidesDefinitely recorded predicate
+  definitely_beyond : document.beyond_width ≡ true → IsDefinitelyDecided recorded predicate
       → IsExactDefinitely recorded.events (test_of recorded predicate) answer
       → AnswersDefinitely document recorded predicate answer
-  definitely_within : (document.beyond_width ≡ true → ¬ DecidesDefinitely recorded predicate)
+  definitely_within : (document.beyond_width ≡ true → ¬ IsDefinitelyDecided recorded predicate)
       → IsDefinitelyAnswer recorded.events (test_of recorded predicate) document.width answer
       → AnswersDefinitely document recorded predicate answer
 

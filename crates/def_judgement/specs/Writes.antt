@@ -11,7 +11,7 @@ use Rattle.def_format.specs.OtherTexts.{Finding, check_text}
 use Rattle.def_format.specs.Readings.{Trace, Open, Ended, Failed}
 use Rattle.def_format.specs.Reports.{Report, report_text}
 use Rattle.def_judgement.specs.Findings.{IsFinding, IsClean}
-use Rattle.def_judgement.specs.Headline.{HoldsSession, IsNarrow, IsTrueReport, TellsDecided, TellsTruth, is_judged}
+use Rattle.def_judgement.specs.Headline.{HoldsSession, IsNarrow, IsTrueReport, Coverage, TellsTruth, each_decided, each_predicate, is_judged}
 
 -- ---- what is left written
 
@@ -138,16 +138,10 @@ pub record IsFindingTextOf (document : Inquiry) (report : List ℕ) (inputs : Li
 
 -- ---- the truth
 
--- the text of a report that says the truth about each predicate of these traces
-pub record IsTrueText (document : Document) (traces : List Trace) (text : List ℕ) : Type 0 where
+-- the text of a report that says the truth about each predicate of these traces that is covered
+pub record IsTrueText (coverage : Coverage) (document : Document) (traces : List Trace) (text : List ℕ) : Type 0 where
   pub report : Report
-  pub truth : TellsTruth document traces report
-  pub is_text : text ≡ report_text report
-
--- the text of a report that says the truth about each predicate of these traces that is decided whatever the width
-pub record IsDecidedText (document : Document) (traces : List Trace) (text : List ℕ) : Type 0 where
-  pub report : Report
-  pub truth : TellsDecided document traces report
+  pub truth : TellsTruth coverage document traces report
   pub is_text : text ≡ report_text report
 
 -- What is written of traces that make a well-formed computation: with no level over the width, the text of a report
@@ -156,8 +150,9 @@ pub record IsDecidedText (document : Document) (traces : List Trace) (text : Lis
 pub record WritesTrueTexts (inquiry : Inquiry) (document : Document) (traces : List Trace)
     (old new : Option (List ℕ)) : Type 0 where
   pub within_width : IsNarrow (events_of_traces traces) document.width
-      → Writes (IsTrueText document traces) Whole old new
-  pub beyond_width : inquiry.options.beyond_width ≡ true → Writes (IsDecidedText document traces) Whole old new
+      → Writes (IsTrueText each_predicate document traces) Whole old new
+  pub beyond_width : inquiry.options.beyond_width ≡ true
+      → Writes (IsTrueText each_decided document traces) Whole old new
 
 -- If a document and streams hold a well-formed session, it is judged, and what is written is true.
 abbrev pub WritesTruth : (inquiry : Inquiry) (streams : List RawStream) (IsJudged : Type 0)

@@ -8,7 +8,7 @@ use Rattle.walk_back.specs.declared.answers.Answers.{Answers}
 use Rattle.walk_back.specs.declared.definitely_answer.DefinitelyAnswer.{DefinitelyAnswer}
 use Rattle.walk_back.specs.declared.possibly_answer.PossiblyAnswer.{PossiblyAnswer}
 use Rattle.def_model.specs.Answers.{IsExactDefinitely, IsExactPossibly}
-use Rattle.def_model.specs.Decided.{DecidesDefinitely, DecidesPossibly}
+use Rattle.def_wide.specs.Decided.{IsDefinitelyDecided, IsPossiblyDecided}
 use Rattle.def_model.specs.Predicates.{Predicate, Recorded, test_of}
 use Rattle.pd_pred.specs.Views.{predicate_view}
 use Rattle.pd_pred.specs.declared.predicate.Pred.{Pred}
@@ -16,16 +16,16 @@ use Rattle.pd_spec.specs.declared.named.NamedPred.{NamedPred}
 
 -- Possibly's answer for a predicate of the document, if it is decided whatever the width and asked for
 abbrev pub IsEarlyPossibly : Document → Recorded → Predicate → Option PossiblyAnswer → Type 0
-IsEarlyPossibly document r predicate None = document.beyond_width ≡ true → ¬ DecidesPossibly r predicate
+IsEarlyPossibly document r predicate None = document.beyond_width ≡ true → ¬ IsPossiblyDecided r predicate
 IsEarlyPossibly document r predicate (Some answer) =
-    (document.beyond_width ≡ true) × DecidesPossibly r predicate
+    (document.beyond_width ≡ true) × IsPossiblyDecided r predicate
     × IsExactPossibly r.events (test_of r predicate) (possibly_answer_view answer)
 
 -- Definitely's
 abbrev pub IsEarlyDefinitely : Document → Recorded → Predicate → Option DefinitelyAnswer → Type 0
-IsEarlyDefinitely document r predicate None = document.beyond_width ≡ true → ¬ DecidesDefinitely r predicate
+IsEarlyDefinitely document r predicate None = document.beyond_width ≡ true → ¬ IsDefinitelyDecided r predicate
 IsEarlyDefinitely document r predicate (Some answer) =
-    (document.beyond_width ≡ true) × DecidesDefinitely r predicate
+    (document.beyond_width ≡ true) × IsDefinitelyDecided r predicate
     × IsExactDefinitely r.events (test_of r predicate) (definitely_answer_view answer)
 
 -- an answer is left to the walk

@@ -6,7 +6,7 @@ ghost use Rattle.def_format.specs.Limits.{worker_limit};
 ghost use Rattle.def_format.specs.Readings as readings;
 ghost use Rattle.def_format.specs.Sessions.{session};
 ghost use Rattle.pd_gather.specs.Views.{ReadingFits, results_view};
-ghost use Rattle.def_judgement.specs.Headline.{IsNarrow, ReportAgrees, TellsDecided, TellsTruth};
+ghost use Rattle.def_judgement.specs.Headline.{IsNarrow, ReportAgrees, TellsTruth, each_decided, each_predicate};
 ghost use Rattle.def_judgement.specs.Judgements.{IsReportOfResults, events_of_traces};
 ghost use Rattle.def_model.specs.Order.{IsWellFormed};
 ghost use Rattle.pd_report.specs.Views.{report_view};
@@ -91,14 +91,14 @@ pub fn report_of<S: RandomSource + Threads + Wait + Sync, G: Gate + Sync>(
         → session (document_view spec.now).names gathered.streams (results_view gathered.readings.items) ≡ Ok traces
         → IsWellFormed (document_view spec.now).version (events_of_traces traces)
         → IsNarrow (events_of_traces traces) (document_view spec.now).width
-        → TellsTruth (document_view spec.now) traces (report_view report)) }
+        → TellsTruth each_predicate (document_view spec.now) traces (report_view report)) }
     // However wide it is, it tells the truth of each predicate that is decided whatever the width, if that is asked
     // for.
     ensures headline_beyond_width { IfOk result (λ report. (traces : List readings.Trace)
         → session (document_view spec.now).names gathered.streams (results_view gathered.readings.items) ≡ Ok traces
         → IsWellFormed (document_view spec.now).version (events_of_traces traces)
         → (document_view spec.now).beyond_width ≡ true
-        → TellsDecided (document_view spec.now) traces (report_view report)) }
+        → TellsTruth each_decided (document_view spec.now) traces (report_view report)) }
     // The answers for each predicate agree, also with a level over the width.
     ensures agrees { IfOk result (λ report. ReportAgrees (report_view report)) }
     ensures err { IsOkUnless result EngineFault.Memory }

@@ -1,13 +1,14 @@
-//! Both questions by terms: `possibly_by_terms`, `definitely_by_terms`, and `path_of_all` where no cut satisfies.
+//! Both questions by terms: `first_by_terms`, `definitely_by_terms`, and `path_of_all` where no cut satisfies.
+ghost use Rattle.def_model.specs.Predicates.{test_of};
+ghost use Rattle.def_wide.specs.Parts.{IsFirstIfAny};
 ghost use Rattle.pd_pred.specs.Views.{predicate_view};
-ghost use Rattle.wide_terms.specs.FirstCuts.{IsRightByTerms};
 
 use crate::definite::PATH;
-use pd_clock::Computation;
+use pd_clock::{Computation, Cut};
 use pd_pred::Pred;
 use pd_spec::Spec;
 use std::alloc::Global;
-use wide_terms::{ByTerms, PassageByTerms, definitely_by_terms, path_of_all, possibly_by_terms};
+use wide_terms::{PassageByTerms, definitely_by_terms, first_by_terms, has_few_terms, path_of_all};
 
 /// What the terms of a predicate decide: the first satisfying cut, that there is none, or nothing.
 #[derive(Clone, Copy)]
@@ -29,12 +30,11 @@ const ANSWERS: [Expected<'static>; 7] = [
     Expected::Undecided,
 ];
 
-/// Whether the answer is the expected one.
-fn is_expected(answer: &ByTerms, expected: Expected<'_>) -> bool {
-    match (answer, expected) {
-        (ByTerms::Satisfied(cut), Expected::First(counts)) => cut.counts() == counts,
-        (ByTerms::Unsatisfied, Expected::None) => true,
-        (ByTerms::Undecided, Expected::Undecided) => true,
+/// Whether the first satisfying cut, if there is one, is the expected one.
+fn is_expected(first: &Option<Cut>, expected: Expected<'_>) -> bool {
+    match (first, expected) {
+        (Some(cut), Expected::First(counts)) => cut.counts() == counts,
+        (None, Expected::None) => true,
         _ => false,
     }
 }
@@ -76,21 +76,49 @@ fn passage_after(
     alloc: Global,
     computation: &Computation<'_>,
     pred: &Pred,
-    answer: &ByTerms,
+    first: &Option<Cut>,
 ) -> Option<PassageByTerms>
-    requires { IsRightByTerms computation.now (predicate_view pred.now) answer.now }
+    requires { IsFirstIfAny computation.now.events (test_of computation.now (predicate_view pred.now)) first.now }
 {
-    match answer {
-        ByTerms::Satisfied(_) => match definitely_by_terms(alloc, computation, pred) {
+    match first {
+        Some(_) => match definitely_by_terms(alloc, computation, pred) {
             Ok(passage) => Some(passage),
             Err(_) => None,
         },
-        ByTerms::Unsatisfied => match path_of_all(alloc, computation) {
+        None => match path_of_all(alloc, computation) {
             Ok(path) => Some(PassageByTerms::Avoided(path)),
             Err(_) => None,
         },
-        ByTerms::Undecided => Some(PassageByTerms::Undecided),
     }
+}
+
+/// Whether neither answer is expected.
+fn are_undecided(expected: Expected<'_>, way: Way) -> bool {
+    match (expected, way) {
+        (Expected::Undecided, Way::Undecided) => true,
+        _ => false,
+    }
+}
+
+/// Whether a predicate has these answers. Nothing if memory was refused.
+fn has_answers(
+    alloc: Global,
+    computation: &Computation<'_>,
+    pred: &Pred,
+    expected: Expected<'_>,
+    way: Way,
+) -> Option<bool> {
+    let tree = pred.tree();
+    if !has_few_terms(tree, false) {
+        return Some(are_undecided(expected, way));
+    }
+    let Ok(first) = first_by_terms(alloc, computation, tree, false) else {
+        return None;
+    };
+    let Some(passage) = passage_after(alloc, computation, pred, &first) else {
+        return None;
+    };
+    Some(is_expected(&first, expected) && is_way(&passage, way))
 }
 
 /// Whether each predicate has its answers. Nothing if memory was refused.
@@ -108,13 +136,10 @@ pub(crate) fn are_decided(
         let Some(way) = WAYS.get(at) else {
             return Some(false);
         };
-        let Ok(answer) = possibly_by_terms(alloc, computation, &named[at].pred) else {
+        let Some(has) = has_answers(alloc, computation, &named[at].pred, *expected, *way) else {
             return None;
         };
-        let Some(passage) = passage_after(alloc, computation, &named[at].pred, &answer) else {
-            return None;
-        };
-        right = right && is_expected(&answer, *expected) && is_way(&passage, *way);
+        right = right && has;
     }
     Some(right)
 }

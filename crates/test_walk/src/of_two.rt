@@ -1,9 +1,10 @@
-//! Both questions by the counts of two processes: `possibly_of_two` and `definitely_of_two`.
+//! Both questions by the counts of two processes: `first_of_two` and `definitely_of_two`.
 use crate::definite::PATH;
-use pd_clock::Computation;
+use pd_clock::{Computation, Cut};
+use pd_pred::Pred;
 use pd_spec::Spec;
 use std::alloc::Global;
-use wide_pairs::{FirstOfTwo, PassageOfTwo, definitely_of_two, possibly_of_two};
+use wide_pairs::{PassageOfTwo, definitely_of_two, first_of_two, is_of_two};
 
 /// For each predicate of the session of three processes the first satisfying cut and the level, if there is one of
 /// each, or nothing if it names three processes.
@@ -18,14 +19,11 @@ const ANSWERS: [Option<(Option<[u64; 3]>, Option<u64>)>; 7] = [
 ];
 
 /// Whether this is the first satisfying cut, or there is none.
-fn is_first(found: &FirstOfTwo, first: Option<[u64; 3]>) -> bool {
-    match found {
-        FirstOfTwo::Satisfied(cut) => match first {
-            Some(counts) => cut.counts() == counts.as_slice(),
-            None => false,
-        },
-        FirstOfTwo::Unsatisfied => first.is_none(),
-        FirstOfTwo::Undecided => false,
+fn is_first(found: &Option<Cut>, first: Option<[u64; 3]>) -> bool {
+    match (found, first) {
+        (Some(cut), Some(counts)) => cut.counts() == counts.as_slice(),
+        (None, None) => true,
+        _ => false,
     }
 }
 
@@ -38,11 +36,34 @@ fn is_passage(found: &PassageOfTwo, level: Option<u64>) -> bool {
     }
 }
 
-/// Whether neither question is decided.
-fn are_undecided(first: &FirstOfTwo, passage: &PassageOfTwo) -> bool {
-    match (first, passage) {
-        (FirstOfTwo::Undecided, PassageOfTwo::Undecided) => true,
+/// Whether this is undecided.
+fn is_undecided(passage: &PassageOfTwo) -> bool {
+    match passage {
+        PassageOfTwo::Undecided => true,
         _ => false,
+    }
+}
+
+/// Whether a predicate has these answers. Nothing if memory was refused.
+fn has_answers(
+    alloc: Global,
+    computation: &Computation<'_>,
+    pred: &Pred,
+    expected: Option<(Option<[u64; 3]>, Option<u64>)>,
+) -> Option<bool> {
+    let tree = pred.tree();
+    let Ok(passage) = definitely_of_two(alloc, computation, pred) else {
+        return None;
+    };
+    if !is_of_two(computation, tree) {
+        return Some(expected.is_none() && is_undecided(&passage));
+    }
+    let Ok(first) = first_of_two(alloc, computation, tree, false) else {
+        return None;
+    };
+    match expected {
+        Some((cut, level)) => Some(is_first(&first, cut) && is_passage(&passage, level)),
+        None => Some(false),
     }
 }
 
@@ -58,17 +79,10 @@ pub(crate) fn are_of_two(
         let Some(expected) = ANSWERS.get(at) else {
             return Some(false);
         };
-        let Ok(first) = possibly_of_two(alloc, computation, &named[at].pred) else {
+        let Some(has) = has_answers(alloc, computation, &named[at].pred, *expected) else {
             return None;
         };
-        let Ok(passage) = definitely_of_two(alloc, computation, &named[at].pred) else {
-            return None;
-        };
-        right = right
-            && match *expected {
-                Some((cut, level)) => is_first(&first, cut) && is_passage(&passage, level),
-                None => are_undecided(&first, &passage),
-            };
+        right = right && has;
     }
     Some(right)
 }

@@ -5,22 +5,22 @@ use Rattle.walk_back.specs.Answers.{definitely_answer_view, possibly_answer_view
 use Rattle.walk_back.specs.declared.definitely_answer.DefinitelyAnswer.{DefinitelyAnswer}
 use Rattle.walk_back.specs.declared.possibly_answer.PossiblyAnswer.{PossiblyAnswer}
 use Rattle.def_model.specs.Answers.{IsExactDefinitely, IsExactPossibly}
-use Rattle.def_model.specs.Decided.{DecidesDefinitely, DecidesPossibly}
 use Rattle.def_model.specs.Events.{Computation}
 use Rattle.def_model.specs.Predicates.{Predicate, Recorded, test_of}
+use Rattle.def_wide.specs.Decided.{IsDefinitelyDecided, IsPossiblyDecided}
 use Rattle.wide_terms.specs.Passages.{IsPathOfAll}
 
--- Possibly's answer, if the predicate is one that decides it
+-- Possibly's answer, if it is decided
 abbrev pub FindsPossibly : Recorded → Predicate → Option PossiblyAnswer → Type 0
-FindsPossibly r predicate None = ¬ DecidesPossibly r predicate
+FindsPossibly r predicate None = ¬ IsPossiblyDecided r predicate
 FindsPossibly r predicate (Some answer) =
-    DecidesPossibly r predicate × IsExactPossibly r.events (test_of r predicate) (possibly_answer_view answer)
+    IsPossiblyDecided r predicate × IsExactPossibly r.events (test_of r predicate) (possibly_answer_view answer)
 
--- Definitely's answer, if the predicate is one that decides it
+-- Definitely's answer, if it is decided
 abbrev pub FindsDefinitely : Recorded → Predicate → Option DefinitelyAnswer → Type 0
-FindsDefinitely r predicate None = ¬ DecidesDefinitely r predicate
+FindsDefinitely r predicate None = ¬ IsDefinitelyDecided r predicate
 FindsDefinitely r predicate (Some answer) =
-    DecidesDefinitely r predicate × IsExactDefinitely r.events (test_of r predicate) (definitely_answer_view answer)
+    IsDefinitelyDecided r predicate × IsExactDefinitely r.events (test_of r predicate) (definitely_answer_view answer)
 
 -- the path printed where no cut satisfies, if it is known
 abbrev pub IsPathIfKnown : Computation → Option (Vec ℕ Global) → Type 0

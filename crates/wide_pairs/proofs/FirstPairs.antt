@@ -31,7 +31,7 @@ lex_cases (x ∷ xs) (y ∷ ys) l = go (cases_order x y) (lex_cases xs ys (omega
     go (inl e) (inr (inr b)) = inr (inr (inr (sym e, b)))
 
 -- what isn't before another comes after it, or is it
-first_if_not_after : (a b : List ℕ) → length a ≡ length b → ¬ ComesBefore b a → ComesFirst a b
+pub first_if_not_after : (a b : List ℕ) → length a ≡ length b → ¬ ComesBefore b a → ComesFirst a b
 first_if_not_after a b l not_before = go (cases_order (sum a) (sum b)) (lex_cases a b l)
   where
     go : (sum a ≡ sum b) ⊎ ((sum a < sum b) ⊎ (sum b < sum a)) → LexBelow a b ⊎ ((a ≡ b) ⊎ LexBelow b a)
@@ -42,12 +42,12 @@ first_if_not_after a b l not_before = go (cases_order (sum a) (sum b)) (lex_case
     go (inl e) (inr (inl s)) = inl s
     go (inl e) (inr (inr below)) = absurd (not_before (inr (sym e, below)))
 
-first_onward : (a b d : List ℕ) → ComesFirst a b → ComesFirst b d → ComesFirst a d
+pub first_onward : (a b d : List ℕ) → ComesFirst a b → ComesFirst b d → ComesFirst a d
 first_onward a b d (inl same) r = subst (λ (x : List ℕ). ComesFirst x d) (sym same) r
 first_onward a b d (inr before) (inl same) = inr (subst (λ (x : List ℕ). ComesBefore a x) same before)
 first_onward a b d (inr before) (inr onward) = inr (before_onward a b d before onward)
 
-same_length : (c : Computation) (a b : List ℕ) → IsConsistent c a → IsConsistent c b → length a ≡ length b
+pub same_length : (c : Computation) (a b : List ℕ) → IsConsistent c a → IsConsistent c b → length a ≡ length b
 same_length c a b oka okb = oka.fits.one_each ∙ sym okb.fits.one_each
 
 -- a cut within another comes first

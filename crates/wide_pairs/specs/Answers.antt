@@ -1,20 +1,10 @@
 -- What the counts of two processes decide of a predicate that speaks of these two alone.
-use Rattle.def_model.specs.Answers.{IsFirstSatisfying, IsLeastFree, IsPrintedPath}
-use Rattle.def_model.specs.Observations.{Definitely, Possibly}
+use Rattle.def_model.specs.Answers.{IsLeastFree, IsPrintedPath}
+use Rattle.def_model.specs.Observations.{Definitely}
 use Rattle.def_model.specs.Predicates.{Predicate, Recorded, test_of}
 use Rattle.def_model.specs.Decided.{IsOfTwo}
-use Rattle.wide_pairs.specs.declared.possibly.FirstOfTwo.{FirstOfTwo}
-use Rattle.wide_pairs.specs.declared.possibly.FirstOfTwo.TheVariants as first
 use Rattle.wide_pairs.specs.declared.definitely.PassageOfTwo.{PassageOfTwo}
 use Rattle.wide_pairs.specs.declared.definitely.PassageOfTwo.TheVariants as passage
-
--- The first satisfying cut; or none satisfies; or the predicate isn't of two.
-abbrev pub IsRightFirst : Recorded → Predicate → FirstOfTwo → Type 0
-IsRightFirst r predicate (first.Satisfied cut) =
-    IsOfTwo r.events predicate × IsFirstSatisfying r.events (test_of r predicate) cut
-IsRightFirst r predicate first.Unsatisfied =
-    IsOfTwo r.events predicate × (¬ Possibly r.events (test_of r predicate))
-IsRightFirst r predicate first.Undecided = ¬ IsOfTwo r.events predicate
 
 -- Every observation passes through a satisfying cut, and this is the least level that has no avoiding one; or there is
 -- an avoiding observation, and this is the path that is printed; or the predicate isn't of two.

@@ -1,6 +1,7 @@
 //! The predicate by the counts of its two processes.
 ghost use Rattle.wide_pairs.specs.Tests.{IsByCounts, pair_holds};
 ghost use Rattle.def_model.specs.Decided.{NamesOnly};
+ghost use Rattle.def_wide.specs.Parts.{opposite_if};
 ghost use Rattle.pd_pred.specs.Trees.{tree_view};
 ghost use Rattle.walk_keys.specs.Words.{has_bit};
 ghost use Rattle.std.specs.Prelude.{◌≡◌, ◌+◌, ◌<◌, ◌≤◌, ℕ, IfOk, length};
@@ -116,4 +117,28 @@ pub(crate) fn test_of(
             Ok(PairTest::Or(Box::new(alloc, left)?, Box::new(alloc, right)?))
         }
     }
+}
+
+/// The same of its opposite where `negated`.
+///
+/// # Errors
+/// An allocation was refused.
+pub(crate) fn turned_test(
+    alloc: Global,
+    computation: &Computation<'_>,
+    pair: Pair,
+    tree: &Tree,
+    negated: bool,
+) -> Result<PairTest, AllocError>
+    requires order { pair.first < pair.second }
+    requires there { pair.second < length computation.now.events }
+    requires only { NamesOnly pair.first pair.second (tree_view tree.now) }
+    ensures { IfOk result (λ test. IsByCounts computation.now pair.first pair.second
+        (opposite_if negated (tree_view tree.now)) (pair_holds test)) }
+{
+    let test = test_of(alloc, computation, pair, tree)?;
+    if negated {
+        return Ok(PairTest::Not(Box::new(alloc, test)?));
+    }
+    Ok(test)
 }

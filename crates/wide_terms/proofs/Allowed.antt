@@ -7,10 +7,11 @@ use Rattle.std.proofs.lemmas.Option.{slice_get_cases}
 use Rattle.std.specs.Global.{Global}
 use Rattle.wide_conjunctions.specs.CutOrder.{IsGoodForSome}
 use Rattle.def_model.specs.Predicates.{Predicate, Recorded, test_of}
-use Rattle.std.specs.Prelude.{Bool, IfNone, IfSome, Vec, true, false, ◌&&◌, ◌||◌, cond, nat_eq, slice_get, slice_index, unwrap_or}
+use Rattle.std.specs.Prelude.{Bool, IfNone, Vec, true, false, ◌&&◌, ◌||◌, cond, nat_eq, slice_get, slice_index, unwrap_or}
 use Rattle.wide_conjunctions.specs.LeastCuts.{IsGood}
 use Rattle.wide_terms.specs.FirstCuts.{goods_of}
-use Rattle.wide_terms.specs.Rows.{AreTermsOf, AreWithin, numbers_view, row_allows, row_holds, term_allows, term_holds, terms_hold}
+use Rattle.def_wide.specs.Parts.{opposite_if}
+use Rattle.wide_terms.specs.Rows.{AreTermsOf, AreWithin, numbers_view, row_allows, row_holds, term_allows, term_holds, terms_hold, turned}
 use Rattle.wide_terms.specs.Truths.{truth_at}
 use Rattle.wide_terms.specs.declared.row.TruthRow.{TruthRow}
 use Rattle.wide_terms.specs.declared.terms.Terms.{Terms}
@@ -132,31 +133,35 @@ at_place P rows i row all at = go (slice_get_cases rows i).1
         subst P (ap (λ (o : Option TruthRow). unwrap_or o w.0) (sym w.2 ∙ at)) (subst P w.3 (all i w.0 w.1))
     go (inr w) = absurd (subst (λ (o : Option TruthRow). IfNone o ⊥) (sym (sym w.1 ∙ at)) tt)
 
+-- the opposite of a truth is the truth of the opposite
+pub turned_test : (negated : Bool) (r : Recorded) (predicate : Predicate) (cut : List ℕ)
+    → turned negated (test_of r predicate cut) ≡ test_of r (opposite_if negated predicate) cut
+turned_test true r predicate cut = refl
+turned_test false r predicate cut = refl
+
 -- a consistent cut satisfies the predicate exactly if it is good for some term
-pub good_for_some : (r : Recorded) (predicate : Predicate) (rows : List TruthRow) (terms : List (List ℕ))
-    → 1 ≤ length r.events → AreTermsOf r false predicate rows terms → AreWithin r rows
-    → IsGoodForSome r.events (test_of r predicate) (goods_of rows terms) (length terms)
-good_for_some r predicate rows terms some terms_of within cut consistent =
+pub good_for_some : (negated : Bool) (r : Recorded) (predicate : Predicate) (rows : List TruthRow)
+    (terms : List (List ℕ)) → 1 ≤ length r.events → AreTermsOf r negated predicate rows terms → AreWithin r rows
+    → IsGoodForSome r.events (test_of r (opposite_if negated predicate)) (goods_of rows terms) (length terms)
+good_for_some negated r predicate rows terms some terms_of within cut consistent =
     let many : length cut ≡ length r.events = consistent.fits.one_each in
     let there : AreOfCut rows cut = λ i row at.
     rw many (at_place (λ (q : TruthRow). q.process < length r.events) rows i row within at) in
-    let holds : terms_hold rows terms cut ≡ test_of r predicate cut = terms_of.hold cut consistent.fits in
+    let holds : terms_hold rows terms cut ≡ test_of r (opposite_if negated predicate) cut =
+    terms_of.hold cut consistent.fits ∙ turned_test negated r predicate cut in
     let good = some_good rows terms cut (omega arith) there in (
       λ satisfies. good.0 (holds ∙ satisfies),
       λ w. sym holds ∙ good.1 w,
     )
 
 -- the same of terms that were found
-pub found_good : (r : Recorded) (predicate : Predicate) (found : Option Terms) (terms : Terms) → found ≡ Some terms
-    → IfSome found (λ t. AreTermsOf r false predicate t.rows.items (numbers_view t.terms.items))
-    → IfSome found (λ t. AreWithin r t.rows.items) → 1 ≤ length r.events
-    → IsGoodForSome r.events (test_of r predicate) (goods_of terms.rows.items (numbers_view terms.terms.items))
-    (length terms.terms.items)
-found_good r predicate found terms is holds within some =
-    subst (λ (n : ℕ). IsGoodForSome r.events (test_of r predicate)
+pub terms_good : (negated : Bool) (r : Recorded) (predicate : Predicate) (terms : Terms)
+    → AreTermsOf r negated predicate terms.rows.items (numbers_view terms.terms.items)
+    → AreWithin r terms.rows.items → 1 ≤ length r.events
+    → IsGoodForSome r.events (test_of r (opposite_if negated predicate))
+    (goods_of terms.rows.items (numbers_view terms.terms.items)) (length terms.terms.items)
+terms_good negated r predicate terms holds within some =
+    subst (λ (n : ℕ). IsGoodForSome r.events (test_of r (opposite_if negated predicate))
     (goods_of terms.rows.items (numbers_view terms.terms.items)) n)
     (length-map terms.terms.items (λ (term : Vec ℕ Global). term.items))
-    (good_for_some r predicate terms.rows.items (numbers_view terms.terms.items) some
-    (subst (λ (f : Option Terms). IfSome f (λ t. AreTermsOf r false predicate t.rows.items
-    (numbers_view t.terms.items))) is holds)
-    (subst (λ (f : Option Terms). IfSome f (λ t. AreWithin r t.rows.items)) is within))
+    (good_for_some negated r predicate terms.rows.items (numbers_view terms.terms.items) some holds within)

@@ -6,6 +6,7 @@ pub mod Firsts
 pub mod Allowed
 pub mod Oring
 pub mod Conjoining
+pub mod Opposites
 pub mod Sharing
 pub mod Changing
 pub mod RowSteps

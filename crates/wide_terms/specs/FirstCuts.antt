@@ -2,14 +2,8 @@
 use Rattle.std.specs.Prelude.{ℕ, ◌<◌, Bool, List, [], slice_index_or, Option, Some, None}
 use Rattle.wide_conjunctions.specs.CutOrder.{IsFirstLeast}
 use Rattle.wide_conjunctions.specs.LeastCuts.{HasNoGood}
-use Rattle.def_model.specs.Answers.{IsFirstSatisfying}
 use Rattle.def_model.specs.Events.{Computation}
-use Rattle.def_model.specs.Observations.{Possibly}
-use Rattle.def_model.specs.Predicates.{Predicate, Recorded, test_of}
-use Rattle.def_model.specs.Decided.{HasFewTerms}
 use Rattle.wide_terms.specs.Rows.{term_allows}
-use Rattle.wide_terms.specs.declared.first.ByTerms.{ByTerms}
-use Rattle.wide_terms.specs.declared.first.ByTerms.TheVariants.{Satisfied, Unsatisfied, Undecided}
 use Rattle.wide_terms.specs.declared.row.TruthRow.{TruthRow}
 
 -- the counts that are good for the term with this number
@@ -20,10 +14,3 @@ goods_of rows terms i = term_allows rows (slice_index_or terms i [])
 abbrev pub IsFirstSoFar : Computation → (ℕ → ℕ → ℕ → Bool) → ℕ → Option (List ℕ) → Type 0
 IsFirstSoFar c goods n None = (i : ℕ) → i < n → HasNoGood c (goods i)
 IsFirstSoFar c goods n (Some cut) = IsFirstLeast c goods n cut
-
--- The first satisfying cut; or none satisfies; or the predicate isn't one that its terms decide.
-abbrev pub IsRightByTerms : Recorded → Predicate → ByTerms → Type 0
-IsRightByTerms r predicate (Satisfied cut) =
-    HasFewTerms predicate × IsFirstSatisfying r.events (test_of r predicate) cut
-IsRightByTerms r predicate Unsatisfied = HasFewTerms predicate × (¬ Possibly r.events (test_of r predicate))
-IsRightByTerms r predicate Undecided = ¬ HasFewTerms predicate

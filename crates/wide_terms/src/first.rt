@@ -3,27 +3,19 @@ ghost use Rattle.def_format.specs.Limits.{event_limit, process_limit};
 ghost use Rattle.wide_conjunctions.specs.CutOrder.{IsFirstLeast};
 ghost use Rattle.wide_conjunctions.specs.LeastCuts.{IsLeastGood};
 ghost use Rattle.def_model.specs.Events.{Computation as Events};
-ghost use Rattle.pd_pred.specs.Views.{predicate_view};
-ghost use Rattle.wide_terms.specs.FirstCuts.{IsFirstSoFar, IsRightByTerms, goods_of};
+ghost use Rattle.def_model.specs.Decided.{HasFewTerms};
+ghost use Rattle.def_model.specs.Predicates.{test_of};
+ghost use Rattle.def_wide.specs.Parts.{IsFirstIfAny, opposite_if};
+ghost use Rattle.pd_pred.specs.Trees.{tree_view};
+ghost use Rattle.wide_terms.specs.FirstCuts.{IsFirstSoFar, goods_of};
 ghost use Rattle.wide_terms.specs.Rows.{numbers_view};
 ghost use Rattle.std.specs.Prelude.{◌≡◌, ◌+◌, ◌*◌, ◌≤◌, ℕ, Bool, IfOk, IfSome, length, sum};
 
 use super::terms::Terms;
 use pd_clock::{Computation, Cut};
-use pd_pred::Pred;
+use pd_pred::Tree;
 use std::alloc::{AllocError, Global};
 use wide_conjunctions::{is_before, least_good};
-
-/// Whether some consistent cut satisfies a predicate, as far as its terms decide it.
-#[derive(Drop)]
-pub enum ByTerms {
-    /// Yes: the first satisfying cut.
-    Satisfied(Cut),
-    /// No consistent cut satisfies.
-    Unsatisfied,
-    /// A comparison speaks of several processes, or there are more terms than may be.
-    Undecided,
-}
 
 /// The first of the cuts so far, and of one more.
 fn earlier(first: Option<Cut>, cut: Cut) -> Cut
@@ -64,29 +56,29 @@ fn first_least(
     Ok(first)
 }
 
-/// Whether some consistent cut satisfies a predicate, whatever the width, if each of its comparisons speaks of one
-/// process at most and it has no more than `TERM_LIMIT` terms. No level is walked: each term takes time for the events,
-/// times the processes.
+/// The first consistent cut that satisfies a predicate which has few terms, or its opposite where `negated`, whatever
+/// the width. No level is walked: each term takes time for the events, times the processes.
 ///
 /// Source: Garg and Waldecker, Detection of Weak Unstable Predicates in Distributed Programs, 1994.
 ///
 /// # Errors
 /// An allocation was refused.
-pub fn possibly_by_terms(
+pub fn first_by_terms(
     alloc: Global,
     computation: &Computation<'_>,
-    pred: &Pred,
-) -> Result<ByTerms, AllocError>
-    ensures { IfOk result (IsRightByTerms computation.now (predicate_view pred.now)) }
+    tree: &Tree,
+    negated: bool,
+) -> Result<Option<Cut>, AllocError>
+    requires { HasFewTerms (opposite_if negated (tree_view tree.now)) }
+    ensures { IfOk result (IsFirstIfAny computation.now.events
+        (test_of computation.now (opposite_if negated (tree_view tree.now)))) }
 {
     // the laws that the proof uses
     wide_conjunctions::first_of_least();
     computation.limits();
-    match Terms::of(alloc, computation, pred)? {
-        None => Ok(ByTerms::Undecided),
-        Some(terms) => match first_least(alloc, computation, &terms)? {
-            Some(cut) => Ok(ByTerms::Satisfied(cut)),
-            None => Ok(ByTerms::Unsatisfied),
-        },
+    let terms = Terms::of(alloc, computation, tree, negated)?;
+    match first_least(alloc, computation, &terms)? {
+        Some(cut) => Ok(Some(cut)),
+        None => Ok(None),
     }
 }

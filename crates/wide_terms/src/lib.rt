@@ -13,6 +13,7 @@
 //!
 //! - `local`: whether each comparison speaks of one process at most
 //! - `count`: how many terms a predicate has
+//! - `few`: whether it has few of them
 //! - `changes`: which events change what is true of a comparison
 //! - `truths`: truths by count, as the bits of words
 //! - `row`: where a comparison holds
@@ -31,6 +32,7 @@ mod changes;
 mod clause;
 mod conjunction;
 mod count;
+mod few;
 mod first;
 mod known;
 mod local;
@@ -41,7 +43,8 @@ mod terms;
 mod truths;
 
 pub use clause::{ByClause, definitely_by_clause};
-pub use first::{ByTerms, possibly_by_terms};
+pub use few::{TERM_LIMIT, has_few_terms};
+pub use first::first_by_terms;
 pub use never::path_of_all;
 pub use passage::{PassageByTerms, definitely_by_terms};
-pub use terms::{TERM_LIMIT, Term, Terms};
+pub use terms::{Term, Terms};

@@ -1,23 +1,18 @@
 //! The terms of a predicate.
 ghost use Rattle.walk_keys.specs.Words.{has_bit};
-ghost use Rattle.pd_pred.specs.Views.{predicate_view};
-ghost use Rattle.def_model.specs.Decided.{HasFewTerms};
+ghost use Rattle.pd_pred.specs.Trees.{tree_view};
+ghost use Rattle.def_model.specs.Decided.{IsLocal};
 ghost use Rattle.wide_terms.specs.Rows.{AreOf, AreTermsOf, AreWithin, numbers_view, row_allows, term_allows};
-ghost use Rattle.std.specs.Prelude.{◌≡◌, ◌+◌, ◌*◌, ◌<◌, ℕ, All, IfOk, IfSome, None, Ok, Some, false, length, slice_get};
+ghost use Rattle.std.specs.Prelude.{◌≡◌, ◌+◌, ◌*◌, ◌<◌, ℕ, All, IfOk, Some, length, slice_get};
 
 use super::build::build;
-use super::count::count;
-use super::local::is_local;
 use super::row::TruthRow;
 use super::truths::word_at;
 use pd_clock::Computation;
-use pd_pred::Pred;
+use pd_pred::Tree;
 use std::alloc::{AllocError, Global};
 use walk_keys::bits::{BITS, both, down, has, least, lowest, words};
 use wide_conjunctions::GoodCounts;
-
-/// How many terms a predicate may have that is answered by its terms.
-pub const TERM_LIMIT: u64 = 4_096;
 
 /// A predicate as an `or` of terms, over the counts of a computation.
 #[derive(Drop)]
@@ -46,30 +41,26 @@ fn allowed(row: &TruthRow, process: usize, number: u64) -> u64
 }
 
 impl Terms {
-    /// The terms of a predicate, if each of its comparisons speaks of one process at most and it has no more than
-    /// `TERM_LIMIT` terms.
+    /// The terms of a predicate of which each comparison speaks of one process at most, or of its opposite where
+    /// `negated`.
     ///
     /// # Errors
     /// An allocation was refused.
     pub fn of(
         alloc: Global,
         computation: &Computation<'_>,
-        pred: &Pred,
-    ) -> Result<Option<Terms>, AllocError>
-        ensures none { result ≡ Ok None → ¬ HasFewTerms (predicate_view pred.now) }
-        ensures few { IfOk result (λ found. IfSome found (λ terms. HasFewTerms (predicate_view pred.now))) }
-        ensures within { IfOk result (λ found. IfSome found (λ terms. AreWithin computation.now terms.rows.items)) }
-        ensures hold { IfOk result (λ found. IfSome found (λ terms. AreTermsOf computation.now false
-            (predicate_view pred.now) terms.rows.items (numbers_view terms.terms.items))) }
+        tree: &Tree,
+        negated: bool,
+    ) -> Result<Terms, AllocError>
+        requires { IsLocal (tree_view tree.now) }
+        ensures within { IfOk result (λ terms. AreWithin computation.now terms.rows.items) }
+        ensures hold { IfOk result (λ terms. AreTermsOf computation.now negated (tree_view tree.now) terms.rows.items
+            (numbers_view terms.terms.items)) }
     {
-        let tree = pred.tree();
-        if !is_local(tree) || count(tree, false) > TERM_LIMIT {
-            return Ok(None);
-        }
         let mut rows = Vec::new(alloc);
         let mut known = Vec::new(alloc);
-        let terms = build(alloc, computation, tree, false, &mut rows, &mut known)?;
-        Ok(Some(Terms { rows, terms }))
+        let terms = build(alloc, computation, tree, negated, &mut rows, &mut known)?;
+        Ok(Terms { rows, terms })
     }
 
     /// How many terms there are.

@@ -1,8 +1,7 @@
 -- A test that no cut satisfies is a conjunction of no good counts, so that some observation avoids.
-use Rattle.std.proofs.Common.{ℕ, Bool, List, false, subst}
+use Rattle.std.proofs.Common.{false, subst}
 use Rattle.wide_conjunctions.specs.Passages.{IsPassage}
 use Rattle.wide_conjunctions.specs.declared.passage.Passage.{Passage}
-use Rattle.wide_conjunctions.specs.declared.passage.Passage.TheVariants as passages
 use Rattle.def_model.proofs.OneAnswer.{definite_is_possible}
 use Rattle.wide_terms.proofs.Conjoining.{never_good}
 use Rattle.wide_terms.proofs.never.path_of_all.Goals as goal

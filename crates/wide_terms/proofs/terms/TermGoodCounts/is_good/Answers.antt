@@ -1,5 +1,5 @@
 -- The count is one of its word.
-use Rattle.std.proofs.Common.{◌≡◌, ◌+◌, ◌*◌, ◌/◌, ◌%◌, ℕ, ap, ◌∙◌, arith}
+use Rattle.std.proofs.Common.{◌≡◌, ◌+◌, ◌*◌, ◌/◌, ◌%◌, ap, ◌∙◌, arith}
 use Rattle.wide_terms.specs.Rows.{term_allows}
 use Rattle.wide_terms.proofs.terms.TermGoodCounts.is_good.Goals as goal
 
