@@ -51,6 +51,7 @@ LINES_WANTED = {
     "width, conjunction: .* yes": 6, "width, conjunction: .* no": 15,
     "width, clause: .* yes": 3, "width, clause: .* no": 3,
     "width, terms: Possibly yes": 4, "width, terms: Possibly no": 2, "width, terms: Definitely no": 2,
+    "width, parts: Possibly yes": 2, "width, parts: Possibly no": 2, "width, parts: Definitely no": 2,
     "width, undecided: Possibly unknown": 6, "width, undecided: Definitely unknown": 12,
 }
 RELATIONS = {"==": operator.eq, "!=": operator.ne, "<": operator.lt, "<=": operator.le, ">": operator.gt,
@@ -194,8 +195,26 @@ def is_or(tree):
     return word != "and" and all(map(is_or, parts))
 
 
+def parts_of(predicate, negated=False):
+    """The parts of the predicate as an `or`, or of its opposite: an `and` under a `not` is an `or`, too."""
+    word, *parts = predicate
+    if word == "not":
+        return parts_of(parts[0], not negated)
+    if word == ("and" if negated else "or"):
+        return [it for part in parts for it in parts_of(part, negated)]
+    return [("not", predicate) if negated else predicate]
+
+
 def ways(session, predicate, satisfying):
     """Why Possibly of the predicate is decided without the levels, and why Definitely is: nothing if it isn't."""
+    whole = whole_ways(session, predicate, satisfying)
+    if whole[0] or not all(whole_ways(session, part, True)[0] for part in parts_of(predicate)):
+        return whole
+    return ["parts", None if satisfying else "parts"]
+
+
+def whole_ways(session, predicate, satisfying):
+    """The same without the parts of an `or`."""
     named_there, tree = comparisons(predicate), pushed_down(predicate)
     is_local = all(len(processes) < 2 for processes in named_there)
     if len(session.names) > 1 and len(set().union(*named_there)) < 3:
@@ -494,10 +513,10 @@ def draw_tree(draw, leaf, depth=3):
     return leaf()
 
 
-def draw_literal(draw, session, process, cuts, at):
-    """A comparison that names this process alone. As a rule it doesn't hold at the first of these cuts, and does at the
-    one of this number; or, if there is no number, at few of them."""
-    tries = [draw_comparison(draw, session, [process]) for _ in range(draw.choice([1, 6, 6]))]
+def draw_literal(draw, session, processes, cuts, at):
+    """A comparison that names none but these processes. As a rule it doesn't hold at the first of these cuts, and does
+    at the one of this number; or, if there is no number, at few of them."""
+    tries = [draw_comparison(draw, session, processes) for _ in range(draw.choice([1, 6, 6]))]
     held = [[holds(session, cut, tree) for cut in cuts] for tree in tries]
     return min(zip(tries, held), key=lambda it: (at is not None and not it[1][at], it[1][0], sum(it[1])))[0]
 
@@ -525,11 +544,12 @@ def draw_product(draw, leaf):
 
 def draw_predicate(draw, session, cuts):
     """A predicate as a tree: a word with its parts; a comparison's parts are sums of a sign, a factor and a reference,
-    or the factor alone. Many name two processes, and many have comparisons that name one each."""
+    or the factor alone. Many name two processes, many have comparisons that name one each, and many are an `or` of
+    comparisons that name two each."""
     everyone = range(len(session.names))
     two = draw.sample(everyone, min(2, len(everyone)))
     kind = draw.choice(["any", "any", "two", "two", "local", "local", "and", "and", "and", "or", "or", "or", "terms",
-                        "terms", "product" if draw.random() < 0.3 else "any"])
+                        "terms", "parts", "parts", "parts", "product" if draw.random() < 0.3 else "any"])
     if kind in ("any", "two"):
         return draw_tree(draw, lambda: draw_comparison(draw, session, everyone if kind == "any" else two))
     if kind == "local":
@@ -537,11 +557,18 @@ def draw_predicate(draw, session, cuts):
 
     def literals(processes):
         at = None if kind == "or" else draw.randrange(1, len(cuts))
-        return [draw_literal(draw, session, process, cuts, at) for process in processes]
+        return [draw_literal(draw, session, [process], cuts, at) for process in processes]
     if kind == "product":
         return draw_product(draw, lambda: literals([draw.choice(everyone)])[0])
     busy = sorted(everyone, key=lambda process: (not session.events[process], draw.random()))
     rows = [literals(draw.sample(busy[:6], min(len(everyone), draw.choice([2, 3, 3, 3, 4])))) for _ in range(3)]
+    if kind == "parts":
+        pairs = [draw.sample(everyone, min(2, len(everyone))) for _ in range(draw.choice([2, 3, 3, 4]))]
+        parts = [draw_literal(draw, session, pair, cuts, None) for pair in pairs]
+        if draw.random() < 0.3:
+            parts[0] = draw_row(draw, "and", rows[0])
+        turned = draw.random() < 0.4
+        return ("not", draw_row(draw, "or", parts, True)) if turned else draw_row(draw, "or", parts)
     if kind == "terms":
         return draw_row(draw, "or", [draw_row(draw, "and", row) for row in rows[:draw.choice([2, 3])]])
     return draw_row(draw, kind, rows[0])
