@@ -184,15 +184,32 @@ def messages():
                   b=B + '{"recv":"m1"}\n{"send":"m2"}\n' + END)
 
 
+def bundle(*parts):
+    """A bundle of a document and streams."""
+    return "---\n".join(parts).encode()
+
+
 def bundles():
-    yield Case("a document in a bundle", input=document(width=0).encode() + b"---\n" + A.encode())
-    yield Case("a predicate in a bundle", input=document("a.x = 1").encode() + b"---\n" + A.encode())
-    yield Case("a stream in a bundle", input=document().encode() + b"---\n" + A.encode() + b"{}\n---\n" + B.encode())
+    yield Case("a document in a bundle", input=bundle(document(width=0), A))
+    yield Case("a predicate in a bundle", input=bundle(document("a.x = 1"), A))
+    yield Case("a stream in a bundle", input=bundle(document(), A + "{}\n", B))
+    yield Case("a variable that there isn't, in a bundle",
+               input=bundle(document(), A + END, B + '\n{"set":{"z":1}}\n' + END))
+    yield Case("a line of a bundle that was written with carriage returns",
+               input=bundle(document(), A + END, B + '{"set":{"z":1}}\n' + END).replace(b"\n", b"\r\n"))
+    yield Case("two streams of one process in a bundle", input=bundle(document(), A + END, A + END))
+    yield Case("a process has no stream in a bundle", input=bundle(document(), B + END))
+    yield Case("a message is received twice in a bundle",
+               input=bundle(document(), A + '{"send":"m1"}\n' + END, B + '{"recv":"m1"}\n{"recv":"m1"}\n' + END))
+    yield Case("a causal cycle in a bundle", input=bundle(document(), A + '{"recv":"m2"}\n{"send":"m1"}\n' + END,
+                                                         B + '{"recv":"m1"}\n{"send":"m2"}\n' + END))
+    yield Case("an answer about a bundle is unknown", input=bundle(*wide().files.values()))
     yield Case("a bundle that is too long", input=b" " * 67_108_865)
 
 
 def faults():
     yield session("a file isn't there")._replace(words=("judge", "session.json", "a.stream", "c.stream"))
+    yield session("several files aren't there")._replace(words=("judge", "doc.json", "c.stream", "a.stream", "d.stream"))
     yield session("the document is a folder")._replace(words=("judge", ".", "a.stream", "b.stream"))
     good = session("the report isn't there")
     yield good._replace(words=("check", "session.json", "report", "a.stream", "b.stream"))
@@ -216,6 +233,10 @@ def connections():
     serve = ("serve", "session.json", "--port", "FREE")
     yield session("a stream that comes by a pipe", input=B.encode() + b"{}\n")._replace(
         words=("judge", "session.json", "a.stream", "/dev/stdin"))
+    yield session("a stream on standard input", input=B.encode() + b'{"set":{"y":0.5}}\n')._replace(
+        words=("judge", "session.json", "a.stream", "-"))
+    yield session("a document that comes by a pipe", input=document(width=0).encode())._replace(
+        words=("judge", "-", "a.stream", "b.stream"))
     files = {"session.json": document()}
     yield Case("a stream that comes by a connection", files, serve, peers=(A + "{}\n", B + END))
     unknown = A + '{"set":{"z":1}}\n' + END
@@ -223,6 +244,7 @@ def connections():
     yield Case("a process that there isn't, by a connection", files, serve, peers=('{"process":"c"}\n' + END, B + END))
     yield Case("a message of a session that is kept", files, (*serve, "--keep", "kept"),
                peers=(A + '{"recv":"m9"}\n' + END, B + END))
+    yield Case("a message of a session that isn't kept", files, serve, peers=(A + '{"recv":"m9"}\n' + END, B + END))
     yield Case("a connection of a browser", files, serve, peers=("GET / HTTP/1.1\r\nHost: a\r\n\r\n", B + END))
     yield Case("a connection that sends nothing", files, serve, peers=(A + END, ""))
     yield Case("two connections of one process", files, serve, peers=(B + END, B + END))
@@ -242,7 +264,7 @@ KINDS = {
     "The text of a predicate that is asked for": asked, "A line of a stream": lines,
     "The list of streams": streams, "Messages": messages, "Unknown answers": lambda: [wide(), wide_by_connections()],
     "Reports that a check finds bad": checks,
-    "Streams whose bytes are gone": connections, "A bundle, whose bytes are gone": bundles, "Faults": faults,
+    "What comes by a pipe or a connection": connections, "A bundle": bundles, "Faults": faults,
 }
 
 

@@ -4,9 +4,9 @@ use Rattle.std.specs.Prelude.{codes}
 use Rattle.std.proofs.lemmas.List.{append-nil, flat_map_more}
 use Rattle.std.proofs.lemmas.List.Elements.{filter_more}
 use Rattle.app_explain.specs.declared.peers.Sender.{Sender}
-use Rattle.app_explain.specs.Shown.{shown_name}
+use Rattle.app_text.specs.Shown.{shown_name}
 use Rattle.app_explain.specs.Peers.{before_next, is_sent, missing, missing_names}
-use Rattle.app_explain.proofs.Columns.{two_parts}
+use Rattle.app_text.proofs.Columns.{two_parts}
 
 missing_more : (senders : List Sender) (ns : List (List ℕ)) (i : ℕ) → i < length ns → (sent : Bool)
     → is_sent senders (get_or ns i []) ≡ sent → missing senders (take (i + 1) ns) ≡ missing senders (take i ns)

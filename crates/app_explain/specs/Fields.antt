@@ -4,7 +4,7 @@ use Rattle.std.specs.Str.{bytes_eq}
 use Rattle.serde_json.specs.Find.{get, as_str}
 use Rattle.def_format.specs.Lists.{first_some}
 use Rattle.def_format.specs.Records.{json_value}
-use Rattle.app_explain.specs.Lines.{records}
+use Rattle.app_text.specs.Lines.{records}
 
 -- the text at this field of a line that is a JSON object, if it has such a field
 abbrev pub text_in : List ℕ → List ℕ → Option (List ℕ)

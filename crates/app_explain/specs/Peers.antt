@@ -4,7 +4,7 @@ use Rattle.std.specs.Option.{option_copied}
 use Rattle.std.specs.List.{filter, flat_map, list_any}
 use Rattle.std.specs.Str.{bytes_eq}
 use Rattle.def_format.specs.Names.{ProcessNames}
-use Rattle.app_explain.specs.Shown.{shown_name}
+use Rattle.app_text.specs.Shown.{shown_name}
 use Rattle.app_explain.specs.declared.peers.Sender.{Sender}
 
 abbrev pub process_names : List ProcessNames → List (List ℕ)

@@ -3,7 +3,7 @@ ghost use Rattle.app_explain.specs.Answers.{is_definitely_unknown, is_possibly_u
 ghost use Rattle.std.specs.List.{list_any};
 ghost use Rattle.std.specs.Prelude.{◌≡◌, false, IfOk, OnOk};
 
-use super::says::{say, say_name, say_number};
+use app_text::{say, say_name, say_number};
 use pd_report::{Answer, Definitely, Possibly};
 use std::alloc::AllocError;
 
@@ -28,6 +28,8 @@ impl Widest {
 pub struct Judged {
     /// How many cuts a level may have, if that is known.
     pub width: Option<u64>,
+    /// Whether options can be given, as they can't with a bundle.
+    pub takes_options: bool,
     /// Whether predicates were to be answered beyond the width, where they are decided without levels.
     pub beyond_width: bool,
     /// The level with the most cuts to which the walk has come.
@@ -144,8 +146,10 @@ fn say_width(out: &mut Vec<u8>, judged: Judged) -> Result<(), AllocError> {
     }
     match judged.width {
         Some(def_format::WIDTH_LIMIT) => Ok(()),
-        Some(_) => say(out, "ask for a greater width, up to --width 65536; or "),
-        None => say(
+        Some(_) if judged.takes_options => {
+            say(out, "ask for a greater width, up to --width 65536; or ")
+        }
+        _ => say(
             out,
             "give the document a greater width, up to \"width\":65536; or ",
         ),
@@ -159,8 +163,8 @@ fn say_ways(out: &mut Vec<u8>, judged: Judged) -> Result<(), AllocError> {
     if !judged.beyond_width {
         say(
             out,
-            "judge files with --beyond-width, which answers predicates that name two processes, and most of those in \
-which each comparison names one; or ",
+            "judge files with --beyond-width, which answers predicates that name two processes, most of those in which \
+each comparison names one, and whether an `or` of such predicates possibly holds; or ",
         )?;
     }
     say(

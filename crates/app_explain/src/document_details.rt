@@ -1,7 +1,6 @@
 //! Finds the part of a session document that is refused.
-use super::lines::{place_of_name, places_of_name};
-use super::says::{say, say_name, say_number};
-use super::source::{Source, show_place};
+use super::words::DocumentWord;
+use app_text::{Source, place_of_name, places_of_name, say, say_name, say_number, show_place};
 use def_format::VAR_LIMIT;
 use pd_pred::is_name;
 use serde_json::{Map, Value};
@@ -287,16 +286,25 @@ pub(crate) fn say_detail(
     out: &mut Vec<u8>,
     source: &Source<'_>,
     value: &Value,
-    word: &str,
+    word: DocumentWord,
 ) -> Result<(), AllocError> {
     match word {
-        "shape" => say_shape(out, source, value),
-        "processes" => say_count(out, items_of(value, "processes").len(), " processes.\n"),
-        "name" => say_name_fault(out, source, value),
-        "nametwice" => say_twice(out, source, value),
-        "vars" => say_vars(out, source, value),
-        "predicates" => say_count(out, items_of(value, "predicates").len(), " predicates.\n"),
-        "width" => show_name(out, source, "width"),
-        _ => show_name(out, source, "version"),
+        DocumentWord::Shape => say_shape(out, source, value),
+        DocumentWord::Processes => say_count(
+            out,
+            items_of(value, "processes").len(),
+            " processes.\n",
+        ),
+        DocumentWord::Name => say_name_fault(out, source, value),
+        DocumentWord::NameTwice => say_twice(out, source, value),
+        DocumentWord::Vars => say_vars(out, source, value),
+        DocumentWord::Predicates => say_count(
+            out,
+            items_of(value, "predicates").len(),
+            " predicates.\n",
+        ),
+        DocumentWord::Width => show_name(out, source, "width"),
+        DocumentWord::Version => show_name(out, source, "version"),
+        DocumentWord::Long | DocumentWord::Json => Ok(()),
     }
 }

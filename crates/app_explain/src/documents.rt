@@ -1,76 +1,79 @@
 //! Explains why a session document is refused.
 use super::document_details::say_detail;
 use super::json_faults::json_place;
-use super::lines::line_at;
-use super::says::{say, say_advice};
-use super::source::{Source, show_numbered};
+use super::words::DocumentWord;
+use app_text::{Source, line_at, say, say_advice, show_numbered};
 use serde_json::Value;
 use std::alloc::{AllocError, Global};
 
 /// What a word for a document's fault means.
-fn meaning(word: &str) -> &'static str {
+fn meaning(word: DocumentWord) -> &'static str {
     match word {
-        "long" => "The session document has more than 262,144 bytes.",
-        "json" => "The session document isn't a JSON text.",
-        "shape" => "The session document doesn't have the form of one.",
-        "processes" => "The session document has no process, or more than 16.",
-        "name" => "A name in the session document isn't one that is allowed.",
-        "nametwice" =>
+        DocumentWord::Long => "The session document has more than 262,144 bytes.",
+        DocumentWord::Json => "The session document isn't a JSON text.",
+        DocumentWord::Shape => "The session document doesn't have the form of one.",
+        DocumentWord::Processes => "The session document has no process, or more than 16.",
+        DocumentWord::Name => "A name in the session document isn't one that is allowed.",
+        DocumentWord::NameTwice =>
             "Two processes, or two predicates, of the session document have the same name.",
-        "vars" =>
+        DocumentWord::Vars =>
             "A process in the session document has too many variables, or one without a right initial value.",
-        "predicates" => "The session document has no predicate, or more than 16.",
-        "width" => "The width in the session document isn't a whole number in its range.",
-        _ => "The version in the session document isn't one that is known.",
+        DocumentWord::Predicates => "The session document has no predicate, or more than 16.",
+        DocumentWord::Width =>
+            "The width in the session document isn't a whole number in its range.",
+        DocumentWord::Version => "The version in the session document isn't one that is known.",
     }
 }
 
 /// What is expected in place of what has this fault.
-fn expected(word: &str) -> &'static str {
+fn expected(word: DocumentWord) -> &'static str {
     match word {
-        "long" => "at most 262,144 bytes.",
-        "json" =>
+        DocumentWord::Long => "at most 262,144 bytes.",
+        DocumentWord::Json =>
             "one JSON value in UTF-8, with no comments and no byte order mark, in which values stand no more than 127 \
 deep in each other.",
-        "shape" => {
+        DocumentWord::Shape => {
             "{\"processes\":[{\"name\":\"a\",\"vars\":{\"x\":0}}],\
 \"predicates\":[{\"name\":\"p\",\"text\":\"a.x == 1\"}]}, and beside these two fields \"width\" and \"version\" alone."
         }
-        "processes" => "1 to 16 processes.",
-        "name" => {
+        DocumentWord::Processes => "1 to 16 processes.",
+        DocumentWord::Name => {
             "an ASCII letter or _, then such letters, digits and _, at most 32 bytes in all, and none of and, or, not, \
 true, false."
         }
-        "nametwice" => "a name of its own for each process, and for each predicate.",
-        "vars" => {
+        DocumentWord::NameTwice => "a name of its own for each process, and for each predicate.",
+        DocumentWord::Vars => {
             "at most 16 variables of a process, each with a whole number from -9223372036854775808 to \
 9223372036854775807, without a point or an exponent."
         }
-        "predicates" => "1 to 16 predicates.",
-        "width" => "a whole number from 1 to 65536, as \"width\":4096.",
-        _ =>
+        DocumentWord::Predicates => "1 to 16 predicates.",
+        DocumentWord::Width => "a whole number from 1 to 65536, as \"width\":4096.",
+        DocumentWord::Version =>
             "\"version\":1, or \"version\":2 for messages that several processes receive; without it, it is 1.",
     }
 }
 
 /// What to do about this fault.
-fn advice(word: &str) -> &'static str {
+fn advice(word: DocumentWord) -> &'static str {
     match word {
-        "long" => "leave out processes, variables and predicates that no question needs.",
-        "json" => {
+        DocumentWord::Long =>
+            "leave out processes, variables and predicates that no question needs.",
+        DocumentWord::Json => {
             "look for a comma, a quote or a bracket that is missing or too many; where a byte is marked, there or \
 before it."
         }
-        "shape" => "give each part the form of this example.",
-        "processes" => "name in \"processes\" each process that you record, and no more than 16.",
-        "name" => "choose another name, here and where predicates and streams use it.",
-        "nametwice" => "rename one of the two.",
-        "vars" =>
+        DocumentWord::Shape => "give each part the form of this example.",
+        DocumentWord::Processes =>
+            "name in \"processes\" each process that you record, and no more than 16.",
+        DocumentWord::Name => "choose another name, here and where predicates and streams use it.",
+        DocumentWord::NameTwice => "rename one of the two.",
+        DocumentWord::Vars =>
             "leave out the variables that no predicate names, and count in whole numbers, as 0 and 1 for no and yes.",
-        "predicates" =>
+        DocumentWord::Predicates =>
             "put a question in \"predicates\", and at most 16; ask the others of the same streams in another run.",
-        "width" => "correct the number, or leave the field out: the width is 4,096 then.",
-        _ => "correct the number, or leave the field out.",
+        DocumentWord::Width =>
+            "correct the number, or leave the field out: the width is 4,096 then.",
+        DocumentWord::Version => "correct the number, or leave the field out.",
     }
 }
 
@@ -78,7 +81,7 @@ before it."
 ///
 /// # Errors
 /// Out of memory; what was put until then stays.
-pub fn explain_document_word(out: &mut Vec<u8>, word: &str) -> Result<(), AllocError> {
+pub fn explain_document_word(out: &mut Vec<u8>, word: DocumentWord) -> Result<(), AllocError> {
     say(out, meaning(word))?;
     say(out, "\n")?;
     say_advice(out, expected(word), advice(word))
@@ -96,7 +99,7 @@ fn show_json(out: &mut Vec<u8>, alloc: Global, source: &Source<'_>) -> Result<()
         say(out, "It ends before it is whole.\n")?;
     }
     let line = line_at(source.bytes, found.line);
-    show_numbered(out, source.name, found.line, line, Some(found.place))
+    show_numbered(out, source, found.line, line, Some(found.place))
 }
 
 /// Explains why this session document is refused by this word: what it means, where in the document the fault is, as
@@ -108,12 +111,12 @@ pub fn explain_document(
     out: &mut Vec<u8>,
     alloc: Global,
     source: &Source<'_>,
-    word: &str,
+    word: DocumentWord,
 ) -> Result<(), AllocError> {
     say(out, meaning(word))?;
     say(out, "\n")?;
     match word {
-        "json" => show_json(out, alloc, source)?,
+        DocumentWord::Json => show_json(out, alloc, source)?,
         _ => match Value::from_slice(alloc, source.bytes) {
             Ok(value) => say_detail(out, source, &value, word)?,
             Err(_) => {}

@@ -1,5 +1,5 @@
 //! Finds what may stand at a place of a predicate's text, by trying it.
-use super::says::say;
+use app_text::say;
 use pd_pred::{Names, Pred, PredErrorKind};
 use std::alloc::{AllocError, Global};
 

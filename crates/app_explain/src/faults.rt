@@ -1,5 +1,5 @@
 //! Explains why there is no report.
-use super::says::{say, say_name, say_number, say_shown};
+use app_text::{say, say_name, say_number, say_shown};
 use pd_spec::NamedPred;
 use std::alloc::AllocError;
 
@@ -15,15 +15,12 @@ pub fn explain_file(out: &mut Vec<u8>, name: &str, why: &str) -> Result<(), Allo
     say(out, ".\n")
 }
 
-/// Explains that no file was found that can't be read now.
+/// Explains that a file couldn't be read, of which no more is known.
 ///
 /// # Errors
 /// Out of memory; what was put until then stays.
 pub fn explain_no_file(out: &mut Vec<u8>) -> Result<(), AllocError> {
-    say(
-        out,
-        "A file couldn't be read, and each of them can be read now: try again.\n",
-    )
+    say(out, "A file couldn't be opened or read.\n")
 }
 
 /// Explains that a report is too long to be read.

@@ -1,7 +1,5 @@
 //! Explains what is bad in what a check finds.
-use super::lines::{cut_line, line_at};
-use super::says::{say, say_shown};
-use super::source::{Source, show_numbered};
+use app_text::{Source, cut_line, line_at, say, say_shown, show_numbered};
 use std::alloc::AllocError;
 
 /// In which ways the evidence of a report may be bad: the cut for a *possibly yes*, or the path for a *definitely no*.
@@ -60,7 +58,7 @@ fn say_evidence(
     match line_with(report.bytes, name, question) {
         Some(number) => {
             let line = line_at(report.bytes, number);
-            show_numbered(out, report.name, number, line, None)
+            show_numbered(out, report, number, line, None)
         }
         None => Ok(()),
     }
@@ -88,7 +86,7 @@ fn say_line(out: &mut Vec<u8>, report: &Source<'_>, line: &[u8]) -> Result<(), A
     if let Some(number) = number_after(line, b"report line ") {
         say(out, "From this line on the file isn't a report.\n")?;
         let shown = line_at(report.bytes, number);
-        return show_numbered(out, report.name, number, shown, None);
+        return show_numbered(out, report, number, shown, None);
     }
     if line == b"refused bad".as_slice() {
         return say(
@@ -102,7 +100,7 @@ see what it comes to.\n",
             out,
             "The session has other numbers of processes, events or messages than the report says.\n",
         )?;
-        return show_numbered(out, report.name, 1, line_at(report.bytes, 1), None);
+        return show_numbered(out, report, 1, line_at(report.bytes, 1), None);
     }
     if line == b"names bad".as_slice() {
         return say(
@@ -119,14 +117,14 @@ see what it comes to.\n",
     }
 }
 
-/// Says that what a check finds can't be explained, for a part of what it checks can't be read again.
+/// Says that what a check finds can't be explained, since not all that it checks is known.
 ///
 /// # Errors
 /// Out of memory; what was put until then stays.
 pub fn explain_unread_finding(out: &mut Vec<u8>) -> Result<(), AllocError> {
     say(
         out,
-        "What is bad isn't explained, since a part of what is checked came by a pipe: give files.\n",
+        "What is bad isn't explained, since a stream couldn't be read to its end, or memory ran out.\n",
     )
 }
 

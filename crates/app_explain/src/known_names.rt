@@ -2,7 +2,7 @@
 ghost use Rattle.app_explain.specs.Peers.{process_names};
 ghost use Rattle.std.specs.Prelude.{◌≡◌, [], slice_index_or};
 
-use super::says::{say, say_name};
+use app_text::{say, say_name};
 use pd_pred::Names;
 use std::alloc::AllocError;
 

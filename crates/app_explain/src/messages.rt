@@ -4,48 +4,50 @@ ghost use Rattle.std.specs.Option.{option_map};
 ghost use Rattle.std.specs.Prelude.{◌≡◌, string_bytes, IfOk};
 
 use super::fields::text_in_line;
-use super::lines::{next_record, record_after};
-use super::says::{say, say_advice, say_name, say_number, say_shown};
-use super::source::{Source, show_numbered};
+use super::words::MessageWord;
+use app_text::{
+    Source, next_record, record_after, say, say_advice, say_name, say_number, say_shown,
+    show_numbered,
+};
 use std::alloc::{AllocError, Global};
 
 /// What a word for messages that don't match means, of an event.
-fn meaning(word: &str) -> &'static str {
+fn meaning(word: MessageWord) -> &'static str {
     match word {
-        "sendtwice" => "sends a message with an id that another event sends too.",
-        "orphan" => "receives a message that no event of the session sends.",
-        "selfmessage" => "receives a message that its own process sends.",
-        _ => "receives a message that is received by another event too.",
+        MessageWord::SendTwice => "sends a message with an id that another event sends too.",
+        MessageWord::Orphan => "receives a message that no event of the session sends.",
+        MessageWord::SelfMessage => "receives a message that its own process sends.",
+        MessageWord::ReceivedTwice => "receives a message that is received by another event too.",
     }
 }
 
 /// What is expected in place of what has this fault.
-fn expected(word: &str) -> &'static str {
+fn expected(word: MessageWord) -> &'static str {
     match word {
-        "sendtwice" => "an id of its own for each message that is sent.",
-        "orphan" =>
+        MessageWord::SendTwice => "an id of its own for each message that is sent.",
+        MessageWord::Orphan =>
             "for each receipt an event of another process that sends the message with this id.",
-        "selfmessage" => "a message that goes from one process to another.",
-        _ => {
+        MessageWord::SelfMessage => "a message that goes from one process to another.",
+        MessageWord::ReceivedTwice => {
             "one receipt of each message; with \"version\":2 in the document one in each process that receives it."
         }
     }
 }
 
 /// What to do about this fault.
-fn advice(word: &str) -> &'static str {
+fn advice(word: MessageWord) -> &'static str {
     match word {
-        "sendtwice" => {
+        MessageWord::SendTwice => {
             "make ids of the name of the sender and a counter, also over restarts; a message that is sent again is \
 recorded once."
         }
-        "orphan" => {
+        MessageWord::Orphan => {
             "record the send before the message leaves, with the id that travels with it; record the receipt of what \
 comes from outside of the session as {}."
         }
-        "selfmessage" =>
+        MessageWord::SelfMessage =>
             "record {} in place of both events, since what a process does stands in its order anyway.",
-        _ => {
+        MessageWord::ReceivedTwice => {
             "record the first receipt alone; if several processes receive the message, the document needs \
 \"version\":2."
         }
@@ -92,7 +94,7 @@ fn say_event(out: &mut Vec<u8>, event: EventName<'_>) -> Result<(), AllocError> 
 pub fn explain_message(
     out: &mut Vec<u8>,
     event: EventName<'_>,
-    word: &str,
+    word: MessageWord,
 ) -> Result<(), AllocError> {
     say_event(out, event)?;
     say(out, " ")?;
@@ -104,7 +106,7 @@ pub fn explain_message(
 ///
 /// # Errors
 /// Out of memory; what was put until then stays.
-pub fn advise_messages(out: &mut Vec<u8>, word: &str) -> Result<(), AllocError> {
+pub fn advise_messages(out: &mut Vec<u8>, word: MessageWord) -> Result<(), AllocError> {
     say_advice(out, expected(word), advice(word))
 }
 
@@ -118,7 +120,7 @@ pub fn show_event(
     event: EventName<'_>,
 ) -> Result<(), AllocError> {
     match record_after(source.bytes, event.number) {
-        Some(record) => show_numbered(out, source.name, record.line, record.bytes, None),
+        Some(record) => show_numbered(out, source, record.line, record.bytes, None),
         None => Ok(()),
     }
 }
@@ -155,7 +157,7 @@ pub fn show_other(
         line = record.line;
         if number > 0 && number != but && has_id(alloc, record.bytes, others.field, id)? {
             say(out, others.said)?;
-            show_numbered(out, source.name, line, record.bytes, None)?;
+            show_numbered(out, source, line, record.bytes, None)?;
             return Ok(true);
         }
     }

@@ -5,10 +5,9 @@ ghost use Rattle.std.specs.Prelude.{◌≡◌, ◌++◌, not, OnOk};
 
 use super::known_names::{name_at, say_processes};
 use super::record_details::place_in_record;
-use super::says::{say, say_advice, say_name, say_number, say_shown};
-use super::source::show_line_of;
 use super::streams::{StreamFault, advice, expected, say_head, say_known, say_refused};
-use super::window::show_line;
+use super::words::StreamWord;
+use app_text::{say, say_advice, say_name, say_number, say_shown, show_line, show_line_of};
 use pd_pred::Names;
 use std::alloc::{AllocError, Global};
 
@@ -74,13 +73,15 @@ fn show_sent_line(
     out: &mut Vec<u8>,
     alloc: Global,
     names: Option<&Names>,
-    fault: StreamFault<'_>,
+    fault: StreamFault,
     sender: Sender<'_>,
     line: &[u8],
 ) -> Result<(), AllocError> {
     say(out, "stream ")?;
     say_number(out, sender.stream)?;
-    let number = fault.line.saturating_sub((fault.word == "unended") as u64);
+    let number = fault
+        .line
+        .saturating_sub((fault.word == StreamWord::Unended) as u64);
     let Some(names) = names else {
         return show_line_of(out, number, line, None);
     };
@@ -94,7 +95,7 @@ fn show_refused(
     out: &mut Vec<u8>,
     alloc: Global,
     names: Option<&Names>,
-    fault: StreamFault<'_>,
+    fault: StreamFault,
     sender: Sender<'_>,
 ) -> Result<(), AllocError> {
     let Some(line) = sender.line else {
@@ -103,7 +104,7 @@ fn show_refused(
         }
         return Ok(());
     };
-    if fault.word == "unended" {
+    if fault.word == StreamWord::Unended {
         say(out, "Its last line is this one. ")?;
     }
     say(out, "In ")?;
@@ -126,12 +127,12 @@ fn explain_sent(
     out: &mut Vec<u8>,
     alloc: Global,
     names: Option<&Names>,
-    fault: StreamFault<'_>,
+    fault: StreamFault,
     sender: Sender<'_>,
     all: &[Sender<'_>],
 ) -> Result<(), AllocError> {
     say_head(out, fault, sender.origin, sender.process)?;
-    if fault.word == "taken" {
+    if fault.word == StreamWord::Taken {
         for other in all {
             if is_earlier(*other, sender) {
                 return say_sender(out, *other);
@@ -151,7 +152,7 @@ pub fn explain_sent_stream(
     out: &mut Vec<u8>,
     alloc: Global,
     names: Option<&Names>,
-    fault: StreamFault<'_>,
+    fault: StreamFault,
     senders: &[Sender<'_>],
 ) -> Result<(), AllocError> {
     match senders.iter().find(|sender| sender.stream == fault.stream) {
@@ -362,7 +363,7 @@ pub fn tell_refusal(
     out: &mut Vec<u8>,
     alloc: Global,
     names: &Names,
-    fault: StreamFault<'_>,
+    fault: StreamFault,
     sender: Sender<'_>,
 ) -> Result<(), AllocError> {
     say(out, TELLING)?;

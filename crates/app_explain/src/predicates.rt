@@ -1,9 +1,8 @@
 //! Explains why the text of a predicate is refused.
 use super::expected_tokens::say_expected_tokens;
 use super::known_names::{name_at, say_processes, say_vars};
-use super::says::{say, say_advice, say_name, say_number, say_shown};
-use super::source::Source;
-use super::window::show_line;
+use super::words::PredicateWord;
+use app_text::{Source, say, say_advice, say_name, say_number, say_shown, show_line};
 use pd_pred::Names;
 use pd_spec::{Spec, SpecFault};
 use serde_json::Value;
@@ -11,53 +10,55 @@ use std::alloc::{AllocError, Global};
 
 /// The fault of a predicate's text, as a report has it.
 #[derive(Clone, Copy)]
-pub struct PredicateFault<'a> {
+pub struct PredicateFault {
     /// The number of the predicate, counted from 1.
     pub k: u64,
     /// The word of the fault.
-    pub word: &'a str,
+    pub word: PredicateWord,
     /// The byte at fault, counted from 1.
     pub at: u64,
 }
 
 /// What a word for a predicate's fault means.
-fn meaning(word: &str) -> &'static str {
+fn meaning(word: PredicateWord) -> &'static str {
     match word {
-        "long" => "it has more than 4,096 bytes.",
-        "character" => "this sign has no meaning in a predicate.",
-        "number" => "this number is too great.",
-        "expected" =>
+        PredicateWord::Long => "it has more than 4,096 bytes.",
+        PredicateWord::Character => "this sign has no meaning in a predicate.",
+        PredicateWord::Number => "this number is too great.",
+        PredicateWord::Expected =>
             "what stands here can't follow what stands before it, or the text ends too soon.",
-        "unknownname" => "the session has nothing of this name.",
-        _ => "this stands inside 64 others, which are parentheses or nots.",
+        PredicateWord::UnknownName => "the session has nothing of this name.",
+        PredicateWord::Depth => "this stands inside 64 others, which are parentheses or nots.",
     }
 }
 
 /// What is expected in place of what has this fault.
-fn expected(word: &str) -> &'static str {
+fn expected(word: PredicateWord) -> &'static str {
     match word {
-        "long" => "at most 4,096 bytes.",
-        "character" => {
+        PredicateWord::Long => "at most 4,096 bytes.",
+        PredicateWord::Character => {
             "words, whole numbers, spaces, and the signs ( ) . + - * == != < <= > and >=."
         }
-        "number" => { "at most 9223372036854775807, and at most 2147483647 before a *." }
-        "depth" => "at most 64 parentheses and nots that enclose each other.",
-        _ => "",
+        PredicateWord::Number => {
+            "at most 9223372036854775807, and at most 2147483647 before a *."
+        }
+        PredicateWord::Depth => "at most 64 parentheses and nots that enclose each other.",
+        PredicateWord::Expected | PredicateWord::UnknownName => "",
     }
 }
 
 /// What to do about this fault.
-fn advice(word: &str) -> &'static str {
+fn advice(word: PredicateWord) -> &'static str {
     match word {
-        "long" => "ask in several predicates, or name fewer cases.",
-        "character" =>
+        PredicateWord::Long => "ask in several predicates, or name fewer cases.",
+        PredicateWord::Character =>
             "use == for equal, != for unequal, and the words and, or, not between comparisons.",
-        "number" => "compare with a smaller number, or record a smaller one.",
-        "expected" => "correct the text at that byte, or just before it.",
-        "unknownname" => {
+        PredicateWord::Number => "compare with a smaller number, or record a smaller one.",
+        PredicateWord::Expected => "correct the text at that byte, or just before it.",
+        PredicateWord::UnknownName => {
             "correct the name, or add it to the document. A variable is written with its process, as a.x."
         }
-        _ =>
+        PredicateWord::Depth =>
             "leave out parentheses that enclose no more than others do, and two nots that undo each other.",
     }
 }
@@ -167,7 +168,7 @@ fn show_text(
     alloc: Global,
     source: &Source<'_>,
     document: &Value,
-    fault: PredicateFault<'_>,
+    fault: PredicateFault,
 ) -> Result<(), AllocError> {
     let Some((_, text)) = predicate_at(document, fault.k) else {
         return Ok(());
@@ -183,8 +184,8 @@ fn show_text(
         return Ok(());
     };
     match fault.word {
-        "expected" => say_expected_tokens(out, alloc, spec.names(), text, place),
-        "unknownname" => say_known_names(out, spec.names(), text, place),
+        PredicateWord::Expected => say_expected_tokens(out, alloc, spec.names(), text, place),
+        PredicateWord::UnknownName => say_known_names(out, spec.names(), text, place),
         _ => Ok(()),
     }
 }
@@ -193,10 +194,7 @@ fn show_text(
 ///
 /// # Errors
 /// Out of memory; what was put until then stays.
-pub fn explain_predicate_word(
-    out: &mut Vec<u8>,
-    fault: PredicateFault<'_>,
-) -> Result<(), AllocError> {
+pub fn explain_predicate_word(out: &mut Vec<u8>, fault: PredicateFault) -> Result<(), AllocError> {
     say(out, "Predicate ")?;
     say_number(out, fault.k)?;
     say(out, " can't be read, at byte ")?;
@@ -216,7 +214,7 @@ pub fn explain_predicate(
     out: &mut Vec<u8>,
     alloc: Global,
     source: &Source<'_>,
-    fault: PredicateFault<'_>,
+    fault: PredicateFault,
 ) -> Result<(), AllocError> {
     let Ok(document) = Value::from_slice(alloc, source.bytes) else {
         return explain_predicate_word(out, fault);

@@ -1,6 +1,7 @@
 //! Finds the part of a stream's line that is at fault.
 use super::json_faults::json_place;
-use super::lines::place_of_name;
+use super::words::StreamWord;
+use app_text::place_of_name;
 use def_format::LINE_BYTE_LIMIT;
 use pd_pred::Names;
 use serde_json::{Map, Value};
@@ -106,15 +107,22 @@ fn name_at_fault<'a>(
     names: &Names,
     process: Option<usize>,
     fields: &'a Map<String, Value>,
-    word: &str,
+    word: StreamWord,
 ) -> Option<&'a str> {
     match word {
-        "shape" => misshapen_field(fields),
-        "unknownprocess" => text_of(fields, "process"),
-        "unknownvar" => unknown_var(names, process, fields),
-        "value" => broken_var(fields),
-        "messageid" => id_field(fields),
-        _ => None,
+        StreamWord::Shape => misshapen_field(fields),
+        StreamWord::UnknownProcess => text_of(fields, "process"),
+        StreamWord::UnknownVar => unknown_var(names, process, fields),
+        StreamWord::Value => broken_var(fields),
+        StreamWord::MessageId => id_field(fields),
+        StreamWord::LineTooLong
+        | StreamWord::StreamTooLong
+        | StreamWord::Json
+        | StreamWord::Join
+        | StreamWord::Events
+        | StreamWord::Unended
+        | StreamWord::Read
+        | StreamWord::Taken => None,
     }
 }
 
@@ -128,12 +136,12 @@ pub(crate) fn place_in_record(
     names: &Names,
     process: Option<usize>,
     line: &[u8],
-    word: &str,
+    word: StreamWord,
 ) -> Result<Option<usize>, AllocError> {
-    if word == "linetoolong" {
+    if word == StreamWord::LineTooLong {
         return Ok(Some(LINE_BYTE_LIMIT));
     }
-    if word == "json" {
+    if word == StreamWord::Json {
         return Ok(json_place(alloc, line)?.map(|found| found.place));
     }
     let Ok(value) = Value::from_slice(alloc, line) else {

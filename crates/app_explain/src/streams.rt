@@ -5,92 +5,96 @@ ghost use Rattle.std.specs.Prelude.{◌≡◌, string_bytes, IfOk};
 
 use super::fields::text_in_line;
 use super::known_names::{name_at, say_processes, say_vars};
-use super::lines::{line_at, record_after};
 use super::record_details::place_in_record;
-use super::says::{say, say_advice, say_name, say_number, say_shown};
-use super::source::{Source, show_numbered};
+use super::words::StreamWord;
+use app_text::{
+    Source, line_at, record_after, say, say_advice, say_name, say_number, say_shown, show_numbered,
+};
 use pd_pred::Names;
 use std::alloc::{AllocError, Global};
 
 /// The fault of a stream, as a report has it.
 #[derive(Clone, Copy)]
-pub struct StreamFault<'a> {
+pub struct StreamFault {
     /// The number of the stream, counted from 1.
     pub stream: u64,
     /// The number of its line, counted from 1.
     pub line: u64,
     /// The word of the fault.
-    pub word: &'a str,
+    pub word: StreamWord,
 }
 
 /// What a word for a stream's fault means.
-fn meaning(word: &str) -> &'static str {
+fn meaning(word: StreamWord) -> &'static str {
     match word {
-        "linetoolong" => "this line has more than 65,536 bytes.",
-        "streamtoolong" => "the stream has more than 16,777,216 bytes before its end line.",
-        "json" => "this line isn't a JSON text.",
-        "shape" => "this line has none of the forms of a stream's lines.",
-        "join" => "the first line has to say whose stream it is, and no later one may.",
-        "unknownprocess" => "the session document has no process of this name.",
-        "unknownvar" => "the process has no variable of this name.",
-        "value" => "the value of a variable isn't a whole number.",
-        "messageid" => "the id of a message has no byte, or more than 64.",
-        "events" => "the process has more than 10,000 events.",
-        "unended" => "the stream ends without the line that ends it.",
-        "read" => "it can't be read to its end.",
-        _ => "an earlier stream is one of the same process.",
+        StreamWord::LineTooLong => "this line has more than 65,536 bytes.",
+        StreamWord::StreamTooLong =>
+            "the stream has more than 16,777,216 bytes before its end line.",
+        StreamWord::Json => "this line isn't a JSON text.",
+        StreamWord::Shape => "this line has none of the forms of a stream's lines.",
+        StreamWord::Join => "the first line has to say whose stream it is, and no later one may.",
+        StreamWord::UnknownProcess => "the session document has no process of this name.",
+        StreamWord::UnknownVar => "the process has no variable of this name.",
+        StreamWord::Value => "the value of a variable isn't a whole number.",
+        StreamWord::MessageId => "the id of a message has no byte, or more than 64.",
+        StreamWord::Events => "the process has more than 10,000 events.",
+        StreamWord::Unended => "the stream ends without the line that ends it.",
+        StreamWord::Read => "it can't be read to its end.",
+        StreamWord::Taken => "an earlier stream is one of the same process.",
     }
 }
 
 /// What is expected in place of what has this fault.
-pub(crate) fn expected(word: &str) -> &'static str {
+pub(crate) fn expected(word: StreamWord) -> &'static str {
     match word {
-        "linetoolong" => "one event a line, in at most 65,536 bytes.",
-        "streamtoolong" => "at most 16,777,216 bytes.",
-        "json" => "one JSON object a line, in UTF-8, ended by a line feed.",
-        "shape" => {
+        StreamWord::LineTooLong => "one event a line, in at most 65,536 bytes.",
+        StreamWord::StreamTooLong => "at most 16,777,216 bytes.",
+        StreamWord::Json => "one JSON object a line, in UTF-8, ended by a line feed.",
+        StreamWord::Shape => {
             "{\"process\":\"a\"} first; then {}, {\"set\":{\"x\":1}}, {\"send\":\"id\"} or {\"recv\":\"id\"}, each \
 also with \"set\"; and {\"end\":true} last."
         }
-        "join" =>
+        StreamWord::Join =>
             "{\"process\":\"a\"} as the first line, with the name of the process, and nowhere else.",
-        "value" => {
+        StreamWord::Value => {
             "a whole number from -9223372036854775808 to 9223372036854775807, without a point or an exponent."
         }
-        "messageid" => "a text of 1 to 64 bytes, as \"left-1\".",
-        "events" => "at most 10,000 events of a process.",
-        "unended" => "{\"end\":true} as the last line.",
-        "taken" => "one stream for each process.",
-        _ => "",
+        StreamWord::MessageId => "a text of 1 to 64 bytes, as \"left-1\".",
+        StreamWord::Events => "at most 10,000 events of a process.",
+        StreamWord::Unended => "{\"end\":true} as the last line.",
+        StreamWord::Taken => "one stream for each process.",
+        StreamWord::UnknownProcess | StreamWord::UnknownVar | StreamWord::Read => "",
     }
 }
 
 /// What to do about this fault.
-pub(crate) fn advice(word: &str) -> &'static str {
+pub(crate) fn advice(word: StreamWord) -> &'static str {
     match word {
-        "linetoolong" => "look whether a line feed is missing between two events.",
-        "streamtoolong" | "events" => {
+        StreamWord::LineTooLong => "look whether a line feed is missing between two events.",
+        StreamWord::StreamTooLong | StreamWord::Events => {
             "record fewer events: none for what changes no variable that a predicate names, and shorter runs."
         }
-        "json" =>
+        StreamWord::Json =>
             "look how the line was written: two writers may share the file; or a crash cut it off, then put \
 {\"end\":true} in its place.",
-        "shape" => "have the recorder write one of these.",
-        "join" =>
+        StreamWord::Shape => "have the recorder write one of these.",
+        StreamWord::Join =>
             "have the recorder write that line once, before all others; for two runs, take two files.",
-        "unknownprocess" => "correct the name in the stream, or add the process to the document.",
-        "unknownvar" =>
+        StreamWord::UnknownProcess =>
+            "correct the name in the stream, or add the process to the document.",
+        StreamWord::UnknownVar =>
             "correct the name in the stream, or add the variable to the process in the document.",
-        "value" =>
+        StreamWord::Value =>
             "record a whole number, as 0 and 1 for no and yes, or thousandths for a fraction.",
-        "messageid" => "give each message the name of its sender and a counter.",
-        "unended" => {
+        StreamWord::MessageId => "give each message the name of its sender and a counter.",
+        StreamWord::Unended => {
             "have the program end its recording when it ends; if it crashed, append that line to judge what came until \
 then."
         }
-        "read" =>
+        StreamWord::Read =>
             "look whether the file is there and may be read, or whether the connection broke off.",
-        _ => "give each stream once, or correct the name of the process in its first line.",
+        StreamWord::Taken =>
+            "give each stream once, or correct the name of the process in its first line.",
     }
 }
 
@@ -107,15 +111,10 @@ pub fn joined_name(alloc: Global, bytes: &[u8]) -> Result<Option<String>, AllocE
     }
 }
 
-/// What is said of a file by its name.
-fn shown_name(file: &str) -> &str {
-    if file == "-" { "standard input" } else { file }
-}
-
 /// Says which stream is refused, at which line, and why.
 pub(crate) fn say_head(
     out: &mut Vec<u8>,
-    fault: StreamFault<'_>,
+    fault: StreamFault,
     file: &str,
     process: Option<&str>,
 ) -> Result<(), AllocError> {
@@ -126,20 +125,20 @@ pub(crate) fn say_head(
 /// Says of the stream with this number that it is refused, at which line, and why.
 pub(crate) fn say_refused(
     out: &mut Vec<u8>,
-    fault: StreamFault<'_>,
+    fault: StreamFault,
     file: &str,
     process: Option<&str>,
 ) -> Result<(), AllocError> {
     say_number(out, fault.stream)?;
     if !file.is_empty() {
         say(out, ", ")?;
-        say_shown(out, shown_name(file).as_bytes())?;
+        say_shown(out, file.as_bytes())?;
         say(out, ",")?;
     }
     if let Some(process) = process {
         say(out, " of process ")?;
         say_name(out, process)?;
-        say(out, ",")?;
+        say(out, if file.is_empty() { "" } else { "," })?;
     }
     say(out, " is refused at line ")?;
     say_number(out, fault.line)?;
@@ -148,16 +147,18 @@ pub(crate) fn say_refused(
     say(out, "\n")
 }
 
-/// Explains why a stream is refused, where only the fault is known, and says in which order streams count.
+/// Explains why the stream in the file of this name is refused, or in none if the name is empty, where only the fault
+/// is known, and says in which order streams count.
 ///
 /// # Errors
 /// Out of memory; what was put until then stays.
 pub fn explain_stream_word(
     out: &mut Vec<u8>,
-    fault: StreamFault<'_>,
+    fault: StreamFault,
+    file: &str,
     order: &str,
 ) -> Result<(), AllocError> {
-    say_head(out, fault, "", None)?;
+    say_head(out, fault, file, None)?;
     say(out, order)?;
     say_advice(out, expected(fault.word), advice(fault.word))
 }
@@ -168,7 +169,7 @@ pub fn explain_stream_word(
 /// Out of memory; what was put until then stays.
 pub fn explain_stream_with(
     out: &mut Vec<u8>,
-    fault: StreamFault<'_>,
+    fault: StreamFault,
     file: &str,
     why: &str,
 ) -> Result<(), AllocError> {
@@ -186,17 +187,17 @@ fn show_fault(
     alloc: Global,
     names: &Names,
     source: &Source<'_>,
-    fault: StreamFault<'_>,
+    fault: StreamFault,
 ) -> Result<(), AllocError> {
-    if fault.word == "unended" {
+    if fault.word == StreamWord::Unended {
         if fault.line <= 1 {
             return say(out, "The stream is empty.\n");
         }
         say(out, "Its last line is this one. ")?;
         let last = fault.line.saturating_sub(1);
-        return show_numbered(out, source.name, last, line_at(source.bytes, last), None);
+        return show_numbered(out, source, last, line_at(source.bytes, last), None);
     }
-    if fault.word == "streamtoolong" {
+    if fault.word == StreamWord::StreamTooLong {
         return Ok(());
     }
     let line = line_at(source.bytes, fault.line);
@@ -205,7 +206,7 @@ fn show_fault(
         None => None,
     };
     let place = place_in_record(alloc, names, process, line, fault.word)?;
-    show_numbered(out, source.name, fault.line, line, place)
+    show_numbered(out, source, fault.line, line, place)
 }
 
 /// Says which processes or variables there are in place of a name that there isn't.
@@ -213,14 +214,14 @@ pub(crate) fn say_known(
     out: &mut Vec<u8>,
     names: &Names,
     process: Option<&str>,
-    word: &str,
+    word: StreamWord,
 ) -> Result<(), AllocError> {
-    if word == "unknownprocess" {
+    if word == StreamWord::UnknownProcess {
         say(out, "Expected here: a process of the document, which has ")?;
         say_processes(out, names)?;
         return say(out, ".\n");
     }
-    if word != "unknownvar" {
+    if word != StreamWord::UnknownVar {
         return Ok(());
     }
     let Some(process) = process.and_then(|name| names.find(name)) else {
@@ -233,8 +234,8 @@ pub(crate) fn say_known(
     say(out, ".\n")
 }
 
-/// Explains why this stream is refused: what the fault means, the line with a caret below the place, as far as that is
-/// sure, what is expected there, and what to do.
+/// Explains why this stream is refused, of the file of this name if it has one: what the fault means, the line with a
+/// caret below the place, as far as that is sure, in which order streams count, what is expected there, and what to do.
 ///
 /// # Errors
 /// Out of memory; what was put until then stays.
@@ -242,13 +243,16 @@ pub fn explain_stream(
     out: &mut Vec<u8>,
     alloc: Global,
     names: &Names,
+    file: &str,
     source: &Source<'_>,
-    fault: StreamFault<'_>,
+    order: &str,
+    fault: StreamFault,
 ) -> Result<(), AllocError> {
     let joined = joined_name(alloc, source.bytes)?;
     let process = joined.as_deref();
-    say_head(out, fault, source.name, process)?;
+    say_head(out, fault, file, process)?;
     show_fault(out, alloc, names, source, fault)?;
     say_known(out, names, process, fault.word)?;
+    say(out, order)?;
     say_advice(out, expected(fault.word), advice(fault.word))
 }

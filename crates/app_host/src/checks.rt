@@ -12,9 +12,11 @@ ghost use Rattle.std.specs.Prelude.{◌≡◌, ◌≤◌, All, false, length, ma
 use super::claim_files::read_claim;
 use super::world::{System, World};
 use app_arguments::SessionNames;
+use def_format::REPORT_BYTE_LIMIT;
 use judge_draw::check_inquiry;
 use judge_session::EngineFault;
 use pd_engine::{ByteSource, Inquiry};
+use pd_spec::Options;
 use std::io::Write;
 
 /// Checks a report by a document, with what is asked, and the streams, writes what is found, and flushes the output. It
@@ -39,6 +41,23 @@ fn check_read<Y: System, R: ByteSource + Send + Drop, O: Write>(
         return Err(EngineFault::Write);
     }
     Ok(good)
+}
+
+/// What a check finds of a report by a document, with what is asked, and streams, all of which were read before. It is
+/// empty if memory runs out, or the report has more than `REPORT_BYTE_LIMIT` bytes.
+pub fn check_seen<Y: System>(
+    world: &World<'_, Y>,
+    document: &[u8],
+    options: &Options<'_>,
+    report: &[u8],
+    streams: Vec<&[u8]>,
+) -> Vec<u8> {
+    let mut found = Vec::new(world.alloc);
+    if report.len() <= REPORT_BYTE_LIMIT {
+        let inquiry = Inquiry { document, options };
+        let _ = check_read(world, inquiry, report, streams, &mut found);
+    }
+    found
 }
 
 /// Opens the files of a check, the document, the report and then the streams, reads the document and the report, checks

@@ -8,7 +8,8 @@ ghost use Rattle.std.specs.List.{AllZip};
 ghost use Rattle.std.specs.Prelude.{◌≡◌, ◌≤◌, ◌⊎◌, All, Err, IfErr, IfOk, Some, false, map, vec_len};
 
 use super::file_source::FileSource;
-use super::session_files::{open_streams, read_document};
+use super::noted_source::NotedSource;
+use super::session_files::{open_noted, open_streams, read_document};
 use super::world::{System, World};
 use app_arguments::SessionNames;
 use def_format::REPORT_BYTE_LIMIT;
@@ -41,31 +42,34 @@ fn read_report<R: ByteSource + Drop>(alloc: Global, reader: R) -> Result<Vec<u8>
 }
 
 /// Opens the document, the report and then the streams, and reads the first two. All files are opened before one is
-/// read.
+/// read, and of each that can't be it is noted why.
 ///
 /// # Errors
 /// `Read`, if a file can't be opened, or the document or the report can't be read, or the report has more than
 /// `REPORT_BYTE_LIMIT` bytes, and `Memory`.
-pub fn read_claim<Y: System>(
-    world: &World<'_, Y>,
+pub fn read_claim<'n, Y: System>(
+    world: &World<'n, Y>,
     report: &str,
     names: &SessionNames<'_>,
-) -> Result<ClaimFiles<<Y::Files as FileSource>::File>, EngineFault>
+) -> Result<ClaimFiles<NotedSource<'n, <Y::Files as FileSource>::File>>, EngineFault>
     ensures document { IfOk result (λ read. IsReadOf read.document.items
         (Y.Files.file_of world.now.files.now names.now.spec.now).source) }
     ensures report { IfOk result (λ read. IsWholeInput (Y.Files.file_of world.now.files.now report.now).source
         read.report.items) }
     ensures short { IfOk result (λ read. vec_len read.report ≤ report_byte_limit) }
     ensures streams { IfOk result (λ read. AllZip Knows (sources_of (map (Y.Files.file_of world.now.files.now)
-        (session_view names.now).1)) (map Y.Files.File.left read.streams.items)) }
-    ensures open { IfOk result (λ read. All (λ stream. Y.Files.File.has_ended stream ≡ false) read.streams.items) }
+        (session_view names.now).1)) (map (λ stream. Y.Files.File.left stream.source) read.streams.items)) }
+    ensures open { IfOk result (λ read. All (λ stream. Y.Files.File.has_ended stream.source ≡ false)
+        read.streams.items) }
     ensures unread { result ≡ Err EngineFault.Read
         → UnreadClaim (Y.Files.file_of world.now.files.now) names.now.spec.now report.now (session_view names.now).1 }
     ensures err { IfErr result (λ fault. (fault ≡ EngineFault.Memory) ⊎ (fault ≡ EngineFault.Read)) }
 {
-    let document = world.files.open(names.spec)?;
-    let report = world.files.open(report)?;
-    let streams = open_streams(world, &names.streams)?;
+    let document = open_noted(world.alloc, world.files, names.spec, world.notes.document());
+    let report = open_noted(world.alloc, world.files, report, world.notes.report());
+    let streams = open_streams(world, &names.streams);
+    let (document, report) = (document?, report?);
+    let streams = streams?;
     let document = read_document(world.alloc, document)?;
     let report = read_report(world.alloc, report)?;
     Ok(ClaimFiles {

@@ -1,7 +1,6 @@
 //! Where files are read, and those of a session that is kept are written; and what hears how far a walk has come.
-use judge_session::EngineFault;
 use pd_engine::{ByteSource, Reached};
-use std::alloc::{AllocError, Global};
+use std::alloc::Global;
 use std::io::{ErrorKind, Read, Write};
 use std::os::unix::fs::FileTypeExt;
 use std::rt::Files;
@@ -23,8 +22,7 @@ fn system_name(name: &str) -> &str {
 pub trait FileSource: Sync {
     ghost use Rattle.app_arguments.specs.Statuses.{File};
     ghost use Rattle.app_host.specs.FileSources.{Knows};
-    ghost use Rattle.judge_session.specs.declared.fault.EngineFault.TheVariants as faults;
-    ghost use Rattle.std.specs.Prelude.{◌≡◌, IfOk, IsOk, IsOkUnless, ℕ, List, false, true};
+    ghost use Rattle.std.specs.Prelude.{◌≡◌, IfOk, IsOk, ℕ, List, false, true};
 
     type File: ByteSource + Send + Drop;
 
@@ -37,12 +35,11 @@ pub trait FileSource: Sync {
     /// Opens the file of this name to read it from its start.
     ///
     /// # Errors
-    /// `Read`, if it can't be opened.
-    fn open(&self, name: &str) -> Result<Self::File, EngineFault>
+    /// If it can't be opened.
+    fn open(&self, name: &str) -> io::Result<Self::File>
         ensures file { IfOk result (λ file. Knows (file_of self.now name.now).source (Self.File.left file)) }
         ensures open { IfOk result (λ file. Self.File.has_ended file ≡ false) }
-        ensures sure { (file_of self.now name.now).opens ≡ true → IsOk result }
-        ensures err { IsOkUnless result faults.Read };
+        ensures sure { (file_of self.now name.now).opens ≡ true → IsOk result };
 
     /// Makes the file of this name, to write it from its start.
     ///
@@ -80,40 +77,6 @@ pub trait FileSource: Sync {
     fn output_is_read(&self) -> bool {
         false
     }
-
-    /// Why the file of this name can't be opened, or not be read to its end, in the words of the system, if that is so
-    /// and known: it is tried again, unless it is a pipe or a terminal.
-    ///
-    /// # Errors
-    /// Out of memory.
-    fn failure(&self, _alloc: Global, _name: &str) -> Result<Option<String>, AllocError> {
-        Ok(None)
-    }
-}
-
-/// The first error of the reads of a file up to its end, if one fails. A read that is interrupted is tried again.
-fn read_failure<R: Read>(file: &mut R) -> Option<io::Error> {
-    let mut piece = [0u8; 256];
-    for _read in 0..u64::MAX {
-        match file.read(&mut piece) {
-            Ok(0) => return None,
-            Ok(_) => {}
-            Err(error) if error.kind() == ErrorKind::Interrupted => {}
-            Err(error) => return Some(error),
-        }
-    }
-    None
-}
-
-/// The error of opening this file, or the first one of its reads up to its end.
-fn open_failure<R: Files>(files: &R, name: &str) -> Option<io::Error> {
-    match fs::open(files, name) {
-        Ok(file) => {
-            let mut file = file;
-            read_failure(&mut file)
-        }
-        Err(error) => Some(error),
-    }
 }
 
 /// Whether there is a name of a file among these names of a folder, each of which is ended by a NUL.
@@ -150,8 +113,8 @@ where
 
     ghost file_of = { λ _ _. unknown_file };
 
-    fn open(&self, name: &str) -> Result<R::File, EngineFault> {
-        fs::open(self, system_name(name)).map_err(|_| EngineFault::Read)
+    fn open(&self, name: &str) -> io::Result<R::File> {
+        fs::open(self, system_name(name))
     }
 
     fn create(&self, name: &str) -> io::Result<R::File> {
@@ -192,18 +155,6 @@ where
         match fs::metadata(self, OUTPUT) {
             Ok(found) => found.file_type().is_fifo() || found.file_type().is_socket(),
             Err(_) => false,
-        }
-    }
-
-    fn failure(&self, alloc: Global, name: &str) -> Result<Option<String>, AllocError> {
-        let found = match fs::metadata(self, system_name(name)) {
-            Ok(found) if found.is_file() || found.is_dir() => open_failure(self, system_name(name)),
-            Ok(_) => None,
-            Err(error) => Some(error),
-        };
-        match found {
-            Some(error) => Ok(Some(format!(in alloc; "{error}")?)),
-            None => Ok(None),
         }
     }
 }

@@ -7,6 +7,7 @@
 //! - `world`: what a run stands on
 //! - `file_source`: where files are read
 //! - `network`: where connections come from
+//! - `note`, `notes`, `noted_source`: what is read, for an explanation
 //! - `level_gate`: the gate of a walk over a session in files
 //! - `line`: writes a line to the errors
 //! - `status`: exit statuses, and the lines that report faults
@@ -23,18 +24,24 @@ mod judgements;
 mod level_gate;
 mod line;
 mod network;
+mod note;
+mod noted_source;
+mod notes;
 mod session_files;
 mod status;
 mod world;
 
-pub use checks::check_files;
+pub use checks::{check_files, check_seen};
 pub use claim_files::read_claim;
 pub use file_source::FileSource;
 pub use judgements::{judge_files, judge_read};
 pub use level_gate::LevelGate;
 pub use line::write_line;
 pub use network::Network;
-pub use session_files::{read_document, read_session};
+pub use note::Note;
+pub use noted_source::NotedSource;
+pub use notes::Notes;
+pub use session_files::{open_noted, read_document, read_session};
 pub use status::{
     FAILED, MISUSED, REFUSED, SUCCESS, report_bundle, report_conclusion, report_end,
     report_exploration, report_fault, report_judgement,

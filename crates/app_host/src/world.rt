@@ -1,6 +1,7 @@
 //! What a run stands on.
 use super::file_source::FileSource;
 use super::network::Network;
+use super::notes::Notes;
 use std::alloc::Global;
 use std::random::RandomSource;
 use std::sync::Wait;
@@ -36,4 +37,6 @@ pub struct World<'a, Y: System> {
     pub alloc: Global,
     /// Whether explanations are wanted.
     pub explain: bool,
+    /// What is read, for an explanation.
+    pub notes: &'a Notes,
 }

@@ -2,9 +2,8 @@
 use super::screen::Screen;
 use super::shown_file::ShownFile;
 use app_host::FileSource;
-use judge_session::EngineFault;
 use pd_engine::Reached;
-use std::alloc::{AllocError, Global};
+use std::alloc::Global;
 use std::io;
 use std::io::Eprint;
 use std::time::Clock;
@@ -31,11 +30,11 @@ impl<'a, F: FileSource, R: Clock + Eprint + Sync> FileSource for ShownFiles<'a, 
 
     ghost file_of = { λ shown. F.file_of shown.files.now };
 
-    fn open(&self, name: &str) -> Result<ShownFile<'a, F::File, R>, EngineFault> {
+    fn open(&self, name: &str) -> io::Result<ShownFile<'a, F::File, R>> {
         let size = self.files.size(name);
         match self.files.open(name) {
             Ok(file) => Ok(ShownFile::new(file, size, self.screen)),
-            Err(fault) => Err(fault),
+            Err(error) => Err(error),
         }
     }
 
@@ -65,9 +64,5 @@ impl<'a, F: FileSource, R: Clock + Eprint + Sync> FileSource for ShownFiles<'a, 
 
     fn can_be_reread(&self, name: &str) -> bool {
         self.files.can_be_reread(name)
-    }
-
-    fn failure(&self, alloc: Global, name: &str) -> Result<Option<String>, AllocError> {
-        self.files.failure(alloc, name)
     }
 }

@@ -2,139 +2,132 @@
 use super::host::Host;
 use super::senders::{known_senders, senders};
 use super::service_fault::ServiceFault;
+use app_ends::{put_fault, put_named, put_report, rows_of, seen_document};
 use app_explain::{
-    Sender, StreamFault, explain_connection, explain_port, explain_sent_stream, explain_unkept,
-    explain_wait,
+    Seen, SeenStream, StreamFault, StreamWord, explain_connection, explain_port,
+    explain_sent_stream, explain_unkept, explain_wait,
 };
-use app_host::{FileSource, Network, System, World};
-use app_look::{Seen, put_fault, put_named, put_report, rows_of, spec_again};
+use app_host::{FileSource, Notes, System, World};
+use app_text::Source;
+use pd_engine::Spec;
 use pd_report::{Refusal, Report};
-use std::alloc::AllocError;
+use std::alloc::{AllocError, Global};
 
-/// Explains which port can't be bound, and why.
-fn put_network<Y: System>(
-    out: &mut Vec<u8>,
-    world: &World<'_, Y>,
-    host: &Host<'_, Y::Files, Y::Network>,
-) -> Result<(), AllocError> {
-    let port = host.service.port;
-    if let Err(error) = world.network.bind_port(port) {
-        let why = format!(in world.alloc; "{error}")?;
-        return explain_port(out, port as u64, &why);
+/// Explains which port can't be bound, and why, or that a connection failed.
+fn put_network<F, N>(out: &mut Vec<u8>, host: &Host<'_, F, N>) -> Result<(), AllocError> {
+    match host.peers.unbound() {
+        Some((port, why)) => explain_port(out, port as u64, why),
+        None => explain_connection(out, host.service.port as u64),
     }
-    let Some(next) = port.checked_add(1) else {
-        return explain_connection(out, port as u64);
-    };
-    if host.service.watchers > 0 {
-        if let Err(error) = world.network.bind_port(next) {
-            let why = format!(in world.alloc; "{error}")?;
-            return explain_port(out, next as u64, &why);
-        }
-    }
-    explain_connection(out, port as u64)
+}
+
+/// The document of the session, with what was asked, if its bytes are known and it isn't refused.
+fn spec_of<F, N>(host: &Host<'_, F, N>) -> Option<Spec> {
+    let source = seen_document(host.notes, host.service.spec)?;
+    Spec::read_with_options(host.alloc, source.bytes, &host.service.options).ok()
 }
 
 /// Explains that not all streams connected in time.
-fn put_wait<Y: System>(
-    out: &mut Vec<u8>,
-    world: &World<'_, Y>,
-    host: &Host<'_, Y::Files, Y::Network>,
-) -> Result<(), AllocError> {
+fn put_wait<F, N>(out: &mut Vec<u8>, host: &Host<'_, F, N>) -> Result<(), AllocError> {
     let service = host.service;
-    let Some(spec) = spec_again(world, service.spec, Some(&service.options)) else {
+    let Some(spec) = spec_of(host) else {
         return explain_connection(out, service.port as u64);
     };
-    let known = known_senders(world.alloc, host.peers, host.peers.count())?;
-    let senders = senders(world.alloc, host.peers, &known)?;
+    let known = known_senders(host.alloc, host.peers, host.peers.count())?;
+    let senders = senders(host.alloc, host.peers, &known)?;
     let seconds = service.wait.unwrap_or(0);
     explain_wait(out, spec.names(), service.port as u64, seconds, &senders)
 }
 
 /// Explains why a stream is refused, and who sent it.
-fn put_stream<Y: System>(
+fn put_stream<F, N>(
     out: &mut Vec<u8>,
-    world: &World<'_, Y>,
-    host: &Host<'_, Y::Files, Y::Network>,
-    fault: StreamFault<'_>,
+    host: &Host<'_, F, N>,
+    fault: StreamFault,
 ) -> Result<(), AllocError> {
-    let known = known_senders(world.alloc, host.peers, host.peers.count())?;
-    let senders = senders(world.alloc, host.peers, &known)?;
-    let service = host.service;
-    let spec = spec_again(world, service.spec, Some(&service.options));
+    let known = known_senders(host.alloc, host.peers, host.peers.count())?;
+    let senders = senders(host.alloc, host.peers, &known)?;
+    let spec = spec_of(host);
     let names = spec.as_ref().map(|spec| spec.names());
-    explain_sent_stream(out, world.alloc, names, fault, &senders)
+    explain_sent_stream(out, host.alloc, names, fault, &senders)
 }
 
-/// The name of the file in which this sender's stream is kept.
-fn kept_name<Y: System>(
-    world: &World<'_, Y>,
-    host: &Host<'_, Y::Files, Y::Network>,
-    folder: &str,
-    sender: Sender<'_>,
-) -> Result<String, AllocError> {
-    let number = sender.stream;
-    let numbered = format!(in world.alloc; "{folder}/{number}.stream")?;
-    let Some(process) = sender.process else {
-        return Ok(numbered);
-    };
-    if world.files.failure(world.alloc, &numbered)?.is_none() {
-        return Ok(numbered);
-    }
-    format!(in world.alloc; "{folder}/{process}.stream")
-}
-
-/// The names of the files in which the streams are kept, in the order in which they connected; none, if they aren't.
-fn kept_names<Y: System>(
-    world: &World<'_, Y>,
-    host: &Host<'_, Y::Files, Y::Network>,
-) -> Result<Vec<String>, AllocError> {
-    let mut names = Vec::new(world.alloc);
+/// What the stream at this place is called: by its file, if it is kept.
+fn stream_name<F, N>(host: &Host<'_, F, N>, place: usize) -> Result<String, AllocError> {
+    let number = (place as u64).saturating_add(1);
     let Some(folder) = host.service.keep else {
-        return Ok(names);
+        return format!(in host.alloc; "stream {number}");
     };
-    let known = known_senders(world.alloc, host.peers, host.peers.count())?;
-    for sender in &senders(world.alloc, host.peers, &known)? {
-        names.push(kept_name(world, host, folder, *sender)?)?;
+    match host.peers.at(place).and_then(|peer| peer.file()) {
+        Some(file) => String::from_str(host.alloc, file),
+        None => format!(in host.alloc; "{folder}/{number}.stream"),
+    }
+}
+
+/// What the streams are called, in the order in which they connected.
+fn stream_names<F, N>(host: &Host<'_, F, N>) -> Result<Vec<String>, AllocError> {
+    let mut names = Vec::new(host.alloc);
+    for place in 0..host.peers.count() {
+        names.push(stream_name(host, place)?)?;
     }
     Ok(names)
 }
 
-/// Explains what a server's report leaves unknown, or why it is a refusal, by the files in which the streams are kept,
-/// if they are.
-fn put_by_files<Y: System>(
+/// What was read of the streams, which are called so.
+fn seen_streams<'a>(
+    alloc: Global,
+    notes: &'a Notes,
+    names: &'a [String],
+) -> Result<Vec<SeenStream<'a>>, AllocError> {
+    let mut seen = Vec::new(alloc);
+    for (place, name) in names.iter().enumerate() {
+        let bytes = notes.stream(place).and_then(|note| note.bytes());
+        seen.push(SeenStream {
+            file: "",
+            source: bytes.map(|bytes| Source {
+                name: name.as_str(),
+                bytes,
+                before: 0,
+            }),
+            failure: "",
+        })?;
+    }
+    Ok(seen)
+}
+
+/// Explains what a server's report leaves unknown, or why it is a refusal, by these streams.
+fn put_seen_report<F: FileSource, N>(
     out: &mut Vec<u8>,
-    world: &World<'_, Y>,
-    host: &Host<'_, Y::Files, Y::Network>,
-    streams: &[&str],
+    host: &Host<'_, F, N>,
+    streams: &[SeenStream<'_>],
     report: &Report,
 ) -> Result<(), AllocError> {
     let seen = Seen {
-        spec: Some(host.service.spec),
+        document: seen_document(host.notes, host.service.spec),
         options: Some(&host.service.options),
         streams,
-        widest: host.gate.widest(),
+        order: "Streams count in the order in which they connected.\n",
     };
-    put_report(out, world, seen, report)?;
-    put_named(out, world, seen, &host.service.fail_on, report)
+    put_report(out, host.alloc, seen, host.gate.widest(), report)?;
+    put_named(out, host.alloc, seen, &host.service.fail_on, report)
 }
 
-/// Explains what a server's report leaves unknown, or why it is a refusal.
-fn put_service_report<Y: System>(
+/// The same by what was read of the streams.
+fn put_service_report<F: FileSource, N>(
     out: &mut Vec<u8>,
-    world: &World<'_, Y>,
-    host: &Host<'_, Y::Files, Y::Network>,
+    host: &Host<'_, F, N>,
     report: &Report,
 ) -> Result<(), AllocError> {
     if let Report::Refused(Refusal::Stream { stream, line, word }) = report {
         let (stream, line) = (*stream, *line);
-        return put_stream(out, world, host, StreamFault { stream, line, word });
+        return match StreamWord::of(word) {
+            Some(word) => put_stream(out, host, StreamFault { stream, line, word }),
+            None => Ok(()),
+        };
     }
-    let names = kept_names(world, host)?;
-    let mut streams = Vec::new(world.alloc);
-    for name in &names {
-        streams.push(name.as_str())?;
-    }
-    put_by_files(out, world, host, &streams, report)
+    let names = stream_names(host)?;
+    let streams = seen_streams(host.alloc, host.notes, &names)?;
+    put_seen_report(out, host, &streams, report)
 }
 
 /// Explains how a server's run ended.
@@ -145,13 +138,13 @@ fn put_service<Y: System>(
     end: &Result<Report, ServiceFault>,
 ) -> Result<(), AllocError> {
     match end {
-        Ok(report) => put_service_report(out, world, host, report),
+        Ok(report) => put_service_report(out, host, report),
         Err(ServiceFault::Engine(fault)) => {
             let spec = host.service.spec;
             put_fault(out, world, None, spec, &[], fault)
         }
-        Err(ServiceFault::Network) => put_network(out, world, host),
-        Err(ServiceFault::Late) => put_wait(out, world, host),
+        Err(ServiceFault::Network) => put_network(out, host),
+        Err(ServiceFault::Late) => put_wait(out, host),
         Err(ServiceFault::Unkept) => explain_unkept(out, host.peers.unkept()),
     }
 }

@@ -1,7 +1,7 @@
 //! What a server works with.
 use super::peers::Peers;
 use app_arguments::Service;
-use app_host::LevelGate;
+use app_host::{LevelGate, Notes};
 use std::alloc::Global;
 
 /// What the steps of a server's run work with, besides the session.
@@ -18,6 +18,8 @@ pub struct Host<'a, F, N> {
     pub peers: &'a Peers,
     /// Hears how far the walk has come.
     pub gate: &'a LevelGate<'a, F>,
+    /// What is read, for an explanation.
+    pub notes: &'a Notes,
     /// Whether explanations are wanted.
     pub explain: bool,
 }

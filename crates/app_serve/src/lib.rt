@@ -12,7 +12,6 @@
 //! - `peer`: what is known of who sends one stream
 //! - `peers`: of each stream
 //! - `start_recorder`: records how a stream begins
-//! - `last_lines`: the last lines of a stream, of which one may be at fault
 //! - `kept_stream`: a stream that is kept while it is read
 //! - `keeping`: keeps a stream in a file
 //! - `notices`: what is told at once of the streams
@@ -24,7 +23,6 @@ mod host;
 mod keeping;
 mod kept_session;
 mod kept_stream;
-mod last_lines;
 mod notices;
 mod peer;
 mod peers;

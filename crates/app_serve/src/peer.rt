@@ -10,6 +10,8 @@ pub struct Peer {
     start: OnceLock<Vec<u8>>,
     /// The line at which the stream is refused, or its last one if it ends too soon.
     line: OnceLock<Vec<u8>>,
+    /// The name of the file in which the stream is kept, once it has the one of its process.
+    file: OnceLock<String>,
 }
 
 impl Peer {
@@ -19,6 +21,7 @@ impl Peer {
             address: OnceLock::new(),
             start: OnceLock::new(),
             line: OnceLock::new(),
+            file: OnceLock::new(),
         }
     }
 
@@ -35,6 +38,19 @@ impl Peer {
     /// Notes the line at which the stream is refused, or its last one if it ends too soon, unless one was noted before.
     pub fn note_line(&self, line: Vec<u8>) {
         let _ = self.line.try_set(line);
+    }
+
+    /// Notes the name that the file in which the stream is kept has from here on, unless one was noted before.
+    pub fn note_file(&self, file: String) {
+        let _ = self.file.try_set(file);
+    }
+
+    /// The name of the file in which the stream is kept, if it was noted.
+    pub fn file(&self) -> Option<&str> {
+        match self.file.get() {
+            Some(file) => Some(file.as_str()),
+            None => None,
+        }
     }
 
     /// Whether the stream has connected.

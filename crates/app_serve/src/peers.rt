@@ -15,6 +15,8 @@ pub struct Peers {
     has_failed: AtomicBool,
     /// What couldn't be, and why.
     unkept: OnceLock<String>,
+    /// The port that couldn't be bound, and why.
+    unbound: OnceLock<(u16, String)>,
 }
 
 /// A peer for each stream that there may be.
@@ -43,6 +45,7 @@ impl Peers {
             all,
             has_failed: AtomicBool::new(false),
             unkept: OnceLock::new(),
+            unbound: OnceLock::new(),
         }
     }
 
@@ -57,6 +60,21 @@ impl Peers {
     /// Whether something couldn't be kept.
     pub fn has_failed(&self) -> bool {
         self.has_failed.load(Ordering::SeqCst)
+    }
+
+    /// Notes that this port couldn't be bound, and why.
+    pub fn note_unbound(&self, alloc: Global, port: u16, error: &io::Error) {
+        if let Ok(text) = format!(in alloc; "{error}") {
+            let _ = self.unbound.try_set((port, text));
+        }
+    }
+
+    /// The port that couldn't be bound, and why, if there was one.
+    pub fn unbound(&self) -> Option<(u16, &str)> {
+        match self.unbound.get() {
+            Some((port, text)) => Some((*port, text.as_str())),
+            None => None,
+        }
     }
 
     /// What couldn't be kept first, and why.

@@ -4,11 +4,11 @@ ghost use Rattle.std.specs.Io.{ReadsAtMost};
 ghost use Rattle.std.specs.Prelude.{◌≡◌, [], IfSome, MatchResult, take};
 
 use super::keeping::Keeping;
-use super::last_lines::LastLines;
 use super::notices::Notices;
 use super::peer::Peer;
 use super::peers::Peers;
 use super::start_recorder::StartRecorder;
+use app_host::{Note, NotedSource};
 use pd_gather::{ByteSource, StreamFault, StreamKind};
 use std::alloc::Global;
 use std::io;
@@ -16,53 +16,58 @@ use std::io::Write;
 
 /// Gives the bytes of a source as they are, records how they begin, and keeps them if they are to be kept.
 #[derive(Drop)]
-pub struct RecordingSource<'a, R, W, T> {
-    /// Where the bytes come from.
-    pub source: R,
+pub struct RecordingSource<'a, R: Drop, W, T> {
+    /// Where the bytes come from, which are noted if explanations are wanted.
+    pub source: NotedSource<'a, R>,
     /// Of whom it is noted how it begins and where it is refused, if that is wanted.
     peer: Option<&'a Peer>,
     start_recorder: StartRecorder<'a>,
-    lines: LastLines,
     /// Where they are kept, if they are.
     keeping: Option<Keeping<'a, W, T>>,
     /// Who is told how the stream begins, and that it is refused.
     notices: &'a T,
     /// The stream's place, counted from 0.
     place: usize,
+    alloc: Global,
 }
 
-impl<'a, R, W, T> RecordingSource<'a, R, W, T> {
+impl<'a, R: Drop, W, T> RecordingSource<'a, R, W, T> {
     /// The source of the stream at this place, of which it is noted for these peers how it begins and where it is
-    /// refused, if they are noted, and which is kept, if it is.
+    /// refused, if they are noted, and there which bytes came, if that is wanted, and which is kept, if it is.
     pub fn new(
         alloc: Global,
         source: R,
         place: usize,
+        note: Option<&'a Note>,
         peers: &'a Peers,
         keeping: Option<Keeping<'a, W, T>>,
         notices: &'a T,
     ) -> RecordingSource<'a, R, W, T>
-        ensures { result.source ≡ source }
+        ensures { result.source.source ≡ source }
     {
         RecordingSource {
-            source,
+            source: NotedSource::new(alloc, source, note),
             peer: peers.at(place),
             start_recorder: StartRecorder::new(alloc, peers.at(place)),
-            lines: LastLines::new(alloc),
             keeping,
             notices,
             place,
+            alloc,
         }
     }
 }
 
-impl<'a, R, W: Write, T: Notices> RecordingSource<'a, R, W, T> {
+impl<'a, R: Drop, W: Write, T: Notices> RecordingSource<'a, R, W, T> {
     /// Tells that it is noted how the stream begins, and calls its file as it is called from here on.
     fn begin(&mut self)
         ensures { self.new.source ≡ self.old.source }
     {
         let name = self.notices.has_begun(self.place);
         if let (Some(keeping), Some(name)) = (&mut self.keeping, name) {
+            let copy = String::from_str(self.alloc, &name);
+            if let (Some(peer), Ok(copy)) = (self.peer, copy) {
+                peer.note_file(copy);
+            }
             keeping.call(name);
         }
     }
@@ -87,26 +92,38 @@ fn shown_line(fault: StreamFault) -> u64 {
     }
 }
 
-/// Notes of this peer at which of these lines its stream is refused, if there is memory for it.
-fn note_line(peer: &Peer, lines: &LastLines, fault: StreamFault) {
-    if let Some(line) = lines.copied_line(shown_line(fault)) {
-        peer.note_line(line);
+/// The line of this number, counted from 1, of these bytes, without its line feed, if there is one.
+fn line_of(bytes: &[u8], number: u64) -> Option<&[u8]> {
+    if bytes.is_empty() {
+        return None;
+    }
+    for (place, line) in bytes.split(|byte| *byte == b'\n').enumerate() {
+        if (place as u64).saturating_add(1) == number {
+            return Some(line);
+        }
+    }
+    None
+}
+
+/// Notes of this peer at which line of these bytes its stream is refused, if there is memory for it.
+fn note_line(alloc: Global, peer: &Peer, bytes: &[u8], fault: StreamFault) {
+    if let Some(line) = line_of(bytes, shown_line(fault)) {
+        if let Ok(copy) = Vec::from_slice(alloc, line) {
+            peer.note_line(copy);
+        }
     }
 }
 
-impl<'a, R: ByteSource, W: Write, T: Notices> ByteSource for RecordingSource<'a, R, W, T> {
-    ghost left = { λ recording. R.left recording.source };
+impl<'a, R: ByteSource + Drop, W: Write, T: Notices> ByteSource for RecordingSource<'a, R, W, T> {
+    ghost left = { λ recording. R.left recording.source.source };
 
-    ghost has_ended = { λ recording. R.has_ended recording.source };
+    ghost has_ended = { λ recording. R.has_ended recording.source.source };
 
     fn read_next(&mut self, piece: &mut [u8]) -> io::Result<usize> {
         let read = self.source.read_next(piece);
         let bytes = read_bytes(&read, piece);
         if self.start_recorder.record(bytes) {
             self.begin();
-        }
-        if self.peer.is_some() {
-            self.lines.record(bytes);
         }
         if let Some(keeping) = &mut self.keeping {
             keeping.keep(bytes);
@@ -117,7 +134,7 @@ impl<'a, R: ByteSource, W: Write, T: Notices> ByteSource for RecordingSource<'a,
     fn on_fault(&self, fault: StreamFault) {
         self.source.on_fault(fault);
         if let Some(peer) = self.peer {
-            note_line(peer, &self.lines, fault);
+            note_line(self.alloc, peer, self.source.bytes(), fault);
         }
         self.notices.has_fault(self.place, fault);
     }

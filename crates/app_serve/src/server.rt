@@ -24,7 +24,7 @@ use super::service_fault::ServiceFault;
 use super::service_notices::ServiceNotices;
 use super::watchers::Watchers;
 use app_arguments::Workers;
-use app_host::{FileSource, Network, System, World, judge_read, read_document};
+use app_host::{FileSource, Network, System, World, judge_read, open_noted, read_document};
 use def_judgement::one_document;
 use judge_session::EngineFault;
 use pd_engine::{
@@ -40,15 +40,18 @@ use std::time::Instant;
 /// Binds a port.
 ///
 /// # Errors
-/// `Network`, if it can't be bound.
-fn bind<N: Network>(network: &N, port: u16) -> Result<N::Listener, ServiceFault>
+/// `Network`, if it can't be bound, which is noted.
+fn bind<F, N: Network>(host: &Host<'_, F, N>, port: u16) -> Result<N::Listener, ServiceFault>
     ensures on { IfOk result (λ listener. N.is_on listener port) }
     ensures sure { N.never_fails ≡ true → IsOk result }
     ensures err { IfErr result (λ fault. fault ≡ faults.Network) }
 {
-    match network.bind_port(port) {
+    match host.network.bind_port(port) {
         Ok(listener) => Ok(listener),
-        Err(_) => Err(ServiceFault::Network),
+        Err(error) => {
+            host.peers.note_unbound(host.alloc, port, &error);
+            Err(ServiceFault::Network)
+        }
     }
 }
 
@@ -68,7 +71,7 @@ fn bind_watchers<F, N: Network>(host: &Host<'_, F, N>) -> Result<Option<N::Liste
     let Some(port) = host.service.port.checked_add(1) else {
         return Err(ServiceFault::Network);
     };
-    Ok(Some(bind(host.network, port)?))
+    Ok(Some(bind(host, port)?))
 }
 
 /// When the streams are waited for no longer, if there is such a moment.
@@ -115,8 +118,8 @@ fn accept_stream<'a, F, N: Network, W: Write + Drop, T: Notices>(
     notices: &'a T,
 ) -> Result<RecordingSource<'a, N::Connection, W, T>, ServiceFault>
     ensures given { IfOk result (λ stream. (port : ℕ) → N.is_on listener.now port
-        → N.may_give host.now.network.now port (N.Connection.left stream.source)) }
-    ensures open { IfOk result (λ stream. N.Connection.has_ended stream.source ≡ false) }
+        → N.may_give host.now.network.now port (N.Connection.left stream.source.source)) }
+    ensures open { IfOk result (λ stream. N.Connection.has_ended stream.source.source ≡ false) }
     ensures sure { end ≡ None → N.never_fails ≡ true → IsOk result }
     ensures err { IfErr result (λ fault. (fault ≡ faults.Network) ⊎ (fault ≡ faults.Late)
         ⊎ (fault ≡ faults.Engine EngineFault.Memory)) }
@@ -125,7 +128,10 @@ fn accept_stream<'a, F, N: Network, W: Write + Drop, T: Notices>(
         Ok(Some(connection)) => {
             note_address(host, &connection, host.peers.at(place));
             notices.has_connected(place);
-            Ok(RecordingSource::new(host.alloc, connection, place, host.peers, keeping, notices))
+            let note = host.notes.stream(place);
+            Ok(RecordingSource::new(
+                host.alloc, connection, place, note, host.peers, keeping, notices,
+            ))
         }
         Ok(None) => Err(ServiceFault::Late),
         Err(_) => Err(ServiceFault::Network),
@@ -147,10 +153,10 @@ fn accept_streams<'a, F, N: Network, W: Write + Drop, T: Notices>(
 ) -> Result<Vec<RecordingSource<'a, N::Connection, W, T>>, ServiceFault>
     ensures count { IfOk result (λ streams. length streams.items ≡ count) }
     ensures given { IfOk result (λ streams. (port : ℕ) → N.is_on listener port
-        → All (λ stream. N.may_give host.now.network.now port (N.Connection.left stream.source))
+        → All (λ stream. N.may_give host.now.network.now port (N.Connection.left stream.source.source))
         streams.items) }
     ensures open { IfOk result (λ streams.
-        All (λ stream. N.Connection.has_ended stream.source ≡ false) streams.items) }
+        All (λ stream. N.Connection.has_ended stream.source.source ≡ false) streams.items) }
     ensures sure { end ≡ None → N.never_fails ≡ true
         → IfErr result (λ fault. fault ≡ faults.Engine EngineFault.Memory) }
     ensures err { IfErr result (λ fault. (fault ≡ faults.Network) ⊎ (fault ≡ faults.Late)
@@ -178,7 +184,7 @@ fn note_starts<F, N: Network, W, T>(
 ) {
     for (place, stream) in streams.iter().enumerate() {
         if let Some(peer) = host.peers.at(place) {
-            let _ = note_start(host, &stream.source, peer);
+            let _ = note_start(host, &stream.source.source, peer);
         }
     }
 }
@@ -278,7 +284,7 @@ fn serve_session<
     one_document();
     let service = host.service;
     let end = wait_end(host.network, service.wait)?;
-    let listener = bind(host.network, service.port)?;
+    let listener = bind(host, service.port)?;
     let watchers = Watchers {
         network: host.network,
         listener: bind_watchers(host)?,
@@ -448,7 +454,12 @@ fn read_service<F: FileSource, N>(host: &Host<'_, F, N>) -> Result<Vec<u8>, Engi
         (F.file_of host.now.files.now host.now.service.now.spec.now ∷ []) }
     ensures err { IfErr result (λ fault. (fault ≡ EngineFault.Memory) ⊎ (fault ≡ EngineFault.Read)) }
 {
-    let file = host.files.open(host.service.spec)?;
+    let file = open_noted(
+        host.alloc,
+        host.files,
+        host.service.spec,
+        host.notes.document(),
+    )?;
     let document = read_document(host.alloc, file)?;
     Ok(document)
 }

@@ -3,12 +3,12 @@ use super::host::Host;
 use super::kept_session::stream_names;
 use super::notices::Notices;
 use super::senders::{known_senders, senders};
+use app_ends::rows_of;
 use app_explain::{
-    StreamFault as NamedFault, joined_name, tell_connection, tell_ports, tell_refusal, tell_start,
-    tell_stop,
+    StreamFault as NamedFault, StreamWord, joined_name, tell_connection, tell_ports, tell_refusal,
+    tell_start, tell_stop,
 };
 use app_host::{FileSource, Network};
-use app_look::rows_of;
 use judge_session::stream_word;
 use pd_engine::{Spec, StreamFault};
 use std::alloc::{AllocError, Global};
@@ -73,12 +73,11 @@ fn stream_text<F, N>(
             }
             Event::Begun => tell_start(&mut out, spec.names(), *sender, &senders)?,
             Event::Refused(fault) => {
-                let fault = NamedFault {
-                    stream: sender.stream,
-                    line: fault.line,
-                    word: stream_word(fault.kind),
-                };
-                tell_refusal(&mut out, host.alloc, spec.names(), fault, *sender)?
+                if let Some(word) = StreamWord::of(stream_word(fault.kind)) {
+                    let (stream, line) = (sender.stream, fault.line);
+                    let fault = NamedFault { stream, line, word };
+                    tell_refusal(&mut out, host.alloc, spec.names(), fault, *sender)?
+                }
             }
         }
     }

@@ -20,11 +20,11 @@ use super::explanation::write_explanation;
 use super::explore_files::explore_files;
 use super::parser_error::report_parser_error;
 use app_arguments::{Exploration, Judgement, Request, Service, SessionNames, parse};
+use app_ends::{bundle_text, check_text, drawing_text, exploration_text, judgement_text};
 use app_host::{
-    FileSource, LevelGate, Network, System, World, check_files, judge_files, report_bundle,
-    report_end, report_exploration, report_judgement,
+    FileSource, LevelGate, Network, NotedSource, Notes, System, World, check_files, judge_files,
+    report_bundle, report_end, report_exploration, report_judgement,
 };
-use app_look::{bundle_text, check_text, drawing_text, exploration_text, judgement_text};
 use app_serve::{Host, Peers, report_service_end, serve, service_text};
 use out_picture::DrawOptions;
 use pd_engine::ByteSource;
@@ -100,6 +100,7 @@ fn run_service<Y: System, O: Write, E: Write>(
         service,
         peers: &peers,
         gate: &gate,
+        notes: world.notes,
         explain: world.explain,
     };
     let end = serve(world, &host, output);
@@ -159,6 +160,7 @@ fn run_bundle<Y: System, I: ByteSource + Drop, O: Write, E: Write>(
         (O.contents output.old) (O.contents output.new)) result start (E.contents errors.new)) (E.contents errors.old) }
 {
     let gate = LevelGate::new(world.files);
+    let input = NotedSource::new(world.alloc, input, world.notes.document());
     let end = judge_input(world, input, &gate, output);
     let text = bundle_text(world, gate.widest(), &end);
     write_explanation(world.explain, &text, errors);
@@ -248,12 +250,14 @@ pub fn run<
     ensures headline { vec_len arguments ≤ 1 → result ≤ 1 → WritesTruthOfBundle (I.left input) (result ≡ 0)
         (O.contents output.old) (O.contents output.new) }
 {
+    let notes = Notes::new(alloc, explain);
     let world = World::<'_, (S, F, N)> {
         rt,
         files,
         network,
         alloc,
         explain,
+        notes: &notes,
     };
     if arguments.len() <= 1 {
         return run_bundle(&world, input, output, errors);

@@ -1,5 +1,4 @@
 //! The files of a small session, and what the program makes of them.
-use judge_session::EngineFault;
 use pd_cli::FileSource;
 use std::alloc::Global;
 use std::io;
@@ -80,7 +79,7 @@ impl FileSource for Files {
 
     ghost file_of = { λ _ _. unknown_file };
 
-    fn open(&self, name: &str) -> Result<&'static [u8], EngineFault> {
+    fn open(&self, name: &str) -> io::Result<&'static [u8]> {
         match name {
             "spec" => Ok(DOCUMENT.as_bytes()),
             "a" => Ok(OF_A.as_bytes()),
@@ -92,7 +91,7 @@ impl FileSource for Files {
             "cyclic-a" => Ok(CYCLIC_A.as_bytes()),
             "cyclic-b" => Ok(CYCLIC_B.as_bytes()),
             "cycle" => Ok(CYCLE.as_bytes()),
-            _ => Err(EngineFault::Read),
+            _ => Err(Error::from(ErrorKind::NotFound)),
         }
     }
 

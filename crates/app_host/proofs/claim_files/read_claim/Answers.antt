@@ -11,22 +11,23 @@ use Rattle.app_host.proofs.claim_files.read_claim.Goals as goal
 pub returns-clause-document : goal.returns-clause-document
 returns-clause-document g c =
     read_of_file (g.Y.Files.FileSource.file_of c.args.world.now.files.now c.args.names.now.spec.now).source
-    (g.Y.Files.File.ByteSource.left c.in_ok-document.document) c.in_ok-document-2.document.items
+    (g.Y.Files.File.ByteSource.left c.in_ok-document.document.source) c.in_ok-document-2.document.items
     c.in_ok-document.ensures.file c.in_ok-document-2.ensures.read
 
 pub returns-clause-report : goal.returns-clause-report
 returns-clause-report g c =
     whole_of_file (g.Y.Files.FileSource.file_of c.args.world.now.files.now c.args.report.now).source
-    (g.Y.Files.File.ByteSource.left c.in_ok-report.report) c.in_ok-report-2.report.items c.in_ok-report.ensures.file
-    c.in_ok-report-2.ensures.whole
+    (g.Y.Files.File.ByteSource.left c.in_ok-report.report.source) c.in_ok-report-2.report.items
+    c.in_ok-report.ensures.file c.in_ok-report-2.ensures.whole
 
 pub returns-clause-streams : goal.returns-clause-streams
 returns-clause-streams g c =
     let files = g.Y.Files.FileSource.file_of c.args.world.now.files.now in
-    subst (λ sources. AllZip Knows sources (map g.Y.Files.File.ByteSource.left c.in_ok-streams.streams.items))
+    subst (λ sources. AllZip Knows sources
+    (map (λ stream. g.Y.Files.File.ByteSource.left stream.source) c.in_ok-streams.streams.items))
     (sources_of_names files (λ name. name.now) c.args.names.now.streams.items)
     (subst (λ (names : List (Bor (List ℕ))). AllZip Knows (map (λ name. (files name.now).source) names)
-    (map g.Y.Files.File.ByteSource.left c.in_ok-streams.streams.items)) c.deref.ensures.value
+    (map (λ stream. g.Y.Files.File.ByteSource.left stream.source) c.in_ok-streams.streams.items)) c.deref.ensures.value
     c.in_ok-streams.ensures.known)
 
 pub returns-in_err-document-clause-unread : goal.returns-in_err-document-clause-unread
@@ -56,14 +57,14 @@ returns-in_err-document-2-clause-unread g c reported = inl (λ opened read.
     c.in_err-document-2.ensures.cause
     (same_fault c.from_residual-in_err-document-2.result c.in_err-document-2.field-0.0 Read
     c.from_residual-in_err-document-2.ensures.1 reported)
-    (of_known_fate file.source (g.Y.Files.File.ByteSource.left c.in_ok-document.document) false
+    (of_known_fate file.source (g.Y.Files.File.ByteSource.left c.in_ok-document.document.source) false
     c.in_ok-document.ensures.file (read 0 file (omega arith))))
 
 pub returns-in_err-report-2-clause-unread : goal.returns-in_err-report-2-clause-unread
 returns-in_err-report-2-clause-unread g c reported =
     let file = g.Y.Files.FileSource.file_of c.args.world.now.files.now c.args.report.now in
-    unread_report file (g.Y.Files.File.ByteSource.left c.in_ok-report.report) _ _ (λ read. read 1 file (omega arith))
-    c.in_ok-report.ensures.file
+    unread_report file (g.Y.Files.File.ByteSource.left c.in_ok-report.report.source) _ _
+    (λ read. read 1 file (omega arith)) c.in_ok-report.ensures.file
     (λ never. c.in_err-report-2.ensures.unread never
     (same_fault c.from_residual-in_err-report-2.result c.in_err-report-2.field-0.0 Read
     c.from_residual-in_err-report-2.ensures.1 reported))

@@ -11,16 +11,17 @@ use Rattle.app_host.proofs.session_files.read_session.Goals as goal
 pub returns-clause-document : goal.returns-clause-document
 returns-clause-document g c =
     read_of_file (g.Y.Files.FileSource.file_of c.args.world.now.files.now c.args.names.now.spec.now).source
-    (g.Y.Files.File.ByteSource.left c.in_ok-spec.spec) c.in_ok-document.document.items c.in_ok-spec.ensures.file
+    (g.Y.Files.File.ByteSource.left c.in_ok-spec.spec.source) c.in_ok-document.document.items c.in_ok-spec.ensures.file
     c.in_ok-document.ensures.read
 
 pub returns-clause-streams : goal.returns-clause-streams
 returns-clause-streams g c =
     let files = g.Y.Files.FileSource.file_of c.args.world.now.files.now in
-    subst (λ sources. AllZip Knows sources (map g.Y.Files.File.ByteSource.left c.in_ok-streams.streams.items))
+    subst (λ sources. AllZip Knows sources
+    (map (λ stream. g.Y.Files.File.ByteSource.left stream.source) c.in_ok-streams.streams.items))
     (sources_of_names files (λ name. name.now) c.args.names.now.streams.items)
     (subst (λ (names : List (Bor (List ℕ))). AllZip Knows (map (λ name. (files name.now).source) names)
-    (map g.Y.Files.File.ByteSource.left c.in_ok-streams.streams.items)) c.deref.ensures.value
+    (map (λ stream. g.Y.Files.File.ByteSource.left stream.source) c.in_ok-streams.streams.items)) c.deref.ensures.value
     c.in_ok-streams.ensures.known)
 
 pub returns-in_err-spec-clause-unread : goal.returns-in_err-spec-clause-unread
@@ -45,5 +46,5 @@ returns-in_err-document-clause-unread g c reported = λ opened read.
     c.in_err-document.ensures.cause
     (same_fault c.from_residual-in_err-document.result c.in_err-document.field-0.0 Read
     c.from_residual-in_err-document.ensures.1 reported)
-    (of_known_fate file.source (g.Y.Files.File.ByteSource.left c.in_ok-spec.spec) false c.in_ok-spec.ensures.file
+    (of_known_fate file.source (g.Y.Files.File.ByteSource.left c.in_ok-spec.spec.source) false c.in_ok-spec.ensures.file
     (read 0 file (omega arith)))

@@ -12,14 +12,14 @@ loop-place-preserved g c =
     let stream = c.in-Ok.stream in
     let pushed : c.push.new.self.items ≡ held ++ stream ∷ [] = c.in_ok-push-in-Ok.ensures.items in
     let Open : RecordingSource g.row.N-Connection.Denot g.row.W.Denot g.row.T.Denot → Type 0 =
-    λ found. g.N.Connection.ByteSource.has_ended found.source ≡ false in
+    λ found. g.N.Connection.ByteSource.has_ended found.source.source ≡ false in
     record {
       count = ap length pushed ∙ (length_push held stream ∙ ap (λ (n : ℕ). n + 1) c.loop-place.invariant.count);
       given = λ port on.
           subst (All (λ found. g.N.Network.may_give c.args.host.now.network.now port
-          (g.N.Connection.ByteSource.left found.source))) (sym pushed)
+          (g.N.Connection.ByteSource.left found.source.source))) (sym pushed)
           (All-push (λ found. g.N.Network.may_give c.args.host.now.network.now port
-          (g.N.Connection.ByteSource.left found.source)) held stream (c.loop-place.invariant.given port on)
+          (g.N.Connection.ByteSource.left found.source.source)) held stream (c.loop-place.invariant.given port on)
           (c.in-Ok.ensures.given port on));
       unended = subst (All Open) (sym pushed)
           (All-push Open held stream c.loop-place.invariant.unended c.in-Ok.ensures.open);

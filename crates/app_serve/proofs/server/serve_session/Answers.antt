@@ -22,7 +22,7 @@ returns-clause-written g c fail_on =
     let G = g.N.Network.may_give c.args.host.now.network.now port in
     let left : RecordingSource g.row.N-Connection.Denot g.row.F-Sink.Denot
     (ServiceNotices g.row.F.Denot g.row.N.Denot) → Source =
-    λ stream. g.N.Connection.ByteSource.left stream.source in
+    λ stream. g.N.Connection.ByteSource.left stream.source.source in
     let streams = c.in_ok-streams.streams.items in
     let document = inquiry_view c.args.inquiry in
     let MayNotServe = ServiceMayFail service.wait g.N.Network.never_fails in

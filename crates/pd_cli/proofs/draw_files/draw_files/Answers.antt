@@ -18,7 +18,7 @@ returns-in-Ok g c =
     let document = files c.args.names.now.spec.now in
     let report = (files c.args.report.now).source in
     let sources = sources_of (map files (session_view c.args.names.now).1) in
-    let lefts = map g.Y.Files.File.ByteSource.left c.in-Ok.read.streams.items in
+    let lefts = map (λ stream. g.Y.Files.File.ByteSource.left stream.source) c.in-Ok.read.streams.items in
     let read : IsReadOf c.deref.result.now document.source =
     subst (λ (bytes : List ℕ). IsReadOf bytes document.source) (sym c.deref.ensures.value) c.in-Ok.ensures.document in
     let claimed : IsWholeInput report c.deref-in-Ok.result.now =

@@ -1,0 +1,399 @@
+//! Explains how a run ended, by what it has read.
+use super::seen_files::{seen_document, seen_file, seen_streams};
+use super::seen_parts::{document_of, parts_of, streams_of};
+use app_arguments::{Conclusion, Exploration, FailOn, Judgement, SessionNames};
+use app_explain::{
+    Judged, Seen, SeenStream, Widest, explain_answers, explain_bundle_fault, explain_file,
+    explain_finding, explain_long_report, explain_memory, explain_no_file, explain_no_picture,
+    explain_no_predicate, explain_output, explain_refusal, explain_unread_finding,
+};
+use app_host::{FileSource, Note, System, World, check_seen};
+use app_text::{Source, in_rows};
+use judge_draw::DrawOutcome;
+use judge_session::EngineFault;
+use pd_report::Report;
+use std::alloc::{AllocError, Global};
+
+/// Explains what a report leaves unknown, or why it is a refusal, by what was read of the session and the level with
+/// the most cuts to which the walk has come.
+pub fn put_report(
+    out: &mut Vec<u8>,
+    alloc: Global,
+    seen: Seen<'_>,
+    widest: Widest,
+    report: &Report,
+) -> Result<(), AllocError> {
+    match report {
+        Report::Judged { answers, .. } => {
+            let judged = Judged {
+                width: seen.spec(alloc).map(|spec| spec.width()),
+                takes_options: seen.options.is_some(),
+                beyond_width: seen.options.is_some_and(|options| options.beyond_width),
+                widest,
+            };
+            explain_answers(out, answers, judged)
+        }
+        Report::Refused(refusal) => explain_refusal(out, alloc, seen, refusal),
+    }
+}
+
+/// Says of the file of this name why it can't be opened or read, if that is noted. It gives whether it is.
+fn put_unread(out: &mut Vec<u8>, note: Option<&Note>, name: &str) -> Result<bool, AllocError> {
+    match note.and_then(|note| note.failure()) {
+        Some(why) => {
+            explain_file(out, name, why)?;
+            Ok(true)
+        }
+        None => Ok(false),
+    }
+}
+
+/// The same of the streams in the files of these names.
+fn put_unread_streams<Y: System>(
+    out: &mut Vec<u8>,
+    world: &World<'_, Y>,
+    names: &[&str],
+) -> Result<bool, AllocError> {
+    let mut is_found = false;
+    for (place, name) in names.iter().enumerate() {
+        let said = put_unread(out, world.notes.stream(place), name)?;
+        is_found = is_found || said;
+    }
+    Ok(is_found)
+}
+
+/// Explains that the output couldn't be written, unless whoever reads it has ended, who wants no more.
+fn put_output<Y: System>(out: &mut Vec<u8>, world: &World<'_, Y>) -> Result<(), AllocError> {
+    if world.files.output_is_read() {
+        return Ok(());
+    }
+    explain_output(out)
+}
+
+/// The lines of an explanation in rows, or as they are if memory is refused.
+pub fn rows_of(alloc: Global, text: Vec<u8>) -> Vec<u8> {
+    match in_rows(alloc, &text) {
+        Ok(rows) => rows,
+        Err(_) => text,
+    }
+}
+
+/// Explains a fault of a run that reads a document, a report, if there is one, and streams.
+pub fn put_fault<Y: System>(
+    out: &mut Vec<u8>,
+    world: &World<'_, Y>,
+    report: Option<&str>,
+    spec: &str,
+    streams: &[&str],
+    fault: &EngineFault,
+) -> Result<(), AllocError> {
+    match fault {
+        EngineFault::Memory => explain_memory(out),
+        EngineFault::Write => put_output(out, world),
+        EngineFault::BundleLong => explain_bundle_fault(out, true),
+        EngineFault::Read => {
+            let of_document = put_unread(out, world.notes.document(), spec)?;
+            let of_report = match report {
+                Some(report) => put_unread(out, world.notes.report(), report)?,
+                None => false,
+            };
+            if put_unread_streams(out, world, streams)? || of_document || of_report {
+                return Ok(());
+            }
+            match report {
+                Some(report) => explain_long_report(out, report),
+                None => explain_no_file(out),
+            }
+        }
+    }
+}
+
+/// Says which predicates there are.
+fn put_predicates(out: &mut Vec<u8>, alloc: Global, seen: Seen<'_>) -> Result<(), AllocError> {
+    match seen.spec(alloc) {
+        Some(spec) => explain_no_predicate(out, spec.predicates()),
+        None => Ok(()),
+    }
+}
+
+/// Says which predicates there are, if answers are to be failed on of one that there isn't.
+pub fn put_named(
+    out: &mut Vec<u8>,
+    alloc: Global,
+    seen: Seen<'_>,
+    fail_on: &FailOn<'_>,
+    report: &Report,
+) -> Result<(), AllocError> {
+    match fail_on.conclusion(report) {
+        Conclusion::NoPredicate => put_predicates(out, alloc, seen),
+        _ => Ok(()),
+    }
+}
+
+/// Explains what the report of files leaves unknown, or why it is a refusal, and which predicates there are, if answers
+/// are to be failed on of one that there isn't.
+fn put_files_report<Y: System>(
+    out: &mut Vec<u8>,
+    world: &World<'_, Y>,
+    names: &SessionNames<'_>,
+    fail_on: Option<&FailOn<'_>>,
+    widest: Widest,
+    report: &Report,
+) -> Result<(), AllocError> {
+    let streams = seen_streams(world.alloc, world.notes, &names.streams)?;
+    let seen = Seen {
+        document: seen_document(world.notes, names.spec),
+        options: Some(&names.options),
+        streams: &streams,
+        order: "",
+    };
+    put_report(out, world.alloc, seen, widest, report)?;
+    match fail_on {
+        Some(fail_on) => put_named(out, world.alloc, seen, fail_on, report),
+        None => Ok(()),
+    }
+}
+
+/// Explains how a judgement of files ended.
+fn put_judgement<Y: System>(
+    out: &mut Vec<u8>,
+    world: &World<'_, Y>,
+    judgement: &Judgement<'_>,
+    widest: Widest,
+    end: &Result<Report, EngineFault>,
+) -> Result<(), AllocError> {
+    let names = &judgement.names;
+    match end {
+        Ok(report) => {
+            put_files_report(out, world, names, Some(&judgement.fail_on), widest, report)
+        }
+        Err(fault) => put_fault(out, world, None, names.spec, &names.streams, fault),
+    }
+}
+
+/// The explanation of how a judgement of files ended, as far as it could be made; empty if none is wanted.
+pub fn judgement_text<Y: System>(
+    world: &World<'_, Y>,
+    judgement: &Judgement<'_>,
+    widest: Widest,
+    end: &Result<Report, EngineFault>,
+) -> Vec<u8> {
+    let mut out = Vec::new(world.alloc);
+    if world.explain {
+        let _ = put_judgement(&mut out, world, judgement, widest, end);
+    }
+    rows_of(world.alloc, out)
+}
+
+/// Explains how an exploration ended.
+fn put_exploration<Y: System>(
+    out: &mut Vec<u8>,
+    world: &World<'_, Y>,
+    exploration: &Exploration<'_>,
+    end: &Result<Option<Report>, EngineFault>,
+) -> Result<(), AllocError> {
+    let names = &exploration.names;
+    match end {
+        Ok(None) => Ok(()),
+        Ok(Some(report)) => { put_files_report(out, world, names, None, Widest::unknown(), report) }
+        Err(fault) => put_fault(out, world, None, names.spec, &names.streams, fault),
+    }
+}
+
+/// The explanation of how an exploration ended, as far as it could be made; empty if none is wanted. What is unknown is
+/// said on the page.
+pub fn exploration_text<Y: System>(
+    world: &World<'_, Y>,
+    exploration: &Exploration<'_>,
+    end: &Result<Option<Report>, EngineFault>,
+) -> Vec<u8> {
+    let mut out = Vec::new(world.alloc);
+    if world.explain {
+        let _ = put_exploration(&mut out, world, exploration, end);
+    }
+    rows_of(world.alloc, out)
+}
+
+/// Explains what the report of a bundle leaves unknown, or why it is a refusal, by its parts.
+fn put_parts_report(
+    out: &mut Vec<u8>,
+    alloc: Global,
+    document: Option<Source<'_>>,
+    streams: &[SeenStream<'_>],
+    widest: Widest,
+    report: &Report,
+) -> Result<(), AllocError> {
+    let seen = Seen {
+        document,
+        options: None,
+        streams,
+        order: "Streams count in the order in which they stand in the bundle.\n",
+    };
+    put_report(out, alloc, seen, widest, report)
+}
+
+/// The same by what was read of it.
+fn put_bundle_report<Y: System>(
+    out: &mut Vec<u8>,
+    world: &World<'_, Y>,
+    widest: Widest,
+    report: &Report,
+) -> Result<(), AllocError> {
+    let Some(bundle) = world.notes.document().and_then(|note| note.bytes()) else {
+        return put_parts_report(out, world.alloc, None, &[], widest, report);
+    };
+    let parts = parts_of(world.alloc, bundle)?;
+    let streams = streams_of(world.alloc, &parts)?;
+    put_parts_report(
+        out,
+        world.alloc,
+        document_of(&parts),
+        &streams,
+        widest,
+        report,
+    )
+}
+
+/// Explains how a judgement of a bundle ended.
+fn put_bundle<Y: System>(
+    out: &mut Vec<u8>,
+    world: &World<'_, Y>,
+    widest: Widest,
+    end: &Result<Report, EngineFault>,
+) -> Result<(), AllocError> {
+    match end {
+        Ok(report) => put_bundle_report(out, world, widest, report),
+        Err(EngineFault::Memory) => explain_memory(out),
+        Err(EngineFault::Write) => put_output(out, world),
+        Err(EngineFault::Read) => explain_bundle_fault(out, false),
+        Err(EngineFault::BundleLong) => explain_bundle_fault(out, true),
+    }
+}
+
+/// The explanation of how a judgement of a bundle ended, as far as it could be made; empty if none is wanted.
+pub fn bundle_text<Y: System>(
+    world: &World<'_, Y>,
+    widest: Widest,
+    end: &Result<Report, EngineFault>,
+) -> Vec<u8> {
+    let mut out = Vec::new(world.alloc);
+    if world.explain {
+        let _ = put_bundle(&mut out, world, widest, end);
+    }
+    rows_of(world.alloc, out)
+}
+
+/// The bytes that were read of each of these streams; nothing, if those of one aren't known to its end.
+fn stream_bytes<'a, Y: System>(
+    world: &World<'a, Y>,
+    count: usize,
+) -> Result<Option<Vec<&'a [u8]>>, AllocError> {
+    let notes = world.notes;
+    let mut streams = Vec::new(world.alloc);
+    for place in 0..count {
+        match notes.stream(place) {
+            Some(note) if note.failure().is_none() => match note.bytes() {
+                Some(bytes) => streams.push(bytes)?,
+                None => return Ok(None),
+            },
+            _ => return Ok(None),
+        }
+    }
+    Ok(Some(streams))
+}
+
+/// Explains what is bad in a report, by a check of what was read.
+fn put_finding<Y: System>(
+    out: &mut Vec<u8>,
+    world: &World<'_, Y>,
+    report: &str,
+    names: &SessionNames<'_>,
+) -> Result<(), AllocError> {
+    let streams = stream_bytes(world, names.streams.len())?;
+    let document = seen_document(world.notes, names.spec);
+    let claim = seen_file(world.notes.report(), report);
+    let (Some(streams), Some(document), Some(claim)) = (streams, document, claim) else {
+        return explain_unread_finding(out);
+    };
+    let found = check_seen(world, document.bytes, &names.options, claim.bytes, streams);
+    explain_finding(out, &claim, &found)
+}
+
+/// Explains how a check ended.
+fn put_check<Y: System>(
+    out: &mut Vec<u8>,
+    world: &World<'_, Y>,
+    report: &str,
+    names: &SessionNames<'_>,
+    end: &Result<bool, EngineFault>,
+) -> Result<(), AllocError> {
+    match end {
+        Ok(true) => Ok(()),
+        Ok(false) => put_finding(out, world, report, names),
+        Err(fault) => put_fault(out, world, Some(report), names.spec, &names.streams, fault),
+    }
+}
+
+/// The explanation of how a check ended, as far as it could be made; empty if none is wanted. What a check finds stands
+/// on the output.
+pub fn check_text<Y: System>(
+    world: &World<'_, Y>,
+    report: &str,
+    names: &SessionNames<'_>,
+    end: &Result<bool, EngineFault>,
+) -> Vec<u8> {
+    let mut out = Vec::new(world.alloc);
+    if world.explain {
+        let _ = put_check(&mut out, world, report, names, end);
+    }
+    rows_of(world.alloc, out)
+}
+
+/// Explains that there is no evidence of the kind that is asked for.
+fn explain_no_evidence(out: &mut Vec<u8>) -> Result<(), AllocError> {
+    out.extend_from_slice(
+        b"Evidence is the cut after `possibly yes` or the path after `definitely no`. The report has none of the kind \
+that is asked for, of the predicate whose name is given, or of any if none is.\n\
+What to do: leave --evidence out, or name a predicate whose answer has such evidence.\n",
+    )
+}
+
+/// Explains how a run that draws ended.
+fn put_drawing<Y: System>(
+    out: &mut Vec<u8>,
+    world: &World<'_, Y>,
+    report: &str,
+    names: &SessionNames<'_>,
+    end: &Result<DrawOutcome, EngineFault>,
+) -> Result<(), AllocError> {
+    match end {
+        Ok(DrawOutcome::NoPredicate) => {
+            let seen = Seen {
+                document: seen_document(world.notes, names.spec),
+                options: Some(&names.options),
+                streams: &[],
+                order: "",
+            };
+            put_predicates(out, world.alloc, seen)
+        }
+        Ok(DrawOutcome::NoEvidence) => explain_no_evidence(out),
+        Ok(DrawOutcome::Refused(_)) => explain_no_picture(out),
+        Ok(DrawOutcome::Written | DrawOutcome::CycleWritten) => Ok(()),
+        Err(fault) => put_fault(out, world, Some(report), names.spec, &names.streams, fault),
+    }
+}
+
+/// The explanation of how a run that draws ended, as far as it could be made; empty if none is wanted. What a check
+/// finds that stands against a picture is reported anyway.
+pub fn drawing_text<Y: System>(
+    world: &World<'_, Y>,
+    report: &str,
+    names: &SessionNames<'_>,
+    end: &Result<DrawOutcome, EngineFault>,
+) -> Vec<u8> {
+    let mut out = Vec::new(world.alloc);
+    if world.explain {
+        let _ = put_drawing(&mut out, world, report, names, end);
+    }
+    rows_of(world.alloc, out)
+}

@@ -1,0 +1,18 @@
+//! Explains how a run ended, by what it has read: no file is opened again.
+//!
+//! Explanations are for a person, and no clause speaks of them. What they say stands in `app_explain`.
+//!
+//! - `seen_files`: what a run has read of files
+//! - `seen_parts`: what a run has read of a bundle
+//! - `explained_ends`: explains how a run ended
+#![tactic(auto)]
+
+mod explained_ends;
+mod seen_files;
+mod seen_parts;
+
+pub use explained_ends::{
+    bundle_text, check_text, drawing_text, exploration_text, judgement_text, put_fault, put_named,
+    put_report, rows_of,
+};
+pub use seen_files::seen_document;

@@ -1,0 +1,5 @@
+-- What the clauses cite.
+pub mod Lines
+pub mod Rows
+pub mod Shown
+pub mod Window
