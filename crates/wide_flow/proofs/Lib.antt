@@ -1,0 +1,12 @@
+pub mod Totals
+pub mod Lists
+pub mod TakeSteps
+pub mod ReachSteps
+pub mod RowSteps
+pub mod Weights
+pub mod Duality
+pub mod PaySteps
+pub mod SearchSteps
+pub mod Distinct
+pub mod Freezing
+pub mod Gains
