@@ -51,9 +51,12 @@ class Browser {
 
 let browser = null;
 test.before(() => { browser = new Browser(); });
-test.after(() => {
+test.after(async () => {
+  const exited = new Promise((resolve) => browser.process.once("exit", resolve));
   browser.process.kill("SIGKILL");
-  browser.process.once("exit", () => fs.rmSync(folder, { recursive: true, force: true }));
+  await exited;
+  // The processes that it started end a moment later, and write to its folder until then.
+  fs.rmSync(folder, { recursive: true, force: true, maxRetries: 20, retryDelay: 50 });
 });
 
 const KEYS = { ArrowLeft: 37, ArrowUp: 38, ArrowRight: 39, ArrowDown: 40, Home: 36, End: 35, Enter: 13, Escape: 27,
