@@ -161,18 +161,10 @@ fn put_line(
     stream: &SeenStream<'_>,
     fault: StreamFault,
 ) -> Result<(), AllocError> {
-    let (Some(source), Some(spec)) = (stream.source, seen.spec(alloc)) else {
-        return explain_stream_word(out, fault, stream.file, seen.order);
-    };
-    explain_stream(
-        out,
-        alloc,
-        spec.names(),
-        stream.file,
-        &source,
-        seen.order,
-        fault,
-    )
+    match seen.spec(alloc) {
+        Some(spec) => explain_stream(out, alloc, spec.names(), *stream, seen.order, fault),
+        None => explain_stream_word(out, fault, stream.file, seen.order),
+    }
 }
 
 /// Explains a stream that is refused.

@@ -6,6 +6,7 @@ ghost use Rattle.std.specs.Prelude.{◌≡◌, string_bytes, IfOk};
 use super::fields::text_in_line;
 use super::known_names::{name_at, say_processes, say_vars};
 use super::record_details::place_in_record;
+use super::seen::SeenStream;
 use super::words::StreamWord;
 use app_text::{
     Source, line_at, record_after, say, say_advice, say_name, say_number, say_shown, show_numbered,
@@ -234,8 +235,8 @@ pub(crate) fn say_known(
     say(out, ".\n")
 }
 
-/// Explains why this stream is refused, of the file of this name if it has one: what the fault means, the line with a
-/// caret below the place, as far as that is sure, in which order streams count, what is expected there, and what to do.
+/// Explains why this stream is refused: what the fault means, the line with a caret below the place, as far as that is
+/// sure, in which order streams count, what is expected there, and what to do.
 ///
 /// # Errors
 /// Out of memory; what was put until then stays.
@@ -243,15 +244,17 @@ pub fn explain_stream(
     out: &mut Vec<u8>,
     alloc: Global,
     names: &Names,
-    file: &str,
-    source: &Source<'_>,
+    stream: SeenStream<'_>,
     order: &str,
     fault: StreamFault,
 ) -> Result<(), AllocError> {
+    let Some(source) = stream.source else {
+        return explain_stream_word(out, fault, stream.file, order);
+    };
     let joined = joined_name(alloc, source.bytes)?;
     let process = joined.as_deref();
-    say_head(out, fault, file, process)?;
-    show_fault(out, alloc, names, source, fault)?;
+    say_head(out, fault, stream.file, process)?;
+    show_fault(out, alloc, names, &source, fault)?;
     say_known(out, names, process, fault.word)?;
     say(out, order)?;
     say_advice(out, expected(fault.word), advice(fault.word))

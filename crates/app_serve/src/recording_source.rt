@@ -8,7 +8,7 @@ use super::notices::Notices;
 use super::peer::Peer;
 use super::peers::Peers;
 use super::start_recorder::StartRecorder;
-use app_host::{Note, NotedSource};
+use app_host::NotedSource;
 use pd_gather::{ByteSource, StreamFault, StreamKind};
 use std::alloc::Global;
 use std::io;
@@ -33,20 +33,19 @@ pub struct RecordingSource<'a, R: Drop, W, T> {
 
 impl<'a, R: Drop, W, T> RecordingSource<'a, R, W, T> {
     /// The source of the stream at this place, of which it is noted for these peers how it begins and where it is
-    /// refused, if they are noted, and there which bytes came, if that is wanted, and which is kept, if it is.
+    /// refused, if they are noted, and which is kept, if it is.
     pub fn new(
         alloc: Global,
-        source: R,
+        source: NotedSource<'a, R>,
         place: usize,
-        note: Option<&'a Note>,
         peers: &'a Peers,
         keeping: Option<Keeping<'a, W, T>>,
         notices: &'a T,
     ) -> RecordingSource<'a, R, W, T>
-        ensures { result.source.source ≡ source }
+        ensures { result.source ≡ source.entry }
     {
         RecordingSource {
-            source: NotedSource::new(alloc, source, note),
+            source,
             peer: peers.at(place),
             start_recorder: StartRecorder::new(alloc, peers.at(place)),
             keeping,

@@ -24,7 +24,9 @@ use super::service_fault::ServiceFault;
 use super::service_notices::ServiceNotices;
 use super::watchers::Watchers;
 use app_arguments::Workers;
-use app_host::{FileSource, Network, System, World, judge_read, open_noted, read_document};
+use app_host::{
+    FileSource, Network, NotedSource, System, World, judge_read, open_noted, read_document,
+};
 use def_judgement::one_document;
 use judge_session::EngineFault;
 use pd_engine::{
@@ -128,10 +130,8 @@ fn accept_stream<'a, F, N: Network, W: Write + Drop, T: Notices>(
         Ok(Some(connection)) => {
             note_address(host, &connection, host.peers.at(place));
             notices.has_connected(place);
-            let note = host.notes.stream(place);
-            Ok(RecordingSource::new(
-                host.alloc, connection, place, note, host.peers, keeping, notices,
-            ))
+            let source = NotedSource::new(host.alloc, connection, host.notes.stream(place));
+            Ok(RecordingSource::new(host.alloc, source, place, host.peers, keeping, notices))
         }
         Ok(None) => Err(ServiceFault::Late),
         Err(_) => Err(ServiceFault::Network),
