@@ -31,8 +31,9 @@ pub fn least_good<G: GoodCounts>(
     Ok(Some(cut))
 }
 
-/// Goes up to the least good cut, from a consistent one within each good one. Whether there is any.
-fn go_up<G: GoodCounts>(computation: &Computation<'_>, wanted: &G, counts: &mut [u64]) -> bool
+/// Goes up to the least good cut, from a consistent one within each good one. Whether there is any; if there is none,
+/// nothing is said of the counts. Each step adds an event.
+pub fn go_up<G: GoodCounts>(computation: &Computation<'_>, wanted: &G, counts: &mut [u64]) -> bool
     requires { IsBelowGood computation.now.events (G.good wanted.now) counts.old }
     ensures found { result ≡ true → IsLeastGood computation.now.events (G.good wanted.now) counts.new }
     ensures none { result ≡ false → HasNoGood computation.now.events (G.good wanted.now) }

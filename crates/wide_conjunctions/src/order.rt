@@ -31,8 +31,8 @@ pub fn events(counts: &[u64]) -> u64
     events
 }
 
-/// Whether the counts come lexicographically before the others.
-fn is_lex_below(a: &[u64], b: &[u64]) -> bool
+/// Whether the counts come lexicographically before the others, of which there are as many.
+pub fn is_lex_below(a: &[u64], b: &[u64]) -> bool
     requires { length a.now ≡ length b.now }
     ensures { IsTrue result ↔ LexBelow a.now b.now }
 {

@@ -29,7 +29,7 @@ abbrev pub step_limit : ℕ
 step_limit = 160016
 
 abbrev pub size_limit : ℕ
-size_limit = 2 ^ 107
+size_limit = 2 ^ 110
 
 -- the steps of this many processes, in an order, with their pasts
 pub record AreSteps (processes : ℕ) (steps : List Step) : Type 0 where

@@ -28,9 +28,9 @@ part_of_difference r s n numbers left right = parts_value r s n numbers left -�
 abbrev pub number_at : List ℤ → ℕ → ℤ
 number_at row n = slice_index_or row n (pos 0)
 
--- no number of a row is further from 0, so the sum of two fits 128 bits
+-- no difference of two sums is further from 0, so the sum of a difference for each process fits 128 bits
 abbrev pub IsSmall : ℤ → Type 0
-IsSmall number = unsigned_abs number ≤ 2 ^ 110
+IsSmall number = unsigned_abs number ≤ 2 ^ 108
 
 -- The row has what process s adds to the difference of two sums, by the count of its events.
 pub record IsRowOf (r : Recorded) (s : ℕ) (numbers : Bool) (left right : List (Sign × Term)) (row : List ℤ) : Type 0

@@ -57,4 +57,6 @@ pub use good_pairs::GoodPairs;
 pub use grid_definitely::{Passage, definitely_by_pairs};
 pub use grid_laws::avoiding_pairs;
 pub use grid_possibly::possibly_by_pairs;
+pub use part::difference;
 pub use possibly::{first_of_two, is_of_two};
+pub use row::row_of;

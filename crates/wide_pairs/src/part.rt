@@ -104,8 +104,10 @@ fn sum_part(
     total
 }
 
-/// What the process adds to the left side less what it adds to the right.
-pub(crate) fn difference(
+/// What a process adds to the left side of a comparison after its first `count` events, less what it adds to the right
+/// side. The numbers among the terms are taken in if `numbers`, and else left out, as are the variables of other
+/// processes. It takes a search among the events of the process for each of its variables.
+pub fn difference(
     computation: &Computation<'_>,
     process: usize,
     count: u64,

@@ -43,11 +43,11 @@ pub(crate) fn numbers_from(row: &[i128], first: u64, n: u64) -> &[i128]
 }
 
 /// What a process adds to the difference of two sums, by the count of its events. The numbers among the terms are taken
-/// in, or left out.
+/// in if `numbers`, and else left out. It takes `difference` for each count.
 ///
 /// # Errors
 /// An allocation was refused.
-pub(crate) fn row_of(
+pub fn row_of(
     alloc: Global,
     computation: &Computation<'_>,
     process: usize,

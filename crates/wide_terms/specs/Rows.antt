@@ -51,6 +51,12 @@ pub record IsRowOf (r : Recorded) (negated : Bool) (predicate : Predicate) (row 
   pub holds : (cut : List ℕ) → FitsProcesses r.events cut
       → row_holds (Some row) cut ≡ turned negated (test_of r predicate cut)
 
+-- The row of the predicate, or of its opposite if it is negated, was put after the others.
+pub record AddsRow (r : Recorded) (negated : Bool) (predicate : Predicate) (old new : List TruthRow) : Type 0 where
+  pub row : TruthRow
+  pub row_of : IsRowOf r negated predicate row
+  pub is : new ≡ old ++ row ∷ []
+
 -- each of the first terms with each of the second
 abbrev pub products : List (List ℕ) → List (List ℕ) → List (List ℕ)
 products first second = flat_map (λ term. map (λ other. term ++ other) second) first

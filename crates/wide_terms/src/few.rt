@@ -4,8 +4,8 @@ ghost use Rattle.def_wide.specs.Parts.{opposite_if};
 ghost use Rattle.pd_pred.specs.Trees.{tree_view};
 ghost use Rattle.std.specs.Prelude.{◌↔◌, IsTrue};
 
-use super::count::count;
 use super::local::is_local;
+use super::term_count::count;
 use pd_pred::Tree;
 
 /// How many terms a predicate may have that is answered by its terms.

@@ -25,8 +25,8 @@ fn is_same_term(first: SignedTerm, second: SignedTerm) -> bool
     first == second
 }
 
-/// Whether two sums have equal terms in the same order.
-fn is_same_sum(first: &Sum, second: &Sum) -> bool
+/// Whether two sums have equal terms in the same order. It looks at each term once at most.
+pub fn is_same_sum(first: &Sum, second: &Sum) -> bool
     ensures { IsTrue result → sum_view first.now ≡ sum_view second.now }
 {
     if first.terms.len() != second.terms.len() {

@@ -46,8 +46,8 @@ fn names_no_other(sum: &Sum, process: usize) -> bool
     true
 }
 
-/// Whether two sums name one process at most.
-fn name_one(left: &Sum, right: &Sum) -> bool
+/// Whether two sums name one process at most. It looks at each of their terms twice at most.
+pub fn name_one(left: &Sum, right: &Sum) -> bool
     ensures { IsTrue result ↔ NameOne (sum_view left.now) (sum_view right.now) }
 {
     match first_named(left) {

@@ -8,9 +8,9 @@ ghost use Rattle.std.specs.Prelude.{◌≡◌, IfOk, false};
 
 use super::clause::{ByClause, definitely_by_clause};
 use super::conjunction::passage_of_one;
-use super::count::count;
 use super::few::TERM_LIMIT;
 use super::local::is_local;
+use super::term_count::count;
 use pd_clock::Computation;
 use pd_pred::Pred;
 use std::alloc::{AllocError, Global};

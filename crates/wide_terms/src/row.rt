@@ -44,8 +44,11 @@ fn process_of(computation: &Computation<'_>, left: &Sum, right: &Sum) -> usize
     }
 }
 
-/// A count of no event for each process.
-fn zeros(alloc: Global, computation: &Computation<'_>) -> Result<Vec<u64>, AllocError>
+/// A count of no event for each process: the empty cut.
+///
+/// # Errors
+/// An allocation was refused.
+pub fn zeros(alloc: Global, computation: &Computation<'_>) -> Result<Vec<u64>, AllocError>
     ensures { IfOk result (λ counts. counts.items ≡ empty_cut computation.now.events) }
 {
     vec![in alloc; 0; computation.processes()]

@@ -25,8 +25,8 @@ pub struct Terms {
 /// One of the terms.
 #[derive(Clone, Copy)]
 pub struct Term<'a> {
-    rows: &'a [TruthRow],
-    numbers: &'a [usize],
+    pub(crate) rows: &'a [TruthRow],
+    pub(crate) numbers: &'a [usize],
     ghost sound: { All (λ i. i < length rows.now) numbers.now },
 }
 
