@@ -1,3 +1,4 @@
 -- The modules of lemmas of this crate.
 pub mod Wholes
+pub mod TermMeanings
 pub mod Tried

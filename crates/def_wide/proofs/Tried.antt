@@ -1,8 +1,13 @@
 -- The definitions, tried on predicates of three processes.
-use Rattle.std.proofs.Common.{◌≡◌, ◌⊎◌, inl, inr, ◌<◌, ℕ, length, refl, arith}
+use Rattle.std.proofs.Common.{◌≡◌, ◌⊎◌, inl, inr, ℕ, zero, suc, List, [], ◌∷◌, refl, subst, lit≤, arith}
+use Rattle.std.specs.Prelude.{false, Contains}
+use Rattle.std.proofs.lemmas.List.Elements.{All-nil}
 use Rattle.def_model.specs.Decided.{DecidesPossibly}
-use Rattle.def_model.specs.Predicates.{Recorded, And, Or}
-use Rattle.def_wide.specs.Examples.{AllEqual, SomeTwoDiffer, agree, differ}
+use Rattle.def_model.specs.Predicates.{Number, Variable, IsAtLeast, Plus, Or}
+use Rattle.def_wide.specs.Examples.{AllEqual, SomeTwoDiffer, SumReaches, differ, reach}
+use Rattle.def_wide.specs.Parts.{PartsDecide}
+use Rattle.def_wide.specs.Sums.{IsDecidedTerm, IsLocalLiteral, IsOnlySum}
+use Rattle.def_wide.specs.Terms.{Literal}
 
 -- three processes aren't among two
 three : (p q : ℕ) → (0 ≡ p) ⊎ (0 ≡ q) → (1 ≡ p) ⊎ (1 ≡ q) → (2 ≡ p) ⊎ (2 ≡ q) → ⊥
@@ -19,14 +24,14 @@ apart p a b = omega (arith, a, b)
 
 pub some_two_differ : SomeTwoDiffer
 some_two_differ r there = (
-  (
+  inl (
     (
       inl (0, 1, omega arith, omega (arith, there), ((inl refl, tt), (inr refl, tt))),
       inl (1, 2, omega arith, omega (arith, there), ((inl refl, tt), (inr refl, tt))),
     ),
     inl (0, 2, omega arith, omega (arith, there), ((inl refl, tt), (inr refl, tt))),
   ),
-  (
+  inl (
     inl (0, 1, omega arith, omega (arith, there), ((inl refl, tt), (inr refl, tt))),
     inl (1, 2, omega arith, omega (arith, there), ((inl refl, tt), (inr refl, tt))),
   ),
@@ -41,3 +46,34 @@ some_two_differ r there = (
 pub all_equal : AllEqual
 all_equal r (inl (p, q, order, within, names)) = three p q names.0.0.0 names.0.1.0 names.1.1.0
 all_equal r (inr (local, few)) = apart local.0.0 local.0.1.0 local.0.2.0
+
+pub sum_reaches : SumReaches
+sum_reaches r n there = (
+  record {
+    few = lit≤ tt;
+    there = ((omega (arith, there), (omega (arith, there), (omega (arith, there), tt))), (tt, tt));
+    terms = λ term at. subst (IsDecidedTerm r) (at_first term at) (inr (inr (sum, only, tt)));
+  },
+  parts,
+)
+  where
+    sum : Literal
+    sum = record {
+      left = (Plus, Variable 0 0) ∷ (Plus, Variable 1 0) ∷ (Plus, Variable 2 0) ∷ [];
+      comparison = IsAtLeast;
+      right = (Plus, Number n) ∷ [];
+    }
+
+    several : (p : ℕ) → (0 ≡ p) → (1 ≡ p) → ⊥
+    several p a b = omega (arith, a, b)
+
+    only : IsOnlySum (sum ∷ []) sum
+    only = ([], [], refl, All-nil IsLocalLiteral, λ one. several one.0 one.1.0 one.1.1.0, All-nil IsLocalLiteral)
+
+    at_first : (term : List Literal) → Contains ((sum ∷ []) ∷ []) term → (sum ∷ []) ≡ term
+    at_first term (zero, lt, is) = is
+    at_first term (suc k, lt, is) = absurd (omega (arith, lt))
+
+    parts : ¬ PartsDecide false r (reach n)
+    parts (inl (p, q, order, within, names)) = three p q names.0.0 names.0.1.0 names.0.1.1.0
+    parts (inr (local, few)) = several local.0 local.1.0 local.1.1.0

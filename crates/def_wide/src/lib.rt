@@ -2,8 +2,9 @@
 //! here has no code, and its contract is a law that holds of them.
 #![tactic(auto)]
 
-ghost use Rattle.def_wide.specs.Examples.{AllEqual, SomeTwoDiffer};
+ghost use Rattle.def_wide.specs.Examples.{AllEqual, SomeTwoDiffer, SumReaches};
 ghost use Rattle.def_wide.specs.Laws.{DefinitelyAfterPossibly, WholeIsDecided};
+ghost use Rattle.def_wide.specs.Terms.{TermsMean};
 
 /// A predicate that decides Possibly as a whole does so by its parts; and if Definitely is decided, Possibly is.
 pub fn decided()
@@ -11,8 +12,14 @@ pub fn decided()
     ensures definitely { DefinitelyAfterPossibly }
 {}
 
+/// A cut satisfies a predicate exactly if some term of it holds there.
+pub fn terms()
+    ensures { TermsMean }
+{}
+
 /// The definitions, tried on predicates of three processes.
 pub fn examples()
     ensures differ { SomeTwoDiffer }
     ensures equal { AllEqual }
+    ensures sum { SumReaches }
 {}
