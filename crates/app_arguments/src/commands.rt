@@ -74,7 +74,8 @@ definitely-no  it is no\n  \
 unknown        one of the two answers is unknown\n\n\
 An answer is unknown where a level of the lattice has more cuts than the document's width. With --beyond-width \
 predicates that name at most two processes are answered all the same and, as far as docs/SPECIFICATION.md says, those \
-of which each comparison names one process, and whether an `or` of such predicates possibly holds.\n\n\
+of which each comparison names one process; and whether an `or` of such predicates, or most predicates with one sum \
+over several processes in each term, possibly holds.\n\n\
 The formats are described in docs/SPECIFICATION.md. An example, at the top of the repository:\n  \
 crates/monitor/out/monitor judge examples/ten-lines/session.json examples/ten-lines/left.stream \
 examples/ten-lines/right.stream";
@@ -125,7 +126,8 @@ is ever written over.\n\n\
 With --fail-on the status may be 5, as that of `judge`, whose help says what LIST is.\n\n\
 An answer is unknown where a level of the lattice has more cuts than the document's width. With --beyond-width \
 predicates that name at most two processes are answered all the same and, as far as docs/SPECIFICATION.md says, those \
-of which each comparison names one process, and whether an `or` of such predicates possibly holds.\n\n\
+of which each comparison names one process; and whether an `or` of such predicates, or most predicates with one sum \
+over several processes in each term, possibly holds.\n\n\
 The formats are described in docs/SPECIFICATION.md. An example, at the top of the repository:\n  \
 crates/monitor/out/monitor serve examples/live/session.json --port 7411\nand then, from another terminal:\n  \
 cat examples/live/left.stream > /dev/tcp/127.0.0.1/7411 & cat examples/live/right.stream > /dev/tcp/127.0.0.1/7411";

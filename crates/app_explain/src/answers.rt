@@ -164,7 +164,8 @@ fn say_ways(out: &mut Vec<u8>, judged: Judged) -> Result<(), AllocError> {
         say(
             out,
             "judge files with --beyond-width, which answers predicates that name two processes, most of those in which \
-each comparison names one, and whether an `or` of such predicates possibly holds; or ",
+each comparison names one, and whether an `or` of such predicates, or a sum over several processes, possibly holds; \
+or ",
         )?;
     }
     say(

@@ -1,14 +1,16 @@
--- If each level is narrow no answer is unknown, and each is the truth; so is what is decided whatever the width, if it
--- is asked for. The answers agree at every width.
-use Rattle.std.proofs.Common.{◌≡◌, ℕ, Bool, true, List, [], ◌∷◌, map, All, refl, subst, ◌↔◌}
+-- If each level is narrow no answer is unknown, and each is the truth; so is what is decided whatever the width or by
+-- sums, if it is asked for. The answers agree at every width.
+use Rattle.std.proofs.Common.{◌≡◌, ℕ, ◌≤◌, inl, inr, ◌⊎◌, Bool, true, List, sum, [], ◌∷◌, map, All, refl, ap, subst, ◌↔◌}
 use Rattle.std.proofs.lemmas.List.Elements.{All-nil, All-cons}
 use Rattle.std.specs.List.{AllZip}
 use Rattle.def_model.specs.Events.{Computation, Place}
 use Rattle.def_model.specs.Messages.{Version, Fault, SendTwice, Orphan, SelfMessage, ReceivedTwice, IsReported, HasLawfulMessages}
+use Rattle.def_model.specs.Cuts.{IsConsistent}
 use Rattle.def_model.specs.Order.{HasNoCycle, IsReportedCycle, IsWellFormed}
 use Rattle.def_model.specs.Observations as observations
-use Rattle.def_model.specs.Answers.{PossiblyAnswer, PossiblyYes, PossiblyNo, PossiblyUnknown, DefinitelyAnswer, DefinitelyYes, DefinitelyNo, DefinitelyUnknown, IsPossiblyAnswer, IsDefinitelyAnswer, IsFirstSatisfying, IsLeastFree, IsAvoidingObservation}
+use Rattle.def_model.specs.Answers.{PossiblyAnswer, PossiblyYes, PossiblyNo, PossiblyUnknown, DefinitelyAnswer, DefinitelyYes, DefinitelyNo, DefinitelyUnknown, IsDefinitelyAnswer, IsFirstSatisfying, IsLeastFree, IsAvoidingObservation}
 use Rattle.def_model.specs.Predicates.{Recorded, test_of}
+use Rattle.def_wide.specs.Heights.{IsFirstByHeight}
 use Rattle.def_format.specs.Names.{ProcessNames, name_of_process}
 use Rattle.def_format.specs.Readings.{Trace}
 use Rattle.def_format.specs.Documents.{Document, NamedPredicate}
@@ -18,27 +20,26 @@ use Rattle.def_model.proofs.OneAnswer.{definite_is_possible, cut_below_level}
 use Rattle.def_model.proofs.Paths.{path_avoids}
 use Rattle.def_model.proofs.Stuck.{none_stuck}
 use Rattle.def_judgement.specs.Headline.{IsNarrow, AnswersAgree, SaysPossibly, SaysDefinitely, Coverage, SaysTruly, AnswersTruly, TellsTruth, each_predicate, each_decided, Headline, HeadlineBeyondWidth, ReportsAgree}
-use Rattle.def_judgement.proofs.Answered.{PossiblyAt, possibly_at, DefinitelyAt, definitely_at}
-use Rattle.def_judgement.proofs.Narrow.{level_is_narrow, avoided_narrowly}
+use Rattle.def_judgement.proofs.Answered.{IsKnown, IsSoundPossibly, IsFirstOf, PossiblyAt, possibly_at, DefinitelyAt, definitely_at}
+use Rattle.def_judgement.proofs.CutsByHeight.{lowest_below_level}
+use Rattle.def_judgement.proofs.Narrow.{avoided_narrowly}
 
 -- ---- what is printed, at every width
 
 -- if no is printed, no consistent cut satisfies
 no_printed : (c : Computation) (test : List ℕ → Bool) (w : ℕ) (reported : Possibly) (p : PossiblyAnswer)
-    → reported ≡ printed_possibly p → IsPossiblyAnswer c test w p → reported ≡ Possibly.No
+    → reported ≡ printed_possibly p → IsSoundPossibly c test w p → reported ≡ Possibly.No
     → ¬ observations.Possibly c test
-no_printed c test w reported (PossiblyYes cut) e right said = absurd (cc)
-no_printed c test w reported PossiblyNo e right said = right.1
-no_printed c test w reported (PossiblyUnknown k) e right said = absurd (cc)
+no_printed c test w reported (PossiblyYes cut) e sound said = absurd (cc)
+no_printed c test w reported PossiblyNo e sound said = sound
+no_printed c test w reported (PossiblyUnknown k) e sound said = absurd (cc)
 
--- the cut printed is the first that satisfies
-cut_printed : (c : Computation) (test : List ℕ → Bool) (w : ℕ) (reported : Possibly) (p : PossiblyAnswer)
-    → reported ≡ printed_possibly p → IsPossiblyAnswer c test w p → (cut : List ℕ) → reported ≡ Possibly.Yes cut
-    → IsFirstSatisfying c test cut
-cut_printed c test w reported (PossiblyYes printed) e right cut said =
-    let same : printed ≡ cut = cc in subst (IsFirstSatisfying c test) same right.1
-cut_printed c test w reported PossiblyNo e right cut said = absurd (cc)
-cut_printed c test w reported (PossiblyUnknown k) e right cut said = absurd (cc)
+-- the cut printed is that of the answer
+yes_printed : (reported : Possibly) (p : PossiblyAnswer) → reported ≡ printed_possibly p → (cut : List ℕ)
+    → reported ≡ Possibly.Yes cut → p ≡ PossiblyYes cut
+yes_printed reported (PossiblyYes printed) e cut said = let same : printed ≡ cut = cc in ap PossiblyYes same
+yes_printed reported PossiblyNo e cut said = absurd (cc)
+yes_printed reported (PossiblyUnknown k) e cut said = absurd (cc)
 
 -- if yes is printed, every observation passes through a satisfying cut, and the level printed is the least with no
 -- avoiding cut
@@ -50,37 +51,48 @@ level_printed names c test w reported (DefinitelyYes printed) e right level said
 level_printed names c test w reported (DefinitelyNo path) e right level said = absurd (cc)
 level_printed names c test w reported (DefinitelyUnknown k) e right level said = absurd (cc)
 
+-- the first satisfying cut, by level or by height, has at most as many events as the level
+first_below_level : (c : Computation) → HasNoCycle c → (test : List ℕ → Bool) (level : ℕ) (cut : List ℕ)
+    → IsFirstSatisfying c test cut ⊎ IsFirstByHeight c test cut → IsLeastFree c test level → sum cut ≤ level
+first_below_level c acyclic test level cut (inl first) free = cut_below_level c acyclic test level cut first free
+first_below_level c acyclic test level cut (inr lowest) free =
+    lowest_below_level c acyclic test cut lowest level free.none
+
 -- the answers of Possibly and of Definitely agree
 answers_agree : (names : List ProcessNames) (c : Computation) (test : List ℕ → Bool) (v w : ℕ) (answer : Answer)
-    → HasNoCycle c → (p : PossiblyAnswer) → answer.possibly ≡ printed_possibly p → IsPossiblyAnswer c test v p
-    → (d : DefinitelyAnswer) → answer.definitely ≡ printed_definitely names d → IsDefinitelyAnswer c test w d
-    → AnswersAgree answer
-answers_agree names c test v w answer acyclic p e right d f right' =
+    → HasNoCycle c → (p : PossiblyAnswer) → answer.possibly ≡ printed_possibly p → IsSoundPossibly c test v p
+    → IsFirstOf c test p → (d : DefinitelyAnswer) → answer.definitely ≡ printed_definitely names d
+    → IsDefinitelyAnswer c test w d → AnswersAgree answer
+answers_agree names c test v w answer acyclic p e sound first d f right =
     record {
       no_clash = λ level said none.
-          no_printed c test v answer.possibly p e right none (definite_is_possible c acyclic test
-          (level_printed names c test w answer.definitely d f right' level said).0);
+          no_printed c test v answer.possibly p e sound none (definite_is_possible c acyclic test
+          (level_printed names c test w answer.definitely d f right level said).0);
       below = λ cut level said said'.
-          cut_below_level c acyclic test level cut (cut_printed c test v answer.possibly p e right cut said)
-          (level_printed names c test w answer.definitely d f right' level said').1;
+          first_below_level c acyclic test level cut (first cut (yes_printed answer.possibly p e cut said))
+          (level_printed names c test w answer.definitely d f right level said').1;
     }
 
 -- ---- what is said of Possibly
 
-module _ (c : Computation) (test : List ℕ → Bool) (w : ℕ) (narrow : IsNarrow c w) (reported : Possibly) where
-  possibly_yes_exactly : (p : PossiblyAnswer) → reported ≡ printed_possibly p → IsPossiblyAnswer c test w p
+module _ (c : Computation) (test : List ℕ → Bool) (w : ℕ) (reported : Possibly) where
+  possibly_yes_exactly : (p : PossiblyAnswer) → reported ≡ printed_possibly p → IsSoundPossibly c test w p → IsKnown p
       → ((cut : List ℕ) × (reported ≡ Possibly.Yes cut)) ↔ observations.Possibly c test
-  possibly_yes_exactly (PossiblyYes cut) e (known, f) = (λ said. (cut, f.consistent, f.satisfies), λ holds. (cut, e))
-  possibly_yes_exactly PossiblyNo e (known, none) =
+  possibly_yes_exactly (PossiblyYes cut) e sound known = (λ said. (cut, sound.0, sound.1), λ holds. (cut, e))
+  possibly_yes_exactly PossiblyNo e none known =
       (λ said. let other : reported ≡ Possibly.Yes said.0 = said.1 in absurd (cc), λ holds. absurd (none holds))
-  possibly_yes_exactly (PossiblyUnknown k) e u = absurd (level_is_narrow c test w narrow k u.wide)
+  possibly_yes_exactly (PossiblyUnknown k) e unknown known = absurd (known k refl)
 
-  possibly_no_exactly : (p : PossiblyAnswer) → reported ≡ printed_possibly p → IsPossiblyAnswer c test w p
+  possibly_no_exactly : (p : PossiblyAnswer) → reported ≡ printed_possibly p → IsSoundPossibly c test w p → IsKnown p
       → (reported ≡ Possibly.No) ↔ (¬ observations.Possibly c test)
-  possibly_no_exactly (PossiblyYes cut) e (known, f) =
-      (λ said. absurd (cc), λ none. absurd (none (cut, f.consistent, f.satisfies)))
-  possibly_no_exactly PossiblyNo e (known, none) = (λ said. none, λ holds. e)
-  possibly_no_exactly (PossiblyUnknown k) e u = absurd (level_is_narrow c test w narrow k u.wide)
+  possibly_no_exactly (PossiblyYes cut) e sound known =
+      (λ said. absurd (cc), λ none. absurd (none (cut, sound.0, sound.1)))
+  possibly_no_exactly PossiblyNo e none known = (λ said. none, λ holds. e)
+  possibly_no_exactly (PossiblyUnknown k) e unknown known = absurd (known k refl)
+
+  cut_printed : (p : PossiblyAnswer) → reported ≡ printed_possibly p → IsSoundPossibly c test w p → (cut : List ℕ)
+      → reported ≡ Possibly.Yes cut → IsConsistent c cut × (test cut ≡ true)
+  cut_printed p e sound cut said = subst (IsSoundPossibly c test w) (yes_printed reported p e cut said) sound
 
 -- ---- what is said of Definitely
 
@@ -113,12 +125,11 @@ module _ (names : List ProcessNames) (c : Computation) (test : List ℕ → Bool
 -- ---- one answer
 
 says_possibly : (c : Computation) (test : List ℕ → Bool) (w : ℕ) (reported : Possibly) (p : PossiblyAnswer)
-    → IsNarrow c w → reported ≡ printed_possibly p → IsPossiblyAnswer c test w p → SaysPossibly c test reported
-says_possibly c test w reported p narrow e right = record {
-  yes_exactly = possibly_yes_exactly c test w narrow reported p e right;
-  no_exactly = possibly_no_exactly c test w narrow reported p e right;
-  cut_satisfies = λ cut said. let i : IsFirstSatisfying c test cut = cut_printed c test w reported p e right cut said in
-      (i.consistent, i.satisfies);
+    → reported ≡ printed_possibly p → IsSoundPossibly c test w p → IsKnown p → SaysPossibly c test reported
+says_possibly c test w reported p e sound known = record {
+  yes_exactly = possibly_yes_exactly c test w reported p e sound known;
+  no_exactly = possibly_no_exactly c test w reported p e sound known;
+  cut_satisfies = cut_printed c test w reported p e sound;
 }
 
 says_definitely : (names : List ProcessNames) (c : Computation) (test : List ℕ → Bool) (w : ℕ) (reported : Definitely)
@@ -140,27 +151,27 @@ module _ (document : Document) (r : Recorded) (acyclic : HasNoCycle r.events) (a
 
   agrees : AnswersAgree answer
   agrees =
-      answers_agree document.names r.events (test_of r asked.predicate) p.width d.width answer acyclic a.possibly
-      a.possibly_reported p.right a.definitely a.definitely_reported d.right
+      answers_agree document.names r.events (test_of r asked.predicate) document.width d.width answer acyclic a.possibly
+      a.possibly_reported p.sound p.first a.definitely a.definitely_reported d.right
 
-  says_truly : (coverage : Coverage) → (coverage.possibly r asked.predicate → IsNarrow r.events p.width)
+  says_truly : (coverage : Coverage) → (coverage.possibly r asked.predicate → IsKnown a.possibly)
       → (coverage.definitely r asked.predicate → IsNarrow r.events d.width)
       → SaysTruly coverage document.names r asked.predicate answer
-  says_truly coverage possibly_narrow definitely_narrow = record {
-    possibly = λ within. says_possibly r.events (test_of r asked.predicate) p.width answer.possibly a.possibly
-        (possibly_narrow within) a.possibly_reported p.right;
-    definitely = λ within. says_definitely document.names r.events (test_of r asked.predicate) d.width
-        answer.definitely a.definitely (definitely_narrow within) a.definitely_reported d.right;
+  says_truly coverage known narrow = record {
+    possibly = λ covered. says_possibly r.events (test_of r asked.predicate) document.width answer.possibly a.possibly
+        a.possibly_reported p.sound (known covered);
+    definitely = λ covered. says_definitely document.names r.events (test_of r asked.predicate) d.width
+        answer.definitely a.definitely (narrow covered) a.definitely_reported d.right;
     agrees = agrees;
   }
 
   -- with no level over the width, of each predicate
   says_each : IsNarrow r.events document.width → SaysTruly each_predicate document.names r asked.predicate answer
-  says_each narrow = says_truly each_predicate (λ _. p.narrow narrow) (λ _. d.narrow narrow)
+  says_each narrow = says_truly each_predicate (λ _. p.known narrow) (λ _. d.narrow narrow)
 
   -- if that is asked for, of each that is decided
   says_decided : document.beyond_width ≡ true → SaysTruly each_decided document.names r asked.predicate answer
-  says_decided beyond = says_truly each_decided (p.narrow_if_decided beyond) (d.narrow_if_decided beyond)
+  says_decided beyond = says_truly each_decided (p.known_if_decided beyond) (d.narrow_if_decided beyond)
 
 -- ---- the report
 

@@ -4,7 +4,7 @@ use Rattle.std.specs.List.{AllByRecursion, AllZip}
 use Rattle.def_model.specs.Events.{Computation, Place, IsBefore, IsEvent, Linked, event_count}
 use Rattle.def_model.specs.Messages.{Version, Fault, SendTwice, Orphan, SelfMessage, ReceivedTwice, IsReported, AreReceived, HasMessages}
 use Rattle.def_model.specs.Cuts.{IsConsistent, full_cut, total}
-use Rattle.def_model.specs.Answers.{PossiblyAnswer, PossiblyYes, PossiblyNo, PossiblyUnknown, IsPossiblyAnswer, DefinitelyAnswer, DefinitelyYes, DefinitelyNo, DefinitelyUnknown, IsDefinitelyAnswer}
+use Rattle.def_model.specs.Answers.{PossiblyAnswer, PossiblyYes, PossiblyNo, PossiblyUnknown, DefinitelyAnswer, DefinitelyYes, DefinitelyNo, DefinitelyUnknown, IsDefinitelyAnswer}
 use Rattle.def_model.specs.Predicates.{Recorded, test_of}
 use Rattle.def_model.proofs.Chains.{event_from_kind}
 use Rattle.def_model.proofs.Consistency.{process_in_range}
@@ -17,7 +17,7 @@ use Rattle.def_format.specs.RefusalWords.{named_place, match_refusal}
 use Rattle.def_format.specs.Reports.{Answer, Fits, IsName, PossiblyIsLawful, DefinitelyIsLawful, AnswerIsLawful, PlaceIsLawful, RefusalIsLawful}
 use Rattle.def_format.proofs.DocumentParts.{HasName, AsksByName, process_is_named}
 use Rattle.def_judgement.specs.Judgements.{IsAnswered, printed_possibly, printed_definitely}
-use Rattle.def_judgement.proofs.Answered.{possibly_at, definitely_at}
+use Rattle.def_judgement.proofs.Answered.{IsSoundPossibly, possibly_at, definitely_at}
 
 -- as many processes as names, few of them, each with few events
 pub record IsSmall (names : List ProcessNames) (c : Computation) : Type 0 where
@@ -159,9 +159,9 @@ path_is_lawful names (p ∷ path) named below =
     (process_is_named names p named below.0, path_is_lawful names path named below.1)
 
 pub possibly_is_lawful : (names : List ProcessNames) (c : Computation) (test : List ℕ → Bool) (w : ℕ)
-    (p : PossiblyAnswer) → IsSmall names c → IsPossiblyAnswer c test w p → PossiblyIsLawful (printed_possibly p)
-possibly_is_lawful names c test w (PossiblyYes cut) small right =
-    let ok : IsConsistent c cut = right.1.consistent in
+    (p : PossiblyAnswer) → IsSmall names c → IsSoundPossibly c test w p → PossiblyIsLawful (printed_possibly p)
+possibly_is_lawful names c test w (PossiblyYes cut) small sound =
+    let ok : IsConsistent c cut = sound.0 in
     let l : length cut ≡ length c = ok.fits.one_each in
     let e : length c ≡ length names = small.one_each in
     let some : 1 ≤ length names = small.some_process in (
@@ -171,10 +171,10 @@ possibly_is_lawful names c test w (PossiblyYes cut) small right =
           let s : event_count c p ≤ event_limit = count_is_short event_limit c small.short p in
           omega arith),
     )
-possibly_is_lawful names c test w PossiblyNo small right = tt
-possibly_is_lawful names c test w (PossiblyUnknown k) small right =
+possibly_is_lawful names c test w PossiblyNo small sound = tt
+possibly_is_lawful names c test w (PossiblyUnknown k) small sound =
     let t : total c ≤ process_limit * event_limit = small_total names c small in
-    let le : k ≤ total c = unknown_level c test w k right in
+    let le : k ≤ total c = unknown_level c test w k sound in
     omega arith
 
 pub definitely_is_lawful : (names : List ProcessNames) (c : Computation) (test : List ℕ → Bool) (w : ℕ)
@@ -207,8 +207,8 @@ answers_are_lawful document recorded (one ∷ asked) (answer ∷ answers) small 
     let name : IsName answer.name = subst IsName (sym a.name) named.0 in
     let possibly : PossiblyIsLawful answer.possibly =
     subst PossiblyIsLawful (sym a.possibly_reported)
-    (possibly_is_lawful document.names recorded.events (test_of recorded one.predicate) p.width a.possibly small
-    p.right) in
+    (possibly_is_lawful document.names recorded.events (test_of recorded one.predicate) document.width a.possibly small
+    p.sound) in
     let definitely : DefinitelyIsLawful answer.definitely =
     subst DefinitelyIsLawful (sym a.definitely_reported)
     (definitely_is_lawful document.names recorded.events (test_of recorded one.predicate) d.width a.definitely small

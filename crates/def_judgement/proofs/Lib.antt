@@ -2,10 +2,12 @@
 pub mod Zipped
 pub mod StreamResults
 pub mod Narrow
+pub mod CutsByHeight
 pub mod Answered
 pub mod HeadlineFacts
 pub mod Widths
 pub mod Worked
+pub mod WorkedByHeight
 pub mod DocumentsAreSingle
 pub mod ReceivedSends
 pub mod ReportsAreSingle

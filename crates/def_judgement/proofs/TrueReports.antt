@@ -44,7 +44,8 @@ traces_judged document traces report well (of_cycle cycle lawful found) =
     absurd (not_cycle (events_of_traces traces) cycle well.no_cycle found)
 traces_judged document traces report well (of_answers messages answers formed are each) = refl
 
-session_agrees : (document : Document) (s : Result (List Trace) SessionFault) (report : Report)
+-- the report of what a session comes to agrees
+pub session_agrees : (document : Document) (s : Result (List Trace) SessionFault) (report : Report)
     → IsReportOfSession document s report → ReportAgrees report
 session_agrees document (Err fault) report r = subst ReportAgrees (sym r) tt
 session_agrees document (Ok traces) report r = reports_agree_lem document traces report r

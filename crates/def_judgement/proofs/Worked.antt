@@ -210,7 +210,7 @@ is_report =
         name = refl;
         possibly = PossiblyYes (1 ∷ 1 ∷ []);
         possibly_reported = refl;
-        possibly_right = possibly_within (λ beyond. absurd (cc))
+        possibly_right = possibly_within (λ beyond. absurd (cc)) (λ beyond. absurd (cc))
             ((λ k u. level_is_narrow one_message both_are 1 one_cut_a_level k u.wide), first_cut);
         definitely = DefinitelyYes 2;
         definitely_reported = refl;

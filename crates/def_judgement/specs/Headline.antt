@@ -1,5 +1,6 @@
 -- What a report says of the computation after it, in the words of cuts and observations: if each level is narrow no
--- answer is unknown, and each is the truth; and so is each that is decided whatever the width, if that is asked for.
+-- answer is unknown, and each is the truth; and so is each that is decided whatever the width or, for Possibly, by
+-- sums, if that is asked for.
 use Rattle.std.specs.Prelude.{◌≡◌, ℕ, ◌≤◌, Bool, true, false, ⊤, ◌⊎◌, ◌↔◌, List, All, length, map, sum, Ok}
 use Rattle.std.specs.List.{AllZip}
 use Rattle.def_model.specs.Events.{Computation}
@@ -10,6 +11,7 @@ use Rattle.def_model.specs.Observations as observations
 use Rattle.def_model.specs.Answers.{IsListOf, MoreThan, IsAvoidingObservation}
 use Rattle.def_model.specs.Predicates.{Predicate, Recorded, test_of}
 use Rattle.def_wide.specs.Decided.{IsDefinitelyDecided, IsPossiblyDecided}
+use Rattle.def_wide.specs.Sums.{IsDecidedBySums}
 use Rattle.def_format.specs.Names.{ProcessNames, name_of_process}
 use Rattle.def_format.specs.Readings.{Trace}
 use Rattle.def_format.specs.Documents.{Document, NamedPredicate, Inquiry, IsDocument}
@@ -65,9 +67,12 @@ pub record Coverage : Type 1 where
 abbrev pub each_predicate : Coverage
 each_predicate = record { possibly = λ recorded predicate. ⊤; definitely = λ recorded predicate. ⊤ }
 
--- of each that is decided at any width
+-- of each that is decided at any width, and for Possibly of each that sums decide
 abbrev pub each_decided : Coverage
-each_decided = record { possibly = IsPossiblyDecided; definitely = IsDefinitelyDecided }
+each_decided = record {
+  possibly = λ recorded predicate. IsPossiblyDecided recorded predicate ⊎ IsDecidedBySums recorded predicate;
+  definitely = IsDefinitelyDecided;
+}
 
 -- The answer is the truth about the predicate by each modality of which the predicate is covered; both agree.
 pub record SaysTruly (coverage : Coverage) (names : List ProcessNames) (recorded : Recorded) (predicate : Predicate)
@@ -100,8 +105,8 @@ Headline =
     → IsWellFormed document.version (events_of_traces traces) → IsNarrow (events_of_traces traces) document.width
     → IsTracesReport document traces report → TellsTruth each_predicate document traces report
 
--- A report of traces that make a well-formed computation, however wide, says the truth about what is decided, if the
--- document asks for that.
+-- A report of traces that make a well-formed computation, however wide, says the truth about what is decided at any
+-- width or, for Possibly, by sums, if the document asks for that.
 abbrev pub HeadlineBeyondWidth : Type 0
 HeadlineBeyondWidth =
     (document : Document) (traces : List Trace) (report : Report)

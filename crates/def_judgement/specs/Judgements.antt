@@ -6,8 +6,10 @@ use Rattle.def_model.specs.Messages.{Fault, IsReported, HasLawfulMessages, HasMe
 use Rattle.def_model.specs.Order.{IsWellFormed, IsReportedCycle}
 use Rattle.def_model.specs.Cuts.{total}
 use Rattle.def_model.specs.Predicates.{Predicate, Recorded, test_of}
-use Rattle.def_model.specs.Answers.{PossiblyAnswer, PossiblyYes, PossiblyNo, PossiblyUnknown, IsExactPossibly, IsPossiblyAnswer, DefinitelyAnswer, DefinitelyYes, DefinitelyNo, DefinitelyUnknown, IsDefinitelyAnswer, IsExactDefinitely}
+use Rattle.def_model.specs.Answers.{PossiblyAnswer, PossiblyYes, PossiblyNo, PossiblyUnknown, IsExactPossibly, IsPossiblyUnknown, IsPossiblyAnswer, DefinitelyAnswer, DefinitelyYes, DefinitelyNo, DefinitelyUnknown, IsDefinitelyAnswer, IsExactDefinitely}
 use Rattle.def_wide.specs.Decided.{IsDefinitelyDecided, IsPossiblyDecided}
+use Rattle.def_wide.specs.Heights.{IsFirstByHeight}
+use Rattle.def_wide.specs.Sums.{IsDecidedBySums}
 use Rattle.def_format.specs.Names.{ProcessNames, name_of_process}
 use Rattle.def_format.specs.Readings.{Ending, Ended, Trace, result_of, reading}
 use Rattle.def_format.specs.Documents.{Document, NamedPredicate, DocumentFault, Inquiry, IsDocument, IsRefusedDocument, plain}
@@ -37,18 +39,30 @@ printed_definitely names (DefinitelyYes level) = Definitely.Yes level
 printed_definitely names (DefinitelyNo path) = Definitely.No (map (name_of_process names) path)
 printed_definitely names (DefinitelyUnknown level) = Definitely.Unknown level
 
--- Whether some consistent cut satisfies a predicate: whatever the width if the document asks for that and it is decided
--- so, and else under the document's width.
+-- Whether some consistent cut satisfies a predicate. If the document asks for answers beyond its width, there are three
+-- cases. If the predicate is decided at any width, the answer is the exact one. If it isn't, but sums decide it, and
+-- the answer under the width is unknown, the answer is yes, with the first satisfying cut by height: some cut
+-- satisfies, since else the predicate would be decided at any width. In all other cases the answer is that under the
+-- width, which isn't unknown if sums decide the predicate. If the document doesn't ask, the answer is that under the
+-- width.
 pub data AnswersPossibly (document : Document) (recorded : Recorded) (predicate : Predicate) (answer : PossiblyAnswer) :
     Type 0 where
   possibly_beyond : document.beyond_width ≡ true → IsPossiblyDecided recorded predicate
       → IsExactPossibly recorded.events (test_of recorded predicate) answer
       → AnswersPossibly document recorded predicate answer
+  possibly_by_height : document.beyond_width ≡ true → (¬ IsPossiblyDecided recorded predicate)
+      → IsDecidedBySums recorded predicate → (level : ℕ)
+      → IsPossiblyUnknown recorded.events (test_of recorded predicate) document.width level → (cut : List ℕ)
+      → answer ≡ PossiblyYes cut → IsFirstByHeight recorded.events (test_of recorded predicate) cut
+      → AnswersPossibly document recorded predicate answer
   possibly_within : (document.beyond_width ≡ true → ¬ IsPossiblyDecided recorded predicate)
+      → (document.beyond_width ≡ true → IsDecidedBySums recorded predicate → (level : ℕ)
+      → ¬ (answer ≡ PossiblyUnknown level))
       → IsPossiblyAnswer recorded.events (test_of recorded predicate) document.width answer
       → AnswersPossibly document recorded predicate answer
 
--- Whether every observation passes through a cut that satisfies a predicate, in the same way.
+-- Whether every observation passes through a cut that satisfies a predicate: whatever the width if the document asks
+-- for that and it is decided so, and else under the document's width.
 pub data AnswersDefinitely (document : Document) (recorded : Recorded) (predicate : Predicate)
     (answer : DefinitelyAnswer) : Type 0 where
   definitely_beyond : document.beyond_width ≡ true → IsDefinitelyDecided recorded predicate

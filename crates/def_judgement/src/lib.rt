@@ -7,7 +7,7 @@
 #![tactic(auto)]
 
 ghost use Rattle.def_judgement.specs.Findings.{CleanIsClean, OneFinding};
-ghost use Rattle.def_judgement.specs.Examples.{OneCutALevel, OneTrueReport};
+ghost use Rattle.def_judgement.specs.Examples.{OneAnswerByHeight, OneCutALevel, OneTrueReport};
 ghost use Rattle.def_judgement.specs.Headline.{NarrowOrTooWide, Headline, HeadlineBeyondWidth, JudgementIsTrue, ReportsAgree};
 ghost use Rattle.def_judgement.specs.StreamResults.{EndedHaveResults, OneListOfResults};
 ghost use Rattle.def_judgement.specs.LawfulReports.{JudgementIsLawful, ReportIsLawful};
@@ -59,10 +59,11 @@ pub fn narrow_or_too_wide()
     ensures { NarrowOrTooWide }
 {}
 
-/// The definitions, tried on a small computation.
+/// The definitions, tried on small computations.
 pub fn examples()
     ensures narrow { OneCutALevel }
     ensures truth { OneTrueReport }
+    ensures height { OneAnswerByHeight }
 {}
 
 /// A report of a narrow computation says the truth of each predicate: whether some consistent cut satisfies it, and
@@ -71,13 +72,14 @@ pub fn headline()
     ensures { Headline }
 {}
 
-/// A report of a computation, however wide, says the truth of each predicate that is decided whatever the width, if the
-/// document asks for that.
+/// A report of a computation, however wide, says the truth of each predicate that is decided whatever the width, if
+/// the document asks for that; and so does its answer of Possibly for each predicate that sums decide.
 pub fn headline_beyond_width()
     ensures { HeadlineBeyondWidth }
 {}
 
-/// In the report of any traces, at every width, the answers of Possibly and of Definitely agree.
+/// In the report of any traces, at every width, the answers of Possibly and of Definitely agree: yes of Definitely
+/// never stands beside no of Possibly, and no cut has more events than the level beside it.
 pub fn reports_agree()
     ensures { ReportsAgree }
 {}

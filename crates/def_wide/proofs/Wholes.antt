@@ -1,9 +1,8 @@
 -- What decides Possibly as a whole does so by its parts.
-use Rattle.std.proofs.Common.{◌⊎◌, inl, inr, ◌≤◌, ◌+◌, ℕ, arith}
+use Rattle.std.proofs.Common.{inl, inr, arith}
 use Rattle.std.specs.Prelude.{Bool, true, false, not}
-use Rattle.def_model.specs.Decided.{DecidesPossibly, term_count, term_limit}
+use Rattle.def_model.specs.Decided.{DecidesPossibly}
 use Rattle.def_model.specs.Predicates.{Predicate, Always, Never, Compare, Not, And, Or, Recorded}
-use Rattle.def_wide.specs.Decided.{IsPossiblyDecided}
 use Rattle.def_wide.specs.Laws.{DefinitelyAfterPossibly, WholeIsDecided}
 use Rattle.def_wide.specs.Parts.{PartsDecide, opposite_if}
 
@@ -42,7 +41,7 @@ whole false r (Or left right) decides =
     let both = sides r left right decides in (whole false r left both.0, whole false r right both.1)
 
 pub whole_is_decided : WholeIsDecided
-whole_is_decided r predicate decides = whole false r predicate decides
+whole_is_decided r predicate decides = inl (whole false r predicate decides)
 
 pub definitely_after_possibly : DefinitelyAfterPossibly
 definitely_after_possibly r predicate (inl (inl two)) = whole_is_decided r predicate (inl two)

@@ -7,3 +7,4 @@ pub mod Zips
 pub mod WalkAnswers
 pub mod BundleReads
 pub mod PathNames
+pub mod LateAnswers

@@ -3,11 +3,11 @@ use Rattle.std.proofs.Common.{◌≡◌, ℕ, ◌+◌, Bor, ◌<◌, ◌≤◌, 
 use Rattle.std.proofs.lemmas.Bool.{cases_lt}
 use Rattle.std.proofs.lemmas.List.{get_or_append_left, get_or_default}
 use Rattle.std.proofs.Math.Seq.{get_or-append_seam}
-use Rattle.pd_engine.specs.Early.{AreEarly, GoesOn, IsDefinitelyOf, IsEarly, IsEarlyDefinitely, IsEarlyPossibly, IsLeft, IsPossiblyOf}
+use Rattle.pd_engine.specs.Early.{AreEarly, GoesOn, IsDefinitelyOf, IsEarly, IsEarlyDefinitely, IsEarlyPossibly, IsLeft, IsPossiblyOf, IsTaken, taken_early, taken_walked}
 use Rattle.pd_engine.specs.declared.early.Early.{Early}
 use Rattle.def_format.specs.Documents.{Document}
-use Rattle.def_judgement.specs.Judgements.{AnswersDefinitely, AnswersPossibly, definitely_beyond, definitely_within, possibly_beyond, possibly_within}
-use Rattle.walk_back.specs.Answers.{AreAnswers, definitely_answer_view, possibly_answer_view}
+use Rattle.def_judgement.specs.Judgements.{AnswersDefinitely, definitely_beyond, definitely_within}
+use Rattle.walk_back.specs.Answers.{AreAnswers, definitely_answer_view}
 use Rattle.walk_back.specs.declared.answers.Answers.{Answers}
 use Rattle.walk_back.specs.declared.definitely_answer.DefinitelyAnswer.{DefinitelyAnswer}
 use Rattle.walk_back.specs.declared.possibly_answer.PossiblyAnswer.{PossiblyAnswer}
@@ -30,6 +30,7 @@ pub still_early : (document : Document) (r : Recorded) (old new : List (Bor Pred
 still_early document r old new named early (more, is) e = record {
   possibly = e.possibly;
   definitely = e.definitely;
+  by_height = e.by_height;
   there = λ left. let lt : early.place < length old = e.there left in
       let l : length new ≡ length old + length more = ap length is ∙ length-append old more in omega arith;
   same = λ left pred. ap (λ (b : Bor Pred). b.now) (ap (λ (xs : List (Bor Pred)). get_or xs early.place pred) is
@@ -104,14 +105,13 @@ module _ (document : Document) (r : Recorded) (left : List (Bor Pred)) (found : 
   possibly_by : (known : Option PossiblyAnswer) (place : ℕ) (taken : PossiblyAnswer)
       → IsEarlyPossibly document r (predicate_view named.pred) known → (known ≡ None → IsPlaced place)
       → IsPossiblyOf known place found taken
-      → AnswersPossibly document r (predicate_view named.pred) (possibly_answer_view taken)
+      → IsTaken document r (predicate_view named.pred) taken
   possibly_by (Some answer) place taken early placed of =
-      subst (λ (a : PossiblyAnswer). AnswersPossibly document r (predicate_view named.pred) (possibly_answer_view a))
-      (sym of) (possibly_beyond early.0 early.1 early.2)
+      subst (IsTaken document r (predicate_view named.pred)) (sym of) (taken_early early.0 early.1 early.2)
   possibly_by None place taken early placed of =
       let answers : Answers = some_answers place (placed refl) in
-      subst (λ (a : PossiblyAnswer). AnswersPossibly document r (predicate_view named.pred) (possibly_answer_view a))
-      (sym (of answers)) (possibly_within early (walked_at place (placed refl) answers).possibly_right)
+      subst (IsTaken document r (predicate_view named.pred)) (sym (of answers))
+      (taken_walked early (walked_at place (placed refl) answers).possibly_right)
 
   definitely_by : (known : Option DefinitelyAnswer) (place : ℕ) (taken : DefinitelyAnswer)
       → IsEarlyDefinitely document r (predicate_view named.pred) known → (known ≡ None → IsPlaced place)
@@ -128,7 +128,7 @@ module _ (document : Document) (r : Recorded) (left : List (Bor Pred)) (found : 
 
   pub possibly_taken : (early : Early) (taken : PossiblyAnswer) → IsEarly document r left named early
       → IsPossiblyOf early.possibly early.place found taken
-      → AnswersPossibly document r (predicate_view named.pred) (possibly_answer_view taken)
+      → IsTaken document r (predicate_view named.pred) taken
   unfolding IsPlaced
   possibly_taken early taken is of =
       possibly_by early.possibly early.place taken is.possibly (λ none. (is.there (inl none), is.same (inl none))) of

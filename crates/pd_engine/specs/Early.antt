@@ -1,18 +1,19 @@
 -- What is decided of predicates before the walk, and which answer is taken.
 use Rattle.std.specs.Borrow.{Bor}
-use Rattle.std.specs.Prelude.{◌≡◌, ◌⊎◌, ℕ, ◌<◌, true, List, ◌++◌, length, slice_index_or, Option, Some, None}
+use Rattle.std.specs.Prelude.{◌≡◌, ◌⊎◌, ℕ, ◌<◌, ◌↔◌, IsTrue, true, List, ◌++◌, length, slice_index_or, Option, Some, None}
 use Rattle.pd_engine.specs.declared.early.Early.{Early}
 use Rattle.def_format.specs.Documents.{Document}
 use Rattle.walk_back.specs.Answers.{definitely_answer_view, possibly_answer_view}
 use Rattle.walk_back.specs.declared.answers.Answers.{Answers}
 use Rattle.walk_back.specs.declared.definitely_answer.DefinitelyAnswer.{DefinitelyAnswer}
 use Rattle.walk_back.specs.declared.possibly_answer.PossiblyAnswer.{PossiblyAnswer}
-use Rattle.def_model.specs.Answers.{IsExactDefinitely, IsExactPossibly}
+use Rattle.def_model.specs.Answers.{IsExactDefinitely, IsExactPossibly, IsPossiblyAnswer}
 use Rattle.def_wide.specs.Decided.{IsDefinitelyDecided, IsPossiblyDecided}
 use Rattle.def_model.specs.Predicates.{Predicate, Recorded, test_of}
 use Rattle.pd_pred.specs.Views.{predicate_view}
 use Rattle.pd_pred.specs.declared.predicate.Pred.{Pred}
 use Rattle.pd_spec.specs.declared.named.NamedPred.{NamedPred}
+use Rattle.wide.specs.Found.{IsByHeight}
 
 -- Possibly's answer for a predicate of the document, if it is decided whatever the width and asked for
 abbrev pub IsEarlyPossibly : Document → Recorded → Predicate → Option PossiblyAnswer → Type 0
@@ -28,6 +29,10 @@ IsEarlyDefinitely document r predicate (Some answer) =
     (document.beyond_width ≡ true) × IsDefinitelyDecided r predicate
     × IsExactDefinitely r.events (test_of r predicate) (definitely_answer_view answer)
 
+-- The document asks for answers beyond its width, and the predicate isn't decided so, but by sums.
+abbrev pub IsByHeightBeyond : Document → Recorded → Predicate → Type 0
+IsByHeightBeyond document r predicate = (document.beyond_width ≡ true) × IsByHeight r predicate
+
 -- an answer is left to the walk
 abbrev pub IsLeft : Early → Type 0
 IsLeft early = (early.possibly ≡ None) ⊎ (early.definitely ≡ None)
@@ -37,6 +42,7 @@ pub record IsEarly (document : Document) (r : Recorded) (left : List (Bor Pred))
     Type 0 where
   pub possibly : IsEarlyPossibly document r (predicate_view named.pred) early.possibly
   pub definitely : IsEarlyDefinitely document r (predicate_view named.pred) early.definitely
+  pub by_height : IsTrue early.by_height ↔ IsByHeightBeyond document r (predicate_view named.pred)
   pub there : IsLeft early → early.place < length left
   pub same : IsLeft early → (pred : Bor Pred) → (slice_index_or left early.place pred).now ≡ named.pred
 
@@ -59,3 +65,12 @@ IsPossiblyOf None place found taken = (answers : Answers) → taken ≡ (slice_i
 abbrev pub IsDefinitelyOf : Option DefinitelyAnswer → ℕ → List Answers → DefinitelyAnswer → Type 0
 IsDefinitelyOf (Some answer) place found taken = taken ≡ answer
 IsDefinitelyOf None place found taken = (answers : Answers) → taken ≡ (slice_index_or found place answers).definitely
+
+-- The answer is the one that is decided of the predicate, or that of the walk under the document's width.
+pub data IsTaken (document : Document) (r : Recorded) (predicate : Predicate) (answer : PossiblyAnswer) : Type 0 where
+  taken_early : document.beyond_width ≡ true → IsPossiblyDecided r predicate
+      → IsExactPossibly r.events (test_of r predicate) (possibly_answer_view answer)
+      → IsTaken document r predicate answer
+  taken_walked : (document.beyond_width ≡ true → ¬ IsPossiblyDecided r predicate)
+      → IsPossiblyAnswer r.events (test_of r predicate) document.width (possibly_answer_view answer)
+      → IsTaken document r predicate answer

@@ -12,6 +12,7 @@ ghost use Rattle.std.specs.List.{AllZip};
 ghost use Rattle.std.specs.Prelude.{◌≡◌, ◌<◌, All, IfOk, length, map, string_bytes};
 
 use super::early::all_early;
+use super::late::{late_possibly, latest};
 use pd_clock::Computation;
 use pd_expand::Crew;
 use pd_level::Gate;
@@ -25,7 +26,8 @@ use walk::answer_all;
 use walk_back::{DefinitelyAnswer, PossiblyAnswer};
 
 /// The answer for each predicate: those that are decided whatever the width, if the document asks for them, and the
-/// others by one walk, whose lists of cuts the workers share.
+/// others by one walk, whose lists of cuts the workers share. Where the walk leaves Possibly unknown and sums decide
+/// it, the first satisfying cut by height is the answer, if the document asks for that.
 ///
 /// # Errors
 /// Out of memory.
@@ -48,7 +50,16 @@ pub fn answers_of<S: Threads + Wait + Sync, G: Gate + Sync>(
         let known = &early.each[i];
         let possibly = known.possibly(&found);
         let definitely = known.definitely(&found);
-        answers.push(answer(alloc, spec, named, computation, possibly, definitely)?)?;
+        let late = late_possibly(
+            alloc,
+            spec,
+            computation,
+            &named.pred,
+            known.by_height,
+            possibly,
+        )?;
+        let last = latest(&late, possibly);
+        answers.push(answer(alloc, spec, named, computation, last, definitely)?)?;
     }
     Ok(answers)
 }

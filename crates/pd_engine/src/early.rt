@@ -1,9 +1,9 @@
 //! What is decided of each predicate before the walk.
 ghost use Rattle.wide.specs.Found.{IsPathIfKnown};
-ghost use Rattle.pd_engine.specs.Early.{AreEarly, GoesOn, IsDefinitelyOf, IsEarly, IsEarlyDefinitely, IsEarlyPossibly, IsPossiblyOf};
+ghost use Rattle.pd_engine.specs.Early.{AreEarly, GoesOn, IsByHeightBeyond, IsDefinitelyOf, IsEarly, IsEarlyDefinitely, IsEarlyPossibly, IsPossiblyOf};
 ghost use Rattle.pd_pred.specs.Views.{predicate_view};
 ghost use Rattle.pd_spec.specs.Views.{document_view};
-ghost use Rattle.std.specs.Prelude.{◌≡◌, ◌<◌, IfOk, None, length};
+ghost use Rattle.std.specs.Prelude.{◌≡◌, ◌<◌, ◌↔◌, IfOk, IsTrue, None, length};
 
 use pd_clock::Computation;
 use pd_pred::Pred;
@@ -18,6 +18,8 @@ use wide::{Decided, decide};
 pub(crate) struct Early {
     pub(crate) possibly: Option<PossiblyAnswer>,
     pub(crate) definitely: Option<DefinitelyAnswer>,
+    /// Whether the first satisfying cut by height is the answer for Possibly, if the walk leaves it unknown.
+    pub(crate) by_height: bool,
     /// The place of the predicate among those that are left to the walk, counted from 0, if an answer is.
     pub(crate) place: usize,
 }
@@ -44,11 +46,14 @@ fn early_answers(
         IsEarlyPossibly (document_view spec.now) computation.now (predicate_view pred.now) decided.possibly) }
     ensures definitely { IfOk result (λ decided.
         IsEarlyDefinitely (document_view spec.now) computation.now (predicate_view pred.now) decided.definitely) }
+    ensures by_height { IfOk result (λ decided. IsTrue decided.by_height
+        ↔ IsByHeightBeyond (document_view spec.now) computation.now (predicate_view pred.now)) }
 {
     if !spec.beyond_width() {
         return Ok(Decided {
             possibly: None,
             definitely: None,
+            by_height: false,
         });
     }
     decide(alloc, computation, pred, path)
@@ -96,6 +101,7 @@ fn early_of<'a>(
     let Decided {
         possibly,
         definitely,
+        by_height,
     } = early_answers(alloc, spec, computation, &asked.pred, path)?;
     let place = left.len();
     if possibly.is_none() || definitely.is_none() {
@@ -104,6 +110,7 @@ fn early_of<'a>(
     Ok(Early {
         possibly,
         definitely,
+        by_height,
         place,
     })
 }

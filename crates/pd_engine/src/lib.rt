@@ -11,6 +11,7 @@
 //! (`judge_watched`, `write_snapshot`); the report doesn't depend on it.
 //!
 //! - `early`: what is decided of each predicate before the walk
+//! - `late`: what is answered where the walk leaves Possibly unknown
 //! - `answers`: the answers of a session
 //! - `reports`: the report of a session
 //! - `judges`: judges a session, and writes its report
@@ -22,6 +23,7 @@ mod answers;
 mod bundle_judges;
 mod early;
 mod judges;
+mod late;
 mod outcome;
 mod reports;
 

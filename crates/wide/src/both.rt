@@ -1,8 +1,8 @@
 //! Both answers for a predicate, as far as they are decided whatever the width.
-ghost use Rattle.wide.specs.Found.{FindsDefinitely, FindsPossibly, IsPathIfKnown};
+ghost use Rattle.wide.specs.Found.{FindsDefinitely, FindsPossibly, IsByHeight, IsPathIfKnown};
 ghost use Rattle.pd_pred.specs.Views.{predicate_view};
 ghost use Rattle.wide_terms.specs.Passages.{IsPathOfAll};
-ghost use Rattle.std.specs.Prelude.{IfOk};
+ghost use Rattle.std.specs.Prelude.{◌↔◌, IfOk, IsTrue};
 
 use super::definitely::definitely_decided;
 use super::possibly::possibly_decided;
@@ -17,6 +17,9 @@ use wide_terms::path_of_all;
 pub struct Decided {
     pub possibly: Option<PossiblyAnswer>,
     pub definitely: Option<DefinitelyAnswer>,
+    /// Whether Possibly isn't decided so, but sums decide that some consistent cut satisfies. To find the first of
+    /// these cuts by height takes more time than this.
+    pub by_height: bool,
 }
 
 /// A copy of the path where no cut satisfies, which is found if it isn't known, and is known from then on.
@@ -87,11 +90,14 @@ pub fn decide(
         FindsPossibly computation.now (predicate_view pred.now) decided.possibly) }
     ensures definitely { IfOk result (λ decided.
         FindsDefinitely computation.now (predicate_view pred.now) decided.definitely) }
+    ensures by_height { IfOk result (λ decided.
+        IsTrue decided.by_height ↔ IsByHeight computation.now (predicate_view pred.now)) }
 {
-    let possibly = possibly_decided(alloc, computation, pred)?;
-    let definitely = definitely_after(alloc, computation, pred, &possibly, path)?;
+    let possible = possibly_decided(alloc, computation, pred)?;
+    let definitely = definitely_after(alloc, computation, pred, &possible.answer, path)?;
     Ok(Decided {
-        possibly,
+        possibly: possible.answer,
         definitely,
+        by_height: possible.by_height,
     })
 }

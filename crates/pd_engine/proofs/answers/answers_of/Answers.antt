@@ -4,14 +4,17 @@ use Rattle.std.specs.List.{AllZip}
 use Rattle.std.proofs.lemmas.List.{take_all, take_more, map-append}
 use Rattle.pd_report.specs.Views as views
 use Rattle.def_format.specs.Documents.{NamedPredicate}
-use Rattle.def_judgement.specs.Judgements.{IsAnswered}
+use Rattle.def_judgement.specs.Judgements.{AnswersPossibly, IsAnswered}
 use Rattle.walk_back.specs.declared.answers.Answers.{Answers}
 use Rattle.def_model.specs.Predicates.{Recorded}
+use Rattle.pd_pred.specs.Views.{predicate_view}
 use Rattle.pd_pred.specs.declared.predicate.Pred.{Pred}
 use Rattle.pd_spec.specs.Named.{named_view}
 use Rattle.pd_spec.specs.Views.{document_view}
 use Rattle.pd_spec.specs.declared.named.NamedPred.{NamedPred}
 use Rattle.walk.specs.Stages.{AllAnswered}
+use Rattle.walk_back.specs.Answers.{possibly_answer_view}
+use Rattle.walk_back.specs.declared.possibly_answer.PossiblyAnswer.{PossiblyAnswer}
 use Rattle.pd_engine.specs.Early.{IsDefinitelyOf, IsPossiblyOf}
 use Rattle.pd_engine.proofs.WalkAnswers.{definitely_taken, early_at, place_there, possibly_taken}
 use Rattle.pd_engine.proofs.Zips.{all_zip_push}
@@ -55,8 +58,19 @@ definitely-definitely-requires g c none =
     subst (λ (xs : List Answers). known.place < length xs) (sym c.deref-in-loop-i-2.ensures.value)
     (place_there document r left c.in_ok-found.found.items document.width named known walked is (inr none))
 
-pub answer-requires-clause-possibly : goal.answer-requires-clause-possibly
-answer-requires-clause-possibly g c =
+pub late_possibly-requires-clause-by_height : goal.late_possibly-requires-clause-by_height
+late_possibly-requires-clause-by_height g c =
+    let document = document_view c.args.spec.now in
+    let r = c.args.computation.now in
+    let left = c.in_ok-early.early.left.items in
+    let named = c.index-asked-i.result in
+    let known = c.index-known.result.now in
+    let is = early_at document r c.predicates-asked.result.now left c.in_ok-early.early.each.items c.loop-i.i named
+    known c.in_ok-early.ensures c.loop-i-test.true c.index-asked-i.is c.index-known.ensures in
+    is.by_height
+
+pub late_possibly-requires-clause-taken : goal.late_possibly-requires-clause-taken
+late_possibly-requires-clause-taken g c =
     let document = document_view c.args.spec.now in
     let r = c.args.computation.now in
     let left = c.in_ok-early.early.left.items in
@@ -70,6 +84,12 @@ answer-requires-clause-possibly g c =
     c.possibly-possibly.result.now is
     (subst (λ (xs : List Answers). IsPossiblyOf known.possibly known.place xs c.possibly-possibly.result.now)
     c.deref-in-loop-i.ensures.value c.possibly-possibly.ensures)
+
+pub answer-requires-clause-possibly : goal.answer-requires-clause-possibly
+answer-requires-clause-possibly g c =
+    subst (λ (answer : PossiblyAnswer). AnswersPossibly (document_view c.args.spec.now) c.args.computation.now
+    (predicate_view c.index-asked-i.result.pred) (possibly_answer_view answer)) (sym c.latest-last.ensures)
+    c.in_ok-late.ensures
 
 pub answer-requires-clause-definitely : goal.answer-requires-clause-definitely
 answer-requires-clause-definitely g c =
