@@ -6,11 +6,13 @@ The plain judge is written from the definitions in docs/SPECIFICATION.md, with n
 closed as a relation, cuts are all counts of events that are closed under it, and if a session has few observations,
 Definitely is judged by all of them too. PROGRAM is ../crates/monitor/out/monitor if it isn't given. Each session is
 judged as a bundle; one of four also from files, by 2 and 16 workers, and its report is checked, as it is and forged.
-These are judged with --beyond-width too, with their own width and with width 1, and those reports are checked. Half of
-the sessions are of version 2, in which a message may have several receivers. One of three has 7 to 16 processes, of
-which few have events. Each kind of line has to stand in the reports and findings so often that the drawing can't go
-empty. The last line says how many sessions there are, how often the program ran, and how many sessions differ; the
-status is 1 if any does, or if lines are missing. With --only the session K is drawn alone.
+These are judged with --beyond-width too, with their own width and with width 1, and those reports are checked. With
+three processes or more they have up to seven predicates more for that, of sums over several processes, judged from the
+definitions in crates/def_wide/specs: slices, excesses and steps are looked at cut by cut. Half of the sessions are of
+version 2, in which a message may have several receivers. One of three has 7 to 16 processes, of which few have events.
+Each kind of line has to stand in the reports and findings so often that the drawing can't go empty. The last line says
+how many sessions there are, how often the program ran, and how many sessions differ; the status is 1 if any does, or if
+lines are missing. With --only the session K is drawn alone.
 """
 import argparse
 import collections
@@ -33,7 +35,8 @@ from run import Differs, HERE, Place, checked
 FEW = 2600
 # What stands in lines, and in how many lines of 600 sessions at least. One line for each session says how many
 # receivers its messages have at most, and what came of it; one for each answer that was unknown says what it is with
-# --beyond-width, and why; all others are the program's.
+# --beyond-width, and why, and what the predicate is like if sums were asked; one for each predicate of which the first
+# satisfying cut isn't the first by height says which of them it is; all others are the program's.
 LINES_WANTED = {
     "session 1 ": 15, "session 2 ": 45, "session 3 ": 60, "session 4 ": 4,
     "session 7 ": 6, "session 8 ": 6, "session 9 ": 12, "session 15 ": 6, "session 16 ": 12,
@@ -53,9 +56,27 @@ LINES_WANTED = {
     "width, terms: Possibly yes": 4, "width, terms: Possibly no": 2, "width, terms: Definitely no": 2,
     "width, parts: Possibly yes": 2, "width, parts: Possibly no": 2, "width, parts: Definitely no": 2,
     "width, undecided: Possibly unknown": 6, "width, undecided: Definitely unknown": 12,
+    "width, sums: Possibly yes": 60, "width, sums: Possibly no": 40, "width, sums: Definitely no": 40,
+    "first by height, which": 4, "first by level, which": 1,
+    "sums: .*; of three; ": 100, "sums: .*; of many; ": 5, "sums: .*; weights; ": 40, "sums: .*; minus; ": 50,
+    "sums: .*; not; ": 40, "sums: .*; by ones; ": 60, "sums: .*; beside local; ": 50, "sums: .*; or; ": 10,
+    "sums: .*; no term": 1, "sums: .*; named for nothing; ": 8, "sums: .*; thousands; ": 1,
+    "sums: .*; solved <(;|$)": 3, "sums: .*; solved <=(;|$)": 3, "sums: .*; solved >(;|$)": 5,
+    "sums: .*; solved >=(;|$)": 5, "sums: .*; solved !=(;|$)": 6,
+    "sums: .*; solved == never above(;|$)": 4, "sums: .*; solved == never below(;|$)": 2,
+    "sums: .*; solved == least(;|$)": 1, "sums: .*; solved == rises by one(;|$)": 2,
+    "sums: .*; solved == falls by one(;|$)": 1,
+    "sums: .*; excluded ==(;|$)": 10, "sums: .*; excluded [^=o ]+(;|$)": 5, "sums: .*; excluded of [2-5](;|$)": 10,
+    "sums: .*; no slice(;|$)": 20, "sums: .*; local(;|$)": 1,
+    "undecided: Possibly .*; open ==(;|$)": 12, "undecided: Possibly .*; open == beside": 1,
+    "undecided: Possibly .*; open of [2-5](;|$)": 10, "undecided: Possibly .*; open many": 1,
+    "undecided: Possibly .*; (solved|excluded|no slice)": 1,
 }
 RELATIONS = {"==": operator.eq, "!=": operator.ne, "<": operator.lt, "<=": operator.le, ">": operator.gt,
              ">=": operator.ge}
+OPPOSITES = {"==": "!=", "!=": "==", "<": ">=", "<=": ">", ">": "<=", ">=": "<"}
+# How many terms a predicate has at most that is decided by them.
+TERM_LIMIT = 4096
 
 
 class Event:
@@ -75,6 +96,14 @@ class Session:
         self.places = [(process, number) for process, of_process in enumerate(events)
                        for number in range(1, len(of_process) + 1)]
         self.predicates, self.width = [], 4096
+        self.value_at = functools.cache(self.value_at)
+
+    def value_at(self, process, count, variable):
+        """The value that the last of so many events of the process gave the variable, else the initial one."""
+        for event in reversed(self.events[process][:count]):
+            if variable in event.sets:
+                return event.sets[variable]
+        return self.initial[process][variable]
 
     def at(self, place):
         return self.events[place[0]][place[1] - 1]
@@ -114,7 +143,10 @@ def happened_before(session):
     for receipt in session.of_kind("recv"):
         relation |= {(send, receipt) for send in session.with_id_of(receipt, session.of_kind("send"))}
     while True:
-        longer = {(first, last) for first, middle in relation for other, last in relation if middle == other}
+        after = collections.defaultdict(set)
+        for first, later in relation:
+            after[first].add(later)
+        longer = {(first, last) for first, middle in relation for last in after[middle]}
         if longer <= relation:
             return relation
         relation |= longer
@@ -135,20 +167,16 @@ def cycle(session, before):
     return taken[[process for process, _ in taken].index(place[0]):]
 
 
+def counts_up_to(session):
+    """All counts of events, one for each process."""
+    return itertools.product(*[range(len(events) + 1) for events in session.events])
+
+
 def consistent_cuts(session, before):
     """All consistent cuts, those of each level in lexicographic order."""
     def closed(cut):
         return all(first[1] <= cut[first[0]] for first, later in before if later[1] <= cut[later[0]])
-    counts = itertools.product(*[range(len(events) + 1) for events in session.events])
-    return sorted((cut for cut in counts if closed(cut)), key=lambda cut: (sum(cut), cut))
-
-
-def value_at(session, cut, process, variable):
-    """The value that the last event of the process in the cut gave the variable, else the initial one."""
-    for event in reversed(session.events[process][:cut[process]]):
-        if variable in event.sets:
-            return event.sets[variable]
-    return session.initial[process][variable]
+    return sorted(filter(closed, counts_up_to(session)), key=by_level)
 
 
 def holds(session, cut, predicate):
@@ -160,17 +188,36 @@ def holds(session, cut, predicate):
         return not holds(session, cut, parts[0])
     if word in ("and", "or"):
         return (all if word == "and" else any)(holds(session, cut, part) for part in parts)
-    left, right = (sum(sign * factor * (value_at(session, cut, *reference) if reference else 1)
-                       for sign, factor, reference in terms) for terms in parts)
-    return RELATIONS[word](left, right)
+    return RELATIONS[word](excess(session, cut, predicate), 0)
+
+
+def excess(session, cut, comparison):
+    """By how much the left sum of a comparison is more than the right one at a cut."""
+    more = 0
+    for side, terms in zip((1, -1), comparison[1:]):
+        for sign, factor, reference in terms:
+            value = session.value_at(reference[0], cut[reference[0]], reference[1]) if reference else 1
+            more += side * sign * factor * value
+    return more
+
+
+def named_by(comparison):
+    """The processes that a comparison names."""
+    return {reference[0] for terms in comparison[1:] for _, _, reference in terms if reference}
+
+
+def moving(comparison):
+    """The processes whose variables make a difference to a comparison."""
+    factors = collections.Counter()
+    for side, terms in zip((1, -1), comparison[1:]):
+        for sign, factor, reference in terms:
+            factors[reference] += side * sign * factor
+    return {reference[0] for reference, factor in factors.items() if reference and factor}
 
 
 def comparisons(predicate):
-    """Of each comparison in the predicate, the processes that it names."""
     word, *parts = predicate
-    if word in RELATIONS:
-        return [{reference[0] for terms in parts for _, _, reference in terms if reference}]
-    return [named_there for part in parts for named_there in comparisons(part)]
+    return [predicate] if word in RELATIONS else [it for part in parts for it in comparisons(part)]
 
 
 def pushed_down(predicate, negated=False):
@@ -215,20 +262,142 @@ def ways(session, predicate, satisfying):
 
 def whole_ways(session, predicate, satisfying):
     """The same without the parts of an `or`."""
-    named_there, tree = comparisons(predicate), pushed_down(predicate)
+    named_there, tree = [named_by(it) for it in comparisons(predicate)], pushed_down(predicate)
     is_local = all(len(processes) < 2 for processes in named_there)
     if len(session.names) > 1 and len(set().union(*named_there)) < 3:
         return ["of two, local" if is_local else "of two, mixed"] * 2
-    if not is_local or term_count(tree) > 4096:
+    if not is_local or term_count(tree) > TERM_LIMIT:
         return [None, None]
     if term_count(tree) == 1 or is_or(tree):
         return ["conjunction" if term_count(tree) == 1 else "clause"] * 2
     return ["terms", None if satisfying else "terms"]
 
 
+def is_local(comparison):
+    return len(named_by(comparison)) < 2
+
+
+def terms_of(predicate, negated=False):
+    """The predicate, or its opposite, as an `or` of terms, each of which is a list of comparisons that have to hold."""
+    word, *parts = predicate
+    if word == "not":
+        return terms_of(parts[0], not negated)
+    if word in ("true", "false"):
+        return [[]] if (word == "true") != negated else []
+    if word in RELATIONS:
+        return [[(OPPOSITES[word] if negated else word, *map(tuple, parts))]]
+    of_parts = [terms_of(part, negated) for part in parts]
+    if word == ("and" if negated else "or"):
+        return [term for terms in of_parts for term in terms]
+    return [[it for term in terms for it in term] for terms in itertools.product(*of_parts)]
+
+
+def is_excluded(relation, excesses):
+    """Whether none of these excesses satisfies a comparison and, for `==`, all of them are on one side of 0."""
+    if relation == "==":
+        return all(it < 0 for it in excesses) or all(it > 0 for it in excesses)
+    return not any(RELATIONS[relation](it, 0) for it in excesses)
+
+
+def changes_by_ones(session):
+    """Whether no event changes a variable by more than 1."""
+    for initial, events in zip(session.initial, session.events):
+        values = dict(initial)
+        for event in events:
+            if any(abs(value - values[name]) > 1 for name, value in event.sets.items()):
+                return False
+            values.update(event.sets)
+    return True
+
+
+class Sums:
+    """What is decided by sums over several processes, by a look at all cuts of a session."""
+
+    def __init__(self, session, cuts):
+        self.session, self.cuts = session, cuts
+        self.excesses, self.holding = functools.cache(self.excesses), functools.cache(self.holding)
+        self.small_steps = functools.cache(self.small_steps)
+
+    def excesses(self, comparison):
+        """The excess at each consistent cut."""
+        return {cut: excess(self.session, cut, comparison) for cut in self.cuts}
+
+    def holding(self, comparison):
+        """The consistent cuts at which the comparison holds."""
+        return {cut for cut, more in self.excesses(comparison).items() if RELATIONS[comparison[0]](more, 0)}
+
+    def slice_of(self, term):
+        """The consistent cuts at which each comparison of the term holds that names one process at most."""
+        return set(self.cuts).intersection(*[self.holding(it) for it in term if is_local(it)])
+
+    def small_steps(self, comparison):
+        """That the excess is below 0 at the empty cut and no event adds more than 1 to it, or that it is above 0 there
+        and none takes more than 1 from it; whatever has happened when the event does, consistent or not."""
+        at = {counts: excess(self.session, counts, comparison) for counts in counts_up_to(self.session)}
+        changes = [at[counts] - at[undone(counts, process)]
+                   for counts in at for process in range(len(counts)) if counts[process]]
+        first = at[self.cuts[0]]
+        if first < 0 and all(it <= 1 for it in changes):
+            return "rises by one"
+        return "falls by one" if first > 0 and all(it >= -1 for it in changes) else None
+
+    def equality_as(self, term, comparison, cuts):
+        """How `==` is decided over these cuts of the slice, where it is the only sum of the term."""
+        row, least, steps = self.excesses(comparison), tuple(map(min, zip(*cuts))), self.small_steps(comparison)
+        found = {"never above": all(row[cut] <= 0 for cut in cuts), "never below": all(row[cut] >= 0 for cut in cuts),
+                 "least": least in cuts and row[least] == 0, steps: bool(steps) and term == [comparison]}
+        reasons = " and ".join(reason for reason in found if found[reason])
+        return f"solved == {reasons}" if reasons else "open ==" + (f" beside, {steps}" if steps else "")
+
+    def decided_as(self, term):
+        """How the term is decided; it begins with `open` if it isn't."""
+        cuts, sums = self.slice_of(term), [it for it in term if not is_local(it)]
+        if not cuts or not sums:
+            return "local" if cuts else "no slice"
+        excluded = [it[0] for it in sums if is_excluded(it[0], [self.excesses(it)[cut] for cut in cuts])]
+        if excluded or len(sums) > 1:
+            return f"{'excluded' if excluded else 'open'} {f'of {len(sums)}' if len(sums) > 1 else excluded[0]}"
+        return self.equality_as(term, sums[0], cuts) if sums[0][0] == "==" else f"solved {sums[0][0]}"
+
+    def decisions(self, predicate):
+        """How each term of the predicate is decided, or that there are too many."""
+        if term_count(pushed_down(predicate)) > TERM_LIMIT:
+            return ["open many"]
+        return [self.decided_as(term) for term in terms_of(predicate)]
+
+
 def undone(cut, process):
     """The cut without the last event of this process."""
     return (*cut[:process], cut[process] - 1, *cut[process + 1:])
+
+
+def by_level(cut):
+    """The key of the order of levels, and within one in lexicographic order."""
+    return sum(cut), cut
+
+
+def by_height(cut):
+    """The key of the order by greatest counts, and of one greatest count in lexicographic order."""
+    return max(cut), cut
+
+
+def has_not(predicate):
+    word, *parts = predicate
+    return word == "not" or word in ("and", "or") and any(map(has_not, parts))
+
+
+def described(session, predicate, decisions):
+    """What a line says of a predicate whose terms are decided so, or aren't."""
+    sums = [it for it in comparisons(predicate) if not is_local(it)]
+    references = [(sign, factor) for it in sums for terms in it[1:] for sign, factor, reference in terms if reference]
+    most = max([len(named_by(it)) for it in sums], default=0)
+    marks = {"of three": most > 2, "of many": most > 6, "by ones": changes_by_ones(session), "not": has_not(predicate),
+             "weights": any(factor > 1 for _, factor in references), "minus": any(sign < 0 for sign, _ in references),
+             "beside local": any(map(is_local, comparisons(predicate))), "no term": not decisions,
+             "named for nothing": any(len(moving(it)) < len(named_by(it)) for it in sums),
+             "or": len(decisions) > 1, "thousands": len(decisions) > 1000}
+    said = [mark for mark in marks if marks[mark]] + sorted(set(decisions))
+    return "; ".join(["", *said])
 
 
 def possibly(cuts, satisfying, width):
@@ -293,20 +462,23 @@ def step_between(cut, longer):
     return next(process for process in range(len(cut)) if cut[process] != longer[process])
 
 
-def definitely_observed(session, cuts, satisfying, width):
-    """The same answer of all observations. The latest level at which one of them first has a satisfying cut is the
-    least with no avoiding cut; of the observations without such a cut, the one is printed that undoes, from the full
-    cut backward, the event of the first process at the first step in which it differs from another."""
-    full = tuple(len(events) for events in session.events)
-    lists = list(observations(set(cuts), full, tuple(0 for _ in full)))
-    for level in range(sum(full) + 1):
-        if len({passed[level] for passed in lists if not satisfying & set(passed[:level + 1])}) > width:
+def undoing(passed):
+    """The processes whose events an observation undoes, from the full cut backward."""
+    return [step_between(cut, longer) for cut, longer in zip(passed, passed[1:])][::-1]
+
+
+def definitely_observed(session, lists, satisfying, width):
+    """The same answer of all observations, which are listed in the order of what they undo. The latest level at which
+    one of them first has a satisfying cut is the least with no avoiding cut; of the observations without such a cut,
+    the one is printed that undoes, from the full cut backward, the event of the first process at the first step in
+    which it differs from another."""
+    firsts = [min((sum(cut) for cut in passed if cut in satisfying), default=math.inf) for passed in lists]
+    for level in range(len(session.places) + 1):
+        if len({passed[level] for passed, first in zip(lists, firsts) if first > level}) > width:
             return f"unknown {level}"
-    if all(satisfying & set(passed) for passed in lists):
-        return f"yes {max(min(sum(cut) for cut in satisfying & set(passed)) for passed in lists)}"
-    backward = [[step_between(cut, longer) for cut, longer in zip(passed, passed[1:])][::-1] for passed in lists
-                if not satisfying & set(passed)]
-    return "no " + named(session, min(backward)[::-1])
+    if max(firsts) < math.inf:
+        return f"yes {max(firsts)}"
+    return "no " + named(session, undoing(lists[firsts.index(math.inf)])[::-1])
 
 
 class Judged:
@@ -328,7 +500,11 @@ class Judged:
             messages = sum(bool(session.with_id_of(send, receipts)) for send in session.of_kind("send"))
             self.first_line = (f"session {len(session.names)} processes {len(session.places)} events "
                                f"{messages} messages\n")
-            self.has_few = observation_count(self.cuts) <= FEW
+            full, has_few = self.cuts[-1], observation_count(self.cuts) <= FEW
+            lists = observations(set(self.cuts), full, self.cuts[0]) if has_few else []
+            self.observations = sorted(lists, key=undoing)
+            self.definite, self.ways = functools.cache(self.definite), functools.cache(self.ways)
+            self.sums = Sums(session, self.cuts)
             self.satisfying = [{cut for cut in self.cuts if holds(session, cut, predicate)}
                                for _, predicate in session.predicates]
             self.report = self.reported(session.width)
@@ -344,33 +520,66 @@ class Judged:
         came = "judged" if self.cuts is not None else words[1] if words[1] in ("spec", "cycle") else "refused"
         return f"version {session.version}, {f'{most} receivers' if most > 1 else 'one receiver'}, {came}\n"
 
-    def answers(self, number, widths):
-        """Possibly and Definitely of the predicate of this number, each under a width of its own."""
+    def definite(self, number, width):
+        """Definitely of the predicate of this number under this width."""
         session, satisfying, (name, _) = self.session, self.satisfying[number], self.session.predicates[number]
-        definite = definitely(session, self.cuts, satisfying, widths[1])
-        if self.has_few:
-            observed = definitely_observed(session, self.cuts, satisfying, widths[1])
+        definite = definitely(session, self.cuts, satisfying, width)
+        if self.observations:
+            observed = definitely_observed(session, self.observations, satisfying, width)
             if observed != definite:
                 raise Differs(f"all observations say {name} definitely {observed}, the avoiding cuts {definite}")
-        return [possibly(self.cuts, satisfying, widths[0]), definite]
+        return definite
+
+    def answers(self, number, widths):
+        """Possibly and Definitely of the predicate of this number, each under a width of its own."""
+        return [possibly(self.cuts, self.satisfying[number], widths[0]), self.definite(number, widths[1])]
 
     def reported(self, width):
         """The report if this is the width, without the option."""
         return self.of_answers([self.answers(number, [width] * 2) for number in range(len(self.satisfying))])
+
+    def ways(self, number):
+        """Why Possibly of the predicate of this number is decided without the levels, and why Definitely is: nothing
+        if it isn't; and what is said of it, if sums are asked."""
+        (_, predicate), satisfying = self.session.predicates[number], self.satisfying[number]
+        found = ways(self.session, predicate, satisfying)
+        if found[0]:
+            return found, ""
+        decisions = self.sums.decisions(predicate)
+        if not any(how.startswith("open") for how in decisions):
+            found = ["sums", None if satisfying else "sums"]
+        return found, described(self.session, predicate, decisions)
+
+    def answers_beyond(self, number, width, why):
+        """Possibly and Definitely with the option, if this is the width and these are the ways."""
+        if why[0] != "sums" or why[1]:
+            return self.answers(number, [math.inf if way else width for way in why])
+        possible, definite = self.answers(number, [width] * 2)
+        if possible.startswith("unknown"):
+            possible = "yes " + ",".join(map(str, min(self.satisfying[number], key=by_height)))
+        return [possible, definite]
 
     def reported_beyond(self, width):
         """The report if this is the width, with the option; and a line for each answer that is unknown without it."""
         if self.cuts is None:
             return self.report, ""
         rows, lines = [], []
-        for number, ((_, predicate), satisfying) in enumerate(zip(self.session.predicates, self.satisfying)):
-            why = ways(self.session, predicate, satisfying)
+        for number in range(len(self.satisfying)):
+            why, said = self.ways(number)
             within = self.answers(number, [width] * 2)
-            rows.append(self.answers(number, [math.inf if way else width for way in why]))
+            rows.append(self.answers_beyond(number, width, why))
             for modality, way, old, new in zip(("Possibly", "Definitely"), why, within, rows[-1]):
                 if old.startswith("unknown"):
-                    lines.append(f"beyond the width, {way or 'undecided'}: {modality} {new.split()[0]}\n")
+                    lines.append(f"beyond the width, {way or 'undecided'}: {modality} {new.split()[0]}{said}\n")
+            lines += self.of_heights(number, within[0], rows[-1][0]) if why[0] == "sums" else []
         return self.of_answers(rows), "".join(lines)
+
+    def of_heights(self, number, old, new):
+        """A line if the first satisfying cut isn't the first by height, on which of them is given."""
+        satisfying = self.satisfying[number]
+        if not satisfying or min(satisfying, key=by_height) == min(satisfying, key=by_level):
+            return []
+        return [f"first by {'level' if old == new else 'height'}, which aren't the same\n"]
 
     def of_answers(self, rows):
         """The report with these answers."""
@@ -393,8 +602,11 @@ def draw_version(draw):
 
 
 def draw_counts(draw, count):
-    """How many events each of these processes has. Few of many have any: often the first and the last ones, and those
+    """How many events each of these processes has. Seldom one of few has as many as a word has bits, or about as many,
+    since truths by count are kept as bits. Few of many have any: often the first and the last ones, and those
     before and after which eight are left, since a cut of more than eight counts is kept as two numbers."""
+    if 2 < count < 5 and draw.random() < 0.05:
+        return draw.sample([draw.choice([63, 64, 65, 66]), *draw.choices([0, 1, 1, 2], k=count - 1)], count)
     if count < 7:
         return [draw.choice([0, 1, 2, 3, 3, 4, 4, 4] if count < 4 else [1, 2, 2, 3]) for _ in range(count)]
     counts, cuts = [0] * count, draw.choice([40, 300, 1200])
@@ -404,14 +616,35 @@ def draw_counts(draw, count):
     return counts
 
 
+def draw_change(draw, value, kind):
+    """What a variable with this value is set to."""
+    if kind == "any":
+        return draw_value(draw)
+    return draw.choice({"flags": [0, 1], "rising": [value, value + 1], "counters": [value - 1, value, value + 1],
+                        "saws": [value + 1, value + 1, 0], "great": [2 ** 63 - 1, -2 ** 63, 2 ** 62, 0]}[kind])
+
+
+def draw_events(draw, initial, count, kind):
+    """The events of a process that has these variables: they set them to any values, or to 0 and 1, or raise them by 1,
+    or change them by 1, or raise them and take them back to 0, or set them to the greatest and least there are."""
+    events, values = [], initial
+    for _ in range(count):
+        sets = {name: draw_change(draw, value, kind) for name, value in values.items() if draw.random() < 0.7}
+        events.append(Event(sets))
+        values = {**values, **sets}
+    return events
+
+
 def draw_processes(draw, has_many):
     version, fields = draw_version(draw)
     count = draw.choice([7, 8, 9, 9, 15, 16, 16] if has_many else
                         [1, 2, 2, 2, 3, 3, 3, 3, 3] if version == 1 else [2, 3, 3, 3, 3, 4])
     others = [f"p{number}" for number in range(10)] if has_many else []
     names = draw.sample(["a", "b", "c", "_d", "e2", "x", *others], count)
-    initial = [{name: draw_value(draw) for name in draw.choice([["x"], ["x", "n"]])} for _ in names]
-    events = [[Event({name: draw_value(draw) for name in variables if draw.random() < 0.7}) for _ in range(number)]
+    kind = draw.choice(["any"] * 6 + ["flags", "rising", "counters", "saws"] * 2 + ["great"])
+    initial = [{name: draw_value(draw) if kind == "any" else draw.choice([0, 0, 0, 1])
+                for name in draw.choice([["x"], ["x", "n"]])} for _ in names]
+    events = [draw_events(draw, variables, number, kind)
               for variables, number in zip(initial, draw_counts(draw, count))]
     return Session(names, initial, events, version, fields)
 
@@ -548,8 +781,9 @@ def draw_predicate(draw, session, cuts):
     comparisons that name two each."""
     everyone = range(len(session.names))
     two = draw.sample(everyone, min(2, len(everyone)))
-    kind = draw.choice(["any", "any", "two", "two", "local", "local", "and", "and", "and", "or", "or", "or", "terms",
-                        "terms", "parts", "parts", "parts", "product" if draw.random() < 0.3 else "any"])
+    kind = draw.choice(["any", "any", "two", "two", "local", "local", "and", "and", "and", "or", "or", "or", "or",
+                        "terms", "terms", "parts", "parts", "parts", "parts",
+                        "product" if draw.random() < 0.3 else "any"])
     if kind in ("any", "two"):
         return draw_tree(draw, lambda: draw_comparison(draw, session, everyone if kind == "any" else two))
     if kind == "local":
@@ -560,21 +794,145 @@ def draw_predicate(draw, session, cuts):
         return [draw_literal(draw, session, [process], cuts, at) for process in processes]
     if kind == "product":
         return draw_product(draw, lambda: literals([draw.choice(everyone)])[0])
-    busy = sorted(everyone, key=lambda process: (not session.events[process], draw.random()))
-    rows = [literals(draw.sample(busy[:6], min(len(everyone), draw.choice([2, 3, 3, 3, 4])))) for _ in range(3)]
+    busy = draw_busy(draw, session)[:6]
+
+    def row():
+        return literals(draw.sample(busy, min(len(busy), draw.choice([2, 3, 3, 3, 4]))))
     if kind == "parts":
         pairs = [draw.sample(everyone, min(2, len(everyone))) for _ in range(draw.choice([2, 3, 3, 4]))]
         parts = [draw_literal(draw, session, pair, cuts, None) for pair in pairs]
         if draw.random() < 0.3:
-            parts[0] = draw_row(draw, "and", rows[0])
+            parts[0] = draw_row(draw, "and", row())
         turned = draw.random() < 0.4
         return ("not", draw_row(draw, "or", parts, True)) if turned else draw_row(draw, "or", parts)
     if kind == "terms":
-        return draw_row(draw, "or", [draw_row(draw, "and", row) for row in rows[:draw.choice([2, 3])]])
-    return draw_row(draw, kind, rows[0])
+        return draw_row(draw, "or", [draw_row(draw, "and", row()) for _ in range(draw.choice([2, 3]))])
+    return draw_row(draw, kind, row())
 
 
-def draw_session(draw, has_many):
+def draw_sum_of(draw, session, processes):
+    """Terms of a sum over these processes, of which some may be weighted, taken off or named twice, and seldom all but
+    one are named for nothing."""
+    weights, signs = draw.choice([[1], [1], [1], [1, 1, 2, 3], [0, 1, 2]]), draw.choice([[1], [1], [1, 1, -1]])
+    twice = [draw.choice(processes)] if draw.random() < 0.1 else []
+    terms = [(draw.choice(signs), draw.choice(weights), (process, draw.choice(list(session.initial[process]))))
+             for process in [*processes, *twice]]
+    if draw.random() < 0.9:
+        return terms
+    idle = [draw.choice([[(1, 0, it[2])], [(1, 1, it[2]), (-1, 1, it[2])]]) for it in terms[1:]]
+    return [terms[0], *itertools.chain(*idle)]
+
+
+def compared(draw, terms, relation, number):
+    """A comparison of this sum with this number, with some of its terms on the other side, or with its sides exchanged.
+    """
+    moved = draw.randrange(1, len(terms)) if draw.random() < 0.3 else len(terms)
+    right = [(-sign, factor, reference) for sign, factor, reference in terms[moved:]]
+    right.append((1 if number >= 0 else -1, min(abs(number), 2 ** 63 - 1), None))
+    if draw.random() < 0.2:
+        return (relation.translate(str.maketrans("<>", "><")), right, terms[:moved])
+    return (relation, terms[:moved], right)
+
+
+def draw_long_sum(draw, session):
+    """A comparison of a sum of many great terms with what it is worth at some counts, as far as a number can say."""
+    processes = draw.sample(draw_busy(draw, session)[:6], 3)
+    terms = [(sign, draw.choice([factor, 2 ** 31 - 1]), reference)
+             for sign, factor, reference in draw_sum_of(draw, session, processes)] * draw.choice([1, 9, 30])
+    full = tuple(len(events) for events in session.events)
+    return compared(draw, terms, draw.choice(list(RELATIONS)), excess(session, full, ("==", terms, [])))
+
+
+def early_cut(session, local):
+    """The least count of each process at which its own comparisons among these hold, if there is one."""
+    counts = tuple(0 for _ in session.names)
+    for process, events in enumerate(session.events):
+        own = [it for it in local if named_by(it) == {process}]
+        tries = [(*counts[:process], count, *counts[process + 1:]) for count in range(len(events) + 1)]
+        counts = min(tries, key=lambda cut: not all(holds(session, cut, it) for it in own))
+    return counts
+
+
+def draw_busy(draw, session):
+    """The processes, those that have events first."""
+    return sorted(range(len(session.names)), key=lambda process: (not session.events[process], draw.random()))
+
+
+def draw_sum_and(draw, session, cuts, terms, local):
+    """A comparison of this sum with what it is worth at some cut, or nearly that; often with `==` and where these local
+    comparisons hold, or first hold."""
+    full, early = tuple(len(events) for events in session.events), early_cut(session, local)
+    relation, near = draw.choice(["=="] * 5 + list(RELATIONS)), draw.choice([0, 0, 0, 1, -1, 3])
+    at = draw.choice([cuts[0], full, early, *draw.sample(cuts, 2)])
+    if local and draw.random() < 0.6:
+        held = [cut for cut in cuts if all(holds(session, cut, it) for it in local)]
+        relation, at, near = "==", draw.choice([early, early, draw.choice(held or cuts)]), 0
+    return compared(draw, terms, relation, excess(session, at, ("==", terms, [])) + near)
+
+
+def draw_sums_and(draw, session, cuts, sums, local):
+    """An `and` of this many comparisons of sums over several processes, and of this many that name one each."""
+    busy, at = draw_busy(draw, session)[:6], draw.randrange(1, len(cuts))
+    leaves = [draw_literal(draw, session, [process], cuts, at) for process in draw.sample(busy, min(local, len(busy)))]
+    of_local, terms = comparisons(("and", *leaves)), None
+    for _ in range(sums):
+        number = draw.randint(2 if local or sums > 1 else 3, min(len(busy), 5))
+        processes = list(range(len(session.names))) if draw.random() < 0.15 else draw.sample(busy, number)
+        terms = terms if terms and draw.random() < 0.3 else draw_sum_of(draw, session, processes)
+        leaves.append(draw_sum_and(draw, session, cuts, terms, of_local))
+    leaves = [("not", (OPPOSITES[leaf[0]], *leaf[1:])) if leaf[0] in OPPOSITES and draw.random() < 0.15 else leaf
+              for leaf in leaves]
+    return draw_row(draw, "and", draw.sample(leaves, len(leaves)))
+
+
+def firsts_of_sums(draw, session):
+    """Comparisons of sums of three processes, as a sum, a relation and a number, with the first counts by level and by
+    height at which each holds, consistent or not; none that holds at the beginning."""
+    found, orders = [], [sorted(counts_up_to(session), key=key) for key in (by_level, by_height)]
+    for _ in range(3):
+        terms = draw_sum_of(draw, session, draw.sample(draw_busy(draw, session)[:6], 3))
+        worth = {counts: excess(session, counts, ("==", terms, [])) for counts in orders[0]}
+        for relation, number in itertools.product(RELATIONS, sorted(set(worth.values()))):
+            firsts = [next((it for it in order if RELATIONS[relation](worth[it], number)), None) for order in orders]
+            if firsts[0] and sum(firsts[0]):
+                found.append(((terms, relation, number), *firsts))
+    return draw.sample(found, len(found))
+
+
+def draw_apart(draw, session):
+    """A comparison of a sum of which the first counts by level and by height differ, and an `or` of two of which these
+    differ among the first counts of each by height; as far as there are any."""
+    found = firsts_of_sums(draw, session)
+    pairs = [(found[place - 1], found[place]) for place in range(1, len(found))]
+    single = next((it for it in found if it[1] != it[2]), None)
+    pair = next((pair for pair in pairs if min(pair, key=lambda it: by_level(it[2])) !=
+                 min(pair, key=lambda it: by_height(it[2]))), None)
+    drawn = [("apart", compared(draw, *single[0]))] if single else []
+    return drawn + ([("either", ("or", *[compared(draw, *it[0]) for it in pair]))] if pair else [])
+
+
+def draw_sums(draw, session, cuts):
+    """A predicate with comparisons of sums over several processes, and with or without local ones beside them."""
+    kind = draw.choice(["one"] * 10 + ["local"] * 18 + ["two"] * 6 + ["or"] * 8 + ["product", "never", "long"])
+    if kind == "long":
+        return draw_long_sum(draw, session)
+    if kind in ("one", "never"):
+        tree = draw_sums_and(draw, session, cuts, 1, 0)
+        return tree if kind == "one" else ("and", tree, draw.choice([("false",), ("not", ("true",))]))
+    if kind == "local":
+        return draw_sums_and(draw, session, cuts, 1, draw.choice([1, 1, 2]))
+    if kind == "two":
+        return draw_sums_and(draw, session, cuts, 2, draw.choice([0, 0, 1]))
+    if kind == "product":
+        everyone = range(len(session.names))
+        product = draw_product(draw, lambda: draw_literal(draw, session, [draw.choice(everyone)], cuts, None))
+        return ("and", product, draw_sums_and(draw, session, cuts, 1, 0))
+    counts = draw.choice([[1, 1], [1, 0], [1, 1, 1], [1, 2], [0, 0, 1]])
+    return draw_row(draw, "or", [draw_sums_and(draw, session, cuts, sums, draw.choice([0, 0, 1, 2] if sums else [1, 2]))
+                                 for sums in counts])
+
+
+def draw_session(draw, has_many, is_beyond):
     session = draw_processes(draw, has_many)
     if draw.random() < 0.25:
         draw_ring(draw, session)
@@ -583,8 +941,13 @@ def draw_session(draw, has_many):
         muddle(draw, session)
     cuts = [tuple(0 for _ in session.names)]
     cuts += [tuple(draw.randint(0, len(events)) for events in session.events) for _ in range(8)]
-    for name in draw.sample(["p", "q", "a", "both_1"], draw.choice([1, 2, 3])):
-        tries = [draw_predicate(draw, session, cuts) for _ in range(draw.choice([1, 3, 6]))]
+    count = draw.choice([2, 3, 4] if is_beyond else [1, 2, 3])
+    drawn = [(name, draw_predicate) for name in draw.sample(["p", "q", "a", "both_1"], count)]
+    if is_beyond and len(session.names) > 2:
+        drawn += [(name, draw_sums) for name in draw.sample(["total", "s", "x", "of_3", "P"], 5)]
+        session.predicates += draw_apart(draw, session)
+    for name, draw_tree_of in drawn:
+        tries = [draw_tree_of(draw, session, cuts) for _ in range(draw.choice([1, 3, 6]))]
         session.predicates.append((name, min(tries, key=lambda tree: (
             holds(session, cuts[0], tree), not any(holds(session, cut, tree) for cut in cuts[1:])))))
     session.width = draw.choice([1, 2, 3, 5, 8, 20, 4096] if has_many else [1, 2, 3, 4, 5, 8, 4096, 4096, 4096])
@@ -768,7 +1131,7 @@ def tried(program, seed, number):
     """How often the program ran for the session of this number, the lines that it wrote, and in what it differs, if it
     does."""
     draw = random.Random(f"{seed} {number}")
-    session = draw_session(draw, number % 3 == 2)
+    session = draw_session(draw, number % 3 == 2, number % 4 == 0)
     document = document_text(draw, session)
     streams = [stream_text(draw, session, process) for process in range(len(session.names))]
     draw.shuffle(streams)
