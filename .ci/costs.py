@@ -24,7 +24,7 @@ import threading
 import time
 
 sys.dont_write_bytecode = True
-from layout import libraries  # noqa: E402
+from layout import libraries, rattle_words  # noqa: E402
 
 ROOT = os.path.dirname(os.path.dirname(os.path.abspath(__file__)))
 TICK = os.sysconf("SC_CLK_TCK")
@@ -167,18 +167,9 @@ def measure(command):
 
 def slowest(name, over):
     """Prints the ten functions of the crate whose proofs take longest, over the libraries that stand in a clone."""
-    direct = libraries()
-    kit = os.path.dirname(subprocess.run(["rt", "doc"], check=True, capture_output=True, text=True).stdout.strip())
     folder = os.path.join(ROOT, "crates", name)
-    root = "src/main.rt" if os.path.isfile(f"{folder}/src/main.rt") else "src/lib.rt"
-    words = [f"{kit}/bin/rattle", "check", "--crate-name", name, root, "--progress", "--jobs", "1"]
-    words += ["--antt-project", f"{kit}/rattle/logic/antt-project.json", "--logic-built", f"{kit}/logic_built"]
-    words += ["-L", f"dependency={kit}/rlibs", "--extern", f"std={kit}/rlibs/std.rlib"]
-    for other in direct[name]:
-        ours = os.path.join(over, "crates", other, "out", "rlib", f"{other}.rlib")
-        words += ["--extern", f"{other}={ours if other in direct else f'{kit}/rlibs/{other}.rlib'}"]
-    for other in direct:
-        words += ["-L", f"dependency={over}/crates/{other}/out/rlib"]
+    words = rattle_words("check", name, lambda it: os.path.join(over, "crates", it, "out", "rlib", f"{it}.rlib"))
+    words += ["--progress", "--jobs", "1"]
     is_tests = not re.search(r"^\s*pub fn ", source_of(folder), re.M)
     ran = subprocess.Popen(words + ["--test"] * is_tests, cwd=folder, text=True, stdout=subprocess.PIPE,
                            stderr=subprocess.STDOUT)

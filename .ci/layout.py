@@ -1,6 +1,8 @@
-"""The crates of the repository, as crates.txt lists them: the one place that reads it."""
+"""The crates of the repository, as crates.txt lists them: the one place that reads it; and how the kit's compiler is
+called for one of them."""
 import os
 import re
+import subprocess
 
 ROOT = os.path.dirname(os.path.dirname(os.path.abspath(__file__)))
 
@@ -41,3 +43,19 @@ def first_sentence(name):
     with open(os.path.join(folder, root), encoding="utf-8") as file:
         lines = re.match(r"(?://! .*\n)+", file.read()).group(0).split("\n")
     return re.split(r"(?<=\.) ", " ".join(line[4:] for line in lines).strip())[0]
+
+
+def rattle_words(command, name, library):
+    """The command line by which the kit's compiler checks or builds a crate. `library` gives the path of the library of
+    each crate below it."""
+    kit = os.path.dirname(subprocess.run(["rt", "doc"], check=True, capture_output=True, text=True).stdout.strip())
+    direct = libraries()
+    folder = os.path.join(ROOT, "crates", name)
+    root = next(file for file in ("src/main.rt", "src/lib.rt") if os.path.isfile(os.path.join(folder, file)))
+    words = [f"{kit}/bin/rattle", command, "--crate-name", name, root, "--extern", f"std={kit}/rlibs/std.rlib"]
+    for other in direct[name]:
+        words += ["--extern", f"{other}={library(other) if other in direct else f'{kit}/rlibs/{other}.rlib'}"]
+    words += ["-L", f"dependency={kit}/rlibs"]
+    for place in dict.fromkeys(os.path.dirname(library(other)) for other in below(name, direct)):
+        words += ["-L", f"dependency={place}"]
+    return words + ["--antt-project", f"{kit}/rattle/logic/antt-project.json", "--logic-built", f"{kit}/logic_built"]
