@@ -2,3 +2,6 @@
 pub mod Wholes
 pub mod TermMeanings
 pub mod Tried
+pub mod SureHolds
+pub mod AroundEvents
+pub mod GateLaws

@@ -3,6 +3,8 @@ pub mod Parts
 pub mod Terms
 pub mod Heights
 pub mod Sums
+pub mod DeadEnds
+pub mod Gates
 pub mod Decided
 pub mod Laws
 pub mod Examples

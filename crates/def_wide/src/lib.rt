@@ -3,7 +3,7 @@
 #![tactic(auto)]
 
 ghost use Rattle.def_wide.specs.Examples.{AllEqual, SomeTwoDiffer, SumReaches};
-ghost use Rattle.def_wide.specs.Laws.{DefinitelyAfterPossibly, WholeIsDecided};
+ghost use Rattle.def_wide.specs.Laws.{DefinitelyAfterPossibly, GatesDecide, LateLevelDecides, OneLateLevel, WholeIsDecided};
 ghost use Rattle.def_wide.specs.Terms.{TermsMean};
 
 /// A predicate that decides Possibly as a whole does so by its parts; and if Definitely is decided, Possibly is.
@@ -22,4 +22,12 @@ pub fn examples()
     ensures differ { SomeTwoDiffer }
     ensures equal { AllEqual }
     ensures sum { SumReaches }
+{}
+
+/// Every observation passes through a satisfying cut of a gate, and no cut of its level avoids; the same of the level
+/// that is printed where the levels under a width leave the answer unknown, of which there is one at most.
+pub fn gates()
+    ensures gate { GatesDecide }
+    ensures late { LateLevelDecides }
+    ensures single { OneLateLevel }
 {}
