@@ -44,4 +44,6 @@ mod verdict;
 
 pub use decide::verdict_by_sums;
 pub use first::first_by_sums;
+pub use there::names_no_other;
+pub use values::values_of;
 pub use verdict::Verdict;

@@ -23,7 +23,7 @@ fn names_below(processes: usize, sum: &Sum) -> bool
 }
 
 /// Whether a predicate names no process but the first `processes`.
-pub(crate) fn names_no_other(processes: usize, tree: &Tree) -> bool
+pub fn names_no_other(processes: usize, tree: &Tree) -> bool
     ensures { IsTrue result ↔ NamesNoOther processes (tree_view tree.now) }
 {
     match tree {

@@ -15,7 +15,7 @@ use wide_pairs::row_of;
 ///
 /// # Errors
 /// An allocation was refused.
-pub(crate) fn values_of(
+pub fn values_of(
     alloc: Global,
     computation: &Computation<'_>,
     left: &Sum,

@@ -1,0 +1,8 @@
+-- Lemmas on gates.
+mod Pushes
+mod Beside
+mod Widths
+mod Products
+mod Counting
+mod Surely
+mod LeastGate

@@ -1,0 +1,65 @@
+//! The least level of a gate.
+ghost use Rattle.def_wide.specs.Gates.{IsLeastGate};
+ghost use Rattle.pd_pred.specs.Trees.{tree_view};
+ghost use Rattle.wide_gates.specs.Least.{IsLeastFlagged, NoneFlagged, lesser_of};
+ghost use Rattle.std.specs.Prelude.{◌≡◌, ℕ, IfOk, MatchOption, length};
+
+use super::levels::levels_at;
+use super::spot::all_spots;
+use super::sure::sure_at;
+use pd_clock::Computation;
+use pd_pred::Tree;
+use std::alloc::{AllocError, Global};
+use wide_sums::names_no_other;
+
+/// The lesser of a number and the least before it, if there is one.
+fn lesser(least: Option<u64>, number: u64) -> u64
+    ensures { result ≡ lesser_of least number }
+{
+    match least {
+        Some(least) if least < number => least,
+        _ => number,
+    }
+}
+
+/// The least of the numbers whose flag is `true`, if there is one.
+fn least_flagged(numbers: &[u64], flags: &[bool]) -> Option<u64>
+    requires { length numbers.now ≡ length flags.now }
+    ensures { MatchOption result (NoneFlagged flags.now (length flags.now))
+        (IsLeastFlagged numbers.now flags.now (length flags.now)) }
+{
+    let mut least = None;
+    for k in 0..flags.len() {
+        if flags[k] {
+            least = Some(lesser(least, numbers[k]));
+        }
+    }
+    least
+}
+
+/// The least level of a gate of the predicate: the greatest number of events that counts have right before or right
+/// after an event, if the predicate surely holds at all of these, as its comparisons tell, each by itself. There is
+/// none if there is no gate, or the predicate names a process that isn't there.
+///
+/// It takes some steps for each event, process and comparison. Whatever the number of comparisons, it keeps about a
+/// hundred bytes for each event, and four more for each level of parentheses.
+///
+/// # Errors
+/// An allocation was refused.
+pub fn least_gate(
+    alloc: Global,
+    computation: &Computation<'_>,
+    tree: &Tree,
+) -> Result<Option<u64>, AllocError>
+    ensures { IfOk result (λ found. MatchOption found
+        ((level : ℕ) → ¬ IsLeastGate computation.now (tree_view tree.now) level)
+        (IsLeastGate computation.now (tree_view tree.now))) }
+{
+    if !names_no_other(computation.processes(), tree) {
+        return Ok(None);
+    }
+    let spots = all_spots(alloc, computation)?;
+    let sure = sure_at(alloc, computation, &spots, tree)?;
+    let levels = levels_at(alloc, computation, &spots)?;
+    Ok(least_flagged(&levels, &sure.yes))
+}

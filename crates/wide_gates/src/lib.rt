@@ -1,0 +1,32 @@
+//! Gates: events right before or right after which a predicate surely holds, as its comparisons tell, each by itself.
+//!
+//! The counts right after an event have of each other process what happened before the event, and nothing that it
+//! happened before, and right before it they have one event less of its own process. So of each process they may have
+//! any count between two bounds, whatever the others have. The greatest excess of a comparison there is then the sum of
+//! what each process adds at most between its bounds, and it says whether the comparison is excluded.
+//!
+//! - `spot`: right before or right after each event
+//! - `high`: how many events of a process come before all that an event happened before
+//! - `range`: which counts a process may have right before or right after an event
+//! - `table`: the greatest number of a row between two counts
+//! - `most`: the greatest number that a process adds right before or right after an event
+//! - `greatest`: the greatest sum of rows right before and right after each event
+//! - `levels`: the greatest number of events there
+//! - `excluded`: which comparisons are excluded by the greatest excess
+//! - `sure`: whether a predicate surely holds there, or surely doesn't
+//! - `least`: the least level at which it surely holds
+#![tactic(auto)]
+
+mod excluded;
+mod flags;
+mod greatest;
+mod high;
+mod least;
+mod levels;
+mod most;
+mod range;
+mod spot;
+mod sure;
+mod table;
+
+pub use least::least_gate;
