@@ -8,7 +8,7 @@ use Rattle.def_model.specs.Messages.{Version, Fault, SendTwice, Orphan, SelfMess
 use Rattle.def_model.specs.Cuts.{IsConsistent}
 use Rattle.def_model.specs.Order.{HasNoCycle, IsReportedCycle, IsWellFormed}
 use Rattle.def_model.specs.Observations as observations
-use Rattle.def_model.specs.Answers.{PossiblyAnswer, PossiblyYes, PossiblyNo, PossiblyUnknown, DefinitelyAnswer, DefinitelyYes, DefinitelyNo, DefinitelyUnknown, IsDefinitelyAnswer, IsFirstSatisfying, IsLeastFree, IsAvoidingObservation}
+use Rattle.def_model.specs.Answers.{PossiblyAnswer, PossiblyYes, PossiblyNo, PossiblyUnknown, DefinitelyAnswer, DefinitelyYes, DefinitelyNo, DefinitelyUnknown, IsFirstSatisfying, IsAvoidingObservation}
 use Rattle.def_model.specs.Predicates.{Recorded, test_of}
 use Rattle.def_wide.specs.Heights.{IsFirstByHeight}
 use Rattle.def_format.specs.Names.{ProcessNames, name_of_process}
@@ -16,13 +16,12 @@ use Rattle.def_format.specs.Readings.{Trace}
 use Rattle.def_format.specs.Documents.{Document, NamedPredicate}
 use Rattle.def_format.specs.Reports.{Possibly, Definitely, Answer, Report}
 use Rattle.def_judgement.specs.Judgements.{events_of_traces, recorded_of, printed_possibly, printed_definitely, IsAnswered, IsTracesReport, of_messages, of_cycle, of_answers}
-use Rattle.def_model.proofs.OneAnswer.{definite_is_possible, cut_below_level}
+use Rattle.def_model.proofs.OneAnswer.{definite_is_possible}
 use Rattle.def_model.proofs.Paths.{path_avoids}
 use Rattle.def_model.proofs.Stuck.{none_stuck}
-use Rattle.def_judgement.specs.Headline.{IsNarrow, AnswersAgree, SaysPossibly, SaysDefinitely, Coverage, SaysTruly, AnswersTruly, TellsTruth, each_predicate, each_decided, Headline, HeadlineBeyondWidth, ReportsAgree}
-use Rattle.def_judgement.proofs.Answered.{IsKnown, IsSoundPossibly, IsFirstOf, PossiblyAt, possibly_at, DefinitelyAt, definitely_at}
-use Rattle.def_judgement.proofs.CutsByHeight.{lowest_below_level}
-use Rattle.def_judgement.proofs.Narrow.{avoided_narrowly}
+use Rattle.def_judgement.specs.Headline.{IsNarrow, AnswersAgree, SaysPossibly, SaysDefinitely, IsSound, Coverage, SaysTruly, AnswersTruly, TellsTruth, each_predicate, each_decided, Headline, HeadlineBeyondWidth, ReportsAgree}
+use Rattle.def_judgement.proofs.Answered.{IsKnown, IsFound, IsSoundPossibly, IsSoundDefinitely, IsFirstOf, PossiblyAt, possibly_at, DefinitelyAt, definitely_at}
+use Rattle.def_judgement.proofs.CutsByHeight.{first_below_level, lowest_below_level}
 
 -- ---- what is printed, at every width
 
@@ -41,36 +40,45 @@ yes_printed reported (PossiblyYes printed) e cut said = let same : printed ≡ c
 yes_printed reported PossiblyNo e cut said = absurd (cc)
 yes_printed reported (PossiblyUnknown k) e cut said = absurd (cc)
 
--- if yes is printed, every observation passes through a satisfying cut, and the level printed is the least with no
--- avoiding cut
+-- if yes is printed, every observation passes through a satisfying cut, and no cut of the level printed avoids
 level_printed : (names : List ProcessNames) (c : Computation) (test : List ℕ → Bool) (w : ℕ) (reported : Definitely)
-    (d : DefinitelyAnswer) → reported ≡ printed_definitely names d → IsDefinitelyAnswer c test w d → (level : ℕ)
-    → reported ≡ Definitely.Yes level → observations.Definitely c test × IsLeastFree c test level
-level_printed names c test w reported (DefinitelyYes printed) e right level said =
-    let same : printed ≡ level = cc in (right.1, subst (IsLeastFree c test) same right.2)
-level_printed names c test w reported (DefinitelyNo path) e right level said = absurd (cc)
-level_printed names c test w reported (DefinitelyUnknown k) e right level said = absurd (cc)
+    (d : DefinitelyAnswer) → reported ≡ printed_definitely names d → IsSoundDefinitely c test w d → (level : ℕ)
+    → reported ≡ Definitely.Yes level → observations.Definitely c test × observations.HasNoAvoiding c test level
+level_printed names c test w reported (DefinitelyYes printed) e sound level said =
+    let same : printed ≡ level = cc in (sound.0, subst (observations.HasNoAvoiding c test) same sound.1)
+level_printed names c test w reported (DefinitelyNo path) e sound level said = absurd (cc)
+level_printed names c test w reported (DefinitelyUnknown k) e sound level said = absurd (cc)
+
+-- if no is printed, the names are those of an observation that avoids
+path_printed : (names : List ProcessNames) (c : Computation) (test : List ℕ → Bool) (w : ℕ) (reported : Definitely)
+    (d : DefinitelyAnswer) → reported ≡ printed_definitely names d → IsSoundDefinitely c test w d
+    → (words : List (List ℕ)) → reported ≡ Definitely.No words → (path : List ℕ)
+    × (words ≡ map (name_of_process names) path) × IsAvoidingObservation c test path
+path_printed names c test w reported (DefinitelyYes level) e sound words said = absurd (cc)
+path_printed names c test w reported (DefinitelyNo path) e (not_every, printed) words said =
+    let same : words ≡ map (name_of_process names) path = cc in (path, same, path_avoids c test path printed)
+path_printed names c test w reported (DefinitelyUnknown k) e sound words said = absurd (cc)
 
 -- the first satisfying cut, by level or by height, has at most as many events as the level
-first_below_level : (c : Computation) → HasNoCycle c → (test : List ℕ → Bool) (level : ℕ) (cut : List ℕ)
-    → IsFirstSatisfying c test cut ⊎ IsFirstByHeight c test cut → IsLeastFree c test level → sum cut ≤ level
-first_below_level c acyclic test level cut (inl first) free = cut_below_level c acyclic test level cut first free
-first_below_level c acyclic test level cut (inr lowest) free =
-    lowest_below_level c acyclic test cut lowest level free.none
+cut_below : (c : Computation) → HasNoCycle c → (test : List ℕ → Bool) (level : ℕ) (cut : List ℕ)
+    → IsFirstSatisfying c test cut ⊎ IsFirstByHeight c test cut → observations.HasNoAvoiding c test level
+    → sum cut ≤ level
+cut_below c acyclic test level cut (inl first) none = first_below_level c acyclic test cut first level none
+cut_below c acyclic test level cut (inr lowest) none = lowest_below_level c acyclic test cut lowest level none
 
 -- the answers of Possibly and of Definitely agree
-answers_agree : (names : List ProcessNames) (c : Computation) (test : List ℕ → Bool) (v w : ℕ) (answer : Answer)
-    → HasNoCycle c → (p : PossiblyAnswer) → answer.possibly ≡ printed_possibly p → IsSoundPossibly c test v p
+answers_agree : (names : List ProcessNames) (c : Computation) (test : List ℕ → Bool) (w : ℕ) (answer : Answer)
+    → HasNoCycle c → (p : PossiblyAnswer) → answer.possibly ≡ printed_possibly p → IsSoundPossibly c test w p
     → IsFirstOf c test p → (d : DefinitelyAnswer) → answer.definitely ≡ printed_definitely names d
-    → IsDefinitelyAnswer c test w d → AnswersAgree answer
-answers_agree names c test v w answer acyclic p e sound first d f right =
+    → IsSoundDefinitely c test w d → AnswersAgree answer
+answers_agree names c test w answer acyclic p e sound first d f holds =
     record {
       no_clash = λ level said none.
-          no_printed c test v answer.possibly p e sound none (definite_is_possible c acyclic test
-          (level_printed names c test w answer.definitely d f right level said).0);
+          no_printed c test w answer.possibly p e sound none (definite_is_possible c acyclic test
+          (level_printed names c test w answer.definitely d f holds level said).0);
       below = λ cut level said said'.
-          first_below_level c acyclic test level cut (first cut (yes_printed answer.possibly p e cut said))
-          (level_printed names c test w answer.definitely d f right level said').1;
+          cut_below c acyclic test level cut (first cut (yes_printed answer.possibly p e cut said))
+          (level_printed names c test w answer.definitely d f holds level said').1;
     }
 
 -- ---- what is said of Possibly
@@ -96,31 +104,21 @@ module _ (c : Computation) (test : List ℕ → Bool) (w : ℕ) (reported : Poss
 
 -- ---- what is said of Definitely
 
-module _ (names : List ProcessNames) (c : Computation) (test : List ℕ → Bool) (w : ℕ) (narrow : IsNarrow c w)
-    (reported : Definitely) where
-  definitely_yes_exactly : (d : DefinitelyAnswer) → reported ≡ printed_definitely names d
-      → IsDefinitelyAnswer c test w d → ((level : ℕ) × (reported ≡ Definitely.Yes level))
-      ↔ observations.Definitely c test
-  definitely_yes_exactly (DefinitelyYes level) e (known, every, free) = (λ said. every, λ holds. (level, e))
-  definitely_yes_exactly (DefinitelyNo path) e (known, not_every, printed) =
+module _ (names : List ProcessNames) (c : Computation) (test : List ℕ → Bool) (w : ℕ) (reported : Definitely) where
+  definitely_yes_exactly : (d : DefinitelyAnswer) → reported ≡ printed_definitely names d → IsSoundDefinitely c test w d
+      → IsFound d → ((level : ℕ) × (reported ≡ Definitely.Yes level)) ↔ observations.Definitely c test
+  definitely_yes_exactly (DefinitelyYes level) e (every, none, is_level) known = (λ said. every, λ holds. (level, e))
+  definitely_yes_exactly (DefinitelyNo path) e (not_every, printed) known =
       (λ said. let other : reported ≡ Definitely.Yes said.0 = said.1 in absurd (cc), λ holds. absurd (not_every holds))
-  definitely_yes_exactly (DefinitelyUnknown k) e u = absurd (avoided_narrowly c test w narrow k u.wide)
+  definitely_yes_exactly (DefinitelyUnknown k) e u known = absurd (known k refl)
 
-  definitely_no_exactly : (d : DefinitelyAnswer) → reported ≡ printed_definitely names d → IsDefinitelyAnswer c test w d
-      → ((path : List (List ℕ)) × (reported ≡ Definitely.No path)) ↔ (¬ observations.Definitely c test)
-  definitely_no_exactly (DefinitelyYes level) e (known, every, free) =
-      (λ said. let other : reported ≡ Definitely.No said.0 = said.1 in absurd (cc), λ none. absurd (none every))
-  definitely_no_exactly (DefinitelyNo path) e (known, not_every, printed) =
+  definitely_no_exactly : (d : DefinitelyAnswer) → reported ≡ printed_definitely names d → IsSoundDefinitely c test w d
+      → IsFound d → ((path : List (List ℕ)) × (reported ≡ Definitely.No path)) ↔ (¬ observations.Definitely c test)
+  definitely_no_exactly (DefinitelyYes level) e (every, none, is_level) known =
+      (λ said. let other : reported ≡ Definitely.No said.0 = said.1 in absurd (cc), λ not_all. absurd (not_all every))
+  definitely_no_exactly (DefinitelyNo path) e (not_every, printed) known =
       (λ said. not_every, λ holds. (map (name_of_process names) path, e))
-  definitely_no_exactly (DefinitelyUnknown k) e u = absurd (avoided_narrowly c test w narrow k u.wide)
-
-  path_printed : (d : DefinitelyAnswer) → reported ≡ printed_definitely names d → IsDefinitelyAnswer c test w d
-      → (words : List (List ℕ)) → reported ≡ Definitely.No words → (path : List ℕ)
-      × (words ≡ map (name_of_process names) path) × IsAvoidingObservation c test path
-  path_printed (DefinitelyYes level) e right words said = absurd (cc)
-  path_printed (DefinitelyNo path) e (known, not_every, printed) words said =
-      let same : words ≡ map (name_of_process names) path = cc in (path, same, path_avoids c test path printed)
-  path_printed (DefinitelyUnknown k) e right words said = absurd (cc)
+  definitely_no_exactly (DefinitelyUnknown k) e u known = absurd (known k refl)
 
 -- ---- one answer
 
@@ -133,12 +131,12 @@ says_possibly c test w reported p e sound known = record {
 }
 
 says_definitely : (names : List ProcessNames) (c : Computation) (test : List ℕ → Bool) (w : ℕ) (reported : Definitely)
-    (d : DefinitelyAnswer) → IsNarrow c w → reported ≡ printed_definitely names d → IsDefinitelyAnswer c test w d
+    (d : DefinitelyAnswer) → reported ≡ printed_definitely names d → IsSoundDefinitely c test w d → IsFound d
     → SaysDefinitely names c test reported
-says_definitely names c test w reported d narrow e right = record {
-  yes_exactly = definitely_yes_exactly names c test w narrow reported d e right;
-  no_exactly = definitely_no_exactly names c test w narrow reported d e right;
-  path_avoids = path_printed names c test w narrow reported d e right;
+says_definitely names c test w reported d e sound known = record {
+  yes_exactly = definitely_yes_exactly names c test w reported d e sound known;
+  no_exactly = definitely_no_exactly names c test w reported d e sound known;
+  path_avoids = path_printed names c test w reported d e sound;
 }
 
 module _ (document : Document) (r : Recorded) (acyclic : HasNoCycle r.events) (asked : NamedPredicate) (answer : Answer)
@@ -147,31 +145,46 @@ module _ (document : Document) (r : Recorded) (acyclic : HasNoCycle r.events) (a
   p = possibly_at document r asked.predicate a.possibly a.possibly_right
 
   d : DefinitelyAt document r asked.predicate a.definitely
-  d = definitely_at document r asked.predicate a.definitely a.definitely_right
+  d = definitely_at document r asked.predicate a.definitely acyclic a.definitely_right
 
   agrees : AnswersAgree answer
   agrees =
-      answers_agree document.names r.events (test_of r asked.predicate) document.width d.width answer acyclic a.possibly
-      a.possibly_reported p.sound p.first a.definitely a.definitely_reported d.right
+      answers_agree document.names r.events (test_of r asked.predicate) document.width answer acyclic a.possibly
+      a.possibly_reported p.sound p.first a.definitely a.definitely_reported d.sound
+
+  is_sound : IsSound document.names r.events (test_of r asked.predicate) answer
+  is_sound = record {
+    possibly_yes = cut_printed r.events (test_of r asked.predicate) document.width answer.possibly a.possibly
+        a.possibly_reported p.sound;
+    possibly_no = no_printed r.events (test_of r asked.predicate) document.width answer.possibly a.possibly
+        a.possibly_reported p.sound;
+    definitely_yes = level_printed document.names r.events (test_of r asked.predicate) document.width
+        answer.definitely a.definitely a.definitely_reported d.sound;
+    definitely_no = path_printed document.names r.events (test_of r asked.predicate) document.width answer.definitely
+        a.definitely a.definitely_reported d.sound;
+  }
 
   says_truly : (coverage : Coverage) → (coverage.possibly r asked.predicate → IsKnown a.possibly)
-      → (coverage.definitely r asked.predicate → IsNarrow r.events d.width)
+      → (coverage.definitely r asked.predicate → IsFound a.definitely)
       → SaysTruly coverage document.names r asked.predicate answer
-  says_truly coverage known narrow = record {
+  says_truly coverage known found = record {
     possibly = λ covered. says_possibly r.events (test_of r asked.predicate) document.width answer.possibly a.possibly
         a.possibly_reported p.sound (known covered);
-    definitely = λ covered. says_definitely document.names r.events (test_of r asked.predicate) d.width
-        answer.definitely a.definitely (narrow covered) a.definitely_reported d.right;
+    definitely = λ covered. says_definitely document.names r.events (test_of r asked.predicate) document.width
+        answer.definitely a.definitely a.definitely_reported d.sound (found covered);
+    sound = is_sound;
     agrees = agrees;
   }
 
   -- with no level over the width, of each predicate
   says_each : IsNarrow r.events document.width → SaysTruly each_predicate document.names r asked.predicate answer
-  says_each narrow = says_truly each_predicate (λ _. p.known narrow) (λ _. d.narrow narrow)
+  says_each narrow = says_truly each_predicate (λ _. p.known narrow) (λ _. d.known narrow)
 
   -- if that is asked for, of each that is decided
-  says_decided : document.beyond_width ≡ true → SaysTruly each_decided document.names r asked.predicate answer
-  says_decided beyond = says_truly each_decided (p.known_if_decided beyond) (d.narrow_if_decided beyond)
+  says_decided : document.beyond_width ≡ true
+      → SaysTruly (each_decided document.width) document.names r asked.predicate answer
+  says_decided beyond =
+      says_truly (each_decided document.width) (p.known_if_decided beyond) (d.known_if_decided beyond)
 
 -- ---- the report
 
@@ -219,7 +232,7 @@ headline_lem document traces report formed narrow right =
 
 pub headline_beyond_width_lem : HeadlineBeyondWidth
 headline_beyond_width_lem document traces report formed beyond right =
-    tells_truth each_decided document traces report formed
+    tells_truth (each_decided document.width) document traces report formed
     (λ asked answer a. says_decided document (recorded_of document traces) formed.no_cycle asked answer a beyond) right
 
 -- ---- at every width

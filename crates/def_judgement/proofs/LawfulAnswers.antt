@@ -4,12 +4,13 @@ use Rattle.std.specs.List.{AllByRecursion, AllZip}
 use Rattle.def_model.specs.Events.{Computation, Place, IsBefore, IsEvent, Linked, event_count}
 use Rattle.def_model.specs.Messages.{Version, Fault, SendTwice, Orphan, SelfMessage, ReceivedTwice, IsReported, AreReceived, HasMessages}
 use Rattle.def_model.specs.Cuts.{IsConsistent, full_cut, total}
-use Rattle.def_model.specs.Answers.{PossiblyAnswer, PossiblyYes, PossiblyNo, PossiblyUnknown, DefinitelyAnswer, DefinitelyYes, DefinitelyNo, DefinitelyUnknown, IsDefinitelyAnswer}
+use Rattle.def_model.specs.Answers.{PossiblyAnswer, PossiblyYes, PossiblyNo, PossiblyUnknown, DefinitelyAnswer, DefinitelyYes, DefinitelyNo, DefinitelyUnknown}
+use Rattle.def_model.specs.Order.{HasNoCycle}
 use Rattle.def_model.specs.Predicates.{Recorded, test_of}
 use Rattle.def_model.proofs.Chains.{event_from_kind}
 use Rattle.def_model.proofs.Consistency.{process_in_range}
 use Rattle.def_model.proofs.Counts.{sum_cons}
-use Rattle.def_model.proofs.PrintedPlaces.{AreShort, count_is_short, path_processes, place_of_fault, fault_is_event, unknown_level, unknown_avoiding_level, free_level}
+use Rattle.def_model.proofs.PrintedPlaces.{AreShort, count_is_short, path_processes, place_of_fault, fault_is_event, unknown_level, unknown_avoiding_level}
 use Rattle.def_format.specs.Documents.{Document, NamedPredicate}
 use Rattle.def_format.specs.Limits.{process_limit, event_limit}
 use Rattle.def_format.specs.Names.{ProcessNames, name_of_process}
@@ -17,7 +18,7 @@ use Rattle.def_format.specs.RefusalWords.{named_place, match_refusal}
 use Rattle.def_format.specs.Reports.{Answer, Fits, IsName, PossiblyIsLawful, DefinitelyIsLawful, AnswerIsLawful, PlaceIsLawful, RefusalIsLawful}
 use Rattle.def_format.proofs.DocumentParts.{HasName, AsksByName, process_is_named}
 use Rattle.def_judgement.specs.Judgements.{IsAnswered, printed_possibly, printed_definitely}
-use Rattle.def_judgement.proofs.Answered.{IsSoundPossibly, possibly_at, definitely_at}
+use Rattle.def_judgement.proofs.Answered.{IsSoundDefinitely, IsSoundPossibly, possibly_at, definitely_at}
 
 -- as many processes as names, few of them, each with few events
 pub record IsSmall (names : List ProcessNames) (c : Computation) : Type 0 where
@@ -178,32 +179,33 @@ possibly_is_lawful names c test w (PossiblyUnknown k) small sound =
     omega arith
 
 pub definitely_is_lawful : (names : List ProcessNames) (c : Computation) (test : List ℕ → Bool) (w : ℕ)
-    (d : DefinitelyAnswer) → IsSmall names c → IsDefinitelyAnswer c test w d
+    (d : DefinitelyAnswer) → IsSmall names c → IsSoundDefinitely c test w d
     → DefinitelyIsLawful (printed_definitely names d)
 definitely_is_lawful names c test w (DefinitelyYes k) small right =
     let t : total c ≤ process_limit * event_limit = small_total names c small in
-    let le : k ≤ total c + 1 = free_level c test w k right in
+    let le : k ≤ total c = right.2 in
     omega arith
 definitely_is_lawful names c test w (DefinitelyNo path) small right =
     path_is_lawful names path small.named
-    (subst (λ (n : ℕ). AllByRecursion (λ p. p < n) path) small.one_each (path_processes c test path right.2))
+    (subst (λ (n : ℕ). AllByRecursion (λ p. p < n) path) small.one_each (path_processes c test path right.1))
 definitely_is_lawful names c test w (DefinitelyUnknown k) small right =
     let t : total c ≤ process_limit * event_limit = small_total names c small in
     let le : k ≤ total c = unknown_avoiding_level c test w k right in
     omega arith
 
 pub answers_are_lawful : (document : Document) (recorded : Recorded) (asked : List NamedPredicate)
-    (answers : List Answer) → IsSmall document.names recorded.events → AllByRecursion AsksByName asked
+    (answers : List Answer) → HasNoCycle recorded.events → IsSmall document.names recorded.events
+    → AllByRecursion AsksByName asked
     → AllZip (IsAnswered document recorded) asked answers
     → (length answers ≡ length asked) × AllByRecursion AnswerIsLawful answers
-answers_are_lawful document recorded [] [] small named zipped = (refl, tt)
-answers_are_lawful document recorded [] (answer ∷ answers) small named zipped = absurd zipped
-answers_are_lawful document recorded (one ∷ asked) [] small named zipped = absurd zipped
-answers_are_lawful document recorded (one ∷ asked) (answer ∷ answers) small named zipped =
+answers_are_lawful document recorded [] [] acyclic small named zipped = (refl, tt)
+answers_are_lawful document recorded [] (answer ∷ answers) acyclic small named zipped = absurd zipped
+answers_are_lawful document recorded (one ∷ asked) [] acyclic small named zipped = absurd zipped
+answers_are_lawful document recorded (one ∷ asked) (answer ∷ answers) acyclic small named zipped =
     let a = zipped.0 in
     let p = possibly_at document recorded one.predicate a.possibly a.possibly_right in
-    let d = definitely_at document recorded one.predicate a.definitely a.definitely_right in
-    let rest = answers_are_lawful document recorded asked answers small named.1 zipped.1 in
+    let d = definitely_at document recorded one.predicate a.definitely acyclic a.definitely_right in
+    let rest = answers_are_lawful document recorded asked answers acyclic small named.1 zipped.1 in
     let name : IsName answer.name = subst IsName (sym a.name) named.0 in
     let possibly : PossiblyIsLawful answer.possibly =
     subst PossiblyIsLawful (sym a.possibly_reported)
@@ -211,6 +213,6 @@ answers_are_lawful document recorded (one ∷ asked) (answer ∷ answers) small 
     p.sound) in
     let definitely : DefinitelyIsLawful answer.definitely =
     subst DefinitelyIsLawful (sym a.definitely_reported)
-    (definitely_is_lawful document.names recorded.events (test_of recorded one.predicate) d.width a.definitely small
-    d.right) in
+    (definitely_is_lawful document.names recorded.events (test_of recorded one.predicate) document.width
+    a.definitely small d.sound) in
     (ap suc rest.0, ((name, possibly, definitely), rest.1))

@@ -147,7 +147,7 @@ traces_report_is_lawful document traces report parts small (of_cycle cycle lawfu
     map_length [] = refl
     map_length (e ∷ places) = ap suc (map_length places)
 traces_report_is_lawful document traces report parts small (of_answers messages answers well are answered) =
-    let a = answers_are_lawful document (recorded_of document traces) document.predicates answers small
+    let a = answers_are_lawful document (recorded_of document traces) document.predicates answers well.no_cycle small
     parts.asked answered in
     let t : total (events_of_traces traces) ≤ process_limit * event_limit =
     small_total document.names (events_of_traces traces) small in

@@ -214,7 +214,7 @@ is_report =
             ((λ k u. level_is_narrow one_message both_are 1 one_cut_a_level k u.wide), first_cut);
         definitely = DefinitelyYes 2;
         definitely_reported = refl;
-        definitely_right = definitely_within (λ beyond. absurd (cc)) definitely_at_two;
+        definitely_right = definitely_within (λ beyond. absurd (cc)) (λ beyond. absurd (cc)) definitely_at_two;
       },
       tt,
     )

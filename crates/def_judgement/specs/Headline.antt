@@ -11,6 +11,7 @@ use Rattle.def_model.specs.Observations as observations
 use Rattle.def_model.specs.Answers.{IsListOf, MoreThan, IsAvoidingObservation}
 use Rattle.def_model.specs.Predicates.{Predicate, Recorded, test_of}
 use Rattle.def_wide.specs.Decided.{IsDefinitelyDecided, IsPossiblyDecided}
+use Rattle.def_wide.specs.DeadEnds.{HasFewDeadEnds}
 use Rattle.def_wide.specs.Sums.{IsDecidedBySums}
 use Rattle.def_format.specs.Names.{ProcessNames, name_of_process}
 use Rattle.def_format.specs.Readings.{Trace}
@@ -67,20 +68,35 @@ pub record Coverage : Type 1 where
 abbrev pub each_predicate : Coverage
 each_predicate = record { possibly = λ recorded predicate. ⊤; definitely = λ recorded predicate. ⊤ }
 
--- of each that is decided at any width, and for Possibly of each that sums decide
-abbrev pub each_decided : Coverage
-each_decided = record {
+-- Of each that is decided at any width; for Possibly of each that sums decide, too, and for Definitely of each with no
+-- more dead ends than the width.
+abbrev pub each_decided : ℕ → Coverage
+each_decided w = record {
   possibly = λ recorded predicate. IsPossiblyDecided recorded predicate ⊎ IsDecidedBySums recorded predicate;
-  definitely = IsDefinitelyDecided;
+  definitely = λ recorded predicate. IsDefinitelyDecided recorded predicate ⊎ HasFewDeadEnds recorded predicate w;
 }
 
--- The answer is the truth about the predicate by each modality of which the predicate is covered; both agree.
+-- What an answer says is true, at every width: a cut that is printed is consistent and satisfies, and with no of
+-- Possibly none does; with yes of Definitely every observation passes through a satisfying cut, and no cut of the level
+-- that is printed avoids; and the names that are printed are those of the processes of an observation with no
+-- satisfying cut.
+pub record IsSound (names : List ProcessNames) (c : Computation) (test : List ℕ → Bool) (answer : Answer) :
+    Type 0 where
+  pub possibly_yes : (cut : List ℕ) → answer.possibly ≡ Possibly.Yes cut → IsConsistent c cut × (test cut ≡ true)
+  pub possibly_no : answer.possibly ≡ Possibly.No → ¬ observations.Possibly c test
+  pub definitely_yes : (level : ℕ) → answer.definitely ≡ Definitely.Yes level
+      → observations.Definitely c test × observations.HasNoAvoiding c test level
+  pub definitely_no : (reported : List (List ℕ)) → answer.definitely ≡ Definitely.No reported → (path : List ℕ)
+      × (reported ≡ map (name_of_process names) path) × IsAvoidingObservation c test path
+
+-- What the answer says is true, and it says it by each modality of which the predicate is covered; both agree.
 pub record SaysTruly (coverage : Coverage) (names : List ProcessNames) (recorded : Recorded) (predicate : Predicate)
     (answer : Answer) : Type 0 where
   pub possibly : coverage.possibly recorded predicate
       → SaysPossibly recorded.events (test_of recorded predicate) answer.possibly
   pub definitely : coverage.definitely recorded predicate
       → SaysDefinitely names recorded.events (test_of recorded predicate) answer.definitely
+  pub sound : IsSound names recorded.events (test_of recorded predicate) answer
   pub agrees : AnswersAgree answer
 
 -- under the name of the predicate that is asked, the truth about it
@@ -111,7 +127,7 @@ abbrev pub HeadlineBeyondWidth : Type 0
 HeadlineBeyondWidth =
     (document : Document) (traces : List Trace) (report : Report)
     → IsWellFormed document.version (events_of_traces traces) → document.beyond_width ≡ true
-    → IsTracesReport document traces report → TellsTruth each_decided document traces report
+    → IsTracesReport document traces report → TellsTruth (each_decided document.width) document traces report
 
 -- ---- at every width
 
@@ -154,7 +170,7 @@ pub record IsTrueReport (inquiry : Inquiry) (streams : List RawStream) (report :
       → TellsTruth each_predicate document traces report
   pub headline_beyond_width : inquiry.options.beyond_width ≡ true → (document : Document) (traces : List Trace)
       → HoldsSession inquiry streams document traces → IsWellFormed document.version (events_of_traces traces)
-      → TellsTruth each_decided document traces report
+      → TellsTruth (each_decided document.width) document traces report
 
 -- The report of a document's bytes and of streams is true.
 abbrev pub JudgementIsTrue : Type 0

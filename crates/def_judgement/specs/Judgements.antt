@@ -6,8 +6,10 @@ use Rattle.def_model.specs.Messages.{Fault, IsReported, HasLawfulMessages, HasMe
 use Rattle.def_model.specs.Order.{IsWellFormed, IsReportedCycle}
 use Rattle.def_model.specs.Cuts.{total}
 use Rattle.def_model.specs.Predicates.{Predicate, Recorded, test_of}
-use Rattle.def_model.specs.Answers.{PossiblyAnswer, PossiblyYes, PossiblyNo, PossiblyUnknown, IsExactPossibly, IsPossiblyUnknown, IsPossiblyAnswer, DefinitelyAnswer, DefinitelyYes, DefinitelyNo, DefinitelyUnknown, IsDefinitelyAnswer, IsExactDefinitely}
+use Rattle.def_model.specs.Answers.{PossiblyAnswer, PossiblyYes, PossiblyNo, PossiblyUnknown, IsExactPossibly, IsPossiblyUnknown, IsPossiblyAnswer, DefinitelyAnswer, DefinitelyYes, DefinitelyNo, DefinitelyUnknown, IsDefinitelyUnknown, IsDefinitelyAnswer, IsExactDefinitely}
 use Rattle.def_wide.specs.Decided.{IsDefinitelyDecided, IsPossiblyDecided}
+use Rattle.def_wide.specs.DeadEnds.{IsFoundBack}
+use Rattle.def_wide.specs.Gates.{IsLateLevel}
 use Rattle.def_wide.specs.Heights.{IsFirstByHeight}
 use Rattle.def_wide.specs.Sums.{IsDecidedBySums}
 use Rattle.def_format.specs.Names.{ProcessNames, name_of_process}
@@ -61,14 +63,35 @@ pub data AnswersPossibly (document : Document) (recorded : Recorded) (predicate 
       → IsPossiblyAnswer recorded.events (test_of recorded predicate) document.width answer
       → AnswersPossibly document recorded predicate answer
 
--- Whether every observation passes through a cut that satisfies a predicate: whatever the width if the document asks
--- for that and it is decided so, and else under the document's width.
+-- The search back from the full cut finds no path of an avoiding observation, and if the answer is unknown, there is no
+-- level for a yes.
+pub record NothingBeyond (recorded : Recorded) (predicate : Predicate) (w : ℕ) (answer : DefinitelyAnswer) :
+    Type 0 where
+  pub no_path : (path : List ℕ) → ¬ IsFoundBack recorded predicate w path
+  pub no_level : (unknown : ℕ) → answer ≡ DefinitelyUnknown unknown → (level : ℕ)
+      → ¬ IsLateLevel recorded predicate w level
+
+-- Whether every observation passes through a cut that satisfies a predicate. If the document asks for answers beyond
+-- its width, there are four cases. If the predicate is decided at any width, the answer is the exact one. If it isn't,
+-- but the search back from the full cut finds the path that is printed, with no more dead ends before it than the
+-- width, the answer is no with this path. If it doesn't, and the answer under the width is unknown, the answer is yes
+-- if there is a level for that. In all other cases the answer is that under the width. If the document doesn't ask, the
+-- answer is that under the width.
 pub data AnswersDefinitely (document : Document) (recorded : Recorded) (predicate : Predicate)
     (answer : DefinitelyAnswer) : Type 0 where
   definitely_beyond : document.beyond_width ≡ true → IsDefinitelyDecided recorded predicate
       → IsExactDefinitely recorded.events (test_of recorded predicate) answer
       → AnswersDefinitely document recorded predicate answer
+  definitely_back : document.beyond_width ≡ true → (¬ IsDefinitelyDecided recorded predicate) → (path : List ℕ)
+      → IsFoundBack recorded predicate document.width path → answer ≡ DefinitelyNo path
+      → AnswersDefinitely document recorded predicate answer
+  definitely_late : document.beyond_width ≡ true → (¬ IsDefinitelyDecided recorded predicate)
+      → ((path : List ℕ) → ¬ IsFoundBack recorded predicate document.width path) → (unknown : ℕ)
+      → IsDefinitelyUnknown recorded.events (test_of recorded predicate) document.width unknown → (level : ℕ)
+      → IsLateLevel recorded predicate document.width level → answer ≡ DefinitelyYes level
+      → AnswersDefinitely document recorded predicate answer
   definitely_within : (document.beyond_width ≡ true → ¬ IsDefinitelyDecided recorded predicate)
+      → (document.beyond_width ≡ true → NothingBeyond recorded predicate document.width answer)
       → IsDefinitelyAnswer recorded.events (test_of recorded predicate) document.width answer
       → AnswersDefinitely document recorded predicate answer
 

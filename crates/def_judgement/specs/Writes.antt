@@ -152,7 +152,7 @@ pub record WritesTrueTexts (inquiry : Inquiry) (document : Document) (traces : L
   pub within_width : IsNarrow (events_of_traces traces) document.width
       → Writes (IsTrueText each_predicate document traces) Whole old new
   pub beyond_width : inquiry.options.beyond_width ≡ true
-      → Writes (IsTrueText each_decided document traces) Whole old new
+      → Writes (IsTrueText (each_decided document.width) document traces) Whole old new
 
 -- If a document and streams hold a well-formed session, it is judged, and what is written is true.
 abbrev pub WritesTruth : (inquiry : Inquiry) (streams : List RawStream) (IsJudged : Type 0)

@@ -1,17 +1,22 @@
--- The answer of Possibly, if it isn't left unknown, or is answered by height.
-use Rattle.std.proofs.Common.{◌≡◌, inl, inr, ℕ, List, refl, sym, ◌∙◌, subst, ◌↔◌}
+-- The answer of Possibly, if it isn't left unknown, or is answered by height; and that of Definitely, if it isn't left
+-- unknown, or there is a level for a yes.
+use Rattle.std.proofs.Common.{◌≡◌, inl, inr, ℕ, List, refl, sym, ◌∙◌, ◌↔◌}
 use Rattle.std.proofs.lemmas.Bool.{false≢true}
-use Rattle.std.specs.Prelude.{Bool, true, false, IsTrue}
+use Rattle.std.specs.Prelude.{Bool, true, false, IsTrue, None}
 use Rattle.def_format.specs.Documents.{Document}
-use Rattle.def_judgement.specs.Judgements.{AnswersPossibly, possibly_beyond, possibly_by_height, possibly_within}
-use Rattle.def_model.specs.Answers.{PossiblyUnknown}
+use Rattle.def_judgement.specs.Judgements.{AnswersDefinitely, AnswersPossibly, definitely_back, definitely_beyond, definitely_late, definitely_within, possibly_beyond, possibly_by_height, possibly_within}
+use Rattle.def_model.specs.Answers.{DefinitelyNo, DefinitelyUnknown, PossiblyUnknown}
 use Rattle.def_model.specs.Observations.{Possibly}
 use Rattle.def_model.specs.Predicates.{Predicate, Recorded, test_of}
 use Rattle.def_wide.specs.Decided.{IsPossiblyDecided}
+use Rattle.def_wide.specs.Gates.{IsLateLevel}
 use Rattle.def_wide.specs.Heights.{IsFirstByHeight}
 use Rattle.def_wide.specs.Sums.{IsDecidedBySums}
-use Rattle.pd_engine.specs.Early.{IsByHeightBeyond, IsTaken, taken_early, taken_walked}
-use Rattle.walk_back.specs.Answers.{possibly_answer_view}
+use Rattle.pd_engine.specs.Early.{IsByHeightBeyond, IsTaken, IsTakenDefinitely, final_taken, taken_early, taken_walked, walked_taken}
+use Rattle.wide.specs.Found.{FindsFinal}
+use Rattle.walk_back.specs.Answers.{definitely_answer_view, possibly_answer_view}
+use Rattle.walk_back.specs.declared.definitely_answer.DefinitelyAnswer.{DefinitelyAnswer}
+use Rattle.walk_back.specs.declared.definitely_answer.DefinitelyAnswer.TheVariants as definitely
 use Rattle.walk_back.specs.declared.possibly_answer.PossiblyAnswer.{PossiblyAnswer}
 use Rattle.walk_back.specs.declared.possibly_answer.PossiblyAnswer.TheVariants.{Yes, Unknown}
 
@@ -51,3 +56,62 @@ module _ (document : Document) (r : Recorded) (predicate : Predicate) where
   -- some cut satisfies then
   pub never_none : IsByHeightBeyond document r predicate → ¬ (¬ Possibly r.events (test_of r predicate))
   never_none by none = by.1.0 (inr (by.1.1, none))
+
+  -- ---- Definitely
+
+  -- What is taken is the answer, unless it is unknown and there is a level for a yes.
+  pub stays : (taken : DefinitelyAnswer) → IsTakenDefinitely document r predicate taken
+      → (document.beyond_width ≡ true → (unknown : ℕ) → definitely_answer_view taken ≡ DefinitelyUnknown unknown
+      → (level : ℕ) → ¬ IsLateLevel r predicate document.width level)
+      → AnswersDefinitely document r predicate (definitely_answer_view taken)
+  stays taken (final_taken beyond (inl (decided, exact))) none = definitely_beyond beyond decided exact
+  stays taken (final_taken beyond (inr (undecided, back))) none =
+      definitely_back beyond undecided back.0 back.1 back.2
+  stays taken (walked_taken final right) none =
+      definitely_within (λ beyond. (final beyond).0)
+      (λ beyond. record { no_path = (final beyond).1; no_level = none beyond }) right
+
+  -- an answer that isn't unknown stays
+  pub stays_if_known : (taken : DefinitelyAnswer)
+      → ((unknown : ℕ) → ¬ (definitely_answer_view taken ≡ DefinitelyUnknown unknown))
+      → IsTakenDefinitely document r predicate taken
+      → AnswersDefinitely document r predicate (definitely_answer_view taken)
+  stays_if_known taken known is = stays taken is (λ beyond unknown said. absurd (known unknown said))
+
+  -- and so does any where nothing is asked beyond the width
+  pub stays_unasked : (taken : DefinitelyAnswer) → document.beyond_width ≡ false
+      → IsTakenDefinitely document r predicate taken
+      → AnswersDefinitely document r predicate (definitely_answer_view taken)
+  stays_unasked taken unasked is = stays taken is (λ beyond. absurd (false≢true (sym unasked ∙ beyond)))
+
+  -- yes where the walk leaves it unknown
+  pub late_answers : (unknown level : ℕ) → document.beyond_width ≡ true
+      → IsTakenDefinitely document r predicate (definitely.Unknown unknown)
+      → IsLateLevel r predicate document.width level
+      → AnswersDefinitely document r predicate (definitely_answer_view (definitely.Yes level))
+  late_answers unknown level beyond (final_taken asked (inl (decided, exact))) late = absurd exact
+  late_answers unknown level beyond (final_taken asked (inr (undecided, back))) late =
+      absurd (no_path unknown back.0 back.2)
+    where
+      no_path : (k : ℕ) (path : List ℕ) → ¬ (DefinitelyUnknown k ≡ DefinitelyNo path)
+      no_path k path e = cc
+  late_answers unknown level beyond (walked_taken final right) late =
+      definitely_late beyond (final beyond).0 (final beyond).1 unknown right level late refl
+
+  -- where the walk leaves it unknown, no answer is final
+  pub none_final : (unknown : ℕ) → document.beyond_width ≡ true
+      → IsTakenDefinitely document r predicate (definitely.Unknown unknown)
+      → FindsFinal r predicate document.width None
+  none_final unknown beyond (final_taken asked (inl (decided, exact))) = absurd exact
+  none_final unknown beyond (final_taken asked (inr (undecided, back))) =
+      absurd (no_path unknown back.0 back.2)
+    where
+      no_path : (k : ℕ) (path : List ℕ) → ¬ (DefinitelyUnknown k ≡ DefinitelyNo path)
+      no_path k path e = cc
+  none_final unknown beyond (walked_taken final right) = final beyond
+
+  -- an answer stays where there is no level for a yes
+  pub late_none : (taken : DefinitelyAnswer) → IsTakenDefinitely document r predicate taken
+      → ((level : ℕ) → ¬ IsLateLevel r predicate document.width level)
+      → AnswersDefinitely document r predicate (definitely_answer_view taken)
+  late_none taken is none = stays taken is (λ beyond unknown said. none)

@@ -1,14 +1,14 @@
 -- The processes of a printed path are there.
-use Rattle.std.proofs.Common.{◌≡◌, ℕ, ◌<◌, ◌≤◌, ◌⊎◌, inl, inr, Bool, List, [], ◌∷◌, ◌++◌, length, get_or, reverse, ◌∙◌, subst, arith, All}
+use Rattle.std.proofs.Common.{◌≡◌, ℕ, ◌<◌, ◌≤◌, ◌⊎◌, inl, inr, Bool, List, [], ◌∷◌, ◌++◌, length, get_or, reverse, sym, ◌∙◌, subst, arith, All}
 use Rattle.std.proofs.lemmas.Bool.{cases_lt}
 use Rattle.std.proofs.lemmas.List.{get_or_past, length-map, length-set, reverse-append}
 use Rattle.std.proofs.lemmas.List.Elements.{All-cons}
 use Rattle.def_model.specs.Events.{Computation, Event}
 use Rattle.def_model.specs.Cuts.{full_cut, one_less}
-use Rattle.def_model.specs.Answers.{IsUndoing, IsPrintedPath, IsDefinitelyAnswer, IsExactDefinitely}
+use Rattle.def_model.specs.Answers.{DefinitelyNo, DefinitelyYes, IsUndoing, IsPrintedPath, IsDefinitelyAnswer, IsExactDefinitely}
 use Rattle.def_model.specs.Predicates.{Predicate, Recorded, test_of}
 use Rattle.def_format.specs.Documents.{Document}
-use Rattle.def_judgement.specs.Judgements.{AnswersDefinitely, definitely_beyond, definitely_within}
+use Rattle.def_judgement.specs.Judgements.{AnswersDefinitely, definitely_back, definitely_beyond, definitely_late, definitely_within}
 use Rattle.walk_back.specs.Answers.{definitely_answer_view}
 use Rattle.walk_back.specs.declared.definitely_answer.DefinitelyAnswer.{DefinitelyAnswer}
 use Rattle.walk_back.specs.declared.definitely_answer.DefinitelyAnswer.TheVariants.{Yes, No, Unknown}
@@ -60,10 +60,32 @@ within_reported c test width n (No path) e right =
     subst (λ m. All (λ p. p < m) path.items) e (path_processes c test path.items right.2)
 within_reported c test width n (Unknown level) e right = tt
 
+-- so is one that is found back, and a yes prints none
+printed_reported : (c : Computation) (test : List ℕ → Bool) (n : ℕ) (answer : DefinitelyAnswer) (path : List ℕ)
+    → length c ≡ n → IsPrintedPath c test path → definitely_answer_view answer ≡ DefinitelyNo path
+    → HasProcessesBelow n answer
+printed_reported c test n (Yes level) path e printed is = tt
+printed_reported c test n (No own) path e printed is =
+    let same : own.items ≡ path = cc in
+    subst (λ m. All (λ p. p < m) own.items) e
+    (path_processes c test own.items (subst (IsPrintedPath c test) (sym same) printed))
+printed_reported c test n (Unknown level) path e printed is = tt
+
+yes_reported : (n : ℕ) (answer : DefinitelyAnswer) (level : ℕ) → definitely_answer_view answer ≡ DefinitelyYes level
+    → HasProcessesBelow n answer
+yes_reported n (Yes own) level is = tt
+yes_reported n (No path) level is = absurd (cc)
+yes_reported n (Unknown own) level is = tt
+
 pub answer_reported : (document : Document) (r : Recorded) (predicate : Predicate) (n : ℕ) (answer : DefinitelyAnswer)
     → length r.events ≡ n → AnswersDefinitely document r predicate (definitely_answer_view answer)
     → HasProcessesBelow n answer
 answer_reported document r predicate n answer e (definitely_beyond asked decided exact) =
     exactly_reported r.events (test_of r predicate) n answer e exact
-answer_reported document r predicate n answer e (definitely_within undecided right) =
+answer_reported document r predicate n answer e (definitely_back asked undecided path found is) =
+    printed_reported r.events (test_of r predicate) n answer path e found.printed is
+answer_reported document r predicate n answer e
+    (definitely_late asked undecided none unknown wide level late is) =
+    yes_reported n answer level is
+answer_reported document r predicate n answer e (definitely_within undecided nothing right) =
     within_reported r.events (test_of r predicate) document.width n answer e right

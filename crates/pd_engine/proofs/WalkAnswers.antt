@@ -3,11 +3,10 @@ use Rattle.std.proofs.Common.{◌≡◌, ℕ, ◌+◌, Bor, ◌<◌, ◌≤◌, 
 use Rattle.std.proofs.lemmas.Bool.{cases_lt}
 use Rattle.std.proofs.lemmas.List.{get_or_append_left, get_or_default}
 use Rattle.std.proofs.Math.Seq.{get_or-append_seam}
-use Rattle.pd_engine.specs.Early.{AreEarly, GoesOn, IsDefinitelyOf, IsEarly, IsEarlyDefinitely, IsEarlyPossibly, IsLeft, IsPossiblyOf, IsTaken, taken_early, taken_walked}
+use Rattle.pd_engine.specs.Early.{AreEarly, GoesOn, IsDefinitelyOf, IsEarly, IsEarlyDefinitely, IsEarlyPossibly, IsLeft, IsPossiblyOf, IsTaken, IsTakenDefinitely, final_taken, taken_early, taken_walked, walked_taken}
 use Rattle.pd_engine.specs.declared.early.Early.{Early}
 use Rattle.def_format.specs.Documents.{Document}
-use Rattle.def_judgement.specs.Judgements.{AnswersDefinitely, definitely_beyond, definitely_within}
-use Rattle.walk_back.specs.Answers.{AreAnswers, definitely_answer_view}
+use Rattle.walk_back.specs.Answers.{AreAnswers}
 use Rattle.walk_back.specs.declared.answers.Answers.{Answers}
 use Rattle.walk_back.specs.declared.definitely_answer.DefinitelyAnswer.{DefinitelyAnswer}
 use Rattle.walk_back.specs.declared.possibly_answer.PossiblyAnswer.{PossiblyAnswer}
@@ -31,6 +30,7 @@ still_early document r old new named early (more, is) e = record {
   possibly = e.possibly;
   definitely = e.definitely;
   by_height = e.by_height;
+  late = e.late;
   there = λ left. let lt : early.place < length old = e.there left in
       let l : length new ≡ length old + length more = ap length is ∙ length-append old more in omega arith;
   same = λ left pred. ap (λ (b : Bor Pred). b.now) (ap (λ (xs : List (Bor Pred)). get_or xs early.place pred) is
@@ -116,15 +116,13 @@ module _ (document : Document) (r : Recorded) (left : List (Bor Pred)) (found : 
   definitely_by : (known : Option DefinitelyAnswer) (place : ℕ) (taken : DefinitelyAnswer)
       → IsEarlyDefinitely document r (predicate_view named.pred) known → (known ≡ None → IsPlaced place)
       → IsDefinitelyOf known place found taken
-      → AnswersDefinitely document r (predicate_view named.pred) (definitely_answer_view taken)
+      → IsTakenDefinitely document r (predicate_view named.pred) taken
   definitely_by (Some answer) place taken early placed of =
-      subst (λ (a : DefinitelyAnswer). AnswersDefinitely document r (predicate_view named.pred)
-      (definitely_answer_view a)) (sym of) (definitely_beyond early.0 early.1 early.2)
+      subst (IsTakenDefinitely document r (predicate_view named.pred)) (sym of) (final_taken early.0 early.1)
   definitely_by None place taken early placed of =
       let answers : Answers = some_answers place (placed refl) in
-      subst (λ (a : DefinitelyAnswer). AnswersDefinitely document r (predicate_view named.pred)
-      (definitely_answer_view a)) (sym (of answers))
-      (definitely_within early (walked_at place (placed refl) answers).definitely_right)
+      subst (IsTakenDefinitely document r (predicate_view named.pred)) (sym (of answers))
+      (walked_taken early (walked_at place (placed refl) answers).definitely_right)
 
   pub possibly_taken : (early : Early) (taken : PossiblyAnswer) → IsEarly document r left named early
       → IsPossiblyOf early.possibly early.place found taken
@@ -135,7 +133,7 @@ module _ (document : Document) (r : Recorded) (left : List (Bor Pred)) (found : 
 
   pub definitely_taken : (early : Early) (taken : DefinitelyAnswer) → IsEarly document r left named early
       → IsDefinitelyOf early.definitely early.place found taken
-      → AnswersDefinitely document r (predicate_view named.pred) (definitely_answer_view taken)
+      → IsTakenDefinitely document r (predicate_view named.pred) taken
   unfolding IsPlaced
   definitely_taken early taken is of =
       definitely_by early.definitely early.place taken is.definitely

@@ -7,13 +7,13 @@ use Rattle.walk_back.specs.Answers.{definitely_answer_view, possibly_answer_view
 use Rattle.walk_back.specs.declared.answers.Answers.{Answers}
 use Rattle.walk_back.specs.declared.definitely_answer.DefinitelyAnswer.{DefinitelyAnswer}
 use Rattle.walk_back.specs.declared.possibly_answer.PossiblyAnswer.{PossiblyAnswer}
-use Rattle.def_model.specs.Answers.{IsExactDefinitely, IsExactPossibly, IsPossiblyAnswer}
-use Rattle.def_wide.specs.Decided.{IsDefinitelyDecided, IsPossiblyDecided}
+use Rattle.def_model.specs.Answers.{IsDefinitelyAnswer, IsExactPossibly, IsPossiblyAnswer}
+use Rattle.def_wide.specs.Decided.{IsPossiblyDecided}
 use Rattle.def_model.specs.Predicates.{Predicate, Recorded, test_of}
 use Rattle.pd_pred.specs.Views.{predicate_view}
 use Rattle.pd_pred.specs.declared.predicate.Pred.{Pred}
 use Rattle.pd_spec.specs.declared.named.NamedPred.{NamedPred}
-use Rattle.wide.specs.Found.{IsByHeight}
+use Rattle.wide.specs.Found.{FindsFinal, FindsLate, IsByHeight}
 
 -- Possibly's answer for a predicate of the document, if it is decided whatever the width and asked for
 abbrev pub IsEarlyPossibly : Document → Recorded → Predicate → Option PossiblyAnswer → Type 0
@@ -22,12 +22,19 @@ IsEarlyPossibly document r predicate (Some answer) =
     (document.beyond_width ≡ true) × IsPossiblyDecided r predicate
     × IsExactPossibly r.events (test_of r predicate) (possibly_answer_view answer)
 
--- Definitely's
+-- Definitely's, if it is final whatever the levels are
 abbrev pub IsEarlyDefinitely : Document → Recorded → Predicate → Option DefinitelyAnswer → Type 0
-IsEarlyDefinitely document r predicate None = document.beyond_width ≡ true → ¬ IsDefinitelyDecided r predicate
+IsEarlyDefinitely document r predicate None =
+    document.beyond_width ≡ true → FindsFinal r predicate document.width None
 IsEarlyDefinitely document r predicate (Some answer) =
-    (document.beyond_width ≡ true) × IsDefinitelyDecided r predicate
-    × IsExactDefinitely r.events (test_of r predicate) (definitely_answer_view answer)
+    (document.beyond_width ≡ true) × FindsFinal r predicate document.width (Some answer)
+
+-- The level of a yes where the walk leaves Definitely unknown, if the document asks for that, no answer is final, and
+-- there is one.
+abbrev pub IsEarlyLate : Document → Recorded → Predicate → Option ℕ → Type 0
+IsEarlyLate document r predicate late =
+    document.beyond_width ≡ true → FindsFinal r predicate document.width None
+    → FindsLate r predicate document.width late
 
 -- The document asks for answers beyond its width, and the predicate isn't decided so, but by sums.
 abbrev pub IsByHeightBeyond : Document → Recorded → Predicate → Type 0
@@ -43,6 +50,7 @@ pub record IsEarly (document : Document) (r : Recorded) (left : List (Bor Pred))
   pub possibly : IsEarlyPossibly document r (predicate_view named.pred) early.possibly
   pub definitely : IsEarlyDefinitely document r (predicate_view named.pred) early.definitely
   pub by_height : IsTrue early.by_height ↔ IsByHeightBeyond document r (predicate_view named.pred)
+  pub late : IsEarlyLate document r (predicate_view named.pred) early.late
   pub there : IsLeft early → early.place < length left
   pub same : IsLeft early → (pred : Bor Pred) → (slice_index_or left early.place pred).now ≡ named.pred
 
@@ -74,3 +82,12 @@ pub data IsTaken (document : Document) (r : Recorded) (predicate : Predicate) (a
   taken_walked : (document.beyond_width ≡ true → ¬ IsPossiblyDecided r predicate)
       → IsPossiblyAnswer r.events (test_of r predicate) document.width (possibly_answer_view answer)
       → IsTaken document r predicate answer
+
+-- The answer for Definitely is the one that is final, or that of the walk under the document's width.
+pub data IsTakenDefinitely (document : Document) (r : Recorded) (predicate : Predicate) (answer : DefinitelyAnswer) :
+    Type 0 where
+  final_taken : document.beyond_width ≡ true → FindsFinal r predicate document.width (Some answer)
+      → IsTakenDefinitely document r predicate answer
+  walked_taken : (document.beyond_width ≡ true → FindsFinal r predicate document.width None)
+      → IsDefinitelyAnswer r.events (test_of r predicate) document.width (definitely_answer_view answer)
+      → IsTakenDefinitely document r predicate answer

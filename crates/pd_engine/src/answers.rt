@@ -12,7 +12,7 @@ ghost use Rattle.std.specs.List.{AllZip};
 ghost use Rattle.std.specs.Prelude.{◌≡◌, ◌<◌, All, IfOk, length, map, string_bytes};
 
 use super::early::all_early;
-use super::late::{late_possibly, latest};
+use super::late::{late_definitely, late_possibly, latest};
 use pd_clock::Computation;
 use pd_expand::Crew;
 use pd_level::Gate;
@@ -25,9 +25,10 @@ use std::thread::Threads;
 use walk::answer_all;
 use walk_back::{DefinitelyAnswer, PossiblyAnswer};
 
-/// The answer for each predicate: those that are decided whatever the width, if the document asks for them, and the
+/// The answer for each predicate: those that are final whatever the levels are, if the document asks for them, and the
 /// others by one walk, whose lists of cuts the workers share. Where the walk leaves Possibly unknown and sums decide
-/// it, the first satisfying cut by height is the answer, if the document asks for that.
+/// it, the first satisfying cut by height is the answer, if the document asks for that; where it leaves Definitely
+/// unknown, yes is, if a gate or the end of the search back told it.
 ///
 /// # Errors
 /// Out of memory.
@@ -58,8 +59,10 @@ pub fn answers_of<S: Threads + Wait + Sync, G: Gate + Sync>(
             known.by_height,
             possibly,
         )?;
-        let last = latest(&late, possibly);
-        answers.push(answer(alloc, spec, named, computation, last, definitely)?)?;
+        let passed = late_definitely(spec, computation, &named.pred, known.late, definitely);
+        let possibly = latest(&late, possibly);
+        let definitely = latest(&passed, definitely);
+        answers.push(answer(alloc, spec, named, computation, possibly, definitely)?)?;
     }
     Ok(answers)
 }

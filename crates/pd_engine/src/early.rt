@@ -1,6 +1,6 @@
 //! What is decided of each predicate before the walk.
 ghost use Rattle.wide.specs.Found.{IsPathIfKnown};
-ghost use Rattle.pd_engine.specs.Early.{AreEarly, GoesOn, IsByHeightBeyond, IsDefinitelyOf, IsEarly, IsEarlyDefinitely, IsEarlyPossibly, IsPossiblyOf};
+ghost use Rattle.pd_engine.specs.Early.{AreEarly, GoesOn, IsByHeightBeyond, IsDefinitelyOf, IsEarly, IsEarlyDefinitely, IsEarlyLate, IsEarlyPossibly, IsPossiblyOf};
 ghost use Rattle.pd_pred.specs.Views.{predicate_view};
 ghost use Rattle.pd_spec.specs.Views.{document_view};
 ghost use Rattle.std.specs.Prelude.{◌≡◌, ◌<◌, ◌↔◌, IfOk, IsTrue, None, length};
@@ -12,14 +12,16 @@ use std::alloc::{AllocError, Global};
 use walk_back::{Answers, DefinitelyAnswer, PossiblyAnswer};
 use wide::{Decided, decide};
 
-/// The answers for a predicate that are decided whatever the width, if the document asks for them. What isn't is left
-/// to the walk.
+/// The answers for a predicate that are final whatever the levels are, if the document asks for them. What isn't is
+/// left to the walk.
 #[derive(Drop)]
 pub(crate) struct Early {
     pub(crate) possibly: Option<PossiblyAnswer>,
     pub(crate) definitely: Option<DefinitelyAnswer>,
     /// Whether the first satisfying cut by height is the answer for Possibly, if the walk leaves it unknown.
     pub(crate) by_height: bool,
+    /// The level of a yes for Definitely, if the walk leaves it unknown and there is one.
+    pub(crate) late: Option<u64>,
     /// The place of the predicate among those that are left to the walk, counted from 0, if an answer is.
     pub(crate) place: usize,
 }
@@ -31,7 +33,7 @@ pub(crate) struct AllEarly<'a> {
     pub(crate) left: Vec<&'a Pred>,
 }
 
-/// The answers for a predicate that are decided whatever the width, if the document asks for them, and none if it
+/// The answers for a predicate that are final whatever the levels are, if the document asks for them, and none if it
 /// doesn't. The path where no cut satisfies is found once, and is known from then on.
 fn early_answers(
     alloc: Global,
@@ -48,15 +50,18 @@ fn early_answers(
         IsEarlyDefinitely (document_view spec.now) computation.now (predicate_view pred.now) decided.definitely) }
     ensures by_height { IfOk result (λ decided. IsTrue decided.by_height
         ↔ IsByHeightBeyond (document_view spec.now) computation.now (predicate_view pred.now)) }
+    ensures late { IfOk result (λ decided.
+        IsEarlyLate (document_view spec.now) computation.now (predicate_view pred.now) decided.late) }
 {
     if !spec.beyond_width() {
         return Ok(Decided {
             possibly: None,
             definitely: None,
+            late: None,
             by_height: false,
         });
     }
-    decide(alloc, computation, pred, path)
+    decide(alloc, computation, pred, spec.width(), path)
 }
 
 impl Early {
@@ -101,6 +106,7 @@ fn early_of<'a>(
     let Decided {
         possibly,
         definitely,
+        late,
         by_height,
     } = early_answers(alloc, spec, computation, &asked.pred, path)?;
     let place = left.len();
@@ -111,6 +117,7 @@ fn early_of<'a>(
         possibly,
         definitely,
         by_height,
+        late,
         place,
     })
 }

@@ -1,16 +1,16 @@
-//! What is answered of Possibly where the walk leaves it unknown.
-ghost use Rattle.def_judgement.specs.Judgements.{AnswersPossibly};
-ghost use Rattle.pd_engine.specs.Early.{IsByHeightBeyond, IsTaken};
+//! What is answered where the walk leaves it unknown.
+ghost use Rattle.def_judgement.specs.Judgements.{AnswersDefinitely, AnswersPossibly};
+ghost use Rattle.pd_engine.specs.Early.{IsByHeightBeyond, IsEarlyLate, IsTaken, IsTakenDefinitely};
 ghost use Rattle.pd_pred.specs.Views.{predicate_view};
 ghost use Rattle.pd_spec.specs.Views.{document_view};
-ghost use Rattle.walk_back.specs.Answers.{possibly_answer_view};
+ghost use Rattle.walk_back.specs.Answers.{definitely_answer_view, possibly_answer_view};
 ghost use Rattle.std.specs.Prelude.{◌≡◌, ◌↔◌, IfOk, IsTrue, unwrap_or};
 
 use pd_clock::Computation;
 use pd_pred::Pred;
 use pd_spec::Spec;
 use std::alloc::{AllocError, Global};
-use walk_back::PossiblyAnswer;
+use walk_back::{DefinitelyAnswer, PossiblyAnswer};
 use wide_sums::first_by_sums;
 
 /// The answer in place of one that the walk left unknown: yes, with the first satisfying cut by height, if that is the
@@ -48,11 +48,35 @@ pub(crate) fn late_possibly(
     }
 }
 
+/// The answer for Definitely in place of one that the walk left unknown: yes with the level that was found before, if
+/// there is one and the document asks for that. The computation and the predicate are there for the contract alone.
+pub(crate) fn late_definitely(
+    spec: &Spec,
+    _computation: &Computation<'_>,
+    _pred: &Pred,
+    late: Option<u64>,
+    taken: &DefinitelyAnswer,
+) -> Option<DefinitelyAnswer>
+    requires late { IsEarlyLate (document_view spec.now) _computation.now (predicate_view _pred.now) late }
+    requires taken { IsTakenDefinitely (document_view spec.now) _computation.now (predicate_view _pred.now)
+        taken.now }
+    ensures { AnswersDefinitely (document_view spec.now) _computation.now (predicate_view _pred.now)
+        (definitely_answer_view (unwrap_or result taken.now)) }
+{
+    if !spec.beyond_width() {
+        return None;
+    }
+    match taken {
+        DefinitelyAnswer::Unknown(_) => match late {
+            Some(level) => Some(DefinitelyAnswer::Yes(level)),
+            None => None,
+        },
+        DefinitelyAnswer::Yes(_) | DefinitelyAnswer::No(_) => None,
+    }
+}
+
 /// The later answer, if there is one.
-pub(crate) fn latest<'a>(
-    late: &'a Option<PossiblyAnswer>,
-    taken: &'a PossiblyAnswer,
-) -> &'a PossiblyAnswer
+pub(crate) fn latest<'a, T>(late: &'a Option<T>, taken: &'a T) -> &'a T
     ensures { result.now ≡ unwrap_or late.now taken.now }
 {
     match late {

@@ -92,13 +92,14 @@ pub fn report_of<S: RandomSource + Threads + Wait + Sync, G: Gate + Sync>(
         → IsWellFormed (document_view spec.now).version (events_of_traces traces)
         → IsNarrow (events_of_traces traces) (document_view spec.now).width
         → TellsTruth each_predicate (document_view spec.now) traces (report_view report)) }
-    // However wide it is, it tells the truth of each predicate that is decided whatever the width, and for Possibly of
-    // each that sums decide, if that is asked for.
+    // However wide it is, what it says is true; and if that is asked for, it tells the truth of each predicate that is
+    // decided whatever the width, for Possibly of each that sums decide, and for Definitely of each with few dead ends.
     ensures headline_beyond_width { IfOk result (λ report. (traces : List readings.Trace)
         → session (document_view spec.now).names gathered.streams (results_view gathered.readings.items) ≡ Ok traces
         → IsWellFormed (document_view spec.now).version (events_of_traces traces)
         → (document_view spec.now).beyond_width ≡ true
-        → TellsTruth each_decided (document_view spec.now) traces (report_view report)) }
+        → TellsTruth (each_decided (document_view spec.now).width) (document_view spec.now) traces
+        (report_view report)) }
     // The answers for each predicate agree, also with a level over the width.
     ensures agrees { IfOk result (λ report. ReportAgrees (report_view report)) }
     ensures err { IsOkUnless result EngineFault.Memory }

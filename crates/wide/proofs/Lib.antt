@@ -1,3 +1,4 @@
 -- The modules of lemmas of this crate.
 pub mod FirstOfParts
 pub mod Deciding
+pub mod SearchedBack

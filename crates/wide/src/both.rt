@@ -1,9 +1,10 @@
 //! Both answers for a predicate, as far as they are decided whatever the width.
-ghost use Rattle.wide.specs.Found.{FindsDefinitely, FindsPossibly, IsByHeight, IsPathIfKnown};
+ghost use Rattle.wide.specs.Found.{FindsDefinitely, FindsFinal, FindsLate, FindsPossibly, IsByHeight, IsPathIfKnown};
 ghost use Rattle.pd_pred.specs.Views.{predicate_view};
 ghost use Rattle.wide_terms.specs.Passages.{IsPathOfAll};
-ghost use Rattle.std.specs.Prelude.{◌↔◌, IfOk, IsTrue};
+ghost use Rattle.std.specs.Prelude.{◌↔◌, IfOk, IsTrue, None};
 
+use super::back::{Definite, decided_or_back};
 use super::definitely::definitely_decided;
 use super::possibly::possibly_decided;
 use pd_clock::Computation;
@@ -12,11 +13,13 @@ use std::alloc::{AllocError, Global};
 use walk_back::{DefinitelyAnswer, PossiblyAnswer};
 use wide_terms::path_of_all;
 
-/// The answers for a predicate that are decided whatever the width.
+/// The answers for a predicate that are final whatever the levels are.
 #[derive(Drop)]
 pub struct Decided {
     pub possibly: Option<PossiblyAnswer>,
     pub definitely: Option<DefinitelyAnswer>,
+    /// The level of a yes for Definitely where the levels under a width leave it unknown, if there is one.
+    pub late: Option<u64>,
     /// Whether Possibly isn't decided so, but sums decide that some consistent cut satisfies. To find the first of
     /// these cuts by height takes more time than this.
     pub by_height: bool,
@@ -72,9 +75,10 @@ fn definitely_after(
     }
 }
 
-/// Both answers for a predicate that are decided whatever the width; nothing for a question that isn't. The path where
-/// no cut satisfies is the same for each predicate of a computation, so it is found once: `path` is that path as soon
-/// as it is known. No level is walked.
+/// Both answers for a predicate that are final whatever the levels are; nothing for a question that isn't answered so.
+/// What isn't decided of Definitely is searched for back from the full cut, with no more dead ends than the width. The
+/// path where no cut satisfies is the same for each predicate of a computation, so it is found once: `path` is that
+/// path as soon as it is known. No level is walked.
 ///
 /// # Errors
 /// An allocation was refused.
@@ -82,6 +86,7 @@ pub fn decide(
     alloc: Global,
     computation: &Computation<'_>,
     pred: &Pred,
+    width: u64,
     path: &mut Option<Vec<usize>>,
 ) -> Result<Decided, AllocError>
     requires { IsPathIfKnown computation.now.events path.old }
@@ -89,15 +94,19 @@ pub fn decide(
     ensures possibly { IfOk result (λ decided.
         FindsPossibly computation.now (predicate_view pred.now) decided.possibly) }
     ensures definitely { IfOk result (λ decided.
-        FindsDefinitely computation.now (predicate_view pred.now) decided.definitely) }
+        FindsFinal computation.now (predicate_view pred.now) width decided.definitely) }
+    ensures late { IfOk result (λ decided. FindsFinal computation.now (predicate_view pred.now) width None
+        → FindsLate computation.now (predicate_view pred.now) width decided.late) }
     ensures by_height { IfOk result (λ decided.
         IsTrue decided.by_height ↔ IsByHeight computation.now (predicate_view pred.now)) }
 {
     let possible = possibly_decided(alloc, computation, pred)?;
-    let definitely = definitely_after(alloc, computation, pred, &possible.answer, path)?;
+    let decided = definitely_after(alloc, computation, pred, &possible.answer, path)?;
+    let Definite { answer, late } = decided_or_back(alloc, computation, pred, width, decided)?;
     Ok(Decided {
         possibly: possible.answer,
-        definitely,
+        definitely: answer,
+        late,
         by_height: possible.by_height,
     })
 }

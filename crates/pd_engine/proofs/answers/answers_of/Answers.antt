@@ -4,7 +4,7 @@ use Rattle.std.specs.List.{AllZip}
 use Rattle.std.proofs.lemmas.List.{take_all, take_more, map-append}
 use Rattle.pd_report.specs.Views as views
 use Rattle.def_format.specs.Documents.{NamedPredicate}
-use Rattle.def_judgement.specs.Judgements.{AnswersPossibly, IsAnswered}
+use Rattle.def_judgement.specs.Judgements.{AnswersDefinitely, AnswersPossibly, IsAnswered}
 use Rattle.walk_back.specs.declared.answers.Answers.{Answers}
 use Rattle.def_model.specs.Predicates.{Recorded}
 use Rattle.pd_pred.specs.Views.{predicate_view}
@@ -13,7 +13,8 @@ use Rattle.pd_spec.specs.Named.{named_view}
 use Rattle.pd_spec.specs.Views.{document_view}
 use Rattle.pd_spec.specs.declared.named.NamedPred.{NamedPred}
 use Rattle.walk.specs.Stages.{AllAnswered}
-use Rattle.walk_back.specs.Answers.{possibly_answer_view}
+use Rattle.walk_back.specs.Answers.{definitely_answer_view, possibly_answer_view}
+use Rattle.walk_back.specs.declared.definitely_answer.DefinitelyAnswer.{DefinitelyAnswer}
 use Rattle.walk_back.specs.declared.possibly_answer.PossiblyAnswer.{PossiblyAnswer}
 use Rattle.pd_engine.specs.Early.{IsDefinitelyOf, IsPossiblyOf}
 use Rattle.pd_engine.proofs.WalkAnswers.{definitely_taken, early_at, place_there, possibly_taken}
@@ -88,11 +89,22 @@ late_possibly-requires-clause-taken g c =
 pub answer-requires-clause-possibly : goal.answer-requires-clause-possibly
 answer-requires-clause-possibly g c =
     subst (λ (answer : PossiblyAnswer). AnswersPossibly (document_view c.args.spec.now) c.args.computation.now
-    (predicate_view c.index-asked-i.result.pred) (possibly_answer_view answer)) (sym c.latest-last.ensures)
+    (predicate_view c.index-asked-i.result.pred) (possibly_answer_view answer)) (sym c.latest-possibly.ensures)
     c.in_ok-late.ensures
 
-pub answer-requires-clause-definitely : goal.answer-requires-clause-definitely
-answer-requires-clause-definitely g c =
+pub late_definitely-passed-requires-clause-late : goal.late_definitely-passed-requires-clause-late
+late_definitely-passed-requires-clause-late g c =
+    let document = document_view c.args.spec.now in
+    let r = c.args.computation.now in
+    let left = c.in_ok-early.early.left.items in
+    let named = c.index-asked-i.result in
+    let known = c.index-known.result.now in
+    let is = early_at document r c.predicates-asked.result.now left c.in_ok-early.early.each.items c.loop-i.i named
+    known c.in_ok-early.ensures c.loop-i-test.true c.index-asked-i.is c.index-known.ensures in
+    is.late
+
+pub late_definitely-passed-requires-clause-taken : goal.late_definitely-passed-requires-clause-taken
+late_definitely-passed-requires-clause-taken g c =
     let document = document_view c.args.spec.now in
     let r = c.args.computation.now in
     let left = c.in_ok-early.early.left.items in
@@ -106,6 +118,12 @@ answer-requires-clause-definitely g c =
     c.definitely-definitely.result.now is
     (subst (λ (xs : List Answers). IsDefinitelyOf known.definitely known.place xs c.definitely-definitely.result.now)
     c.deref-in-loop-i-2.ensures.value c.definitely-definitely.ensures)
+
+pub answer-requires-clause-definitely : goal.answer-requires-clause-definitely
+answer-requires-clause-definitely g c =
+    subst (λ (answer : DefinitelyAnswer). AnswersDefinitely (document_view c.args.spec.now) c.args.computation.now
+    (predicate_view c.index-asked-i.result.pred) (definitely_answer_view answer))
+    (sym c.latest-definitely.ensures) c.late_definitely-passed.ensures
 
 pub loop-i-preserved : goal.loop-i-preserved
 loop-i-preserved g c =

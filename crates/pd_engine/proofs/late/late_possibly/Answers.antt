@@ -1,5 +1,5 @@
 -- What is taken stays the answer, unless it is unknown and sums decide the predicate.
-use Rattle.std.proofs.Common.{◌≡◌, sym, ap, ◌∙◌, subst, MatchOption}
+use Rattle.std.proofs.Common.{subst, MatchOption}
 use Rattle.std.specs.Prelude.{Option, Some}
 use Rattle.def_model.specs.Observations.{Possibly}
 use Rattle.def_model.specs.Predicates.{Predicate, test_of}
