@@ -40,14 +40,15 @@ TWO, BOTH = {"a": "x", "b": "y"}, {"both": "a.x == 1 and b.y == 1"}
 EVENTS = {0: ['"set":{"n":1}', '"set":{"n":0}'], 7: ['"send":"m"', '"recv":"k"'], 8: ['"send":"k"', '"recv":"m"'],
           15: ['"set":{"n":1}', '"set":{"n":0}']}
 # The predicates of the session of width 1: of one term, clauses, of several terms, of two processes in one comparison,
-# `or`s of such, sums of three, of which one has a first cut by height and one has none, and one that isn't decided.
+# `or`s of such, sums of three, of which one has a first cut by height and one has none. The search back ends for
+# `terms`, finds the path of `open` after a dead end, and gives `wide` up, which has no gate, as `gate` has.
 WAYS = {"each": "a.x == 1 and b.x == 2 and c.x == 1", "always": "a.x >= 1 and b.x >= 1 and c.x >= 1",
         "never": "a.x == 2 and b.x == 1 and c.x == 3", "either": "a.x == 3 or b.x == 2 or c.x == 2",
         "neither": "not (a.x < 3 and b.x < 3 and c.x < 3)", "no": "a.x == 3 and b.x == 1 or c.x == 3",
         "terms": "(a.x == 2 or b.x == 2) and (b.x == 1 or c.x == 2)", "apart": "a.x - b.x == 2",
         "sum": "a.x + b.x == 3 or a.x > b.x + 1", "nine": "a.x + b.x == 9", "differ": "not (a.x == b.x and b.x == c.x)",
         "far": "a.x > b.x + 2 or c.x == 9 or b.x - c.x == 5", "wide": "a.x + b.x + c.x == 3",
-        "over": "a.x + b.x + c.x > 6", "open": "a.x + b.x == 3 and b.x + c.x == 3"}
+        "over": "a.x + b.x + c.x > 6", "open": "a.x + b.x + c.x == 4 and a.x < 2", "gate": "a.x + b.x + c.x > 1"}
 STEPS = [['"send":"m","set":{"x":1}', '"set":{"x":2}'], ['"recv":"m","set":{"x":1}', '"set":{"x":2}'],
          ['"set":{"x":1}', '"set":{"x":2}']]
 # Those with the longest runs come first.

@@ -6,13 +6,15 @@ The plain judge is written from the definitions in docs/SPECIFICATION.md, with n
 closed as a relation, cuts are all counts of events that are closed under it, and if a session has few observations,
 Definitely is judged by all of them too. PROGRAM is ../crates/monitor/out/monitor if it isn't given. Each session is
 judged as a bundle; one of four also from files, by 2 and 16 workers, and its report is checked, as it is and forged.
-These are judged with --beyond-width too, with their own width and with width 1, and those reports are checked. With
-three processes or more they have up to seven predicates more for that, of sums over several processes, judged from the
-definitions in crates/def_wide/specs: slices, excesses and steps are looked at cut by cut. Half of the sessions are of
-version 2, in which a message may have several receivers. One of three has 7 to 16 processes, of which few have events.
-Each kind of line has to stand in the reports and findings so often that the drawing can't go empty. The last line says
-how many sessions there are, how often the program ran, and how many sessions differ; the status is 1 if any does, or if
-lines are missing. With --only the session K is drawn alone.
+These are judged with --beyond-width too, with their own width, with width 1 and with 2 or 3, and those reports are
+checked. With three processes or more they have up to ten predicates more for that, of sums over several processes and
+of what holds near the full cut, judged from the definitions in crates/def_wide/specs: slices, excesses and steps are
+looked at cut by cut, dead ends of the search back too, and if there are few observations by all lists of undone events,
+and gates are all counts around each event. Half of the sessions are of version 2, in which a message may have several
+receivers. One of three has 7 to 16 processes, of which few have events. Each kind of line has to stand in the reports
+and findings so often that the drawing can't go empty. The last line says how many sessions there are, how often the
+program ran, and how many sessions differ; the status is 1 if any does, or if lines are missing. With --only the session
+K is drawn alone.
 """
 import argparse
 import collections
@@ -35,8 +37,9 @@ from run import Differs, HERE, Place, checked
 FEW = 2600
 # What stands in lines, and in how many lines of 600 sessions at least. One line for each session says how many
 # receivers its messages have at most, and what came of it; one for each answer that was unknown says what it is with
-# --beyond-width, and why, and what the predicate is like if sums were asked; one for each predicate of which the first
-# satisfying cut isn't the first by height says which of them it is; all others are the program's.
+# --beyond-width, and why, what the predicate is like if sums were asked, and for Definitely how many dead ends there
+# are, and what the least gate is like; one for each predicate of which the first satisfying cut isn't the first by
+# height says which of them it is; all others are the program's.
 LINES_WANTED = {
     "session 1 ": 15, "session 2 ": 45, "session 3 ": 60, "session 4 ": 4,
     "session 7 ": 6, "session 8 ": 6, "session 9 ": 12, "session 15 ": 6, "session 16 ": 12,
@@ -71,6 +74,16 @@ LINES_WANTED = {
     "undecided: Possibly .*; open ==(;|$)": 12, "undecided: Possibly .*; open == beside": 1,
     "undecided: Possibly .*; open of [2-5](;|$)": 10, "undecided: Possibly .*; open many": 1,
     "undecided: Possibly .*; (solved|excluded|no slice)": 1,
+    "width, back: Definitely no": 150, "back: .*; dead ends: none": 120, "back: .*; dead ends: few": 3,
+    "back: .*; dead ends: as many as the width": 8, "back: .*; too many cuts": 1,
+    "width, gate: Definitely yes": 100, "gate: .*; right after;": 30, "gate: .*; right before;": 3,
+    "gate: .*; right after and before;": 40, "gate: .*; exact": 60, "gate: .*; above": 20,
+    "gate: .*; ends too": 60, "gate: .*; dead ends: (one too )?many": 20, "gate: .*; dead ends: [^n].*; ends too": 4,
+    "width, end: Definitely yes": 50, "end: .*; dead ends: none": 40, "end: .*; dead ends: few": 1,
+    "end: .*; dead ends: as many as the width": 2, "end: .*; too many cuts": 2,
+    "undecided: Definitely .*; dead ends: one too many; in truth no": 2,
+    "undecided: Definitely .*; dead ends: one too many; in truth yes": 2,
+    "undecided: Definitely .*; in truth no": 8, "undecided: Definitely .*; in truth yes": 12,
 }
 RELATIONS = {"==": operator.eq, "!=": operator.ne, "<": operator.lt, "<=": operator.le, ">": operator.gt,
              ">=": operator.ge}
@@ -409,28 +422,138 @@ def possibly(cuts, satisfying, width):
     return "yes " + ",".join(map(str, found[0])) if found else "no"
 
 
-def definitely(session, cuts, satisfying, width):
-    """The answer of the avoiding cuts."""
-    consistent = set(cuts)
+def avoiding_cuts(cuts, satisfying):
+    """The cuts that avoid, of all consistent cuts in the order of their levels: they don't satisfy, and are empty or
+    have an event that can be undone so that a cut is left that avoids."""
+    found = set()
+    for cut in cuts:
+        before = [undone(cut, process) for process in range(len(cut)) if cut[process]]
+        if cut not in satisfying and (not before or found.intersection(before)):
+            found.add(cut)
+    return found
 
-    @functools.cache
-    def avoids(cut):
-        if cut not in consistent or cut in satisfying:
-            return False
-        return sum(cut) == 0 or any(avoids(undone(cut, process)) for process in range(len(cut)) if cut[process])
-    full = tuple(len(events) for events in session.events)
-    avoiding = [sum(cut) for cut in cuts if avoids(cut)]
-    for level in range(sum(full) + 1):
-        if avoiding.count(level) > width:
-            return f"unknown {level}"
-        if level not in avoiding:
-            return f"yes {level}"
+
+def printed_steps(full, avoiding):
+    """The processes of the avoiding observation that is printed, if the full cut avoids."""
     steps, cut = [], full
     while sum(cut):
-        process = min(process for process in range(len(cut)) if cut[process] and avoids(undone(cut, process)))
+        process = min(process for process in range(len(cut)) if cut[process] and undone(cut, process) in avoiding)
         steps.insert(0, process)
         cut = undone(cut, process)
-    return "no " + named(session, steps)
+    return steps
+
+
+def definitely(session, cuts, satisfying, width):
+    """The answer of the avoiding cuts."""
+    avoiding, full = avoiding_cuts(cuts, satisfying), cuts[-1]
+    levels = collections.Counter(map(sum, avoiding))
+    for level in range(sum(full) + 1):
+        if levels[level] > width:
+            return f"unknown {level}"
+        if not levels[level]:
+            return f"yes {level}"
+    return "no " + named(session, printed_steps(full, avoiding))
+
+
+def starts_before(full, steps):
+    """The cuts in which a list of undone events ends that first differs there from the one of these steps, by a process
+    that is less."""
+    starts, cut = [], full
+    for process in reversed(steps):
+        starts += [undone(cut, other) for other in range(process) if cut[other]]
+        cut = undone(cut, process)
+    return starts
+
+
+def led_back(open_cuts, starts):
+    """The cuts to which one comes back from these, an event at a time, through open cuts alone: consistent cuts that
+    don't satisfy."""
+    found, left = set(), list(starts)
+    while left:
+        cut = left.pop()
+        if cut in open_cuts and cut not in found:
+            found.add(cut)
+            left += [undone(cut, process) for process in range(len(cut)) if cut[process]]
+    return found
+
+
+def undone_lists(open_cuts, cut, processes=()):
+    """The same, each cut with each list of the processes whose events are undone on a way to it."""
+    if cut not in open_cuts:
+        return
+    yield processes, cut
+    for process in range(len(cut)):
+        if cut[process]:
+            yield from undone_lists(open_cuts, undone(cut, process), (*processes, process))
+
+
+def is_lex_below(processes, others):
+    """Whether the first one in which these two lists differ is less in the first list; a list that the other one begins
+    with isn't below it, nor that one below the list."""
+    return next((one < other for one, other in zip(processes, others) if one != other), False)
+
+
+def includes(counts, place):
+    return place[1] <= counts[place[0]]
+
+
+def is_surely(session, predicate, value, counts_there):
+    """Whether the predicate has this value at all of these counts, as its comparisons tell, each by itself: one holds
+    if its opposite is excluded, and doesn't hold if it is excluded itself."""
+    word, *parts = predicate
+    if word in ("true", "false"):
+        return (word == "true") == value
+    if word == "not":
+        return is_surely(session, parts[0], not value, counts_there)
+    if word in ("and", "or"):
+        each = [is_surely(session, part, value, counts_there) for part in parts]
+        return all(each) if (word == "and") == value else any(each)
+    excesses = [excess(session, counts, predicate) for counts in counts_there]
+    return is_excluded(OPPOSITES[word] if value else word, excesses)
+
+
+class Late:
+    """What is found of Definitely by a search back from the full cut, and by gates."""
+
+    def __init__(self, session, before, cuts, has_few):
+        self.session, self.before, self.cuts, self.has_few = session, before, cuts, has_few
+        self.around = functools.cache(self.around)
+
+    def seen(self, predicate, cut):
+        """The counts of a cut, with 0 in the place of each process that the predicate doesn't name."""
+        processes = set().union(*map(named_by, comparisons(predicate)))
+        return tuple(count if process in processes else 0 for process, count in enumerate(cut))
+
+    def dead_ends(self, predicate, satisfying):
+        """The dead ends of the search back that come before the printed path, or all if no observation avoids; and what
+        the predicate sees of them."""
+        full, avoiding = self.cuts[-1], avoiding_cuts(self.cuts, satisfying)
+        steps = printed_steps(full, avoiding) if full in avoiding else None
+        open_cuts = set(self.cuts) - satisfying
+        found = led_back(open_cuts, [full] if steps is None else starts_before(full, steps)) - avoiding
+        if self.has_few:
+            listed = {cut for processes, cut in undone_lists(open_cuts, full)
+                      if cut not in avoiding and (steps is None or is_lex_below(processes, steps[::-1]))}
+            if listed != found:
+                raise Differs(f"all lists of undone events lead to the dead ends {listed}, the cuts to {found}")
+        return found, {self.seen(predicate, cut) for cut in found}
+
+    def around(self, place, is_after):
+        """All counts right after the event at this place, or right before it: they include all that happened before it,
+        and nothing that it happened before, and the event itself or not."""
+        past = [first for first, later in self.before if later == place]
+        later = [later for first, later in self.before if first == place]
+        return [counts for counts in counts_up_to(self.session)
+                if all(includes(counts, it) for it in past) and not any(includes(counts, it) for it in later)
+                and includes(counts, place) == is_after]
+
+    def gates(self, predicate):
+        """The level of each gate of the predicate, and the side of the event where it is: a gate is where it surely
+        holds, and its level is the greatest number of events there."""
+        for place, is_after in itertools.product(self.session.places, (False, True)):
+            counts_there = self.around(place, is_after)
+            if is_surely(self.session, predicate, True, counts_there):
+                yield max(map(sum, counts_there)), "after" if is_after else "before"
 
 
 def named(session, steps):
@@ -481,6 +604,13 @@ def definitely_observed(session, lists, satisfying, width):
     return "no " + named(session, undoing(lists[firsts.index(math.inf)])[::-1])
 
 
+def dead_ends_said(cuts, seen, width):
+    """What a line says of this many dead ends, of which the predicate sees so many."""
+    special = {0: "none", width: "as many as the width", width + 1: "one too many"}
+    said = special.get(seen, "few" if seen < width else "many")
+    return f"; dead ends: {said}" + ("; too many cuts" if seen <= width < cuts else "")
+
+
 class Judged:
     """The report of a session, and for one that is judged its consistent cuts and which of them satisfy each
     predicate."""
@@ -504,7 +634,7 @@ class Judged:
             lists = observations(set(self.cuts), full, self.cuts[0]) if has_few else []
             self.observations = sorted(lists, key=undoing)
             self.definite, self.ways = functools.cache(self.definite), functools.cache(self.ways)
-            self.sums = Sums(session, self.cuts)
+            self.sums, self.late = Sums(session, self.cuts), Late(session, before, self.cuts, has_few)
             self.satisfying = [{cut for cut in self.cuts if holds(session, cut, predicate)}
                                for _, predicate in session.predicates]
             self.report = self.reported(session.width)
@@ -550,14 +680,45 @@ class Judged:
             found = ["sums", None if satisfying else "sums"]
         return found, described(self.session, predicate, decisions)
 
+    def possible_beyond(self, number, width, way):
+        """Possibly with the option, if this is the width and this the way."""
+        by_sums = way == "sums" and self.satisfying[number]
+        possible = possibly(self.cuts, self.satisfying[number], math.inf if way and not by_sums else width)
+        if by_sums and possible.startswith("unknown"):
+            return "yes " + ",".join(map(str, min(self.satisfying[number], key=by_height)))
+        return possible
+
+    def definite_beyond(self, number, width, way):
+        """Definitely with the option, and the way in which it is decided, if there is one; and what is said of that."""
+        exact, within = self.definite(number, math.inf), self.definite(number, width)
+        if way:
+            return exact, way, ""
+        predicate = self.session.predicates[number][1]
+        cuts, seen = self.late.dead_ends(predicate, self.satisfying[number])
+        said = dead_ends_said(len(cuts), len(seen), width)
+        if exact.startswith("no") and len(seen) <= width:
+            return exact, "back", said
+        if not within.startswith("unknown"):
+            return within, None, ""
+        return self.late_level(predicate, exact, within, len(seen) <= width, said)
+
+    def late_level(self, predicate, exact, within, has_few, said):
+        """The same where the levels under the width leave it unknown, and no path is found back."""
+        gates, ends = list(self.late.gates(predicate)), exact.startswith("yes") and has_few
+        if gates:
+            level = min(gates)[0]
+            sides = sorted({side for at, side in gates if at == level})
+            said += f"; right {' and '.join(sides)}; {'exact' if exact == f'yes {level}' else 'above'}"
+            return f"yes {level}", "gate", said + ("; ends too" if ends else "")
+        if ends:
+            return f"yes {len(self.session.places)}", "end", said
+        return within, None, said + f"; in truth {exact.split()[0]}"
+
     def answers_beyond(self, number, width, why):
-        """Possibly and Definitely with the option, if this is the width and these are the ways."""
-        if why[0] != "sums" or why[1]:
-            return self.answers(number, [math.inf if way else width for way in why])
-        possible, definite = self.answers(number, [width] * 2)
-        if possible.startswith("unknown"):
-            possible = "yes " + ",".join(map(str, min(self.satisfying[number], key=by_height)))
-        return [possible, definite]
+        """Possibly and Definitely with the option, if this is the width and these are the ways; in which way Definitely
+        is decided then, and what is said of that."""
+        definite, way, said = self.definite_beyond(number, width, why[1])
+        return [self.possible_beyond(number, width, why[0]), definite], way, said
 
     def reported_beyond(self, width):
         """The report if this is the width, with the option; and a line for each answer that is unknown without it."""
@@ -567,10 +728,12 @@ class Judged:
         for number in range(len(self.satisfying)):
             why, said = self.ways(number)
             within = self.answers(number, [width] * 2)
-            rows.append(self.answers_beyond(number, width, why))
-            for modality, way, old, new in zip(("Possibly", "Definitely"), why, within, rows[-1]):
+            row, late, said_late = self.answers_beyond(number, width, why)
+            rows.append(row)
+            for modality, way, old, new, more in zip(("Possibly", "Definitely"), (why[0], late), within, row,
+                                                     (said, said + said_late)):
                 if old.startswith("unknown"):
-                    lines.append(f"beyond the width, {way or 'undecided'}: {modality} {new.split()[0]}{said}\n")
+                    lines.append(f"beyond the width, {way or 'undecided'}: {modality} {new.split()[0]}{more}\n")
             lines += self.of_heights(number, within[0], rows[-1][0]) if why[0] == "sums" else []
         return self.of_answers(rows), "".join(lines)
 
@@ -932,6 +1095,77 @@ def draw_sums(draw, session, cuts):
                                  for sums in counts])
 
 
+def draw_near(draw, session):
+    """Counts that are few events before the full cut's, consistent or not, and seldom many."""
+    counts = tuple(len(events) for events in session.events)
+    for _ in range(draw.choice([1, 1, 2, 2, 3, 4, 9])):
+        able = [process for process, count in enumerate(counts) if count]
+        counts = undone(counts, draw.choice(able)) if able else counts
+    return counts
+
+
+def local_at(draw, session, process, counts):
+    """A comparison of a variable of this process with its value at these counts."""
+    name = draw.choice(list(session.initial[process]))
+    value = session.value_at(process, counts[process], name)
+    number = (1 if value >= 0 else -1, min(abs(value), 2 ** 63 - 1), None)
+    return (draw.choice(["==", "==", "==", "<=", ">=", "!="]), [(1, 1, (process, name))], [number])
+
+
+def draw_walls(draw, session, processes):
+    """For each of some counts near the full cut's an `and` of comparisons that name one process each and hold there, as
+    a rule."""
+    for _ in range(draw.choice([2, 2, 3, 4])):
+        at = draw_near(draw, session)
+        named_there = draw.sample(processes, min(len(processes), draw.choice([1, 2, 2, 3])))
+        yield draw_row(draw, "and", [local_at(draw, session, process, at) for process in named_there])
+
+
+def draw_late(draw, session):
+    """A predicate that holds near the full cut: a sum of three processes or more comes to a value there, or to one of
+    several, or stays between two; or an `or` of `and`s of comparisons that name one process each, and seldom a sum."""
+    busy, kind = draw_busy(draw, session)[:6], draw.choice(["sum", "sums", "sums", "between", "walls", "walls"])
+    terms = draw_sum_of(draw, session, draw.sample(busy, draw.randint(3, min(len(busy), 5))))
+    worths = [excess(session, draw_near(draw, session), ("==", terms, [])) for _ in range(draw.choice([2, 3, 4]))]
+    if kind == "sum":
+        return compared(draw, terms, draw.choice(["==", "==", *RELATIONS]), worths[0])
+    if kind == "sums":
+        return draw_row(draw, "or", [compared(draw, terms, "==", worth) for worth in worths])
+    if kind == "between":
+        least, most = min(worths), max(worths)
+        return draw_row(draw, "and", [compared(draw, terms, ">=", least), compared(draw, terms, "<=", most)])
+    walls = list(draw_walls(draw, session, busy))
+    if draw.random() < 0.3:
+        walls.append(compared(draw, terms, draw.choice(["==", ">", "<"]), worths[0]))
+    return draw_row(draw, "or", walls)
+
+
+def draw_settled(draw, session):
+    """Of some predicates that hold near the full cut one that doesn't hold there, and not at the empty one, as far as
+    there is any."""
+    full = tuple(len(events) for events in session.events)
+    empty, near = tuple(0 for _ in full), [draw_near(draw, session) for _ in range(6)]
+    tries = [draw_late(draw, session) for _ in range(draw.choice([1, 8]))]
+    return min(tries, key=lambda tree: (holds(session, full, tree), holds(session, empty, tree),
+                                        not any(holds(session, cut, tree) for cut in near)))
+
+
+def draw_few_dead(draw, session):
+    """A predicate of which Definitely is no, with few dead ends of the search back before the path that is printed, and
+    one of which it is yes, with few in all; as far as there are any."""
+    before = happened_before(session)
+    if session.version is None or first_fault(session) or cycle(session, before):
+        return
+    late, found = Late(session, before, consistent_cuts(session, before), False), {"back": [], "passed": []}
+    for tree in [draw_late(draw, session) for _ in range(40)]:
+        satisfying = {cut for cut in late.cuts if holds(session, cut, tree)}
+        if not ways(session, tree, satisfying)[1] and 0 < len(late.dead_ends(tree, satisfying)[1]) < 4:
+            found["back" if late.cuts[-1] in avoiding_cuts(late.cuts, satisfying) else "passed"].append(tree)
+    for name in found:
+        if found[name]:
+            yield name, draw.choice(found[name])
+
+
 def draw_session(draw, has_many, is_beyond):
     session = draw_processes(draw, has_many)
     if draw.random() < 0.25:
@@ -951,6 +1185,8 @@ def draw_session(draw, has_many, is_beyond):
         session.predicates.append((name, min(tries, key=lambda tree: (
             holds(session, cuts[0], tree), not any(holds(session, cut, tree) for cut in cuts[1:])))))
     session.width = draw.choice([1, 2, 3, 5, 8, 20, 4096] if has_many else [1, 2, 3, 4, 5, 8, 4096, 4096, 4096])
+    if is_beyond and len(session.names) > 2:
+        session.predicates += [("settled", draw_settled(draw, session)), *draw_few_dead(draw, session)]
     return session
 
 
@@ -1110,11 +1346,12 @@ def run_files(draw, place, judged, document, streams):
 
 
 def run_beyond(draw, place, judged, document, streams):
-    """Has the session judged from files that are there with --beyond-width, with its own width and with width 1, and
-    the reports checked; returns what was unknown without it."""
+    """Has the session judged from files that are there with --beyond-width, with its own width, with width 1 and with 2
+    or 3, and the reports checked; returns what was unknown without it."""
     names, found = stream_names(streams), ""
-    narrow = json.dumps({**json.loads(document), "width": 1})
-    for text, width in ((document, judged.session.width), (narrow, 1)):
+    for width in (judged.session.width, 1, draw.choice([2, 3])):
+        own = width == judged.session.width
+        text = document if own else json.dumps({**json.loads(document), "width": width})
         report, lines = judged.reported_beyond(width)
         place.write({"session.json": text, "report": report})
         words = ["session.json", *names]
