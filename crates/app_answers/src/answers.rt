@@ -1,0 +1,162 @@
+//! What is said of each answer that is known.
+use super::possible::{named_count, say_possible};
+use super::session::Session;
+use app_text::{say, say_name, say_number};
+use judge_facts::first_run;
+use pd_pred::Tree;
+use pd_report::{Answer, Definitely, Path, Possibly};
+use pd_spec::NamedPred;
+use std::alloc::{AllocError, Global};
+
+/// The most runs of steps by which an observation is said.
+const RUNS: u64 = 4;
+
+/// The steps without the first ones that are equal to each other.
+fn after_run(steps: &[usize]) -> &[usize] {
+    steps.get(first_run(steps)..).unwrap_or(&[])
+}
+
+/// How many runs of equal steps there are: of more than `RUNS` one more than that.
+fn runs_in(steps: &[usize]) -> u64 {
+    let mut rest = steps;
+    for count in 0..RUNS {
+        if rest.is_empty() {
+            return count;
+        }
+        rest = after_run(rest);
+    }
+    if rest.is_empty() {
+        RUNS
+    } else {
+        RUNS.saturating_add(1)
+    }
+}
+
+/// Says the first run of steps: how many events of which process.
+fn say_run(out: &mut Vec<u8>, names: &[String], steps: &[usize]) -> Result<(), AllocError> {
+    let Some(name) = steps.first().and_then(|step| names.get(*step)) else {
+        return Ok(());
+    };
+    let count = first_run(steps) as u64;
+    say_number(out, count)?;
+    say(
+        out,
+        if count == 1 {
+            " event of "
+        } else {
+            " events of "
+        },
+    )?;
+    say_name(out, name)
+}
+
+/// Says an observation by its runs of steps, if they are few.
+fn say_path(out: &mut Vec<u8>, path: &Path) -> Result<(), AllocError> {
+    let (names, steps) = path.parts();
+    if steps.is_empty() || runs_in(steps) > RUNS {
+        return Ok(());
+    }
+    let mut before = "One such order: ";
+    let mut rest = steps;
+    for _run in 0..RUNS {
+        if rest.is_empty() {
+            return say(out, ".\n");
+        }
+        say(out, before)?;
+        say_run(out, names, rest)?;
+        rest = after_run(rest);
+        before = ", then ";
+    }
+    say(out, ".\n")
+}
+
+/// Says that a predicate can't be true.
+fn say_impossible(
+    out: &mut Vec<u8>,
+    name: &str,
+    tree: &Tree,
+    processes: usize,
+) -> Result<(), AllocError> {
+    say_name(out, name)?;
+    if named_count(tree, processes) == 0 {
+        return say(out, " cannot happen: it names no variable, and is false.\n");
+    }
+    say(
+        out,
+        " cannot happen: it is false in every global state that fits the messages.\n",
+    )
+}
+
+/// Says that a predicate is true in each order, at the latest at this level.
+fn say_always(out: &mut Vec<u8>, name: &str, level: u64) -> Result<(), AllocError> {
+    say_name(out, name)?;
+    if level == 0 {
+        return say(out, " always happens: it is true before the first event.\n");
+    }
+    say(
+        out,
+        " always happens, in every order that fits the messages:\nat the latest after ",
+    )?;
+    say_number(out, level)?;
+    say(
+        out,
+        if level == 1 {
+            " event.\n"
+        } else {
+            " events.\n"
+        },
+    )
+}
+
+/// Says that a predicate need not be true at any time.
+fn say_avoidable(out: &mut Vec<u8>, name: &str, path: &Path) -> Result<(), AllocError> {
+    say_name(out, name)?;
+    say(
+        out,
+        " need not happen: in some order that fits the messages it never does.\n",
+    )?;
+    say_path(out, path)
+}
+
+/// Says what a known answer means. That what can't happen need not isn't said.
+fn say_answer(
+    out: &mut Vec<u8>,
+    alloc: Global,
+    session: &Session<'_, '_>,
+    asked: &NamedPred,
+    answer: &Answer,
+) -> Result<(), AllocError> {
+    let (name, tree) = (answer.name.as_str(), asked.pred.tree());
+    match &answer.possibly {
+        Possibly::Yes(counts) => say_possible(out, alloc, session, name, tree, counts)?,
+        Possibly::No => {
+            return say_impossible(out, name, tree, session.computation.processes());
+        }
+        Possibly::Unknown(_) => {}
+    }
+    match &answer.definitely {
+        Definitely::Yes(level) => say_always(out, name, *level),
+        Definitely::No(path) => say_avoidable(out, name, path),
+        Definitely::Unknown(_) => Ok(()),
+    }
+}
+
+/// Explains each answer that is known: that the predicate can happen, where and why, that it can't, that it always
+/// does, or that it need not. The answers are those for the predicates of the document, in its order.
+///
+/// # Errors
+/// Out of memory; what was put until then stays.
+pub fn explain_known(
+    out: &mut Vec<u8>,
+    alloc: Global,
+    session: &Session<'_, '_>,
+    answers: &[Answer],
+) -> Result<(), AllocError> {
+    let predicates = session.spec.predicates();
+    for (place, answer) in answers.iter().enumerate() {
+        if let Some(asked) = predicates.get(place) {
+            say_answer(out, alloc, session, asked, answer)?;
+        }
+    }
+    Ok(())
+}

@@ -1,0 +1,25 @@
+//! Explanations of the answers of a judged session: what can happen, where and why, and what may be green by accident.
+//!
+//! Nothing is judged here. What is said of an answer is what the report says, and facts of the run that `judge_facts`
+//! states: the events at a cut, where they were recorded, what they did, and what the variables were worth. Of the
+//! sentences themselves nothing is stated but that each call ends, and stays within its bounds.
+//!
+//! - `session`: a session that was judged, with what was read of it
+//! - `places`: where an event was recorded, and what it did
+//! - `possible`: what can happen, where and why
+//! - `answers`: what is said of each answer that is known
+//! - `after_end`: how many lines stand after an end line
+//! - `warnings`: what may be green by accident
+#![tactic(auto)]
+
+mod after_end;
+mod answers;
+mod places;
+mod possible;
+mod session;
+mod warnings;
+
+pub use after_end::records_after;
+pub use answers::explain_known;
+pub use session::Session;
+pub use warnings::warn;

@@ -1,0 +1,172 @@
+//! What may be green by accident.
+use super::after_end::records_after;
+use super::possible::named_count;
+use super::session::{Session, name_of, source_of, vars_of};
+use app_text::{Source, say, say_name, say_number, say_shown};
+use judge_facts::{has_links, is_set, names_variable};
+use pd_spec::NamedPred;
+use std::alloc::{AllocError, Global};
+
+/// The first predicate that names a variable of a process, if one does.
+fn first_naming<'a>(
+    predicates: &'a [NamedPred],
+    process: usize,
+    var: usize,
+) -> Option<&'a NamedPred> {
+    for asked in predicates {
+        if names_variable(asked.pred.tree(), process, var) {
+            return Some(asked);
+        }
+    }
+    None
+}
+
+/// The value of a variable before any event; 0 if there is no such variable.
+fn initial_of(session: &Session<'_, '_>, process: usize, var: usize) -> i64 {
+    match session.spec.initial_rows().get(process) {
+        Some(row) => row.get(var).copied().unwrap_or(0),
+        None => 0,
+    }
+}
+
+/// The name of this variable; it is empty if there is no such variable.
+fn var_name(vars: &[String], var: usize) -> &str {
+    match vars.get(var) {
+        Some(name) => name.as_str(),
+        None => "",
+    }
+}
+
+/// Warns of a variable that a predicate names and no event sets.
+fn warn_unset(
+    out: &mut Vec<u8>,
+    alloc: Global,
+    session: &Session<'_, '_>,
+    asked: &NamedPred,
+    process: usize,
+    var: usize,
+) -> Result<(), AllocError> {
+    let names = session.spec.names();
+    let value = initial_of(session, process, var);
+    let said = format!(in alloc; ", which no event sets: it stays {value}.\n")?;
+    say(out, "Warning: ")?;
+    say_name(out, &asked.name)?;
+    say(out, " names `")?;
+    say(out, name_of(names, process))?;
+    say(out, ".")?;
+    say(out, var_name(vars_of(names, process), var))?;
+    say(out, "`")?;
+    say(out, &said)
+}
+
+/// Warns of the variables of a process that predicates name and no event sets.
+fn warn_unset_of(
+    out: &mut Vec<u8>,
+    alloc: Global,
+    session: &Session<'_, '_>,
+    process: usize,
+) -> Result<(), AllocError> {
+    let Some(trace) = session.traces.get(process) else {
+        return Ok(());
+    };
+    for var in 0..vars_of(session.spec.names(), process).len() {
+        if !is_set(&trace.events, var) {
+            if let Some(asked) = first_naming(session.spec.predicates(), process, var) {
+                warn_unset(out, alloc, session, asked, process, var)?;
+            }
+        }
+    }
+    Ok(())
+}
+
+/// Whether a predicate names processes of which no message leads from one to another.
+fn is_unlinked(session: &Session<'_, '_>, asked: &NamedPred) -> bool {
+    let tree = asked.pred.tree();
+    named_count(tree, session.computation.processes()) > 1 && !has_links(session.computation, tree)
+}
+
+/// Warns of predicates that name processes of which no message leads from one to another.
+fn warn_unlinked(out: &mut Vec<u8>, session: &Session<'_, '_>) -> Result<(), AllocError> {
+    let mut before = "Warning: no message leads between the processes that are named by ";
+    let mut is_found = false;
+    for asked in session.spec.predicates() {
+        if is_unlinked(session, asked) {
+            say(out, before)?;
+            say_name(out, &asked.name)?;
+            before = ", ";
+            is_found = true;
+        }
+    }
+    say(out, if is_found { ".\n" } else { "" })
+}
+
+/// Warns of a stream without events.
+fn warn_empty(
+    out: &mut Vec<u8>,
+    session: &Session<'_, '_>,
+    source: &Source<'_>,
+    process: usize,
+) -> Result<(), AllocError> {
+    say(out, "Warning: process ")?;
+    say_name(out, name_of(session.spec.names(), process))?;
+    say(out, " has no event: ")?;
+    say_shown(out, source.name.as_bytes())?;
+    say(out, " ends after its first line.\n")
+}
+
+/// Warns of lines after the end line of a stream, of which there are this many or more.
+fn warn_others(out: &mut Vec<u8>, source: &Source<'_>, others: u64) -> Result<(), AllocError> {
+    say(out, "Warning: ")?;
+    say_shown(out, source.name.as_bytes())?;
+    say(out, " goes on after its end line: ")?;
+    say_number(out, others)?;
+    say(
+        out,
+        if others == 1 {
+            " line or more isn't judged.\n"
+        } else {
+            " lines or more aren't judged.\n"
+        },
+    )?;
+    say(out, "Are there two runs in one file?\n")
+}
+
+/// Warns of a stream without events, and of lines after its end line.
+fn warn_stream(
+    out: &mut Vec<u8>,
+    session: &Session<'_, '_>,
+    source: &Source<'_>,
+    process: usize,
+) -> Result<(), AllocError> {
+    let Some(trace) = session.traces.get(process) else {
+        return Ok(());
+    };
+    let events = trace.events.len() as u64;
+    if events == 0 {
+        warn_empty(out, session, source, process)?;
+    }
+    let others = records_after(source.bytes, events.saturating_add(2));
+    if others > 0 {
+        warn_others(out, source, others)?;
+    }
+    Ok(())
+}
+
+/// Warns of what may make an answer right and of no use: a variable that a predicate names and no event sets, a
+/// predicate that names processes between which there are no messages, a stream without events, and lines after an end
+/// line.
+///
+/// # Errors
+/// Out of memory; what was put until then stays.
+pub fn warn(out: &mut Vec<u8>, alloc: Global, session: &Session<'_, '_>) -> Result<(), AllocError> {
+    for process in 0..session.computation.processes() {
+        warn_unset_of(out, alloc, session, process)?;
+    }
+    warn_unlinked(out, session)?;
+    for process in 0..session.computation.processes() {
+        if let Some(source) = source_of(session.sources, process) {
+            warn_stream(out, session, &source, process)?;
+        }
+    }
+    Ok(())
+}
