@@ -1,6 +1,6 @@
 #!/usr/bin/env python3
-"""explanations.py [PROGRAM] [--write]: causes each refusal, each fault and unknown answers, and compares what the
-program explains of them with explanations.md, which is made of the same cases by --write. Each example of
+"""explanations.py [PROGRAM] [--write]: causes each refusal, each fault, and answers of each kind, and compares what
+the program explains of them with explanations.md, which is made of the same cases by --write. Each example of
 docs/EXPLANATIONS.md has to stand there too.
 
 PROGRAM is ../crates/monitor/out/monitor if it isn't given. Each case is run as it stands, where the errors have to hold
@@ -33,6 +33,8 @@ SPECS = os.path.join(HERE, "..", "crates", "def_format", "specs", "RefusalWords.
 SECONDS = 60
 FIXED = ("read", "write", "memory", "network", "bundle too long")
 COLUMNS = 116
+# The variable of the environment that asks for explanations.
+VARIABLE = "MONITOR_EXPLAIN"
 # The columns of a line of an explanation.
 ROW = 100
 # How errors begin that have more than one fixed line.
@@ -184,6 +186,46 @@ def messages():
                   b=B + '{"recv":"m1"}\n{"send":"m2"}\n' + END)
 
 
+# One process hands a token on while it still has it, and one gives it up before.
+EARLY = A + '{"set":{"x":1}}\n{"send":"m1"}\n{"set":{"x":0}}\n{"recv":"m2"}\n' + END
+LATE = A + '{"set":{"x":1}}\n{"set":{"x":0}}\n{"send":"m1"}\n{"recv":"m2"}\n' + END
+TAKES = B + '{"recv":"m1","set":{"y":1}}\n{"set":{"y":0}}\n{"send":"m2"}\n' + END
+
+
+def answers():
+    yield session("two processes can be so at one time", a=EARLY, b=TAKES)
+    yield session("two processes can't be so at one time", a=LATE, b=TAKES)
+    yield session("a state before a message is sent", document(
+        "a.x == 0 and b.y - 2 * b.z > 3",
+        processes=[{"name": "a", "vars": {"x": 1}}, {"name": "b", "vars": {"y": 0, "z": 2}}]),
+        a=A + '\n{"recv":"m1"}\n\n{"set":{"x":0}}\n{"recv":"m2"}\n' + END,
+        b=B + '{"send":"m1"}\n{"set":{"y":-3,"z":-9}}\n{"send":"m2"}\n' + END)
+    yield session("a state of one process", document("a.x == 1"), a=EARLY, b=TAKES)
+    yield session("a state that holds at the start", document("a.x + b.y == 0"), a=EARLY, b=TAKES)
+    yield session("predicates that name no variable", document(
+        predicates=[{"name": "all", "text": "true"}, {"name": "none", "text": "0 == 1"}]), a=EARLY, b=TAKES)
+    yield session("several predicates, and messages by a third process", document(
+        predicates=[{"name": "both", "text": "a.x == 1 and b.y == 1"}, {"name": "lost", "text": "a.x + b.y == 0"}],
+        processes=[{"name": "a", "vars": {"x": 1}}, {"name": "b", "vars": {"y": 0}}, {"name": "c", "vars": {}}]),
+        a=A + '{"set":{"x":0}}\n{"send":"m1"}\n' + END, b=B + '{"recv":"m2","set":{"y":1}}\n' + END,
+        c='{"process":"c"}\n{"recv":"m1"}\n{"send":"m2"}\n' + END, words=("c.stream",))
+    turns = "".join(f'{{"set":{{"x":{number % 2}}}}}\n{{"send":"a{number}"}}\n{{"recv":"b{number}"}}\n'
+                    for number in range(3))
+    yield session("an order of many turns", document("a.x == 1 and b.y == 1"), a=A + turns + END, b=B + "".join(
+        f'{{"recv":"a{number}"}}\n{{"set":{{"y":{number % 2}}}}}\n{{"send":"b{number}"}}\n' for number in range(3)) + END)
+    yield session("no event sets a variable", b=B + "{}\n" + END)
+    yield session("two runs stand in one file", a=EARLY + EARLY, b=TAKES)
+    yield session("one line stands after an end line", a=EARLY + "\n" + END, b=TAKES)
+    yield session("a stream ends at once", b=B + END)
+    yield session("an answer about streams on standard input", input=TAKES.encode(), a=EARLY)._replace(
+        words=("judge", "session.json", "a.stream", "-"))
+    yield Case("an answer about a bundle", input=bundle(document(), EARLY, TAKES))
+    yield Case("an answer about connections", {"session.json": document()},
+               ("serve", "session.json", "--port", "FREE"), peers=(TAKES, EARLY))
+    yield Case("an answer about connections that are kept", {"session.json": document()},
+               ("serve", "session.json", "--port", "FREE", "--keep", "kept"), peers=(TAKES, EARLY))
+
+
 def bundle(*parts):
     """A bundle of a document and streams."""
     return "---\n".join(parts).encode()
@@ -262,7 +304,8 @@ REPORT = "session 2 processes 2 events 0 messages\nboth possibly yes 1,1\nboth d
 KINDS = {
     "The session document": documents, "The text of a predicate": predicates,
     "The text of a predicate that is asked for": asked, "A line of a stream": lines,
-    "The list of streams": streams, "Messages": messages, "Unknown answers": lambda: [wide(), wide_by_connections()],
+    "The list of streams": streams, "Messages": messages, "Answers": answers,
+    "Unknown answers": lambda: [wide(), wide_by_connections()],
     "Reports that a check finds bad": checks,
     "What comes by a pipe or a connection": connections, "A bundle": bundles, "Faults": faults,
 }
@@ -360,6 +403,21 @@ def closed_pipe(program):
     return []
 
 
+def by_environment(program):
+    """What is wrong of runs of which the environment asks for explanations, or doesn't."""
+    with tempfile.TemporaryDirectory() as folder:
+        case = session("an environment")
+        write(folder, case.files)
+
+        def errors(value, *more):
+            return subprocess.run([program, *case.words, *more], stdout=subprocess.DEVNULL, stderr=subprocess.PIPE,
+                                  cwd=folder, timeout=SECONDS, env={**os.environ, VARIABLE: value}).stderr
+        explained_so = errors("0", "--explain")
+        found = {value: errors(value) for value in ("1", "", "0", "11", "yes, explain all of it")}
+    return [f"{VARIABLE}={value}: {said!r}" for value, said in found.items()
+            if said != (explained_so if value == "1" else b"")]
+
+
 def wanted():
     """The words of refusals, by the definitions, and the fixed lines."""
     with open(SPECS, encoding="utf-8") as file:
@@ -421,7 +479,7 @@ def main():
         for why in wrong:
             differing += 1
             print(f"explanations: {case.name}: {why}")
-    for why in closed_pipe(program):
+    for why in closed_pipe(program) + by_environment(program):
         differing += 1
         print(f"explanations: {why}")
     said = " ".join(result[0] for result in results)

@@ -458,10 +458,21 @@ NO_VARIABLE = (b": the process has no variable of\n  this name.\n"
                b"What to do: correct the name in the stream, or add the variable to the process in the document.\n")
 
 
+# What is explained of the answers to a session that is judged.
+ANSWERS = (b"`both` can happen, when these processes have come this far:\n"
+           b"Process `a` after event 1 (stream 2, line 2), which is local: x = 1.\n"
+           b"Process `b` after event 1 (stream 1, line 2), which is local: y = 1.\n"
+           b"No message prevents it: each can come this far before another goes on.\n"
+           b"Next: `a` has a local event, `b` has a local event.\n"
+           b"`both` need not happen: in some order that fits the messages it never does.\n"
+           b"One such order: 2 events of `b`, then 2 events of `a`.\n"
+           b"Warning: no message leads between the processes that are named by `both`.\n")
+
+
 def at_once():
     """The cases of what is told while a server runs."""
     explained = {"asked": ["--explain"]}
-    yield "told who joins", joins, explained, (0, REPORT, b"")
+    yield "told who joins", joins, explained, (0, REPORT, ANSWERS)
     yield "told who doesn't", begins_otherwise, explained, (1, b"refused stream 1 line 1 json\n", NO_STREAM)
     refused = (1, b"refused stream 1 line 2 unknownvar\n", NO_VARIABLE)
     yield "told what is refused", refused_meanwhile, explained, refused

@@ -32,7 +32,9 @@ VALUES = {
     "WORKERS": [str(number) for number in range(1, 17)],
 }
 # The option that may stand anywhere, as the end of the program's help says; no help text lists it.
-ANYWHERE = (None, "explain", None, "Explain on the standard error what is refused, unknown or fails")
+ANYWHERE = (None, "explain", None, "Explain on the standard error the answers, and what is refused or fails")
+# What the environment may have: that is said at the end of the program's help too.
+VARIABLES = {"MONITOR_EXPLAIN": "If it is 1, the same is explained as with --explain; each other value is as none"}
 MADE = "made by completions/make.py from the program's help"
 OPTION = re.compile(r"^ +(?:-(\w), |    )--([\w-]+)(?: <(\w+)>)? +(.+)$")
 ARGUMENT = re.compile(r"^ +<(\w+)>(\.\.\.)? +(.+)$")
@@ -270,6 +272,7 @@ monitor \\- judges predicates on a distributed computation
         text += "".join(roff_option(option) for option in one.options)
         text += "".join(roff_paragraph(part) for part in one.after)
     text += ".SH OPTIONS\n" + "".join(roff_option(option) for option in top.options)
+    text += ".SH ENVIRONMENT\n" + "".join(f".TP\n\\fB{name}\\fR\n{roff(said)}\n" for name, said in VARIABLES.items())
     text += ".SH EXIT STATUS\n" + "".join(f".TP\n{number}\n{roff(said)}\n" for number, said in top.statuses)
     return text
 

@@ -32,8 +32,8 @@ run is explored.";
 
 /// What the program's help ends with.
 const AFTER: &str = "\
-With --explain anywhere in the arguments a refusal, an unknown answer and whatever fails is explained on the standard \
-error; in a terminal it is so without that.
+With --explain anywhere in the arguments the answers, a refusal and whatever fails are explained on the standard \
+error; in a terminal, or with MONITOR_EXPLAIN=1 in the environment, it is so without that.
 
 Status:
   0  The session is judged, and no condition of --fail-on is met; a check finds nothing bad; the picture, the page or \
@@ -75,7 +75,7 @@ unknown        one of the two answers is unknown\n\n\
 An answer is unknown where a level of the lattice has more cuts than the document's width. With --beyond-width \
 predicates that name at most two processes are answered all the same and, as far as docs/SPECIFICATION.md says, those \
 of which each comparison names one process; and whether an `or` of such predicates, or most predicates with one sum \
-over several processes in each term, possibly holds.\n\n\
+over several processes in each term, possibly holds; and mostly whether any other definitely holds.\n\n\
 The formats are described in docs/SPECIFICATION.md. An example, at the top of the repository:\n  \
 crates/monitor/out/monitor judge examples/ten-lines/session.json examples/ten-lines/left.stream \
 examples/ten-lines/right.stream";
@@ -127,7 +127,7 @@ With --fail-on the status may be 5, as that of `judge`, whose help says what LIS
 An answer is unknown where a level of the lattice has more cuts than the document's width. With --beyond-width \
 predicates that name at most two processes are answered all the same and, as far as docs/SPECIFICATION.md says, those \
 of which each comparison names one process; and whether an `or` of such predicates, or most predicates with one sum \
-over several processes in each term, possibly holds.\n\n\
+over several processes in each term, possibly holds; and mostly whether any other definitely holds.\n\n\
 The formats are described in docs/SPECIFICATION.md. An example, at the top of the repository:\n  \
 crates/monitor/out/monitor serve examples/live/session.json --port 7411\nand then, from another terminal:\n  \
 cat examples/live/left.stream > /dev/tcp/127.0.0.1/7411 & cat examples/live/right.stream > /dev/tcp/127.0.0.1/7411";

@@ -1,11 +1,12 @@
 //! Explains how a run ended, by what it has read.
+use super::explained_answers::put_answers;
 use super::seen_files::{seen_document, seen_file, seen_streams};
 use super::seen_parts::{document_of, parts_of, streams_of};
 use app_arguments::{Conclusion, Exploration, FailOn, Judgement, SessionNames};
 use app_explain::{
-    Judged, Seen, SeenStream, Widest, explain_answers, explain_bundle_fault, explain_file,
-    explain_finding, explain_long_report, explain_memory, explain_no_file, explain_no_picture,
-    explain_no_predicate, explain_output, explain_refusal, explain_unread_finding,
+    Judged, Seen, SeenStream, Widest, explain_bundle_fault, explain_file, explain_finding,
+    explain_long_report, explain_memory, explain_no_file, explain_no_picture, explain_no_predicate,
+    explain_output, explain_refusal, explain_unread_finding,
 };
 use app_host::{FileSource, Note, System, World, check_seen};
 use app_text::{Source, in_rows};
@@ -13,11 +14,15 @@ use judge_draw::DrawOutcome;
 use judge_session::EngineFault;
 use pd_report::Report;
 use std::alloc::{AllocError, Global};
+use std::random::RandomSource;
+use std::sync::Wait;
+use std::thread::Threads;
 
-/// Explains what a report leaves unknown, or why it is a refusal, by what was read of the session and the level with
-/// the most cuts to which the walk has come.
-pub fn put_report(
+/// Explains the answers of a report, or why it is a refusal, by what was read of the session and the level with the
+/// most cuts to which the walk has come.
+pub fn put_report<T: RandomSource + Threads + Wait + Sync>(
     out: &mut Vec<u8>,
+    rt: &T,
     alloc: Global,
     seen: Seen<'_>,
     widest: Widest,
@@ -31,7 +36,7 @@ pub fn put_report(
                 beyond_width: seen.options.is_some_and(|options| options.beyond_width),
                 widest,
             };
-            explain_answers(out, answers, judged)
+            put_answers(out, rt, alloc, seen, judged, answers)
         }
         Report::Refused(refusal) => explain_refusal(out, alloc, seen, refusal),
     }
@@ -130,7 +135,7 @@ pub fn put_named(
     }
 }
 
-/// Explains what the report of files leaves unknown, or why it is a refusal, and which predicates there are, if answers
+/// Explains the answers of the report of files, or why it is a refusal, and which predicates there are, if answers
 /// are to be failed on of one that there isn't.
 fn put_files_report<Y: System>(
     out: &mut Vec<u8>,
@@ -147,7 +152,7 @@ fn put_files_report<Y: System>(
         streams: &streams,
         order: "",
     };
-    put_report(out, world.alloc, seen, widest, report)?;
+    put_report(out, world.rt, world.alloc, seen, widest, report)?;
     match fail_on {
         Some(fail_on) => put_named(out, world.alloc, seen, fail_on, report),
         None => Ok(()),
@@ -214,10 +219,10 @@ pub fn exploration_text<Y: System>(
     rows_of(world.alloc, out)
 }
 
-/// Explains what the report of a bundle leaves unknown, or why it is a refusal, by its parts.
-fn put_parts_report(
+/// Explains the answers of the report of a bundle, or why it is a refusal, by its parts.
+fn put_parts_report<Y: System>(
     out: &mut Vec<u8>,
-    alloc: Global,
+    world: &World<'_, Y>,
     document: Option<Source<'_>>,
     streams: &[SeenStream<'_>],
     widest: Widest,
@@ -229,7 +234,7 @@ fn put_parts_report(
         streams,
         order: "Streams count in the order in which they stand in the bundle.\n",
     };
-    put_report(out, alloc, seen, widest, report)
+    put_report(out, world.rt, world.alloc, seen, widest, report)
 }
 
 /// The same by what was read of it.
@@ -240,18 +245,11 @@ fn put_bundle_report<Y: System>(
     report: &Report,
 ) -> Result<(), AllocError> {
     let Some(bundle) = world.notes.document().and_then(|note| note.bytes()) else {
-        return put_parts_report(out, world.alloc, None, &[], widest, report);
+        return put_parts_report(out, world, None, &[], widest, report);
     };
     let parts = parts_of(world.alloc, bundle)?;
     let streams = streams_of(world.alloc, &parts)?;
-    put_parts_report(
-        out,
-        world.alloc,
-        document_of(&parts),
-        &streams,
-        widest,
-        report,
-    )
+    put_parts_report(out, world, document_of(&parts), &streams, widest, report)
 }
 
 /// Explains how a judgement of a bundle ended.

@@ -4,9 +4,11 @@
 //!
 //! - `seen_files`: what a run has read of files
 //! - `seen_parts`: what a run has read of a bundle
+//! - `explained_answers`: explains the answers of a session
 //! - `explained_ends`: explains how a run ended
 #![tactic(auto)]
 
+mod explained_answers;
 mod explained_ends;
 mod seen_files;
 mod seen_parts;

@@ -138,7 +138,7 @@ fn say_answer(out: &mut Vec<u8>, answer: &Answer, judged: Judged) -> Result<bool
     Ok(possibly || definitely)
 }
 
-/// Says that a greater width might decide answers that are unknown, unless none could.
+/// Says that a greater width might decide answers that are unknown, unless the widest level is too wide for any.
 fn say_width(out: &mut Vec<u8>, judged: Judged) -> Result<(), AllocError> {
     let needed = judged.cuts_of(judged.widest.number).unwrap_or(0);
     if needed > def_format::WIDTH_LIMIT {
@@ -164,8 +164,8 @@ fn say_ways(out: &mut Vec<u8>, judged: Judged) -> Result<(), AllocError> {
         say(
             out,
             "judge files with --beyond-width, which answers predicates that name two processes, most of those in which \
-each comparison names one, and whether an `or` of such predicates, or a sum over several processes, possibly holds; \
-or ",
+each comparison names one, whether an `or` of such predicates, or a sum over several processes, possibly holds, and \
+mostly whether any other definitely holds; or ",
         )?;
     }
     say(

@@ -12,6 +12,9 @@ use app_text::Source;
 use pd_engine::Spec;
 use pd_report::{Refusal, Report};
 use std::alloc::{AllocError, Global};
+use std::random::RandomSource;
+use std::sync::Wait;
+use std::thread::Threads;
 
 /// Explains which port can't be bound, and why, or that a connection failed.
 fn put_network<F, N>(out: &mut Vec<u8>, host: &Host<'_, F, N>) -> Result<(), AllocError> {
@@ -95,9 +98,10 @@ fn seen_streams<'a>(
     Ok(seen)
 }
 
-/// Explains what a server's report leaves unknown, or why it is a refusal, by these streams.
-fn put_seen_report<F: FileSource, N>(
+/// Explains the answers of a server's report, or why it is a refusal, by these streams.
+fn put_seen_report<T: RandomSource + Threads + Wait + Sync, F: FileSource, N>(
     out: &mut Vec<u8>,
+    rt: &T,
     host: &Host<'_, F, N>,
     streams: &[SeenStream<'_>],
     report: &Report,
@@ -108,13 +112,14 @@ fn put_seen_report<F: FileSource, N>(
         streams,
         order: "Streams count in the order in which they connected.\n",
     };
-    put_report(out, host.alloc, seen, host.gate.widest(), report)?;
+    put_report(out, rt, host.alloc, seen, host.gate.widest(), report)?;
     put_named(out, host.alloc, seen, &host.service.fail_on, report)
 }
 
 /// The same by what was read of the streams.
-fn put_service_report<F: FileSource, N>(
+fn put_service_report<T: RandomSource + Threads + Wait + Sync, F: FileSource, N>(
     out: &mut Vec<u8>,
+    rt: &T,
     host: &Host<'_, F, N>,
     report: &Report,
 ) -> Result<(), AllocError> {
@@ -127,7 +132,7 @@ fn put_service_report<F: FileSource, N>(
     }
     let names = stream_names(host)?;
     let streams = seen_streams(host.alloc, host.notes, &names)?;
-    put_seen_report(out, host, &streams, report)
+    put_seen_report(out, rt, host, &streams, report)
 }
 
 /// Explains how a server's run ended.
@@ -138,7 +143,7 @@ fn put_service<Y: System>(
     end: &Result<Report, ServiceFault>,
 ) -> Result<(), AllocError> {
     match end {
-        Ok(report) => put_service_report(out, host, report),
+        Ok(report) => put_service_report(out, world.rt, host, report),
         Err(ServiceFault::Engine(fault)) => {
             let spec = host.service.spec;
             put_fault(out, world, None, spec, &[], fault)

@@ -34,3 +34,4 @@ mod values;
 pub use checks::{check, check_inquiry};
 pub use drawings::{DrawOutcome, draw};
 pub use judge_check::{Checked, Finding, Verdict};
+pub use session::{Session, read_session};

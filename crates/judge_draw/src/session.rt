@@ -18,14 +18,19 @@ use std::thread::Threads;
 
 /// A session's document, and the traces of its streams.
 #[derive(Drop)]
-pub(crate) struct Session {
-    pub(crate) spec: Spec,
-    pub(crate) traces: Vec<Trace>,
+pub struct Session {
+    /// The document, with what was asked.
+    pub spec: Spec,
+    /// The trace of each process, in the order of the processes.
+    pub traces: Vec<Trace>,
 }
 
 /// Reads a session, the streams each on its own thread, or says why it comes to no answers before its messages are
 /// matched.
-pub(crate) fn read_session<T: Threads + Wait + Sync, R: ByteSource + Send + Drop>(
+///
+/// # Errors
+/// `Refused` if the document or the streams are refused, and `Memory`.
+pub fn read_session<T: Threads + Wait + Sync, R: ByteSource + Send + Drop>(
     rt: &T,
     alloc: Global,
     inquiry: Inquiry<'_, '_, '_>,

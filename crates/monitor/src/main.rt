@@ -3,6 +3,7 @@
 #![tactic(auto)]
 
 use app_progress::{Cleared, Screen, ShownFile, ShownFiles};
+use std::env::Env;
 use std::io::{IsTerminal, Write};
 use std::process::ExitCode;
 use std::{env, io};
@@ -31,13 +32,25 @@ fn arguments(rt: &HostRuntime) -> io::Result<Vec<String>> {
     Ok(env::args(rt)?.collect(rt.alloc())?)
 }
 
-/// Explanations are wanted if the errors go to a terminal, or by the word `--explain`.
+/// The variable of the environment that asks for explanations if it is 1.
+const EXPLAIN: &str = "MONITOR_EXPLAIN";
+
+/// Whether the environment asks for explanations. It takes no memory.
+fn is_explained(rt: &HostRuntime) -> bool {
+    let mut value = [0u8; 8];
+    match rt.var(EXPLAIN, &mut value) {
+        Ok(1) => value[0] == b'1',
+        Ok(_) | Err(_) => false,
+    }
+}
+
+/// Explanations are wanted if the errors go to a terminal, or by the word `--explain` or `MONITOR_EXPLAIN=1`.
 fn main(rt: HostRuntime) -> ExitCode {
     let mut errors = rt.stderr();
     let status = match arguments(&rt) {
         Ok(arguments) => {
             let (arguments, is_asked) = pd_cli::without_explain(arguments);
-            let explain = is_asked || errors.is_terminal();
+            let explain = is_asked || is_explained(&rt) || errors.is_terminal();
             if explain && arguments.len() <= 1 && rt.stdin().is_terminal() {
                 let _ = errors.write_all(BUNDLE_READ);
             }
