@@ -82,19 +82,22 @@ public final class MonitoredRun {
         if (status != 0 && status != 1) {
             throw failure("judging ended with status " + status + ": " + errors());
         }
+        // What is explained of the report, if MONITOR_EXPLAIN asks for that.
+        List<String> explained = errors().lines().collect(Collectors.toList());
         List<String> lines = text("report").lines().collect(Collectors.toList());
         String head = lines.get(0);
         if (status == 1) {
-            throw failure("the recordings are refused:", head + namedStream(head, streams));
+            explained.add(0, head + namedStream(head, streams));
+            throw failure("the recordings are refused:", explained.toArray(new String[0]));
         }
         if (head.contains(" 0 events ")) {
             throw failure("nothing was recorded:", head);
         }
-        lookAt(lines.subList(1, lines.size()), List.of(never), streams);
+        lookAt(lines.subList(1, lines.size()), List.of(never), streams, explained);
         delete();
     }
 
-    private void lookAt(List<String> answers, List<String> never, List<String> streams)
+    private void lookAt(List<String> answers, List<String> never, List<String> streams, List<String> explained)
             throws IOException, InterruptedException {
         Map<String, String> possibly = new LinkedHashMap<>();
         for (String line : answers) {
@@ -118,9 +121,11 @@ public final class MonitoredRun {
             }
         }
         if (!held.isEmpty()) {
+            held.addAll(explained);
             throw failure("what must never hold may have held:", held.toArray(new String[0]));
         }
         if (!unknown.isEmpty()) {
+            unknown.addAll(explained);
             throw failure("not settled, since the document's width is too small:", unknown.toArray(new String[0]));
         }
     }

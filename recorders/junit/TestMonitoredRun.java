@@ -143,6 +143,10 @@ public final class TestMonitoredRun {
                 + "echo session 1 processes 1 events 0 messages; echo both possibly yes 1");
         same("what must never hold may have held:\n  both possibly yes 1\n  no picture: monitor: memory\n"
                 + "  all of the run: RUN", failure(recorded(DOCUMENT, EARLY)));
+        program(folder, "[ $1 = draw ] && exit 0\n"
+                + "echo session 1 processes 1 events 0 messages; echo both possibly yes 1; echo explained >&2");
+        same("what must never hold may have held:\n  both possibly yes 1\n  picture: RUN/both.svg\n  explained\n"
+                + "  all of the run: RUN", failure(recorded(DOCUMENT, EARLY)));
         environment.put("MONITOR", "");
         environment.put("PATH", "/nowhere:" + folder.toAbsolutePath());
         same(true, failure(recorded(DOCUMENT, EARLY)).contains("both possibly yes 1\n"));

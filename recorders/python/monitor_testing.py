@@ -35,6 +35,7 @@ class MonitoredRun:
     def __init__(self, name, document, never=None, seconds=SECONDS):
         self.folder = None
         self.report = None
+        self._explained = []
         self._name = re.sub(r"[^A-Za-z0-9_.-]+", "_", name).strip("_.") or "run"
         self._document = document
         self._never = never
@@ -80,12 +81,12 @@ class MonitoredRun:
         done = self._run("judge", "session.json", *streams)
         if done.returncode not in (0, 1):
             self._fail(f"judging ended with status {done.returncode}: {done.stderr.strip()}")
-        self.report = done.stdout
+        self.report, self._explained = done.stdout, done.stderr.splitlines()
         with open(os.path.join(self.folder, "report"), "w", encoding="utf-8") as file:
             file.write(self.report)
         head, *answers = self.report.splitlines()
         if done.returncode == 1:
-            self._fail("the recordings are refused:", head + named_stream(head, streams))
+            self._fail("the recordings are refused:", head + named_stream(head, streams), *self._explained)
         if " 0 events " in head:
             self._fail("nothing was recorded:", head)
         self._look_at(answers, streams)
@@ -101,9 +102,10 @@ class MonitoredRun:
         unknown = [name for name in never if possibly[name].split()[2] == "unknown"]
         if held:
             lines = [line for name in held for line in (possibly[name], self._picture(name, streams))]
-            self._fail("what must never hold may have held:", *lines)
+            self._fail("what must never hold may have held:", *lines, *self._explained)
         if unknown:
-            self._fail("not settled, since the document's width is too small:", *(possibly[name] for name in unknown))
+            self._fail("not settled, since the document's width is too small:", *(possibly[name] for name in unknown),
+                       *self._explained)
 
     def _picture(self, name, streams):
         done = self._run("draw", "session.json", "report", *streams, "--predicate", name)

@@ -155,6 +155,12 @@ class Judged(Case):
             json.dump(DOCUMENT, file)
         self.assertIn("  both possibly yes 2,1\n", self.failure(early, "session.json"))
 
+    def test_an_answer_that_is_explained(self):
+        with mock.patch.dict(os.environ, {"MONITOR_EXPLAIN": "1"}):
+            failure = self.failure(early)
+        self.assertIn("\n  `both` can happen, when these processes have come this far:\n", failure)
+        self.assertNotIn("can happen", self.failure(early))
+
     def test_many_runs(self):
         for number in range(1, 6):
             with contextlib.suppress(AssertionError), MonitoredRun("turns", DOCUMENT, never=["both"]) as run:

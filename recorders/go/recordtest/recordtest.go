@@ -52,6 +52,8 @@ type Run struct {
 	folder   string
 	never    []string
 	patience time.Duration
+	// What the program explains of the report, if MONITOR_EXPLAIN asks for that.
+	explained []string
 
 	mutex     sync.Mutex
 	recorders []Ender
@@ -167,8 +169,12 @@ func (r *Run) judge() error {
 		return r.failure(err.Error())
 	}
 	lines := strings.Split(strings.TrimSuffix(string(report), "\n"), "\n")
+	if said != "" {
+		r.explained = strings.Split(said, "\n")
+	}
 	if status == 1 {
-		return r.failure("the recordings are refused:", lines[0]+namedStream(lines[0], streams))
+		refusal := lines[0] + namedStream(lines[0], streams)
+		return r.failure("the recordings are refused:", append([]string{refusal}, r.explained...)...)
 	}
 	if strings.Contains(lines[0], " 0 events ") {
 		return r.failure("nothing was recorded:", lines[0])
@@ -201,9 +207,9 @@ func (r *Run) lookAt(answers, streams []string) error {
 	}
 	switch {
 	case len(held) > 0:
-		return r.failure("what must never hold may have held:", held...)
+		return r.failure("what must never hold may have held:", append(held, r.explained...)...)
 	case len(unknown) > 0:
-		return r.failure("not settled, since the document's width is too small:", unknown...)
+		return r.failure("not settled, since the document's width is too small:", append(unknown, r.explained...)...)
 	}
 	return nil
 }

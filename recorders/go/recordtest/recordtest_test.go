@@ -121,6 +121,19 @@ func TestRunsThatAreJudged(t *testing.T) {
 		recorded(document+`,"width":1}`, both, apart, apart))
 }
 
+func TestRunsThatAreExplained(t *testing.T) {
+	program(t)
+	t.Setenv("MONITOR_EXPLAIN", "1")
+	for line, play := range map[string]func(*aTest){
+		"\n  `both` can happen, when these processes have come this far:\n": recorded(document+"}", nil, early, right),
+		"\n  No stream is that of process `right`, which":                   recorded(document+"}", nil, late),
+	} {
+		if text, _ := said(t, play); !strings.Contains(text, line) {
+			t.Errorf("there is no %q in\n%s", line, text)
+		}
+	}
+}
+
 func TestRunsThatAreNotJudged(t *testing.T) {
 	program(t)
 	see(t, "nothing was recorded: there is no stream\n  all of the run: RUN", recorded(document+"}", nil))
