@@ -22,7 +22,7 @@ import sys
 from importing import (PROCESS_LIMIT, Event, Refused, add_arguments, as_name, compiled, decoded, find_settings,
                        name_processes, parsed, run, write_session)
 
-PATTERN = r"(?<host>\S*) (?<clock>{.*})\n(?<event>.*)"
+PATTERN = r"(?<!\S)(?<host>\S*) (?<clock>{[^{}\n]*})\n(?<event>.*)"
 
 
 class LogEvent(Event):

@@ -4,6 +4,7 @@ import itertools
 import json
 import os
 import random
+import signal
 import subprocess
 import sys
 import unittest
@@ -97,6 +98,18 @@ class Sessions(Case):
         _, streams = self.imported([text], "--skip-other-lines")
         self.assertEqual(streams, {"a": [{}, {}]})
         self.assertEqual(self.written_file("events.tsv"), "a#1\t1.log line 2\tbegins\na#2\t1.log line 5\tends\n")
+
+    def test_a_line_takes_time_for_its_length(self):
+        million = 10 ** 6
+        lines = ["x" * million, " " * million, "{ " * (million // 2), "a {" * (million // 3), "a {} " * (million // 5),
+                 "a {" + "x" * million, "a " + "{" * million, "a {" + "}" * million + " x"]
+        signal.signal(signal.SIGALRM, lambda *_: self.fail("a line takes too long"))
+        signal.alarm(60)
+        self.addCleanup(signal.alarm, 0)
+        for number, line in enumerate(lines):
+            self.out = f"out{number}"
+            _, streams = self.imported([f'a {{"a":1}}\nbegins\n{line}\n'], "--skip-other-lines")
+            self.assertEqual(streams, {"a": [{}]})
 
     def test_width(self):
         self.assertEqual(self.imported([CLIENT, SERVER], "--width", "65536")[0]["width"], 65536)
@@ -221,10 +234,13 @@ class RefusedLogs(Case):
                      [log(("a", {"a": 1, "b": 1}, ""), ("b", {"a": 1, "b": 1}, ""))])
 
     def test_clocks_that_are_none(self):
-        for clock in ("{1}", "{}{}", '{"a":1,"a":1}', '{"a":' + "1" * 5000 + "}", '{"a":{"a":1,"a":2}}'):
+        for clock in ("{1}", '{"a":1,"a":1}', '{"a":' + "1" * 5000 + "}"):
             status, _, errors = self.run_on([f"b {{\"b\":1}}\n\na {clock}\n\n"])
             self.assertEqual(status, 1)
             self.assertRegex(errors, "^refused: 1.log line 3: the clock isn't JSON: ")
+        for clock in ("{}{}", '{"a":{"a":1,"a":2}}'):
+            self.refused(f"1.log line 3: by the pattern this belongs to no event: {f'a {clock}'!r}",
+                         [f"b {{\"b\":1}}\n\na {clock}\n\n"])
         for clock in ('{"a":1.0}', '{"a":"1"}', '{"a":true}', '{"a":1,"b":-1}', '{"a":null}', '{"a":1e3}'):
             self.refused("1.log line 3: a clock has a whole number for each host, 0 or more",
                          [f"b {{\"b\":1}}\n\na {clock}\n\n"])
