@@ -18,6 +18,7 @@ import time
 
 sys.dont_write_bytecode = True
 import layout  # noqa: E402
+import verdict  # noqa: E402
 
 ROOT = layout.ROOT
 CRATE = os.path.join(ROOT, "crates", "monitor")
@@ -40,13 +41,14 @@ def copy_crates(to):
 
 
 def prove(folder, count, jobs):
-    """Whether each crate of a copy is proved and the program runs as it should. Shows a line for each crate, and what
-    `rt` says of one that isn't proved."""
-    start, done, said = time.time(), 0, []
+    """What `rt` said, if each crate of a copy is proved and the program runs as it should. Shows a line for each crate,
+    and what `rt` says of one that isn't proved."""
+    start, done, said, log = time.time(), 0, [], []
     environment = {**os.environ, **({"RT_JOBS": jobs} if jobs else {})}
     with subprocess.Popen(["rt", "ci"], cwd=folder, env=environment, text=True, errors="replace",
                           stdout=subprocess.PIPE, stderr=subprocess.STDOUT) as run:
         for line in run.stdout:
+            log.append(line)
             found = PROVED.match(line)
             said = [line] if HEAD.match(line) else [*said, line]
             if found:
@@ -58,15 +60,18 @@ def prove(folder, count, jobs):
                 said = []
     if run.returncode:
         sys.stdout.writelines(said)
-    return run.returncode == 0
+        return None
+    return "".join(log)
 
 
 def build_proved(program, jobs):
     os.makedirs(os.path.dirname(program), exist_ok=True)
     with tempfile.TemporaryDirectory(prefix="monitor-build-") as folder:
-        if not prove(folder, copy_crates(folder), jobs):
+        log = prove(folder, copy_crates(folder), jobs)
+        if log is None:
             return 1
         shutil.copy2(os.path.join(folder, "crates", "monitor", "out", "monitor"), program)
+        verdict.keep(program, log)
     return 0
 
 
