@@ -81,10 +81,14 @@ def two_ports(taken):
             return number, bound.pop_all()
 
 
-def limited(room):
-    """Has a process write no file with more than this many bytes: a write that goes on fails."""
+def limited(room, closed):
+    """Has a process write no file with more than this many bytes, if a number is given: a write that goes on fails. And
+    closes these descriptors of it."""
     def limit():
-        resource.setrlimit(resource.RLIMIT_FSIZE, (room, room))
+        if room:
+            resource.setrlimit(resource.RLIMIT_FSIZE, (room, room))
+        for descriptor in closed:
+            os.close(descriptor)
     return limit
 
 
@@ -92,7 +96,7 @@ class Server(contextlib.ExitStack):
     """The program as a server on a free port, and the connections to it. All of it ends with the context."""
 
     def __init__(self, program, folder, document=DOCUMENT, watchers=0, workers=None, taken=(), beyond=False,
-                 fail_on=None, asked=(), before=None, room=None):
+                 fail_on=None, asked=(), before=None, room=None, closed=()):
         super().__init__()
         self.folder = folder
         for name, content in (before or {}).items():
@@ -114,7 +118,7 @@ class Server(contextlib.ExitStack):
         self.began = time.monotonic()
         self.process = self.enter_context(subprocess.Popen(
             [program, "serve", "session.json", *words], cwd=folder, stdout=subprocess.PIPE, stderr=subprocess.PIPE,
-            restore_signals=room is None, preexec_fn=limited(room) if room else None))
+            restore_signals=room is None, preexec_fn=limited(room, closed) if room or closed else None))
         self.callback(self.process.kill)
 
     def connect(self, place=0, seconds=SECONDS):
@@ -529,6 +533,7 @@ def cases():
     yield "the port is taken, and there is no document", nobody, options, (3, b"", b"monitor: read\n")
     yield from kept()
     yield from at_once()
+    yield from closed_descriptors()
     missed = (3, b"", NO_NETWORK)
     yield "nobody comes in a second", lasts(nobody, 1), {"asked": ["--wait", "1"]}, missed
     options = {"asked": ["--wait", "2"], "watchers": 1}
@@ -537,6 +542,19 @@ def cases():
     yield "two come in time, the second one late", late, {"asked": ["--wait", "60"]}, (0, REPORT, b"")
     yield "two come in time, and send later", slow, {"asked": ["--wait", "2"]}, (0, REPORT, b"")
     yield "another address of this machine", other_addresses, {"watchers": 1}, (0, REPORT, b"")
+
+
+def closed_descriptors():
+    """A server that keeps its session, with each set of its standard descriptors closed: what it says then goes into no
+    file that it makes."""
+    files = {"session.json": DOCUMENT, "a.stream": OF_A, "b.stream": OF_B}
+    for closed in [(0,), (1,), (2,), (0, 1), (0, 2), (1, 2), (0, 1, 2)]:
+        # With no output the report can't be written, and then it isn't kept either.
+        unwritten = 1 in closed
+        keeping = files if unwritten else {**files, "report": REPORT}
+        wanted = (3, b"", b"" if 2 in closed else b"monitor: write\n") if unwritten else (0, REPORT, b"")
+        options = {"asked": ["--keep", "kept", *(["--explain"] if 2 in closed else [])], "closed": closed}
+        yield f"closed descriptors {closed}", keeps(senders([OF_A, OF_B]), keeping), options, wanted
 
 
 def ended(program, act, options):

@@ -6,7 +6,7 @@ use app_progress::{Cleared, Screen, ShownFile, ShownFiles};
 use std::env::Env;
 use std::io::{IsTerminal, Write};
 use std::process::ExitCode;
-use std::{env, io};
+use std::{env, fs, io};
 
 /// What is said of a bundle that is to be typed at a terminal.
 const BUNDLE_READ: &[u8] =
@@ -44,8 +44,17 @@ fn is_explained(rt: &HostRuntime) -> bool {
     }
 }
 
+/// What is opened in the place of a standard descriptor that was closed: it can be neither read nor written.
+const NOTHING: &str = "/";
+
 /// Explanations are wanted if the errors go to a terminal, or by the word `--explain` or `MONITOR_EXPLAIN=1`.
+///
+/// Each of the three standard descriptors that was closed is taken before any other file is opened. Else a file that is
+/// opened later would have its number, and what goes to the errors would stand in it.
 fn main(rt: HostRuntime) -> ExitCode {
+    let _input = fs::open(&rt, NOTHING);
+    let _output = fs::open(&rt, NOTHING);
+    let _errors = fs::open(&rt, NOTHING);
     let mut errors = rt.stderr();
     let status = match arguments(&rt) {
         Ok(arguments) => {
