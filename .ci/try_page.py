@@ -15,7 +15,8 @@ import sys
 import tempfile
 
 TOP = os.path.dirname(os.path.dirname(os.path.abspath(__file__)))
-COMMANDS = {"export", "mkdir", "cp", "cd", "cat", "sed", "rm", "python3", "pytest", "go", "javac", "java"}
+COMMANDS = {"export", "mkdir", "cp", "cd", "cat", "sed", "rm", "for", "python3", "pytest", "go", "javac", "java",
+            "monitor"}
 SECONDS = 300
 
 
