@@ -10,8 +10,18 @@
 Each line is handed to the operating system before the call returns, so that nothing that was recorded is lost if the
 process crashes. Several threads may use one recorder. What `monitor` would refuse is refused at once, by `NotRecorded`,
 and the recorder goes on as if the call hadn't been made. The formats and limits are those of docs/SPECIFICATION.md.
+
+One recorder is one order of events. A thread or task that waits by itself gets a strand, or the order in which it came
+is taken for a cause:
+
+    worker = recorder.strand("worker")            # where the thread or task is started; it records to worker.stream
+    with worker:                                  # in the thread or task: `current()` is `worker` there
+        worker.event(busy=1)
+    recorder.join(worker)                         # AFTER the thread or task has been waited for
 """
 import contextlib
+import contextvars
+import errno
 import io
 import itertools
 import json
@@ -24,6 +34,7 @@ import time
 
 EVENT_LIMIT = 10_000
 VARIABLE_LIMIT = 16
+PROCESS_LIMIT = 16
 NAME_BYTE_LIMIT = 32
 ID_BYTE_LIMIT = 64
 LEAST_VALUE, GREATEST_VALUE = -(2**63), 2**63 - 1
@@ -31,6 +42,7 @@ NAME = re.compile(r"[A-Za-z_][A-Za-z0-9_]*")
 RESERVED = frozenset(["and", "or", "not", "true", "false"])
 CONNECT_SECONDS = 10.0
 OPEN, CLOSED, BROKEN = "open", "closed", "broken off, since a line could not be written"
+CURRENT = contextvars.ContextVar("monitor_recorder", default=None)
 
 
 class NotRecorded(ValueError):
@@ -41,8 +53,14 @@ class IdTwice(NotRecorded):
     """The process has sent or received a message with this id before. So a receipt is that of a second copy."""
 
 
+def current():
+    """The recorder in whose `with` block this code runs, or None. A task of asyncio has that of the code which started
+    it, until it enters a block of its own. A thread has to enter one."""
+    return CURRENT.get()
+
+
 class Recorder:
-    """The recording of one process. It writes its first line when it is made.
+    """The recording of one process, or of a strand of one. It writes its first line when it is made.
 
     `out` takes bytes, without a buffer of its own: a file that was opened with `buffering=0`, or a connected socket. A
     file with a buffer is refused, since a crash loses what stands in it. `out` is closed with the recorder.
@@ -53,9 +71,14 @@ class Recorder:
     must stay together.
     """
 
+    _event_limit = EVENT_LIMIT
+
     def __init__(self, process, out, variables=None):
         self.process = checked_name("process", process)
         self.lock = threading.RLock()
+        self._family = Family(self)
+        self._last = None
+        self._outer = []
         self._variables = checked_variables(variables)
         self._out = checked_file(out)
         self._owner = os.getpid()
@@ -70,24 +93,31 @@ class Recorder:
     @classmethod
     def to_file(cls, process, path, variables=None, replace=False):
         """Records to a new file. One that is there already is an OSError, unless it is to be replaced."""
-        return cls._over(process, variables, lambda: open(path, "wb" if replace else "xb", buffering=0))
+        def opened():
+            return open(path, "wb" if replace else "xb", buffering=0)
+
+        first = os.path.abspath(os.fsdecode(path))  # the working directory may change
+        return cls._over(process, variables, opened, lambda name: new_file_beside(first, name, replace))
 
     @classmethod
     def to_port(cls, process, port, variables=None, seconds=CONNECT_SECONDS):
         """Records to `monitor serve` on a port of this machine. If nobody listens there yet, it is tried again until
         these seconds have passed, and then is an OSError. A call waits while the monitor doesn't read."""
-        return cls._over(process, variables, lambda: connection_to(port, seconds))
+        return cls._over(process, variables, lambda: connection_to(port, seconds),
+                         lambda _name: connection_to(port, seconds))
 
     @classmethod
-    def _over(cls, process, variables, opened):
+    def _over(cls, process, variables, opened, opened_for):
         checked_name("process", process)
         declared = checked_variables(variables)
         out = opened()
         try:
-            return cls(process, out, declared)
+            recorder = cls(process, out, declared)
         except BaseException:
             out.close()
             raise
+        recorder._family.opened_for = opened_for
+        return recorder
 
     @property
     def events(self):
@@ -97,6 +127,7 @@ class Recorder:
     def event(self, /, **variables):
         """Something happened in this process; these variables have these values from now on."""
         with self._ready():
+            self._refuse_full()
             self._record({}, None, variables)
 
     def send(self, message=None, /, **variables):
@@ -104,22 +135,84 @@ class Recorder:
         BEFORE the message leaves. The id is given back and has to travel with the message. If none is given one is
         made, the process's name and a counter, as `left-1`."""
         with self._ready():
-            made = self._made
-            if message is None:
-                made = next(number for number in itertools.count(made + 1) if self._id(number) not in self._ids)
-            message = self._id(made) if message is None else self._checked_id(message)
-            self._record({"send": message}, message, variables)
-            self._made = made
-            return message
+            self._refuse_full()
+            return self._send(message, variables)
 
     def receive(self, message, /, **variables):
         """A message has come, with this id: call it AFTER that. A second copy of a message is refused, by `IdTwice`."""
         with self._ready():
+            self._refuse_full()
             self._record({"recv": self._checked_id(message)}, message, variables)
 
+    def strand(self, name, variables=None):
+        """Begins a strand, for a thread or task that waits by itself: a recorder which is a process of the session, of
+        this name. It is recorded to NAME.stream beside the file of this recorder, or to the same port. This process
+        sends it a message, so call it where the thread or task is started. A strand ends by `close`, and so by leaving
+        its block of `with` in any way; then it sends a message to whoever `join`s it. It ends with its process at the
+        latest."""
+        checked_name("process", name)
+        declared = checked_variables(variables)
+        with self._ready():
+            self._refuse_full()
+            strand = self._family.begun(name, declared)
+            try:
+                strand.receive(self.send())
+            except BaseException:
+                strand.abandon()
+                raise
+            return strand
+
+    def join(self, strand, /, **variables):
+        """This process has waited for a strand, which has ended: call it AFTER that. It receives the strand's last
+        message; these variables have these values from now on."""
+        with self._ready():
+            self._refuse_full()
+            if getattr(strand, "_last", None) is None:
+                name = getattr(strand, "process", strand)
+                raise NotRecorded(f"{name} is no strand that has ended: wait for it, and then join it")
+            self.receive(strand._last, **variables)
+
     def close(self):
-        """Nothing more happens in this process: writes the end line. A second call does nothing."""
+        """Nothing more happens in this process: writes the end line, also of its strands that have not ended. A second
+        call does nothing."""
         self._refuse_in_fork()
+        try:
+            self._family.close()
+        finally:
+            self._close()
+
+    def abandon(self):
+        """Closes without an end line, and so the strands that have not ended: `monitor` refuses the streams as
+        `unended`."""
+        if os.getpid() == self._owner:
+            self._family.abandon()
+        self._abandon()
+
+    def __enter__(self):
+        self._outer.append(CURRENT.set(self))
+        return self
+
+    def __exit__(self, kind, error, trace):
+        """Leaving by an exception abandons the recording, since nobody knows what the process would have done. A strand
+        has ended, though, whichever way it came to that: what it would have done is what joins it."""
+        if self._outer:
+            with contextlib.suppress(ValueError):  # it was entered in another context, as a generator may be
+                CURRENT.reset(self._outer.pop())
+        if kind is None or self._is_open_strand():
+            self.close()
+        else:
+            self.abandon()
+
+    async def __aenter__(self):
+        return self.__enter__()
+
+    async def __aexit__(self, kind, error, trace):
+        self.__exit__(kind, error, trace)
+
+    def _is_open_strand(self):
+        return False
+
+    def _close(self):
         with self.lock:
             if self._state == CLOSED:
                 return
@@ -127,26 +220,15 @@ class Recorder:
                 with self._ready():
                     self._write({"end": True})
             finally:
-                self.abandon()
+                self._abandon()
 
-    def abandon(self):
-        """Closes without an end line, so that `monitor` refuses the stream as `unended`."""
+    def _abandon(self):
         if os.getpid() != self._owner:
             self._out.close()
             return
         with self.lock:
             self._state = CLOSED
             self._out.close()
-
-    def __enter__(self):
-        return self
-
-    def __exit__(self, kind, error, trace):
-        """Leaving by an exception abandons the recording, since nobody knows what the process would have done."""
-        if kind is None:
-            self.close()
-        else:
-            self.abandon()
 
     @contextlib.contextmanager
     def _ready(self):
@@ -163,9 +245,21 @@ class Recorder:
         if os.getpid() != self._owner:
             raise NotRecorded(f"{self.process} is recorded by the process of which this one is a fork")
 
+    def _refuse_full(self):
+        if self._events >= self._event_limit:
+            raise NotRecorded(f"{self.process} has {self._events} events: no process may have more than {EVENT_LIMIT} "
+                              "events, and the last one of a strand is its end")
+
+    def _send(self, message, variables):
+        made = self._made
+        if message is None:
+            made = next(number for number in itertools.count(made + 1) if self._id(number) not in self._ids)
+        message = self._id(made) if message is None else self._checked_id(message)
+        self._record({"send": message}, message, variables)
+        self._made = made
+        return message
+
     def _record(self, line, message, variables):
-        if self._events == EVENT_LIMIT:
-            raise NotRecorded(f"{self.process} has {EVENT_LIMIT} events, and no process may have more")
         names = self._checked_names(variables)
         if variables:
             line["set"] = {name: checked_value(name, value) for name, value in variables.items()}
@@ -209,6 +303,109 @@ class Recorder:
             self._out.sendall(text)
         else:
             write_all(self._out, text)
+
+
+class Strand(Recorder):
+    """A recorder that another one has begun. One of its events is kept for its end."""
+
+    _event_limit = EVENT_LIMIT - 1
+
+    def __init__(self, process, out, variables, family):
+        super().__init__(process, out, variables)
+        self._family = family
+
+    def close(self):
+        """The strand has ended: sends the message that whoever joins it receives, and writes the end line."""
+        self._refuse_in_fork()
+        with self.lock:
+            if self._state == OPEN:
+                self._last = self._sent_at_end()
+            self._close()
+
+    def abandon(self):
+        """Closes without an end line, so that `monitor` refuses the stream as `unended`."""
+        self._abandon()
+
+    def cut_off(self):
+        """Its process ends before it: writes the end line alone."""
+        with self.lock:
+            if self._state == OPEN:
+                self._close()
+            else:
+                self._abandon()
+
+    def _sent_at_end(self):
+        try:
+            with self._ready():
+                return self._send(None, {})
+        except BaseException:
+            self._abandon()
+            raise
+
+    def _is_open_strand(self):
+        return self._state == OPEN
+
+
+class Family:
+    """A process that is recorded, and its strands."""
+
+    def __init__(self, process):
+        self.opened_for = None  # opens the stream of a strand with this name, if there is a place for it
+        self._process = process
+        self._lock = threading.Lock()
+        self._names = {process.process}
+        self._strands = []
+        self._is_closed = False
+
+    def begun(self, name, variables):
+        """A strand of this name, which has written its first line."""
+        with self._lock:
+            self._refuse(name)
+            out = self.opened_for(name)
+            try:
+                strand = Strand(name, out, variables, self)
+            except BaseException:
+                out.close()
+                raise
+            self._names.add(name)
+            self._strands.append(strand)
+            return strand
+
+    def _refuse(self, name):
+        if self._is_closed:
+            raise NotRecorded(f"the recording of {self._process.process} is closed")
+        if name in self._names:
+            raise NotRecorded(f"{name} is another process of this recording: give each strand a name of its own")
+        if len(self._names) == PROCESS_LIMIT:
+            raise NotRecorded(f"{self._process.process} and its strands are {PROCESS_LIMIT} processes, and a session "
+                              "has at most as many")
+        if self.opened_for is None:
+            raise NotRecorded(f"{self._process.process} records to a file that it was given, so there is no place for "
+                              "the stream of a strand: make its recorder by to_file or to_port")
+
+    def close(self):
+        """Ends the strands that have not ended: nobody joins them any more. If one can't be ended, the others are."""
+        with contextlib.ExitStack() as stack:
+            for strand in self._all_closing():
+                stack.callback(strand.cut_off)
+
+    def abandon(self):
+        for strand in self._all_closing():
+            strand.abandon()
+
+    def _all_closing(self):
+        # The lock of the process isn't held: a thread may wait for it that holds the one of a strand.
+        with self._lock:
+            self._is_closed = True
+            return list(self._strands)
+
+
+def new_file_beside(first, name, replace):
+    """The file of a strand, in the folder of its process's file, which isn't replaced."""
+    beside = os.path.join(os.path.dirname(first), f"{name}.stream")
+    if replace and os.path.exists(beside) and os.path.samefile(beside, first):
+        raise FileExistsError(errno.EEXIST, os.strerror(errno.EEXIST), beside)
+    return open(beside, "wb" if replace else "xb", buffering=0)
 
 
 def checked_file(out):

@@ -4,12 +4,13 @@ import sys
 import threading
 from urllib.parse import unquote
 
-from monitor_recorder import NotRecorded, Recorder
+from monitor_recorder import NotRecorded, Recorder, current
 
 # What a refusal's text has, for each word of the cases. The first that is found counts.
 REFUSALS = {"process-name": "no name of a process", "variable-name": "no name of a variable", "value": "the value of",
             "variables": "16 variables", "events": "10000 events", "id": "the id", "id-twice": "before",
-            "ended": "is closed", "broken": "is broken off"}
+            "ended": "is closed", "broken": "is broken off", "name-twice": "another process of this recording",
+            "processes": "16 processes", "not-ended": "no strand that has ended"}
 
 
 def text_of(word):
@@ -25,12 +26,30 @@ def settings_of(words):
 class Player:
     def __init__(self):
         self.recorder = None
+        self.recorders = {}
 
     def file(self, process, path):
-        self.recorder = Recorder.to_file(text_of(process), text_of(path))
+        self.begin(process, Recorder.to_file(text_of(process), text_of(path)))
 
     def port(self, process, port, seconds):
-        self.recorder = Recorder.to_port(text_of(process), int(port), seconds=float(seconds))
+        self.begin(process, Recorder.to_port(text_of(process), int(port), seconds=float(seconds)))
+
+    def begin(self, process, recorder):
+        self.recorder, self.recorders = recorder, {process: recorder}
+
+    def strand(self, name):
+        self.recorders[name] = self.recorder.strand(text_of(name))
+
+    def join(self, name, *settings):
+        self.recorder.join(self.recorders[name], **settings_of(settings))
+
+    def in_(self, name, call, *words):
+        """Makes the call by the recorder of a strand."""
+        process, self.recorder = self.recorder, self.recorders[name]
+        try:
+            return self.make(call, *words)
+        finally:
+            self.recorder = process
 
     def event(self, *settings):
         self.recorder.event(**settings_of(settings))
@@ -85,9 +104,23 @@ class Player:
         for thread in threads:
             thread.join()
 
+    def strands(self, count, turns):
+        strands = [self.recorder.strand(f"strand{number}") for number in range(int(count))]
+        self.run(int(count), lambda number: self.take_strand(strands[number], int(turns)))
+        for strand in strands:
+            self.recorder.join(strand)
+
+    def take_strand(self, strand, turns):
+        with strand:
+            for turn in range(turns):
+                current().event(x=turn)
+
+    def make(self, call, *words):
+        return getattr(self, "in_" if call == "in" else call.replace("-", "_"))(*words)
+
     def answer(self, call, *words):
         try:
-            given = getattr(self, call.replace("-", "_"))(*words)
+            given = self.make(call, *words)
         except NotRecorded as refusal:
             return "refused " + next(word for word, text in REFUSALS.items() if text in str(refusal))
         except OSError:

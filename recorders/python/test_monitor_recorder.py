@@ -1,5 +1,6 @@
 """Tests of monitor_recorder that the shared cases in recorders/cases can't say: python3 -m unittest discover -s
 recorders/python"""
+import asyncio
 import enum
 import io
 import json
@@ -220,6 +221,177 @@ class Threads(Case):
         for thread in threads:
             thread.join()
         self.assertEqual(self.lines(), [{"process": "left"}, *[{}] * sum(recorded), {"end": True}])
+
+
+class Strands(Case):
+    def setUp(self):
+        super().setUp()
+        self.folder = os.path.dirname(self.path)
+
+    def lines_of(self, name):
+        with open(os.path.join(self.folder, f"{name}.stream"), encoding="utf-8") as file:
+            return [json.loads(line) for line in file]
+
+    def test_threads_of_which_each_has_its_own(self):
+        def work(strand, number):
+            with strand:
+                for turn in range(100):
+                    monitor_recorder.current().event(x=number * turn)
+
+        with Recorder.to_file("left", self.path) as left:
+            strands = [left.strand(f"s{number}") for number in range(8)]
+            threads = [threading.Thread(target=work, args=(strand, number)) for number, strand in enumerate(strands)]
+            for thread in threads:
+                thread.start()
+            for thread, strand in zip(threads, strands):
+                thread.join()
+                left.join(strand)
+        for number in range(8):
+            self.assertEqual(self.lines_of(f"s{number}"),
+                             [{"process": f"s{number}"}, {"recv": f"left-{number + 1}"},
+                              *({"set": {"x": number * turn}} for turn in range(100)), {"send": f"s{number}-1"},
+                              {"end": True}])
+        self.assertEqual(self.lines()[9:], [*({"recv": f"s{number}-1"} for number in range(8)), {"end": True}])
+
+    def test_tasks_have_their_own_as_the_current_one(self):
+        async def work(strand, seconds):
+            async with strand:
+                await asyncio.sleep(seconds)
+                await deep_below()
+
+        async def deep_below():
+            monitor_recorder.current().event(x=1)
+
+        async def main():
+            async with Recorder.to_file("left", self.path) as left:
+                self.assertIs(monitor_recorder.current(), left)
+                strands = [left.strand(name) for name in ("slow", "fast")]
+                await asyncio.gather(work(strands[0], 0.02), work(strands[1], 0.01))
+                left.event()
+                for strand in strands:
+                    left.join(strand)
+                self.assertIs(monitor_recorder.current(), left)
+
+        asyncio.run(main())
+        self.assertIsNone(monitor_recorder.current())
+        self.assertEqual(self.lines()[1:], [{"send": "left-1"}, {"send": "left-2"}, {}, {"recv": "slow-1"},
+                                            {"recv": "fast-1"}, {"end": True}])
+        for name, message in (("slow", "left-1"), ("fast", "left-2")):
+            self.assertEqual(self.lines_of(name)[1:],
+                             [{"recv": message}, {"set": {"x": 1}}, {"send": f"{name}-1"}, {"end": True}])
+
+    def test_a_strand_that_an_exception_leaves_has_ended(self):
+        with Recorder.to_file("left", self.path) as left:
+            strand = left.strand("worker")
+            with self.assertRaises(KeyError), strand:
+                raise KeyError
+            left.join(strand)
+        self.assertEqual(self.lines_of("worker")[1:], [{"recv": "left-1"}, {"send": "worker-1"}, {"end": True}])
+
+    def test_a_task_that_is_cancelled_has_ended(self):
+        async def wait(strand):
+            async with strand:
+                await asyncio.sleep(60)
+
+        async def main():
+            with Recorder.to_file("left", self.path) as left:
+                strand = left.strand("worker")
+                task = asyncio.ensure_future(wait(strand))
+                await asyncio.sleep(0)
+                task.cancel()
+                with self.assertRaises(asyncio.CancelledError):
+                    await task
+                left.join(strand)
+
+        asyncio.run(main())
+        self.assertEqual(self.lines_of("worker")[-2:], [{"send": "worker-1"}, {"end": True}])
+
+    def test_an_exception_of_the_process_leaves_no_end_lines(self):
+        with self.assertRaises(KeyError), Recorder.to_file("left", self.path) as left:
+            left.strand("worker")
+            left.strand("ended").close()
+            raise KeyError
+        self.assertEqual(self.lines(), [{"process": "left"}, {"send": "left-1"}, {"send": "left-2"}])
+        self.assertEqual(self.lines_of("worker"), [{"process": "worker"}, {"recv": "left-1"}])
+        self.assertEqual(self.lines_of("ended")[-1], {"end": True})
+
+    def test_a_strand_that_is_broken_off_is_not_ended_and_the_others_are(self):
+        left = Recorder.to_file("left", self.path)
+        broken, whole = left.strand("broken"), left.strand("whole")
+        broken._out.close()
+        broken._out = Parts(room=2)
+        with self.assertRaises(OSError), broken:
+            broken.event()
+        with self.assertRaisesRegex(NotRecorded, "no strand that has ended"):
+            left.join(broken)
+        left.close()
+        whole.close()
+        self.assertEqual(self.lines_of("whole"), [{"process": "whole"}, {"recv": "left-2"}, {"end": True}])
+        self.assertEqual(self.lines()[-1], {"end": True})
+
+    def test_a_strand_that_cannot_be_opened_leaves_nothing(self):
+        with Recorder.to_file("left", self.path) as left:
+            os.mkdir(os.path.join(self.folder, "worker.stream"))
+            self.assertRaises(OSError, left.strand, "worker")
+            os.rmdir(os.path.join(self.folder, "worker.stream"))
+            left.strand("worker", variables=["x"]).close()
+            self.refused("no name of a variable", left.strand, "other", variables=["and"])
+        self.assertEqual(self.lines(), [{"process": "left"}, {"send": "left-1"}, {"end": True}])
+        self.assertEqual(sorted(os.listdir(self.folder)), ["left.stream", "worker.stream"])
+
+    def test_a_file_that_was_given_has_no_place_for_strands(self):
+        left = Recorder("left", io.BytesIO())
+        with self.assertRaisesRegex(NotRecorded, "no place for the stream"):
+            left.strand("worker")
+
+    def test_files_of_strands_are_replaced_but_not_that_of_the_process(self):
+        path = os.path.join(self.folder, "worker.stream")
+        for _ in range(2):
+            with Recorder.to_file("left", self.path, replace=True) as left:
+                left.strand("worker").close()
+        self.assertEqual(len(self.lines_of("worker")), 4)
+        with Recorder.to_file("left", path.encode(), replace=True) as left, self.assertRaises(FileExistsError):
+            left.strand("worker")
+        self.assertEqual(self.lines_of("worker"), [{"process": "left"}, {"end": True}])
+
+    def test_the_working_directory_may_change(self):
+        self.addCleanup(os.chdir, os.getcwd())
+        os.chdir(self.folder)
+        with Recorder.to_file("left", "left.stream") as left:
+            os.chdir("/")
+            left.strand("worker").close()
+        self.assertEqual(len(self.lines_of("worker")), 4)
+
+    def test_what_is_no_strand_is_not_joined(self):
+        with Recorder.to_file("left", self.path) as left:
+            for other in ("worker", None, left):
+                self.refused("no strand that has ended", left.join, other)
+
+    def test_a_process_ends_while_threads_record_to_its_strands(self):
+        left = Recorder.to_file("left", self.path)
+        refused = []
+
+        def run(strand):
+            try:
+                while True:
+                    with strand.lock:
+                        strand.event()
+                        left.event()
+                    time.sleep(0.001)  # or there are no more events before the end
+            except NotRecorded:
+                refused.append(strand.process)
+
+        strands = [left.strand(name) for name in ("a", "b", "c")]
+        threads = [threading.Thread(target=run, args=(strand,)) for strand in strands]
+        for thread in threads:
+            thread.start()
+        time.sleep(0.05)
+        left.close()
+        for thread in threads:
+            thread.join(30)
+        self.assertEqual(sorted(refused), ["a", "b", "c"])
+        for lines in (self.lines(), *map(self.lines_of, "abc")):
+            self.assertEqual([place for place, line in enumerate(lines) if line == {"end": True}], [len(lines) - 1])
 
 
 class Ports(Case):
