@@ -22,13 +22,24 @@
  * A recorder that is closed before `end`, as after an exception, leaves no end line, since nobody knows what the
  * process would have done: `monitor` refuses the stream as `unended`.
  *
+ * One recorder is one order of events. An async function that waits beside others gets a strand, or the order in which
+ * it came is taken for a cause:
+ *
+ *     await recorder.strand("worker", async (worker) => { // it records to worker.stream
+ *       worker.event({ busy: 1 }); // `Recorder.current()` is `worker` here, and in what is called from here
+ *     });
+ *
  * It needs Node 18 or later. Its types stand in monitor_recorder.d.cts.
  */
+const { AsyncLocalStorage } = require("node:async_hooks");
 const fs = require("node:fs");
+const path = require("node:path");
+const { fileURLToPath } = require("node:url");
 const { Worker } = require("node:worker_threads");
 
 const EVENT_LIMIT = 10_000;
 const VARIABLE_LIMIT = 16;
+const PROCESS_LIMIT = 16;
 const NAME_BYTE_LIMIT = 32;
 const ID_BYTE_LIMIT = 64;
 const LEAST_VALUE = -(2n ** 63n);
@@ -42,6 +53,8 @@ const STATES = { ended: "has ended", broken: "is broken off, since a line could 
 // these bytes, of which there is room for so many.
 const CODE_BYTES = 56;
 
+const current = new AsyncLocalStorage();
+
 /** A call was refused and wrote nothing: `reason` is a word for why, and the message says it. */
 class NotRecorded extends Error {
   constructor(reason, message) {
@@ -51,10 +64,13 @@ class NotRecorded extends Error {
   }
 }
 
-/** The recording of one process. It writes its first line when it is made. */
+/** The recording of one process, or of a strand of one. It writes its first line when it is made. */
 class Recorder {
   #process;
   #out;
+  #family;
+  #isStrand = false;
+  #last; // the id of the message by which a strand has ended
   #state = OPEN;
   #events = 0;
   #made = 0;
@@ -64,14 +80,17 @@ class Recorder {
   /** Records to a file, a pipe or the like that is open for writing, which is closed with the recorder. */
   constructor(process, descriptor) {
     this.#process = checkedName("process", process);
+    this.#family = new Family(process);
     this.#out = typeof descriptor === "number" ? new Descriptor(descriptor) : descriptor;
     this.#write(`{"process":"${process}"}`);
   }
 
   /** Records to a new file. One that is there already is an error with the code EEXIST. */
-  static toFile(process, path) {
+  static toFile(process, file) {
     checkedName("process", process);
-    return Recorder.#over(process, new Descriptor(fs.openSync(path, "wx")));
+    const first = path.resolve(file instanceof URL ? fileURLToPath(file) : String(file)); // the folder may change
+    const opened = (name) => new Descriptor(fs.openSync(path.join(path.dirname(first), `${name}.stream`), "wx"));
+    return Recorder.#over(process, new Descriptor(fs.openSync(file, "wx")), opened);
   }
 
   /**
@@ -81,16 +100,28 @@ class Recorder {
    */
   static async toPort(process, port, { seconds = PATIENCE_SECONDS } = {}) {
     checkedName("process", process);
-    return Recorder.#over(process, await Connection.to(port, seconds));
+    return Recorder.#over(process, await Connection.to(port, seconds), () => Connection.now(port, seconds));
   }
 
-  static #over(process, out) {
+  static #over(process, out, opened) {
     try {
-      return new Recorder(process, out);
+      const recorder = new Recorder(process, out);
+      recorder.#family.opened = opened;
+      return recorder;
     } catch (error) {
       out.close();
       throw error;
     }
+  }
+
+  /** The recorder with which this code was called by `within` or `strand`, or undefined. */
+  static current() {
+    return current.getStore();
+  }
+
+  /** Calls a function, to which and to whatever it calls or awaits this recorder is the current one. */
+  within(work) {
+    return current.run(this, work, this);
   }
 
   /** Something happened in this process; these variables have these values from now on. */
@@ -104,12 +135,8 @@ class Recorder {
    * message.
    */
   send(variables = {}) {
-    let number = this.#made + 1;
-    while (this.#ids.has(`${this.#process}-${number}`)) number++;
-    const message = `${this.#process}-${number}`;
-    this.#record("send", message, variables);
-    this.#made = number;
-    return message;
+    this.#checkRoom();
+    return this.#sendAny(variables);
   }
 
   /** The same, with an id that no other send of the session has. */
@@ -122,31 +149,124 @@ class Recorder {
     this.#record("recv", checkedId(message), variables);
   }
 
+  /**
+   * Begins a strand, for an async function that waits beside others: a recorder which is a process of the session, of
+   * this name. It is recorded to NAME.stream beside the file of this recorder, or to the same port. This process sends
+   * it a message. A strand ends by `end`, or by `close`; then it sends a message to whoever `join`s it. It ends with
+   * its process at the latest.
+   *
+   * With a function, this is called within the strand, which ends when what it gives has settled, in either way. What
+   * is given back then can be awaited, for the same, and this process joins the strand where it is awaited.
+   */
+  strand(name, work) {
+    const strand = this.#begun(checkedName("process", name));
+    return work === undefined ? strand : new Awaited(this, strand, work);
+  }
+
+  /**
+   * This process has waited for a strand, which has ended: call it AFTER that. It receives the strand's last message;
+   * these variables have these values from now on.
+   */
+  join(strand, variables = {}) {
+    this.#checkRoom();
+    const last = strand instanceof Recorder ? strand.#last : undefined;
+    if (last === undefined) {
+      const name = strand instanceof Recorder ? strand.#process : String(strand);
+      throw new NotRecorded("not-ended", `${name} is no strand that has ended: wait for it, and then join it`);
+    }
+    this.#record("recv", last, variables);
+  }
+
   /** How many events are recorded. */
   get events() {
     return this.#events;
   }
 
-  /** Nothing more happens in this process: writes the end line, and closes. A second call does nothing. */
+  /**
+   * Nothing more happens in this process: writes the end line, and closes; its strands that have not ended get theirs.
+   * A strand sends its last message before. A second call does nothing.
+   */
   end() {
     if (this.#state === ENDED) return;
-    this.#checkOpen();
-    this.#write('{"end":true}');
-    this.close();
+    try {
+      if (!this.#isStrand) this.#family.endAll((strand) => strand.#cutOff());
+    } finally {
+      this.#checkOpen();
+      if (this.#isStrand) this.#last = this.#sendAny({});
+      this.#write('{"end":true}');
+      this.#close();
+    }
   }
 
-  /** Closes the file or connection. Without `end` before, the stream has no end line. A second call does nothing. */
+  /**
+   * Closes the file or connection. Without `end` before, the stream has no end line, and neither have those of its
+   * strands that have not ended. A strand ends by it, as by `end`. A second call does nothing.
+   */
   close() {
+    try {
+      if (!this.#isStrand) this.#family.endAll((strand) => strand.#close());
+      else if (this.#state === OPEN) this.end();
+    } finally {
+      this.#close();
+    }
+  }
+
+  #close() {
     const isClosed = this.#state === ENDED;
     this.#state = ENDED;
     if (!isClosed) this.#out.close();
   }
 
-  #record(field, message, variables) {
-    this.#checkOpen();
-    if (this.#events === EVENT_LIMIT) {
-      throw new NotRecorded("events", `${this.#process} has ${EVENT_LIMIT} events, and no process may have more`);
+  /** The process of this strand ends before it: writes the end line alone. */
+  #cutOff() {
+    try {
+      if (this.#state === OPEN) this.#write('{"end":true}');
+    } finally {
+      this.#close();
     }
+  }
+
+  #begun(name) {
+    this.#checkRoom();
+    const out = this.#family.openedFor(name);
+    const strand = Recorder.#over(name, out);
+    strand.#family = this.#family;
+    strand.#isStrand = true;
+    this.#family.add(name, strand);
+    try {
+      strand.receive(this.send());
+    } catch (error) {
+      strand.#close();
+      throw error;
+    }
+    return strand;
+  }
+
+  #sendAny(variables) {
+    let number = this.#made + 1;
+    while (this.#ids.has(`${this.#process}-${number}`)) number++;
+    const message = `${this.#process}-${number}`;
+    this.#put("send", message, variables);
+    this.#made = number;
+    return message;
+  }
+
+  #record(field, message, variables) {
+    this.#checkRoom();
+    this.#put(field, message, variables);
+  }
+
+  /** One of a strand's events is kept for its end. */
+  #checkRoom() {
+    this.#checkOpen();
+    if (this.#events >= EVENT_LIMIT - Number(this.#isStrand)) {
+      const most = `no process may have more than ${EVENT_LIMIT}, and the last one of a strand is its end`;
+      throw new NotRecorded("events", `${this.#process} has ${this.#events} events: ${most}`);
+    }
+  }
+
+  /** Checks the message and the variables of an event, and writes its line. */
+  #put(field, message, variables) {
     if (this.#ids.has(message)) {
       throw new NotRecorded("id-twice", `${this.#process} has sent or received ${JSON.stringify(message)} before`);
     }
@@ -182,6 +302,100 @@ class Recorder {
     this.#state = BROKEN;
     this.#out.write(`${line}\n`);
     this.#state = OPEN;
+  }
+}
+
+/** A process that is recorded, and its strands. */
+class Family {
+  opened; // gives that to which the strand of a name is recorded, if there is a place for it
+  #process;
+  #strands = [];
+  #names = new Set();
+
+  constructor(process) {
+    this.#process = process;
+    this.#names.add(process);
+  }
+
+  openedFor(name) {
+    if (this.#names.has(name)) {
+      const advice = "give each strand a name of its own";
+      throw new NotRecorded("name-twice", `${name} is another process of this recording: ${advice}`);
+    }
+    if (this.#names.size === PROCESS_LIMIT) {
+      const most = `${PROCESS_LIMIT} processes, and a session has at most as many`;
+      throw new NotRecorded("processes", `${this.#process} and its strands are ${most}`);
+    }
+    if (this.opened === undefined) {
+      const advice = "make its recorder by toFile or toPort";
+      throw new NotRecorded("no-place", `${this.#process} has no place for the stream of a strand: ${advice}`);
+    }
+    return this.opened(name);
+  }
+
+  add(name, strand) {
+    this.#names.add(name);
+    this.#strands.push(strand);
+  }
+
+  /** Ends each of the strands. If one can't be ended, the others are. */
+  endAll(end) {
+    const errors = [];
+    for (const strand of this.#strands) {
+      try {
+        end(strand);
+      } catch (error) {
+        errors.push(error);
+      }
+    }
+    if (errors.length > 0) throw errors[0];
+  }
+}
+
+/** What the function of a strand gives, once it is awaited: then the strand is joined too. */
+class Awaited {
+  #parent;
+  #strand;
+  #settled;
+  #isJoined = false;
+
+  constructor(parent, strand, work) {
+    this.#parent = parent;
+    this.#strand = strand;
+    this.#settled = Awaited.#run(strand, work);
+  }
+
+  static async #run(strand, work) {
+    try {
+      return await strand.within(work);
+    } finally {
+      strand.close();
+    }
+  }
+
+  then(onFulfilled, onRejected) {
+    return this.#joined().then(onFulfilled, onRejected);
+  }
+
+  async #joined() {
+    try {
+      const value = await this.#settled;
+      this.#join();
+      return value;
+    } catch (error) {
+      try {
+        this.#join();
+      } catch {
+        // what the function has thrown says more
+      }
+      throw error;
+    }
+  }
+
+  #join() {
+    const wasJoined = this.#isJoined;
+    this.#isJoined = true;
+    if (!wasJoined) this.#parent.join(this.#strand);
   }
 }
 
@@ -223,10 +437,26 @@ class Connection {
     this.#shared = new Int32Array(shared);
   }
 
-  static to(port, seconds) {
+  /** The same as `to`, but the whole thread waits. */
+  static now(port, seconds) {
+    const { worker, shared } = Connection.#begun(port, seconds);
+    const connection = new Connection(worker, shared);
+    worker.unref();
+    Atomics.wait(connection.#shared, 0, 0);
+    const code = connection.#code();
+    if (code) throw systemError("connect", code);
+    return connection;
+  }
+
+  static #begun(port, seconds) {
     const shared = new SharedArrayBuffer(8 + CODE_BYTES);
     const program = [connectThere, serveThere, answerThere, "connectThere(performance.now());"].join("\n");
     const worker = new Worker(program, { eval: true, execArgv: [], workerData: { port, seconds, shared } });
+    return { worker, shared };
+  }
+
+  static to(port, seconds) {
+    const { worker, shared } = Connection.#begun(port, seconds);
     return new Promise((resolve, reject) => {
       worker.once("error", reject);
       worker.once("message", (code) => {
@@ -239,8 +469,12 @@ class Connection {
 
   write(line) {
     this.#ask(line);
-    const code = Buffer.from(new Uint8Array(this.#shared.buffer, 8, this.#shared[1])).toString();
+    const code = this.#code();
     if (code) throw systemError("write", code);
+  }
+
+  #code() {
+    return Buffer.from(new Uint8Array(this.#shared.buffer, 8, this.#shared[1])).toString();
   }
 
   close() {
@@ -264,8 +498,12 @@ function connectThere(begin) {
   const socket = net.connect({ host: "127.0.0.1", port, noDelay: true, allowHalfOpen: true });
   socket.once("error", (error) => {
     const isOver = error.code !== "ECONNREFUSED" || performance.now() >= begin + 1000 * seconds;
-    if (isOver) parentPort.postMessage(error.code ?? "EIO");
-    else setTimeout(connectThere, 50, begin);
+    if (isOver) {
+      answerThere(error);
+      parentPort.postMessage(error.code ?? "EIO");
+    } else {
+      setTimeout(connectThere, 50, begin);
+    }
   });
   socket.once("connect", () => {
     // A connection to a port that nobody has bound can come to be with itself.
@@ -292,6 +530,7 @@ function serveThere(socket) {
     if (socket.destroyed) answerThere();
     else socket.once("close", () => answerThere()).destroy();
   });
+  answerThere();
   parentPort.postMessage(null);
 }
 
@@ -341,4 +580,12 @@ function checkedValue(name, value) {
   return String(number);
 }
 
-module.exports = { Recorder, NotRecorded, EVENT_LIMIT, VARIABLE_LIMIT, NAME_BYTE_LIMIT, ID_BYTE_LIMIT };
+module.exports = {
+  Recorder,
+  NotRecorded,
+  EVENT_LIMIT,
+  VARIABLE_LIMIT,
+  PROCESS_LIMIT,
+  NAME_BYTE_LIMIT,
+  ID_BYTE_LIMIT,
+};

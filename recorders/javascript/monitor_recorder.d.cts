@@ -4,6 +4,8 @@
 export const EVENT_LIMIT: 10_000;
 /** At most so many variables has a process. */
 export const VARIABLE_LIMIT: 16;
+/** At most so many processes has a session: a process and its strands are as many at most. */
+export const PROCESS_LIMIT: 16;
 /** At most so many bytes has the name of a process or of a variable. */
 export const NAME_BYTE_LIMIT: 32;
 /** At most so many bytes of UTF-8 has the id of a message, and at least one. */
@@ -19,7 +21,7 @@ export type Reason =
   | "value"
   /** A process has at most 16 variables. */
   | "variables"
-  /** A process has at most 10,000 events. */
+  /** A process has at most 10,000 events. The last one of a strand is kept for its end. */
   | "events"
   /** The id of a message has 1 to 64 bytes of UTF-8. */
   | "id"
@@ -27,6 +29,14 @@ export type Reason =
   | "id-twice"
   /** The recording has ended, or was closed. */
   | "ended"
+  /** The name is that of the process or of another strand of it. */
+  | "name-twice"
+  /** A process and its strands are at most 16. */
+  | "processes"
+  /** The recorder was made for an open file, so there is no place for the stream of a strand. */
+  | "no-place"
+  /** What is to be joined is no strand that has ended. */
+  | "not-ended"
   /** An earlier line could not be written, so none is any more. */
   | "broken";
 
@@ -40,7 +50,7 @@ export class NotRecorded extends Error {
 /** Variables, and the values that they have from now on: whole numbers, or true for 1 and false for 0. */
 export type Variables = Readonly<Record<string, number | bigint | boolean>>;
 
-/** The recording of one process. It writes its first line when it is made. */
+/** The recording of one process, or of a strand of one. It writes its first line when it is made. */
 export class Recorder {
   /** Records to a file, a pipe or the like that is open for writing, which is closed with the recorder. */
   constructor(process: string, descriptor: number);
@@ -54,6 +64,32 @@ export class Recorder {
    * the whole thread waiting, while the monitor doesn't read.
    */
   static toPort(process: string, port: number, options?: { seconds?: number }): Promise<Recorder>;
+
+  /** The recorder with which this code was called by `within` or `strand`, or undefined. */
+  static current(): Recorder | undefined;
+
+  /** Calls a function, to which and to whatever it calls or awaits this recorder is the current one. */
+  within<T>(work: (recorder: Recorder) => T): T;
+
+  /**
+   * Begins a strand, for an async function that waits beside others: a recorder which is a process of the session, of
+   * this name. It is recorded to NAME.stream beside the file of this recorder, or to the same port. This process sends
+   * it a message. A strand ends by `end`, or by `close`; then it sends a message to whoever `join`s it. It ends with
+   * its process at the latest.
+   */
+  strand(name: string): Recorder;
+
+  /**
+   * The same, with a function that is called within the strand, which ends when what it gives has settled, in either
+   * way. What is given back then can be awaited, for the same, and this process joins the strand where it is awaited.
+   */
+  strand<T>(name: string, work: (strand: Recorder) => T): PromiseLike<Awaited<T>>;
+
+  /**
+   * This process has waited for a strand, which has ended: call it AFTER that. It receives the strand's last message;
+   * these variables have these values from now on.
+   */
+  join(strand: Recorder, variables?: Variables): void;
 
   /** Something happened in this process; these variables have these values from now on. */
   event(variables?: Variables): void;
@@ -74,9 +110,15 @@ export class Recorder {
   /** How many events are recorded. */
   get events(): number;
 
-  /** Nothing more happens in this process: writes the end line, and closes. A second call does nothing. */
+  /**
+   * Nothing more happens in this process: writes the end line, and closes; its strands that have not ended get theirs.
+   * A strand sends its last message before. A second call does nothing.
+   */
   end(): void;
 
-  /** Closes the file or connection. Without `end` before, the stream has no end line. A second call does nothing. */
+  /**
+   * Closes the file or connection. Without `end` before, the stream has no end line, and neither have those of its
+   * strands that have not ended. A strand ends by it, as by `end`. A second call does nothing.
+   */
   close(): void;
 }

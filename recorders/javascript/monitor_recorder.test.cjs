@@ -7,6 +7,7 @@ const net = require("node:net");
 const os = require("node:os");
 const path = require("node:path");
 const { test } = require("node:test");
+const { setTimeout: sleep } = require("node:timers/promises");
 const recording = require("./monitor_recorder.cjs");
 
 const { NotRecorded, Recorder } = recording;
@@ -137,7 +138,8 @@ test("the types name what the module has", () => {
   const types = fs.readFileSync(path.join(__dirname, "monitor_recorder.d.cts"), "utf8");
   const named = [...types.matchAll(/^export (?:const|class) (\w+)/gm)].map((found) => found[1]);
   assert.deepEqual(named.sort(), Object.keys(recording).sort());
-  const methods = [...types.matchAll(/^ {2}(?:static |get )?(\w+)\(/gm)].map((found) => found[1]);
+  const found = [...types.matchAll(/^ {2}(?:static |get )?(\w+)(?:<T>)?\(/gm)].map((method) => method[1]);
+  const methods = [...new Set(found)];
   const members = [...Object.getOwnPropertyNames(Recorder), ...Object.getOwnPropertyNames(Recorder.prototype)];
   const others = ["length", "name", "prototype"];
   assert.deepEqual(new Set(methods), new Set(members.filter((name) => !others.includes(name))));
@@ -178,4 +180,148 @@ test("a port on which nobody listens", async () => {
   await assert.rejects(Recorder.toPort("left", ours.localPort, { seconds: 0 }), { code: "ECONNREFUSED" });
   ours.destroy();
   server.close();
+});
+
+/** A recorder in a folder of its own, and the texts of the streams there. */
+function openedWithStrands() {
+  const at = fs.mkdtempSync(path.join(folder, "strands-"));
+  const text = (name) => fs.readFileSync(path.join(at, `${name}.stream`), "utf8");
+  return { recorder: Recorder.toFile("left", path.join(at, "left.stream")), text, at };
+}
+
+/** The stream of a strand that was the process's first. */
+const whole = (name, ...events) =>
+  [`{"process":"${name}"}`, '{"recv":"left-1"}', ...events, `{"send":"${name}-1"}`, '{"end":true}', ""].join("\n");
+
+test("async functions have their own strand as the current one", async () => {
+  const { recorder, text } = openedWithStrands();
+  const deepBelow = async () => {
+    await sleep(1);
+    Recorder.current().event({ x: 1 });
+  };
+  const work = async (milliseconds) => {
+    await sleep(milliseconds);
+    await deepBelow();
+    return milliseconds;
+  };
+  const given = await Promise.all([recorder.strand("slow", () => work(30)), recorder.strand("fast", () => work(5))]);
+  assert.deepEqual(given, [30, 5]);
+  assert.equal(Recorder.current(), undefined);
+  recorder.end();
+  assert.equal(text("slow"), whole("slow", '{"set":{"x":1}}'));
+  assert.equal(text("fast"), whole("fast", '{"set":{"x":1}}').replace("left-1", "left-2"));
+  const joins = '{"recv":"fast-1"}\n{"recv":"slow-1"}\n';
+  assert.equal(text("left"), `${JOIN}{"send":"left-1"}\n{"send":"left-2"}\n${joins}${END}`);
+});
+
+test("a strand is joined where it is awaited, and once", async () => {
+  const { recorder, text } = openedWithStrands();
+  const worker = recorder.strand("worker", () => "done");
+  recorder.strand("other", () => undefined);
+  await sleep(5);
+  recorder.event({ x: 1 });
+  assert.equal(await worker, "done");
+  assert.equal(await worker, "done");
+  recorder.end();
+  const begun = '{"send":"left-1"}\n{"send":"left-2"}\n';
+  assert.equal(text("left"), `${JOIN}${begun}{"set":{"x":1}}\n{"recv":"worker-1"}\n${END}`);
+});
+
+test("a strand whose function fails has ended, and is joined", async () => {
+  const { recorder, text } = openedWithStrands();
+  for (const [name, work] of Object.entries({ thrown: () => fail(), rejected: async () => fail() })) {
+    await assert.rejects(async () => recorder.strand(name, work), /went wrong/);
+  }
+  const late = recorder.strand("late", async () => {
+    await sleep(1);
+    fail();
+  });
+  recorder.end();
+  await assert.rejects(async () => late, /went wrong/);
+  assert.equal(text("thrown"), whole("thrown"));
+  assert.equal(text("rejected").slice(-END.length), END);
+  assert.equal(text("late"), '{"process":"late"}\n{"recv":"left-3"}\n{"end":true}\n');
+  assert.match(text("left"), /{"send":"left-1"}\n{"recv":"thrown-1"}\n{"send":"left-2"}\n{"recv":"rejected-1"}/);
+});
+
+function fail() {
+  throw new Error("something went wrong");
+}
+
+test("a strand that is closed has ended", () => {
+  const { recorder, text } = openedWithStrands();
+  const strand = recorder.strand("worker");
+  strand.close();
+  recorder.join(strand, { x: 1 });
+  recorder.end();
+  assert.equal(text("worker"), whole("worker"));
+});
+
+test("the working directory may change", () => {
+  const before = process.cwd();
+  process.chdir(fs.mkdtempSync(path.join(folder, "there-")));
+  const recorder = Recorder.toFile("left", "left.stream");
+  const there = process.cwd();
+  process.chdir(before);
+  recorder.strand("worker").end();
+  recorder.end();
+  assert.equal(fs.readFileSync(path.join(there, "worker.stream"), "utf8"), whole("worker"));
+});
+
+test("strands are closed with their process", () => {
+  const { recorder, text } = openedWithStrands();
+  const strand = recorder.strand("worker");
+  recorder.close();
+  strand.close();
+  refused("ended", () => strand.event());
+  assert.equal(text("worker"), '{"process":"worker"}\n{"recv":"left-1"}\n');
+});
+
+test("a strand that is broken off is not ended, and the others are", () => {
+  const { recorder, text } = openedWithStrands();
+  const broken = recorder.strand("broken");
+  const whole = recorder.strand("whole");
+  for (const number of fs.readdirSync("/proc/self/fd").map(Number)) {
+    if (linkOf(number)?.endsWith("/broken.stream")) fs.closeSync(number);
+  }
+  assert.throws(() => broken.event(), { code: "EBADF" });
+  refused("not-ended", () => recorder.join(broken));
+  assert.throws(() => recorder.end(), { code: "EBADF" });
+  refused("ended", () => whole.event());
+  assert.equal(text("whole"), '{"process":"whole"}\n{"recv":"left-2"}\n{"end":true}\n');
+  assert.equal(text("left").slice(-END.length), END);
+});
+
+function linkOf(number) {
+  try {
+    return fs.readlinkSync(`/proc/self/fd/${number}`);
+  } catch {
+    return undefined;
+  }
+}
+
+test("strands that are refused", () => {
+  const { recorder, at } = openedWithStrands();
+  refused("process-name", () => recorder.strand(undefined));
+  for (const other of ["worker", undefined, recorder]) refused("not-ended", () => recorder.join(other));
+  refused("name-twice", () => recorder.strand("left", fail));
+  const given = new Recorder("other", fs.openSync(path.join(at, "other"), "wx"));
+  refused("no-place", () => given.strand("worker"));
+  given.end();
+  recorder.end();
+  assert.deepEqual(fs.readdirSync(at).sort(), ["left.stream", "other"]);
+});
+
+test("strands over connections, and a monitor that is gone", async () => {
+  const server = net.createServer((connection) => connection.resume()).listen(0, "127.0.0.1");
+  await new Promise((resolve) => server.once("listening", resolve));
+  const recorder = await Recorder.toPort("left", server.address().port, { seconds: 0 });
+  const strand = recorder.strand("worker");
+  await sleep(20);
+  server.close();
+  assert.throws(() => recorder.strand("late"), { code: "ECONNREFUSED" });
+  strand.end();
+  recorder.join(strand);
+  recorder.end();
+  assert.equal(recorder.events, 2);
 });

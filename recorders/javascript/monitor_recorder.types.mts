@@ -18,6 +18,12 @@ export async function takes(descriptor: number): Promise<Reason | undefined> {
   } finally {
     left.close();
   }
+  const answer: number = await left.strand("worker", async (worker) => worker.events);
+  const [text]: [string] = await Promise.all([left.strand("other", () => "done")]);
+  const strand: Recorder = left.strand("plain");
+  Recorder.current()?.event({ answer, long: text.length });
+  const all: number = left.within((recorder) => recorder.events);
+  left.join(strand, { all });
   (await Recorder.toPort("right", 7411, { seconds: 3 })).end();
   new Recorder("other", descriptor).end();
   return undefined;
@@ -30,6 +36,10 @@ export function refuses(left: Recorder): void {
   left.receive();
   // @ts-expect-error: what is recorded is not for others to set
   left.events = 0;
+  // @ts-expect-error: there may be no current recorder
+  Recorder.current().event();
+  // @ts-expect-error: a strand is joined by its recorder
+  left.join("worker");
   // @ts-expect-error: a recorder for a port comes later
   Recorder.toPort("right", 7411).end();
 }

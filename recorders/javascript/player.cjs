@@ -5,11 +5,15 @@ const readline = require("node:readline");
 const { NotRecorded, Recorder } = require("./monitor_recorder.cjs");
 
 let recorder;
+let recorders;
 
 const calls = {
-  file: (process, path) => void (recorder = Recorder.toFile(textOf(process), textOf(path))),
+  file: (process, path) => begin(process, Recorder.toFile(textOf(process), textOf(path))),
   port: async (process, port, seconds) =>
-    void (recorder = await Recorder.toPort(textOf(process), Number(port), { seconds: Number(seconds) })),
+    begin(process, await Recorder.toPort(textOf(process), Number(port), { seconds: Number(seconds) })),
+  strand: (name) => void recorders.set(name, recorder.strand(textOf(name))),
+  join: (name, ...words) => recorder.join(recorders.get(name), settingsOf(words)),
+  in: callIn,
   event: (...words) => recorder.event(settingsOf(words)),
   send: (...words) => recorder.send(settingsOf(words)),
   "send-as": (message, ...words) => recorder.sendAs(textOf(message), settingsOf(words)),
@@ -19,7 +23,24 @@ const calls = {
   close: () => recorder?.close(),
   threads: (count, turns) => run(Number(count), takeTurns, Number(turns)),
   flood: (count) => run(Number(count), sendAll),
+  strands: (count, turns) => takeStrands(Number(count), Number(turns)),
 };
+
+function begin(process, made) {
+  recorder = made;
+  recorders = new Map([[process, made]]);
+}
+
+/** Makes the call by the recorder of a strand. */
+async function callIn(name, call, ...words) {
+  const process = recorder;
+  recorder = recorders.get(name);
+  try {
+    return await calls[call](...words);
+  } finally {
+    recorder = process;
+  }
+}
 
 /** The text for which a word stands: `%` and two digits are a byte, and `%` alone is no text at all. */
 function textOf(word) {
@@ -53,6 +74,20 @@ async function takeTurns(number, shared, turns) {
     shared.total += 1;
     recorder.event({ total: shared.total });
   }
+}
+
+async function takeStrands(count, turns) {
+  const strands = Array.from({ length: count }, (_, number) => recorder.strand(`strand${number}`));
+  await Promise.all(strands.map((strand) => strand.within(() => takeStrand(turns))));
+  for (const strand of strands) recorder.join(strand);
+}
+
+async function takeStrand(turns) {
+  for (let turn = 0; turn < turns; turn++) {
+    await pause();
+    Recorder.current().event({ x: turn });
+  }
+  Recorder.current().end();
 }
 
 async function sendAll() {
