@@ -18,6 +18,19 @@
 //
 // A recorder that is closed before [Recorder.End], as by a return with an error or a panic, leaves no end line, since
 // nobody knows what the process would have done: monitor refuses the stream as unended.
+//
+// One recorder is one order of events. A goroutine that waits by itself gets a strand, or the order in which it came is
+// taken for a cause:
+//
+//	worker, err := left.Strand("worker") // where the goroutine is started; it records to worker.stream
+//	..
+//	go func() {
+//		defer close(done)
+//		defer worker.Close() // in the goroutine, when it has done its work
+//		work(record.NewContext(ctx, worker))
+//	}()
+//	<-done
+//	err = left.Join(worker) // AFTER the goroutine has been waited for
 package record
 
 import (
@@ -28,6 +41,7 @@ import (
 	"math"
 	"net"
 	"os"
+	"path/filepath"
 	"reflect"
 	"strconv"
 	"strings"
@@ -41,6 +55,7 @@ import (
 const (
 	EventLimit    = 10_000 // at most so many events has a process
 	VariableLimit = 16     // at most so many variables has a process
+	ProcessLimit  = 16     // at most so many processes has a session: a process and its strands are as many at most
 	NameByteLimit = 32     // at most so many bytes has the name of a process or of a variable
 	IDByteLimit   = 64     // at most so many bytes has the id of a message, and at least one
 )
@@ -64,8 +79,8 @@ var (
 	ErrValue error = refusal("no whole number of 64 bits with a sign")
 	// ErrVariables: a process has at most 16 variables.
 	ErrVariables error = refusal("a process has at most 16 variables")
-	// ErrEvents: a process has at most 10,000 events.
-	ErrEvents error = refusal("a process has at most 10,000 events")
+	// ErrEvents: a process has at most 10,000 events. The last one of a strand is kept for its end.
+	ErrEvents error = refusal("a process has at most 10,000 events, of which a strand's last one is its end")
 	// ErrID: the id of a message has 1 to 64 bytes, which are UTF-8.
 	ErrID error = refusal("the id of a message has 1 to 64 bytes of UTF-8")
 	// ErrIDTwice: the process has sent or received a message with this id before: a receipt is that of a second copy.
@@ -74,6 +89,14 @@ var (
 	ErrEnded error = refusal("the recording has ended")
 	// ErrBroken: an earlier line could not be written, so none is any more.
 	ErrBroken error = refusal("an earlier line could not be written")
+	// ErrNameTwice: the name is that of the process or of another strand of it.
+	ErrNameTwice error = refusal("another process of this recording has this name: give each strand one of its own")
+	// ErrProcesses: a process and its strands are at most 16.
+	ErrProcesses error = refusal("a session has at most 16 processes, and a process and its strands are as many")
+	// ErrNoPlace: the recorder was made by New, so there is no place for the stream of a strand.
+	ErrNoPlace error = refusal("no place for the stream of a strand: make the recorder by ToFile or ToPort")
+	// ErrNotEnded: what is to be joined is no strand that has ended.
+	ErrNotEnded error = refusal("no strand that has ended: wait for it, and then join it")
 )
 
 type refusal string
@@ -111,17 +134,20 @@ func Set[V Value](name string, value V) Setting {
 	return Setting{name: name, value: int64(number.Uint())}
 }
 
-// A Recorder is the recording of one process. The errors of its calls are the reasons above, or the system's; after one
-// of the system's each later call is ErrBroken.
+// A Recorder is the recording of one process, or of a strand of one. The errors of its calls are the reasons above, or
+// the system's; after one of the system's each later call is ErrBroken.
 type Recorder struct {
-	process string
+	process  string
+	family   *family
+	isStrand bool
 
 	mutex  sync.Mutex
 	out    io.WriteCloser
 	ended  bool
 	broken bool
 	events int
-	made   int // the number of the last id that was made
+	made   int    // the number of the last id that was made
+	last   string // the id of the message by which a strand has ended
 	ids    map[string]bool
 	names  map[string]bool
 }
@@ -131,11 +157,21 @@ func ToFile(process, path string) (*Recorder, error) {
 	if !isName(process) {
 		return nil, refused(process, ErrProcessName)
 	}
-	file, err := os.OpenFile(path, os.O_WRONLY|os.O_CREATE|os.O_EXCL, 0o666)
+	first, err := filepath.Abs(path) // the working directory may change
 	if err != nil {
 		return nil, err
 	}
-	return over(process, file)
+	file, err := newFile(path)
+	if err != nil {
+		return nil, err
+	}
+	return over(process, file, func(name string) (io.WriteCloser, error) {
+		return newFile(filepath.Join(filepath.Dir(first), name+".stream"))
+	})
+}
+
+func newFile(path string) (io.WriteCloser, error) {
+	return os.OpenFile(path, os.O_WRONLY|os.O_CREATE|os.O_EXCL, 0o666)
 }
 
 // ToPort records to monitor serve on a port of this machine, 1 to 65,534. If nobody listens there yet, it is tried
@@ -149,7 +185,9 @@ func ToPort(ctx context.Context, process string, port int) (*Recorder, error) {
 	if err != nil {
 		return nil, err
 	}
-	return over(process, connection)
+	return over(process, connection, func(string) (io.WriteCloser, error) {
+		return connectionTo(context.Background(), port)
+	})
 }
 
 // New records to a file, a connection or whatever else takes bytes, without a buffer of its own. It is closed with the
@@ -159,18 +197,21 @@ func New(process string, out io.WriteCloser) (*Recorder, error) {
 		return nil, refused(process, ErrProcessName)
 	}
 	r := &Recorder{process: process, out: out, ids: map[string]bool{}, names: map[string]bool{}}
+	r.family = &family{names: map[string]bool{process: true}}
 	if err := r.write(`{"process":` + quoted(process) + "}\n"); err != nil {
 		return nil, err
 	}
 	return r, nil
 }
 
-func over(process string, out io.WriteCloser) (*Recorder, error) {
+func over(process string, out io.WriteCloser, open func(string) (io.WriteCloser, error)) (*Recorder, error) {
 	r, err := New(process, out)
 	if err != nil {
 		out.Close()
+		return nil, err
 	}
-	return r, err
+	r.family.open = open
+	return r, nil
 }
 
 // Event records that something happened in this process; these variables have these values from now on.
@@ -186,15 +227,10 @@ func (r *Recorder) Event(settings ...Setting) error {
 func (r *Recorder) Send(settings ...Setting) (id string, err error) {
 	r.mutex.Lock()
 	defer r.mutex.Unlock()
-	number := r.made + 1
-	for r.ids[r.id(number)] {
-		number++
-	}
-	if err := r.record("send", r.id(number), settings); err != nil {
+	if err := r.room(); err != nil {
 		return "", err
 	}
-	r.made = number
-	return r.id(number), nil
+	return r.sendAny(settings)
 }
 
 // SendAs does the same, with an id that no other send of the session has.
@@ -211,6 +247,59 @@ func (r *Recorder) Receive(id string, settings ...Setting) error {
 	return r.record("recv", id, settings)
 }
 
+// Strand begins a strand, for a goroutine that waits by itself: a recorder which is a process of the session, of this
+// name. It is recorded to NAME.stream beside the file of this recorder, or to the same port. This process sends it a
+// message, so call it where the goroutine is started. A strand ends by [Recorder.End] or [Recorder.Close]; then it
+// sends a message to whoever joins it. It ends with its process at the latest.
+func (r *Recorder) Strand(name string) (*Recorder, error) {
+	if !isName(name) {
+		return nil, refused(name, ErrProcessName)
+	}
+	r.mutex.Lock()
+	defer r.mutex.Unlock()
+	if err := r.room(); err != nil {
+		return nil, err
+	}
+	strand, err := r.family.begun(name)
+	if err != nil {
+		return nil, err
+	}
+	id, err := r.sendAny(nil)
+	if err == nil {
+		err = strand.Receive(id)
+	}
+	if err != nil {
+		strand.closeOut()
+		return nil, err
+	}
+	return strand, nil
+}
+
+// Join records that this process has waited for a strand, which has ended: call it AFTER that. The process receives the
+// strand's last message; these variables have these values from now on.
+func (r *Recorder) Join(strand *Recorder, settings ...Setting) error {
+	name, last := strand.lastMessage()
+	r.mutex.Lock()
+	defer r.mutex.Unlock()
+	if err := r.room(); err != nil {
+		return err
+	}
+	if last == "" {
+		return refused(name, ErrNotEnded)
+	}
+	return r.put("recv", last, settings)
+}
+
+// lastMessage is the name of a strand and the id by which it has ended, if it has.
+func (r *Recorder) lastMessage() (name, last string) {
+	if r == nil {
+		return "", ""
+	}
+	r.mutex.Lock()
+	defer r.mutex.Unlock()
+	return r.process, r.last
+}
+
 // Events says how many events are recorded.
 func (r *Recorder) Events() int {
 	r.mutex.Lock()
@@ -218,9 +307,38 @@ func (r *Recorder) Events() int {
 	return r.events
 }
 
-// End records that nothing more happens in this process: it writes the end line, and closes the file or connection. A
-// second call does nothing.
+// End records that nothing more happens in this process: it writes the end line, and closes the file or connection. Its
+// strands that have not ended get their end lines. A strand sends its last message before. A second call does nothing.
 func (r *Recorder) End() error {
+	if r.isStrand {
+		return r.end(r.sendLast)
+	}
+	err := r.family.endAll((*Recorder).cutOff)
+	if ended := r.end(nil); ended != nil {
+		return ended
+	}
+	return err
+}
+
+// Close closes the file or connection. Without End before, the stream has no end line, and neither have those of its
+// strands that have not ended. A strand ends by it, as by End. A second call does nothing.
+func (r *Recorder) Close() error {
+	if r.isStrand {
+		err := r.end(r.sendLast)
+		if closed := r.closeOut(); err == nil {
+			err = closed
+		}
+		return err
+	}
+	err := r.family.endAll((*Recorder).closeOut)
+	if closed := r.closeOut(); closed != nil {
+		return closed
+	}
+	return err
+}
+
+// end writes the end line after the last event, if there is one, and closes.
+func (r *Recorder) end(last func() error) error {
 	r.mutex.Lock()
 	defer r.mutex.Unlock()
 	if r.ended {
@@ -229,6 +347,11 @@ func (r *Recorder) End() error {
 	if r.broken {
 		return refused(r.process, ErrBroken)
 	}
+	if last != nil {
+		if err := last(); err != nil {
+			return err
+		}
+	}
 	if err := r.write("{\"end\":true}\n"); err != nil {
 		return err
 	}
@@ -236,8 +359,25 @@ func (r *Recorder) End() error {
 	return r.out.Close()
 }
 
-// Close closes the file or connection. Without End before, the stream has no end line. A second call does nothing.
-func (r *Recorder) Close() error {
+// sendLast sends the message by which a strand has ended; the lock is held.
+func (r *Recorder) sendLast() (err error) {
+	r.last, err = r.sendAny(nil)
+	return err
+}
+
+// cutOff ends a strand whose process ends before it: nobody joins it any more.
+func (r *Recorder) cutOff() error {
+	err := r.end(nil)
+	if errors.Is(err, ErrBroken) { // the call that broke it has said so
+		err = nil
+	}
+	if closed := r.closeOut(); err == nil {
+		err = closed
+	}
+	return err
+}
+
+func (r *Recorder) closeOut() error {
 	r.mutex.Lock()
 	defer r.mutex.Unlock()
 	if r.ended {
@@ -245,6 +385,57 @@ func (r *Recorder) Close() error {
 	}
 	r.ended = true
 	return r.out.Close()
+}
+
+// A family is a process that is recorded and its strands.
+type family struct {
+	mutex   sync.Mutex
+	open    func(name string) (io.WriteCloser, error) // opens the stream of a strand, if there is a place for it
+	names   map[string]bool
+	strands []*Recorder
+	ended   bool
+}
+
+// begun is a strand of this name, which has written its first line.
+func (f *family) begun(name string) (*Recorder, error) {
+	f.mutex.Lock()
+	defer f.mutex.Unlock()
+	switch {
+	case f.ended:
+		return nil, refused(name, ErrEnded)
+	case f.names[name]:
+		return nil, refused(name, ErrNameTwice)
+	case len(f.names) == ProcessLimit:
+		return nil, refused(name, ErrProcesses)
+	case f.open == nil:
+		return nil, refused(name, ErrNoPlace)
+	}
+	out, err := f.open(name)
+	if err != nil {
+		return nil, err
+	}
+	strand, err := over(name, out, nil)
+	if err != nil {
+		return nil, err
+	}
+	strand.family, strand.isStrand = f, true
+	f.names[name] = true
+	f.strands = append(f.strands, strand)
+	return strand, nil
+}
+
+// endAll ends each of the strands, and gives the first error. No lock of the process is held.
+func (f *family) endAll(end func(*Recorder) error) (err error) {
+	f.mutex.Lock()
+	f.ended = true
+	strands := f.strands
+	f.mutex.Unlock()
+	for _, strand := range strands {
+		if ended := end(strand); err == nil {
+			err = ended
+		}
+	}
+	return err
 }
 
 type contextKey struct{}
@@ -262,15 +453,47 @@ func FromContext(ctx context.Context) (*Recorder, bool) {
 
 func (r *Recorder) id(number int) string { return r.process + "-" + strconv.Itoa(number) }
 
+// sendAny records a send with an id that it makes; the lock is held.
+func (r *Recorder) sendAny(settings []Setting) (string, error) {
+	number := r.made + 1
+	for r.ids[r.id(number)] {
+		number++
+	}
+	if err := r.put("send", r.id(number), settings); err != nil {
+		return "", err
+	}
+	r.made = number
+	return r.id(number), nil
+}
+
 // record checks an event and writes its line; the lock is held. Without a field the event has no message.
 func (r *Recorder) record(field, id string, settings []Setting) error {
+	if err := r.room(); err != nil {
+		return err
+	}
+	return r.put(field, id, settings)
+}
+
+// room is an error if no event may be recorded. One of a strand's events is kept for its end.
+func (r *Recorder) room() error {
+	limit := EventLimit
+	if r.isStrand {
+		limit--
+	}
 	switch {
 	case r.ended:
 		return refused(r.process, ErrEnded)
 	case r.broken:
 		return refused(r.process, ErrBroken)
-	case r.events == EventLimit:
+	case r.events >= limit:
 		return refused(r.process, ErrEvents)
+	}
+	return nil
+}
+
+// put checks the message and the variables of an event, and writes its line.
+func (r *Recorder) put(field, id string, settings []Setting) error {
+	switch {
 	case field != "" && (id == "" || len(id) > IDByteLimit || !utf8.ValidString(id)):
 		return refused(id, ErrID)
 	case r.ids[id]:

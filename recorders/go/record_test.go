@@ -5,6 +5,7 @@ import (
 	"context"
 	"errors"
 	"fmt"
+	"io"
 	"io/fs"
 	"math"
 	"net"
@@ -62,7 +63,7 @@ func seeText(t *testing.T, out *memory, wanted string) {
 
 func TestEveryReasonIsNotRecorded(t *testing.T) {
 	reasons := []error{ErrProcessName, ErrVariableName, ErrValue, ErrVariables, ErrEvents, ErrID, ErrIDTwice, ErrEnded,
-		ErrBroken}
+		ErrBroken, ErrNameTwice, ErrProcesses, ErrNoPlace, ErrNotEnded}
 	for place, reason := range reasons {
 		see(t, refused("x", reason), ErrNotRecorded)
 		for other := range reasons {
@@ -185,6 +186,196 @@ func TestAContextCarriesARecorder(t *testing.T) {
 	if _, ok := FromContext(context.Background()); ok {
 		t.Error("a context without a recorder has one")
 	}
+}
+
+// process is a recorder in a new folder, and reads the streams there.
+type process struct {
+	*Recorder
+	t      *testing.T
+	folder string
+}
+
+func openedWithStrands(t *testing.T) process {
+	t.Helper()
+	folder := t.TempDir()
+	r, err := ToFile("left", filepath.Join(folder, "left.stream"))
+	see(t, err, nil)
+	return process{r, t, folder}
+}
+
+func (p process) strand(name string) *Recorder {
+	p.t.Helper()
+	strand, err := p.Strand(name)
+	see(p.t, err, nil)
+	return strand
+}
+
+// seeStream sees that the stream of this process has these lines.
+func (p process) seeStream(name string, lines ...string) {
+	p.t.Helper()
+	text, err := os.ReadFile(filepath.Join(p.folder, name+".stream"))
+	see(p.t, err, nil)
+	wanted := strings.Join(append([]string{`{"process":"` + name + `"}`}, lines...), "\n") + "\n"
+	if string(text) != wanted {
+		p.t.Errorf("the stream of %s is\n%sand not\n%s", name, text, wanted)
+	}
+}
+
+const endLine = `{"end":true}`
+
+func TestGoroutinesWithAStrandEach(t *testing.T) {
+	p := openedWithStrands(t)
+	work := func(ctx context.Context) error {
+		strand, _ := FromContext(ctx)
+		defer strand.Close()
+		for turn := 0; turn < 100; turn++ {
+			if err := strand.Event(Set("x", turn)); err != nil {
+				return err
+			}
+		}
+		return nil
+	}
+	var strands []*Recorder
+	errs := make(chan error, 8)
+	for number := 0; number < 8; number++ {
+		strand := p.strand(fmt.Sprint("s", number))
+		strands = append(strands, strand)
+		go func() { errs <- work(NewContext(context.Background(), strand)) }()
+	}
+	var left []string
+	for number := range strands {
+		left = append(left, fmt.Sprintf(`{"send":"left-%d"}`, number+1))
+		see(t, <-errs, nil)
+	}
+	for number, strand := range strands {
+		see(t, p.Join(strand), nil)
+		left = append(left, fmt.Sprintf(`{"recv":"s%d-1"}`, number))
+	}
+	see(t, p.End(), nil)
+	p.seeStream("left", append(left, endLine)...)
+	for number := range strands {
+		lines := []string{fmt.Sprintf(`{"recv":"left-%d"}`, number+1)}
+		for turn := 0; turn < 100; turn++ {
+			lines = append(lines, fmt.Sprintf(`{"set":{"x":%d}}`, turn))
+		}
+		p.seeStream(fmt.Sprint("s", number), append(lines, fmt.Sprintf(`{"send":"s%d-1"}`, number), endLine)...)
+	}
+}
+
+func TestAProcessThatEndsWhileItsStrandsRecord(t *testing.T) {
+	p := openedWithStrands(t)
+	errs := make(chan error, 4)
+	for number := 0; number < 4; number++ {
+		strand := p.strand(fmt.Sprint("s", number))
+		go func() {
+			var err error
+			for err == nil {
+				if err = strand.Event(); err == nil {
+					err = p.Event()
+				}
+				time.Sleep(time.Millisecond) // or there are no more events before the end
+			}
+			errs <- err
+		}()
+	}
+	time.Sleep(5 * time.Millisecond)
+	see(t, p.End(), nil)
+	for number := 0; number < 4; number++ {
+		see(t, <-errs, ErrEnded)
+		text, err := os.ReadFile(filepath.Join(p.folder, fmt.Sprintf("s%d.stream", number)))
+		see(t, err, nil)
+		if strings.Count(string(text), endLine) != 1 || !strings.HasSuffix(string(text), endLine+"\n") {
+			t.Errorf("the end line of s%d isn't its last line", number)
+		}
+	}
+	_, err := p.Strand("late")
+	see(t, err, ErrEnded)
+}
+
+func TestAPanicOfAStrandEndsIt(t *testing.T) {
+	p := openedWithStrands(t)
+	strand := p.strand("worker")
+	func() {
+		defer func() { _ = recover() }()
+		defer strand.Close()
+		panic("something went wrong")
+	}()
+	see(t, p.Join(strand, Set("failed", true)), nil)
+	see(t, p.End(), nil)
+	p.seeStream("worker", `{"recv":"left-1"}`, `{"send":"worker-1"}`, endLine)
+	p.seeStream("left", `{"send":"left-1"}`, `{"recv":"worker-1","set":{"failed":1}}`, endLine)
+}
+
+func TestTheWorkingDirectoryMayChange(t *testing.T) {
+	before, err := os.Getwd()
+	see(t, err, nil)
+	folder := t.TempDir()
+	see(t, os.Chdir(folder), nil)
+	r, err := ToFile("left", "left.stream")
+	see(t, os.Chdir(before), nil)
+	see(t, err, nil)
+	p := process{r, t, folder}
+	see(t, p.strand("worker").End(), nil)
+	see(t, p.End(), nil)
+	p.seeStream("worker", `{"recv":"left-1"}`, `{"send":"worker-1"}`, endLine)
+}
+
+func TestStrandsAreClosedWithTheirProcess(t *testing.T) {
+	p := openedWithStrands(t)
+	strand := p.strand("worker")
+	see(t, p.Close(), nil)
+	see(t, strand.Close(), nil)
+	see(t, strand.End(), nil)
+	see(t, strand.Event(), ErrEnded)
+	p.seeStream("worker", `{"recv":"left-1"}`)
+	p.seeStream("left", `{"send":"left-1"}`)
+}
+
+func TestAStrandThatIsBrokenIsNotEndedAndTheOthersAre(t *testing.T) {
+	p := openedWithStrands(t)
+	broken := p.strand("broken")
+	p.strand("whole")
+	see(t, broken.out.Close(), nil)
+	broken.out = &memory{}
+	see(t, broken.Event(), syscall.ENOSPC)
+	see(t, p.Join(broken), ErrNotEnded)
+	see(t, p.End(), nil)
+	see(t, broken.Event(), ErrEnded)
+	p.seeStream("broken", `{"recv":"left-1"}`)
+	p.seeStream("whole", `{"recv":"left-2"}`, endLine)
+	p.seeStream("left", `{"send":"left-1"}`, `{"send":"left-2"}`, endLine)
+}
+
+func TestStrandsThatAreRefused(t *testing.T) {
+	r, _ := opened(t)
+	_, err := r.Strand("worker")
+	see(t, err, ErrNoPlace)
+	see(t, r.Join(nil), ErrNotEnded)
+	see(t, r.Join(r), ErrNotEnded)
+	_, err = r.Strand("left")
+	see(t, err, ErrNameTwice)
+}
+
+func TestAStrandOverAConnection(t *testing.T) {
+	listener, err := net.Listen("tcp4", "127.0.0.1:0")
+	see(t, err, nil)
+	r, err := ToPort(context.Background(), "left", listener.Addr().(*net.TCPAddr).Port)
+	see(t, err, nil)
+	strand, err := r.Strand("worker")
+	see(t, err, nil)
+	see(t, strand.End(), nil)
+	see(t, r.Join(strand), nil)
+	see(t, r.End(), nil)
+	for _, wanted := range []string{`{"process":"left"}`, `{"process":"worker"}`} {
+		connection, err := listener.Accept()
+		see(t, err, nil)
+		text, err := io.ReadAll(connection)
+		see(t, err, nil)
+		if !strings.HasPrefix(string(text), wanted) || !strings.HasSuffix(string(text), endLine+"\n") {
+			t.Errorf("over the connection came\n%s", text)
+		}
+	}
+	see(t, listener.Close(), nil)
 }
 
 func ExampleRecorder() {

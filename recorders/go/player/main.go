@@ -17,7 +17,10 @@ import (
 	"monitor.example/record"
 )
 
-var recorder *record.Recorder
+var (
+	recorder  *record.Recorder
+	recorders map[string]*record.Recorder // the recorder of the process and those of its strands, by their names
+)
 
 // errCannot says that Go has no such call.
 var errCannot = errors.New("no such call")
@@ -29,6 +32,7 @@ var refusals = []struct {
 	{record.ErrProcessName, "process-name"}, {record.ErrVariableName, "variable-name"}, {record.ErrValue, "value"},
 	{record.ErrVariables, "variables"}, {record.ErrEvents, "events"}, {record.ErrID, "id"},
 	{record.ErrIDTwice, "id-twice"}, {record.ErrEnded, "ended"}, {record.ErrBroken, "broken"},
+	{record.ErrNameTwice, "name-twice"}, {record.ErrProcesses, "processes"}, {record.ErrNotEnded, "not-ended"},
 }
 
 func main() {
@@ -63,6 +67,13 @@ func makeCall(call string, words []string) (given string, err error) {
 	switch call {
 	case "file":
 		recorder, err = record.ToFile(textOf(words[0]), textOf(words[1]))
+		recorders = map[string]*record.Recorder{words[0]: recorder}
+	case "strand":
+		err = begin(words[0])
+	case "in":
+		return callIn(words[0], words[1], words[2:])
+	case "strands":
+		err = takeStrands(int(numberOf(words[0])), int(numberOf(words[1])))
 	case "port":
 		err = openPort(textOf(words[0]), int(numberOf(words[1])), words[2])
 	case "events":
@@ -91,12 +102,29 @@ func openPort(process string, port int, seconds string) (err error) {
 	ctx, cancel := context.WithTimeout(context.Background(), patience)
 	defer cancel()
 	recorder, err = record.ToPort(ctx, process, port)
+	recorders = map[string]*record.Recorder{process: recorder}
 	return err
+}
+
+func begin(name string) error {
+	strand, err := recorder.Strand(textOf(name))
+	if err == nil {
+		recorders[name] = strand
+	}
+	return err
+}
+
+// callIn makes the call by the recorder of a strand.
+func callIn(name, call string, words []string) (string, error) {
+	process := recorder
+	defer func() { recorder = process }()
+	recorder = recorders[name]
+	return makeCall(call, words)
 }
 
 func recordCall(call string, words []string) (string, error) {
 	id := ""
-	if call == "send-as" || call == "receive" {
+	if call == "send-as" || call == "receive" || call == "join" {
 		id, words = textOf(words[0]), words[1:]
 	}
 	var settings []record.Setting
@@ -114,6 +142,8 @@ func recordCall(call string, words []string) (string, error) {
 		return recorder.Send(settings...)
 	case "send-as":
 		return "", recorder.SendAs(id, settings...)
+	case "join":
+		return "", recorder.Join(recorders[id], settings...)
 	}
 	return "", recorder.Receive(id, settings...)
 }
@@ -180,6 +210,31 @@ func takeTurns(count, turns int) error {
 		}
 		return nil
 	})
+}
+
+func takeStrands(count, turns int) error {
+	strands := make([]*record.Recorder, count)
+	for number := range strands {
+		strand, err := recorder.Strand(fmt.Sprint("strand", number))
+		if err != nil {
+			return err
+		}
+		strands[number] = strand
+	}
+	err := run(count, func(number int) error {
+		for turn := 0; turn < turns; turn++ {
+			if err := strands[number].Event(record.Set("x", turn)); err != nil {
+				return err
+			}
+		}
+		return strands[number].End()
+	})
+	for _, strand := range strands {
+		if err == nil {
+			err = recorder.Join(strand)
+		}
+	}
+	return err
 }
 
 func flood(count int) error {
