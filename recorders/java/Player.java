@@ -10,8 +10,10 @@ import java.nio.file.Path;
 import java.time.Duration;
 import java.util.ArrayList;
 import java.util.Arrays;
+import java.util.HashMap;
 import java.util.List;
 import java.util.Locale;
+import java.util.Map;
 import java.util.concurrent.ExecutionException;
 import java.util.concurrent.ExecutorService;
 import java.util.concurrent.Executors;
@@ -23,6 +25,7 @@ import monitor.Recorder.Setting;
 
 /** Makes the calls that it is told on its standard input, with the recorder for Java: see recorders/cases/README.md. */
 final class Player {
+    private final Map<String, Recorder> recorders = new HashMap<>();
     private Recorder recorder;
     private int total;
 
@@ -56,9 +59,15 @@ final class Player {
     /** Makes a call, and gives the id that it gives, or null. */
     private String make(String call, List<String> words) throws IOException {
         switch (call) {
-            case "file" -> recorder = Recorder.toFile(textOf(words.get(0)), Path.of(textOf(words.get(1))));
-            case "port" -> recorder = Recorder.toPort(textOf(words.get(0)), Integer.parseInt(words.get(1)),
-                    Duration.ofMillis((long) (Double.parseDouble(words.get(2)) * 1000)));
+            case "file" -> begin(words.get(0), Recorder.toFile(textOf(words.get(0)), Path.of(textOf(words.get(1)))));
+            case "port" -> begin(words.get(0), Recorder.toPort(textOf(words.get(0)), Integer.parseInt(words.get(1)),
+                    Duration.ofMillis((long) (Double.parseDouble(words.get(2)) * 1000))));
+            case "strand" -> recorders.put(words.get(0), recorder.strand(textOf(words.get(0))));
+            case "join" -> recorder.join(recorders.get(words.get(0)), settingsOf(words.subList(1, words.size())));
+            case "in" -> {
+                return makeIn(words.get(0), words.get(1), words.subList(2, words.size()));
+            }
+            case "strands" -> takeStrands(words.get(0), Integer.parseInt(words.get(1)));
             case "event" -> recorder.event(settingsOf(words));
             case "send" -> {
                 return recorder.send(settingsOf(words));
@@ -75,6 +84,38 @@ final class Player {
             default -> throw new IllegalStateException("no call " + call);
         }
         return null;
+    }
+
+    private void begin(String process, Recorder made) {
+        recorder = made;
+        recorders.clear();
+        recorders.put(process, made);
+    }
+
+    /** Makes the call by the recorder of a strand. */
+    private String makeIn(String name, String call, List<String> words) throws IOException {
+        Recorder process = recorder;
+        recorder = recorders.get(name);
+        try {
+            return make(call, words);
+        } finally {
+            recorder = process;
+        }
+    }
+
+    private void takeStrands(String count, int turns) throws IOException {
+        List<Recorder> strands = new ArrayList<>();
+        for (int number = 0; number < Integer.parseInt(count); number++) {
+            strands.add(recorder.strand("strand" + number));
+        }
+        run(count, thread -> {
+            try (Recorder strand = strands.get(thread)) {
+                for (int turn = 0; turn < turns; turn++) {
+                    strand.event(set("x", turn));
+                }
+            }
+        });
+        strands.forEach(strand -> recorder.join(strand));
     }
 
     private void close() {

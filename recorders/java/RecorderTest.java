@@ -16,6 +16,7 @@ import java.nio.file.Files;
 import java.nio.file.Path;
 import java.time.Duration;
 import java.util.concurrent.Callable;
+import java.util.concurrent.locks.LockSupport;
 import monitor.Recorder;
 import monitor.Recorder.NotRecordedException;
 import monitor.Recorder.Reason;
@@ -39,6 +40,11 @@ final class RecorderTest {
         anInterruptedThreadRecords(folder);
         files(folder);
         aPortOnWhichNobodyListens();
+        threadsWithAStrandEach(folder);
+        aStrandThatIsLeftByAnExceptionHasEnded(folder);
+        strandsAreClosedWithTheirProcess(folder);
+        aProcessThatEndsWhileItsStrandsRecord(folder);
+        strandsThatAreRefused(folder);
         System.out.println("java: " + wrong + " wrong");
         System.exit(wrong == 0 ? 0 : 1);
     }
@@ -171,6 +177,119 @@ final class RecorderTest {
             Thread.currentThread().interrupt();
             seeThrown(InterruptedIOException.class, () -> Recorder.toPort("left", port));
             see(Thread.interrupted(), true);
+        }
+    }
+
+    private static Recorder leftIn(Path folder) throws IOException {
+        return Recorder.toFile("left", Files.createDirectory(folder).resolve("left.stream"));
+    }
+
+    private static String textOf(Path folder, String name) throws IOException {
+        return Files.readString(folder.resolve(name + ".stream"));
+    }
+
+    private static void threadsWithAStrandEach(Path folder) throws Exception {
+        Path mine = folder.resolve("threads");
+        Recorder left = leftIn(mine);
+        Recorder[] strands = new Recorder[8];
+        Thread[] threads = new Thread[8];
+        for (int number = 0; number < 8; number++) {
+            Recorder strand = left.strand("s" + number);
+            strands[number] = strand;
+            threads[number] = new Thread(() -> {
+                try (strand) {
+                    for (int turn = 0; turn < 100; turn++) {
+                        strand.event();
+                    }
+                }
+            });
+            threads[number].start();
+        }
+        StringBuilder joins = new StringBuilder();
+        for (int number = 0; number < 8; number++) {
+            threads[number].join();
+            left.join(strands[number], set("x", number));
+            joins.append("{\"recv\":\"s" + number + "-1\",\"set\":{\"x\":" + number + "}}\n");
+            see(textOf(mine, "s" + number), "{\"process\":\"s" + number + "\"}\n{\"recv\":\"left-" + (number + 1)
+                    + "\"}\n" + "{}\n".repeat(100) + "{\"send\":\"s" + number + "-1\"}\n" + END);
+        }
+        left.end();
+        see(textOf(mine, "left").endsWith("{\"send\":\"left-8\"}\n" + joins + END), true);
+    }
+
+    private static void aStrandThatIsLeftByAnExceptionHasEnded(Path folder) throws IOException {
+        Path mine = folder.resolve("exception");
+        Recorder left = leftIn(mine);
+        Recorder strand = left.strand("worker");
+        try (strand) {
+            throw new IllegalStateException("something went wrong");
+        } catch (IllegalStateException error) {
+            left.join(strand);
+        }
+        left.end();
+        see(textOf(mine, "worker"), "{\"process\":\"worker\"}\n{\"recv\":\"left-1\"}\n{\"send\":\"worker-1\"}\n" + END);
+    }
+
+    private static void strandsAreClosedWithTheirProcess(Path folder) throws IOException {
+        Path mine = folder.resolve("closed");
+        Recorder left = leftIn(mine);
+        Recorder strand = left.strand("worker");
+        left.close();
+        strand.close();
+        strand.end();
+        seeRefused(Reason.ENDED, strand::event);
+        see(textOf(mine, "worker"), "{\"process\":\"worker\"}\n{\"recv\":\"left-1\"}\n");
+        see(textOf(mine, "left"), JOIN + "{\"send\":\"left-1\"}\n");
+    }
+
+    private static void aProcessThatEndsWhileItsStrandsRecord(Path folder) throws Exception {
+        Path mine = folder.resolve("races");
+        Recorder left = leftIn(mine);
+        Thread[] threads = new Thread[4];
+        for (int number = 0; number < 4; number++) {
+            Recorder strand = left.strand("s" + number);
+            threads[number] = new Thread(() -> seeRefused(Reason.ENDED, () -> {
+                while (true) {
+                    synchronized (strand) {
+                        strand.event();
+                        left.event();
+                    }
+                    LockSupport.parkNanos(1_000_000); // or there are no more events before the end
+                }
+            }));
+            threads[number].start();
+        }
+        Thread.sleep(5);
+        left.end();
+        for (int number = 0; number < 4; number++) {
+            threads[number].join();
+            String text = textOf(mine, "s" + number);
+            see(text.indexOf(END), text.length() - END.length());
+        }
+    }
+
+    private static void strandsThatAreRefused(Path folder) throws IOException {
+        Recorder given = new Recorder("left", new ByteArrayOutputStream());
+        seeRefused(Reason.NO_PLACE, () -> strandOf(given, "worker"));
+        seeRefused(Reason.NAME_TWICE, () -> strandOf(given, "left"));
+        seeRefused(Reason.PROCESS_NAME, () -> strandOf(given, null));
+        seeRefused(Reason.NOT_ENDED, () -> given.join(null));
+        seeRefused(Reason.NOT_ENDED, () -> given.join(given));
+        Path mine = folder.resolve("refused");
+        Recorder left = leftIn(mine);
+        Files.createFile(mine.resolve("worker.stream"));
+        seeThrown(FileAlreadyExistsException.class, () -> left.strand("worker"));
+        Files.delete(mine.resolve("worker.stream"));
+        left.strand("worker").end();
+        left.end();
+        see(textOf(mine, "left"), JOIN + "{\"send\":\"left-1\"}\n" + END);
+    }
+
+    private static Recorder strandOf(Recorder recorder, String name) {
+        try {
+            return recorder.strand(name);
+        } catch (IOException error) {
+            throw new UncheckedIOException(error);
         }
     }
 }

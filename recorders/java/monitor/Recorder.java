@@ -16,7 +16,9 @@ import java.nio.charset.StandardCharsets;
 import java.nio.file.FileAlreadyExistsException;
 import java.nio.file.Path;
 import java.time.Duration;
+import java.util.ArrayList;
 import java.util.HashSet;
+import java.util.List;
 import java.util.Set;
 import java.util.StringJoiner;
 import java.util.regex.Pattern;
@@ -45,6 +47,21 @@ import java.util.regex.Pattern;
  * end line, since nobody knows what the process would have done: {@code monitor} refuses the stream as
  * {@code unended}.
  *
+ * <p>One recorder is one order of events. A thread that waits by itself gets a strand, or the order in which it came is
+ * taken for a cause:
+ *
+ * <pre>{@code
+ * Recorder worker = recorder.strand("worker");          // where the thread is started; it records to worker.stream
+ * Thread thread = new Thread(() -> {
+ *     try (worker) {                                    // in the thread: its end is the strand's end
+ *         worker.event(set("busy", 1));
+ *     }
+ * });
+ * thread.start();
+ * thread.join();
+ * recorder.join(worker);                                // AFTER the thread has been waited for
+ * }</pre>
+ *
  * <p>Opening a recording throws {@link IOException}. A line that can't be written throws {@link UncheckedIOException},
  * so that a method needs no other signature to record.
  */
@@ -53,6 +70,8 @@ public final class Recorder implements AutoCloseable {
     public static final int EVENT_LIMIT = 10_000;
     /** At most so many variables has a process. */
     public static final int VARIABLE_LIMIT = 16;
+    /** At most so many processes has a session: a process and its strands are as many at most. */
+    public static final int PROCESS_LIMIT = 16;
     /** At most so many bytes has the name of a process or of a variable. */
     public static final int NAME_BYTE_LIMIT = 32;
     /** At most so many bytes of UTF-8 has the id of a message, and at least one. */
@@ -71,7 +90,7 @@ public final class Recorder implements AutoCloseable {
         VARIABLE_NAME,
         /** A process has at most 16 variables. */
         VARIABLES,
-        /** A process has at most 10,000 events. */
+        /** A process has at most 10,000 events. The last one of a strand is kept for its end. */
         EVENTS,
         /** The id of a message has 1 to 64 bytes of UTF-8. */
         ID,
@@ -80,7 +99,15 @@ public final class Recorder implements AutoCloseable {
         /** The recording has ended, or was closed. */
         ENDED,
         /** An earlier line could not be written, so none is any more. */
-        BROKEN
+        BROKEN,
+        /** The name is that of the process or of another strand of it. */
+        NAME_TWICE,
+        /** A process and its strands are at most 16. */
+        PROCESSES,
+        /** The recorder was made for an open stream, so there is no place for the stream of a strand. */
+        NO_PLACE,
+        /** What is to be joined is no strand that has ended. */
+        NOT_ENDED
     }
 
     /** A call was refused and wrote nothing: its message says why. */
@@ -103,22 +130,40 @@ public final class Recorder implements AutoCloseable {
     public record Setting(String name, long value) {
     }
 
+    private interface Place {
+        OutputStream opened(String name) throws IOException;
+    }
+
+    private interface Ending {
+        void end(Recorder strand);
+    }
+
     private final String process;
     private final OutputStream out;
+    private final Family family;
+    private final boolean isStrand;
     private final Set<String> ids = new HashSet<>();
     private final Set<String> names = new HashSet<>();
     private boolean ended;
     private boolean broken;
     private int events;
     private int made;
+    /** The id of the message by which a strand has ended. */
+    private volatile String last;
 
     /**
      * Records to a file, a connection or whatever else takes bytes. Each line is flushed, and the stream is closed with
      * the recorder.
      */
     public Recorder(String process, OutputStream out) throws IOException {
+        this(process, out, null);
+    }
+
+    private Recorder(String process, OutputStream out, Family family) throws IOException {
         this.process = checkedProcess(process);
         this.out = out;
+        this.isStrand = family != null;
+        this.family = isStrand ? family : new Family(process);
         out.write(bytesOf("{\"process\":" + quoted(process) + "}"));
         out.flush();
     }
@@ -126,12 +171,19 @@ public final class Recorder implements AutoCloseable {
     /** Records to a new file. One that is there already is a {@link FileAlreadyExistsException}. */
     public static Recorder toFile(String process, Path path) throws IOException {
         checkedProcess(process);
+        Recorder recorder = over(process, newFile(path), null);
+        Path first = path.toAbsolutePath();
+        recorder.family.place = name -> newFile(first.resolveSibling(name + ".stream"));
+        return recorder;
+    }
+
+    private static OutputStream newFile(Path path) throws IOException {
         File file = path.toFile();
         if (!file.createNewFile()) {
             throw new FileAlreadyExistsException(path.toString());
         }
         // A channel would be closed if a thread is interrupted while it records.
-        return over(process, new FileOutputStream(file));
+        return new FileOutputStream(file);
     }
 
     /**
@@ -146,12 +198,14 @@ public final class Recorder implements AutoCloseable {
     /** The same, with another time to wait for somebody who listens. */
     public static Recorder toPort(String process, int port, Duration patience) throws IOException {
         checkedProcess(process);
-        return over(process, connectionTo(port, patience).getOutputStream());
+        Recorder recorder = over(process, connectionTo(port, patience).getOutputStream(), null);
+        recorder.family.place = name -> connectionTo(port, patience).getOutputStream();
+        return recorder;
     }
 
-    private static Recorder over(String process, OutputStream out) throws IOException {
+    private static Recorder over(String process, OutputStream out, Family family) throws IOException {
         try {
-            return new Recorder(process, out);
+            return new Recorder(process, out, family);
         } catch (Throwable error) {
             out.close();
             throw error;
@@ -188,13 +242,8 @@ public final class Recorder implements AutoCloseable {
      * @throws UncheckedIOException if the line can't be written: a part of it may have been
      */
     public synchronized String send(Setting... settings) {
-        int number = made + 1;
-        while (ids.contains(process + "-" + number)) {
-            number++;
-        }
-        record("send", process + "-" + number, settings);
-        made = number;
-        return process + "-" + number;
+        checkRoom();
+        return sendAny(settings);
     }
 
     /**
@@ -218,30 +267,112 @@ public final class Recorder implements AutoCloseable {
         record("recv", checkedId(id), settings);
     }
 
+    /**
+     * Begins a strand, for a thread that waits by itself: a recorder which is a process of the session, of this name.
+     * It is recorded to NAME.stream beside the file of this recorder, or to the same port. This process sends it a
+     * message, so call it where the thread is started. A strand ends by {@link #end} or {@link #close}; then it sends a
+     * message to whoever joins it. It ends with its process at the latest.
+     *
+     * @throws NotRecordedException if it is refused: nothing is written then
+     * @throws IOException if the strand's stream can't be opened: nothing is written then
+     * @throws UncheckedIOException if the line can't be written: a part of it may have been
+     */
+    public synchronized Recorder strand(String name) throws IOException {
+        checkedProcess(name);
+        checkRoom();
+        Recorder strand = family.begun(name);
+        try {
+            strand.receive(send());
+            return strand;
+        } catch (Throwable error) {
+            strand.closeOut();
+            throw error;
+        }
+    }
+
+    /**
+     * This process has waited for a strand, which has ended: call it AFTER that. It receives the strand's last message;
+     * these variables have these values from now on.
+     *
+     * @throws NotRecordedException if it is refused, as {@link Reason#NOT_ENDED}: nothing is written then
+     * @throws UncheckedIOException if the line can't be written: a part of it may have been
+     */
+    public synchronized void join(Recorder strand, Setting... settings) {
+        checkRoom();
+        if (strand == null || strand.last == null) {
+            throw refused(Reason.NOT_ENDED, (strand == null ? "null" : strand.process)
+                    + " is no strand that has ended: wait for it, and then join it");
+        }
+        record("recv", strand.last, settings);
+    }
+
     /** How many events are recorded. */
     public synchronized int events() {
         return events;
     }
 
     /**
-     * Nothing more happens in this process: writes the end line, and closes the file or connection. A second call does
-     * nothing.
+     * Nothing more happens in this process: writes the end line, and closes the file or connection; its strands that
+     * have not ended get their end lines. A strand sends its last message before. A second call does nothing.
      *
      * @throws NotRecordedException if an earlier line could not be written: nothing is written then
      * @throws UncheckedIOException if the line can't be written: a part of it may have been
      */
-    public synchronized void end() {
+    public void end() {
+        try {
+            if (!isStrand) {
+                family.endAll(Recorder::cutOff);
+            }
+        } finally {
+            endOut(isStrand);
+        }
+    }
+
+    /**
+     * Closes the file or connection. Without {@link #end} before, the stream has no end line, and neither have those of
+     * its strands that have not ended. A strand ends by it, as by {@link #end}.
+     */
+    @Override
+    public void close() {
+        try {
+            if (!isStrand) {
+                family.endAll(Recorder::closeOut);
+            } else if (!isBroken()) {
+                endOut(true);
+            }
+        } finally {
+            closeOut();
+        }
+    }
+
+    private synchronized boolean isBroken() {
+        return broken;
+    }
+
+    private synchronized void endOut(boolean sendsLast) {
         if (ended) {
             return;
         }
         checkOpen();
+        if (sendsLast) {
+            last = sendAny();
+        }
         write("{\"end\":true}");
-        close();
+        closeOut();
     }
 
-    /** Closes the file or connection. Without {@link #end} before, the stream has no end line. */
-    @Override
-    public synchronized void close() {
+    /** The process of this strand ends before it: writes the end line alone. */
+    private synchronized void cutOff() {
+        try {
+            if (!broken) {
+                endOut(false);
+            }
+        } finally {
+            closeOut();
+        }
+    }
+
+    private synchronized void closeOut() {
         ended = true;
         try {
             out.close();
@@ -250,12 +381,91 @@ public final class Recorder implements AutoCloseable {
         }
     }
 
+    /** A process that is recorded, and its strands. */
+    private static final class Family {
+        private final String process;
+        private final Set<String> names = new HashSet<>();
+        private final List<Recorder> strands = new ArrayList<>();
+        /** Opens the stream of a strand, if there is a place for it. */
+        private volatile Place place;
+        private boolean ended;
+
+        Family(String process) {
+            this.process = process;
+            names.add(process);
+        }
+
+        /** A strand of this name, which has written its first line. */
+        synchronized Recorder begun(String name) throws IOException {
+            if (ended) {
+                throw refused(Reason.ENDED, "the recording of " + process + " has ended");
+            }
+            if (names.contains(name)) {
+                throw refused(Reason.NAME_TWICE,
+                        name + " is another process of this recording: give each strand a name of its own");
+            }
+            if (names.size() == PROCESS_LIMIT) {
+                throw refused(Reason.PROCESSES, process + " and its strands are " + PROCESS_LIMIT
+                        + " processes, and a session has at most as many");
+            }
+            if (place == null) {
+                throw refused(Reason.NO_PLACE,
+                        process + " has no place for the stream of a strand: make its recorder by toFile or toPort");
+            }
+            Recorder strand = over(name, place.opened(name), this);
+            names.add(name);
+            strands.add(strand);
+            return strand;
+        }
+
+        private synchronized List<Recorder> all() {
+            ended = true;
+            return List.copyOf(strands);
+        }
+
+        /** Ends each of the strands; if one can't be ended, the others are. No lock of the process is held. */
+        void endAll(Ending ending) {
+            UncheckedIOException failure = null;
+            for (Recorder strand : all()) {
+                try {
+                    ending.end(strand);
+                } catch (UncheckedIOException error) {
+                    failure = error;
+                }
+            }
+            if (failure != null) {
+                throw failure;
+            }
+        }
+    }
+
+    private String sendAny(Setting... settings) {
+        int number = made + 1;
+        while (ids.contains(process + "-" + number)) {
+            number++;
+        }
+        put("send", process + "-" + number, settings);
+        made = number;
+        return process + "-" + number;
+    }
+
     /** Checks an event and writes its line; the field is null for an event without a message. */
     private void record(String field, String id, Setting... settings) {
+        checkRoom();
+        put(field, id, settings);
+    }
+
+    /** One of a strand's events is kept for its end. */
+    private void checkRoom() {
         checkOpen();
-        if (events == EVENT_LIMIT) {
-            throw refused(Reason.EVENTS, process + " has " + EVENT_LIMIT + " events, and no process may have more");
+        if (events >= (isStrand ? EVENT_LIMIT - 1 : EVENT_LIMIT)) {
+            throw refused(Reason.EVENTS, process + " has " + events + " events: no process may have more than "
+                    + EVENT_LIMIT + ", and the last one of a strand is its end");
         }
+    }
+
+    /** Checks the message and the variables of an event, and writes its line. */
+    private void put(String field, String id, Setting... settings) {
         if (id != null && ids.contains(id)) {
             throw refused(Reason.ID_TWICE, process + " has sent or received " + quoted(id) + " before");
         }
