@@ -42,9 +42,20 @@ struct monitor_recorder {
     int descriptor;
     bool is_socket;
     bool is_broken;
+    bool is_ended;          /* only of a strand: otherwise it is gone then */
+    monitor_recorder *root; /* the recorder of the process; NULL if this is it */
     size_t events;
     size_t sends;
     char process[MONITOR_NAME_BYTE_LIMIT + 1];
+    char last[MONITOR_ID_ROOM]; /* the id of the message by which a strand has ended, or no text */
+    /* The strands of the process, and where their streams are: in a folder, whose name ends with a slash, or at a port.
+     * The lock is taken after that of a recorder, and no other one after it. */
+    pthread_mutex_t family;
+    size_t strand_count;
+    monitor_recorder *strands[MONITOR_PROCESS_LIMIT - 1];
+    char *folder;
+    uint16_t port;
+    double seconds;
     size_t variable_count;
     char variables[MONITOR_VARIABLE_LIMIT][MONITOR_NAME_BYTE_LIMIT + 1];
     /* The ids that were sent or received, and for each hash the place of an id and 1, or 0. */
@@ -260,6 +271,11 @@ monitor_status monitor_to_descriptor(const char *process, int descriptor, monito
         free(recorder);
         return MONITOR_SYSTEM;
     }
+    if (new_lock(&recorder->family) == NULL) {
+        pthread_mutex_destroy(&recorder->lock);
+        free(recorder);
+        return MONITOR_SYSTEM;
+    }
     strcpy(recorder->process, process);
     recorder->owner = getpid();
     recorder->descriptor = descriptor;
@@ -268,6 +284,7 @@ monitor_status monitor_to_descriptor(const char *process, int descriptor, monito
     put_event(&line, "process", process, NULL, 0);
     if (write_line(recorder, &line) != MONITOR_RECORDED) {
         int reason = errno;
+        pthread_mutex_destroy(&recorder->family);
         pthread_mutex_destroy(&recorder->lock);
         free(recorder);
         errno = reason;
@@ -289,13 +306,42 @@ static monitor_status over_own_descriptor(const char *process, int descriptor, m
     return status;
 }
 
+static int new_file(const char *path)
+{
+    return open(path, O_WRONLY | O_CREAT | O_EXCL | O_CLOEXEC, 0666);
+}
+
+/* The folder of the file, with a slash at its end: from the root, since the working directory may change. */
+static char *folder_of(const char *path)
+{
+    char here[4096] = "";
+    const char *slash = strrchr(path, '/');
+    int size = slash == NULL ? 0 : (int)(slash - path) + 1;
+    bool is_from_root = path[0] == '/';
+    if (!is_from_root && getcwd(here, sizeof here) == NULL)
+        here[0] = '\0';
+    size_t room = strlen(here) + 1 + (size_t)size + 1;
+    char *folder = malloc(room);
+    if (folder != NULL)
+        snprintf(folder, room, "%s%s%.*s", here, here[0] == '\0' ? "" : "/", size, path);
+    return folder;
+}
+
 monitor_status monitor_to_file(const char *process, const char *path, monitor_recorder **made)
 {
     *made = NULL;
     if (!is_name(process))
         return MONITOR_PROCESS_NAME;
-    int descriptor = open(path, O_WRONLY | O_CREAT | O_EXCL | O_CLOEXEC, 0666);
-    return descriptor < 0 ? MONITOR_SYSTEM : over_own_descriptor(process, descriptor, made);
+    char *folder = folder_of(path);
+    if (folder == NULL)
+        return MONITOR_SYSTEM;
+    int descriptor = new_file(path);
+    monitor_status status = descriptor < 0 ? MONITOR_SYSTEM : over_own_descriptor(process, descriptor, made);
+    if (status == MONITOR_RECORDED)
+        (*made)->folder = folder;
+    else
+        free(folder);
+    return status;
 }
 
 /* Whether both ends are one: so a connection can come to be to a port that nobody has bound. */
@@ -335,31 +381,48 @@ static double seconds_now(void)
     return (double)now.tv_sec + (double)now.tv_nsec / 1e9;
 }
 
-monitor_status monitor_to_port(const char *process, uint16_t port, double seconds, monitor_recorder **made)
+/* The same, and if nobody listens there yet, it is tried again until these seconds have passed. */
+static int connection_within(uint16_t port, double seconds)
 {
     const struct timespec pause = {.tv_nsec = 50000000};
     double deadline = seconds_now() + seconds;
-    *made = NULL;
-    if (!is_name(process))
-        return MONITOR_PROCESS_NAME;
     for (;;) {
         int connection = connection_to(port);
-        if (connection >= 0)
-            return over_own_descriptor(process, connection, made);
-        if ((errno != ECONNREFUSED && errno != EINTR) || seconds_now() >= deadline)
-            return MONITOR_SYSTEM;
+        if (connection >= 0 || (errno != ECONNREFUSED && errno != EINTR) || seconds_now() >= deadline)
+            return connection;
         nanosleep(&pause, NULL);
     }
 }
 
-/* Checks an event and writes its line; the lock is held. */
+monitor_status monitor_to_port(const char *process, uint16_t port, double seconds, monitor_recorder **made)
+{
+    *made = NULL;
+    if (!is_name(process))
+        return MONITOR_PROCESS_NAME;
+    int connection = connection_within(port, seconds);
+    monitor_status status = connection < 0 ? MONITOR_SYSTEM : over_own_descriptor(process, connection, made);
+    if (status == MONITOR_RECORDED) {
+        (*made)->port = port;
+        (*made)->seconds = seconds;
+    }
+    return status;
+}
+
+/* Whether an event may be recorded; the lock is held. One of a strand's events is kept for its end. */
+static monitor_status room_of(const monitor_recorder *recorder)
+{
+    size_t limit = recorder->root == NULL ? MONITOR_EVENT_LIMIT : MONITOR_EVENT_LIMIT - 1;
+    if (recorder->is_ended)
+        return MONITOR_ENDED;
+    if (recorder->is_broken)
+        return MONITOR_BROKEN;
+    return recorder->events < limit ? MONITOR_RECORDED : MONITOR_EVENTS;
+}
+
+/* Checks the message and the variables of an event, and writes its line; the lock is held. */
 static monitor_status record(monitor_recorder *recorder, const char *field, const char *id,
                              const monitor_setting *settings, size_t count)
 {
-    if (recorder->is_broken)
-        return MONITOR_BROKEN;
-    if (recorder->events == MONITOR_EVENT_LIMIT)
-        return MONITOR_EVENTS;
     if (id != NULL && !is_id(id))
         return MONITOR_ID;
     if (id != NULL && *slot_of(recorder, id) != 0)
@@ -385,7 +448,9 @@ static monitor_status record_locked(monitor_recorder *recorder, const char *fiel
     if (getpid() != recorder->owner)
         return MONITOR_FORK;
     monitor_lock(recorder);
-    monitor_status status = record(recorder, field, id, settings, count);
+    monitor_status status = room_of(recorder);
+    if (status == MONITOR_RECORDED)
+        status = record(recorder, field, id, settings, count);
     monitor_unlock(recorder);
     return status;
 }
@@ -395,13 +460,10 @@ monitor_status monitor_event(monitor_recorder *recorder, const monitor_setting *
     return record_locked(recorder, NULL, NULL, settings, count);
 }
 
-monitor_status monitor_send(monitor_recorder *recorder, char id[MONITOR_ID_ROOM], const monitor_setting *settings,
-                            size_t count)
+/* Records a send with an id that it makes; the lock is held. */
+static monitor_status send_any(monitor_recorder *recorder, char id[MONITOR_ID_ROOM], const monitor_setting *settings,
+                               size_t count)
 {
-    id[0] = '\0';
-    if (getpid() != recorder->owner)
-        return MONITOR_FORK;
-    monitor_lock(recorder);
     char made[MONITOR_ID_ROOM];
     size_t number = recorder->sends;
     do {
@@ -412,6 +474,19 @@ monitor_status monitor_send(monitor_recorder *recorder, char id[MONITOR_ID_ROOM]
         recorder->sends = number;
         strcpy(id, made);
     }
+    return status;
+}
+
+monitor_status monitor_send(monitor_recorder *recorder, char id[MONITOR_ID_ROOM], const monitor_setting *settings,
+                            size_t count)
+{
+    id[0] = '\0';
+    if (getpid() != recorder->owner)
+        return MONITOR_FORK;
+    monitor_lock(recorder);
+    monitor_status status = room_of(recorder);
+    if (status == MONITOR_RECORDED)
+        status = send_any(recorder, id, settings, count);
     monitor_unlock(recorder);
     return status;
 }
@@ -446,35 +521,198 @@ size_t monitor_events(monitor_recorder *recorder)
     return events;
 }
 
+/* Strands, and ends */
+
+/* Why the process can have no strand of this name; the lock of the family is held. */
+static monitor_status check_strand(const monitor_recorder *root, const char *name)
+{
+    if (strcmp(root->process, name) == 0)
+        return MONITOR_NAME_TWICE;
+    for (size_t i = 0; i < root->strand_count; i++)
+        if (strcmp(root->strands[i]->process, name) == 0)
+            return MONITOR_NAME_TWICE;
+    if (root->strand_count == MONITOR_PROCESS_LIMIT - 1)
+        return MONITOR_PROCESSES;
+    return root->folder == NULL && root->port == 0 ? MONITOR_NO_PLACE : MONITOR_RECORDED;
+}
+
+/* Where the strand of this name is recorded; -1 with errno if that can't be opened. */
+static int descriptor_for(const monitor_recorder *root, const char *name)
+{
+    static const char ending[] = ".stream";
+    if (root->folder == NULL)
+        return connection_within(root->port, root->seconds);
+    size_t room = strlen(root->folder) + strlen(name) + sizeof ending;
+    char *path = malloc(room);
+    if (path == NULL)
+        return -1;
+    snprintf(path, room, "%s%s%s", root->folder, name, ending);
+    int descriptor = new_file(path);
+    int reason = errno;
+    free(path);
+    errno = reason;
+    return descriptor;
+}
+
+/* A strand that has written its first line. */
+static monitor_status begin_strand(monitor_recorder *root, const char *name, monitor_recorder **made)
+{
+    pthread_mutex_lock(&root->family);
+    monitor_status status = check_strand(root, name);
+    if (status == MONITOR_RECORDED) {
+        int descriptor = descriptor_for(root, name);
+        status = descriptor < 0 ? MONITOR_SYSTEM : over_own_descriptor(name, descriptor, made);
+    }
+    if (status == MONITOR_RECORDED) {
+        (*made)->root = root;
+        root->strands[root->strand_count++] = *made;
+    }
+    pthread_mutex_unlock(&root->family);
+    return status;
+}
+
+/* Closes the strand, of which the lock is held; it is kept. */
+static monitor_status close_strand(monitor_recorder *strand, monitor_status status)
+{
+    int reason = errno;
+    strand->is_ended = true;
+    if (close(strand->descriptor) != 0 && status == MONITOR_RECORDED) {
+        reason = errno;
+        status = MONITOR_SYSTEM;
+    }
+    errno = reason;
+    return status;
+}
+
+monitor_status monitor_strand(monitor_recorder *recorder, const char *name, monitor_recorder **made)
+{
+    char id[MONITOR_ID_ROOM];
+    monitor_recorder *strand = NULL;
+    *made = NULL;
+    if (!is_name(name))
+        return MONITOR_PROCESS_NAME;
+    if (getpid() != recorder->owner)
+        return MONITOR_FORK;
+    monitor_lock(recorder);
+    monitor_status status = room_of(recorder);
+    if (status == MONITOR_RECORDED)
+        status = begin_strand(recorder->root == NULL ? recorder : recorder->root, name, &strand);
+    if (status == MONITOR_RECORDED) {
+        status = send_any(recorder, id, MONITOR_NOTHING);
+        if (status == MONITOR_RECORDED)
+            status = monitor_receive(strand, id, MONITOR_NOTHING);
+        if (status == MONITOR_RECORDED)
+            *made = strand;
+        else
+            close_strand(strand, status);
+    }
+    monitor_unlock(recorder);
+    return status;
+}
+
+monitor_status monitor_join(monitor_recorder *recorder, monitor_recorder *strand, const monitor_setting *settings,
+                            size_t count)
+{
+    char last[MONITOR_ID_ROOM] = "";
+    if (getpid() != recorder->owner)
+        return MONITOR_FORK;
+    if (strand != NULL) {
+        monitor_lock(strand);
+        strcpy(last, strand->last);
+        monitor_unlock(strand);
+    }
+    monitor_lock(recorder);
+    monitor_status status = room_of(recorder);
+    if (status == MONITOR_RECORDED)
+        status = last[0] == '\0' ? MONITOR_NOT_ENDED : record(recorder, "recv", last, settings, count);
+    monitor_unlock(recorder);
+    return status;
+}
+
+static monitor_status write_end(monitor_recorder *recorder)
+{
+    line_text line = {.size = 0};
+    if (recorder->is_broken)
+        return MONITOR_BROKEN;
+    put(&line, "{\"end\":true}\n");
+    return write_line(recorder, &line);
+}
+
+/* Ends a strand, with the message that whoever joins it receives. */
+static monitor_status end_strand(monitor_recorder *strand)
+{
+    monitor_status status = MONITOR_RECORDED;
+    if (getpid() != strand->owner)
+        return MONITOR_FORK;
+    monitor_lock(strand);
+    if (!strand->is_ended) {
+        status = strand->is_broken ? MONITOR_BROKEN : send_any(strand, strand->last, MONITOR_NOTHING);
+        if (status == MONITOR_RECORDED)
+            status = write_end(strand);
+        status = close_strand(strand, status);
+    }
+    monitor_unlock(strand);
+    return status;
+}
+
 /* Closes the descriptor and gives the memory back; the status if that succeeds. */
 static monitor_status release(monitor_recorder *recorder, monitor_status status)
 {
     int reason = errno;
-    if (close(recorder->descriptor) != 0 && status == MONITOR_RECORDED) {
+    if (!recorder->is_ended && close(recorder->descriptor) != 0 && status == MONITOR_RECORDED) {
         reason = errno;
         status = MONITOR_SYSTEM;
     }
-    if (status != MONITOR_FORK) /* in a fork, a thread that isn't there may hold it */
+    if (getpid() == recorder->owner) { /* in a fork, a thread that isn't there may hold them */
+        pthread_mutex_destroy(&recorder->family);
         pthread_mutex_destroy(&recorder->lock);
+    }
+    free(recorder->folder);
     free(recorder);
     errno = reason;
     return status;
 }
 
+/* Releases the strands, with their end lines if they are to have them; what failed first, if something did. */
+static monitor_status release_strands(monitor_recorder *root, bool have_ends)
+{
+    monitor_status first = MONITOR_RECORDED;
+    int reason = errno;
+    for (size_t i = 0; i < root->strand_count; i++) {
+        monitor_recorder *strand = root->strands[i];
+        bool is_to_end = have_ends && !strand->is_ended && !strand->is_broken;
+        monitor_status status = release(strand, is_to_end ? write_end(strand) : MONITOR_RECORDED);
+        if (first == MONITOR_RECORDED && status != MONITOR_RECORDED) {
+            first = status;
+            reason = errno;
+        }
+    }
+    errno = reason;
+    return first;
+}
+
 monitor_status monitor_close(monitor_recorder *recorder)
 {
-    if (getpid() != recorder->owner)
-        return release(recorder, MONITOR_FORK);
-    if (recorder->is_broken)
-        return release(recorder, MONITOR_BROKEN);
-    line_text line = {.size = 0};
-    put(&line, "{\"end\":true}\n");
-    return release(recorder, write_line(recorder, &line));
+    if (recorder->root != NULL)
+        return end_strand(recorder);
+    bool is_fork = getpid() != recorder->owner;
+    monitor_status strands = release_strands(recorder, !is_fork);
+    int reason = errno;
+    monitor_status status = release(recorder, is_fork ? MONITOR_FORK : write_end(recorder));
+    if (status != MONITOR_RECORDED)
+        return status;
+    errno = reason;
+    return strands;
 }
 
 void monitor_abandon(monitor_recorder *recorder)
 {
-    release(recorder, getpid() == recorder->owner ? MONITOR_RECORDED : MONITOR_FORK);
+    if (recorder->root != NULL) {
+        end_strand(recorder);
+        return;
+    }
+    release_strands(recorder, false);
+    release(recorder, MONITOR_RECORDED);
 }
 
 const char *monitor_text(monitor_status status)
@@ -484,12 +722,17 @@ const char *monitor_text(monitor_status status)
     case MONITOR_PROCESS_NAME: return "not a name of a process";
     case MONITOR_VARIABLE_NAME: return "not a name of a variable, or one that stands twice";
     case MONITOR_VARIABLES: return "a process has at most 16 variables";
-    case MONITOR_EVENTS: return "a process has at most 10,000 events";
+    case MONITOR_EVENTS: return "a process has at most 10,000 events, of which a strand's last one is its end";
     case MONITOR_ID: return "the id of a message has 1 to 64 bytes, which are UTF-8";
     case MONITOR_ID_TWICE: return "the process has sent or received a message with this id before";
     case MONITOR_FORK: return "the recorder belongs to the process of which this one is a fork";
     case MONITOR_BROKEN: return "an earlier line could not be written";
     case MONITOR_SYSTEM: return "the system could not open or write the recording";
+    case MONITOR_ENDED: return "the strand has ended";
+    case MONITOR_NAME_TWICE: return "another process of this recording has this name: give each strand one of its own";
+    case MONITOR_PROCESSES: return "a session has at most 16 processes, and a process and its strands are as many";
+    case MONITOR_NO_PLACE: return "no place for the stream of a strand: record to a file or a port by its name";
+    case MONITOR_NOT_ENDED: return "not a strand that has ended: wait for it, and then join it";
     }
     return "not a status";
 }

@@ -13,6 +13,15 @@
  * refused at once, and the recorder goes on as if the call hadn't been made. The formats and limits are those of
  * docs/SPECIFICATION.md.
  *
+ * One recorder is one order of events. A thread that waits by itself gets a strand, or the order in which it came is
+ * taken for a cause:
+ *
+ *     monitor_strand(recorder, "worker", &worker);     // where the thread is started; it records to worker.stream
+ *     ..
+ *     monitor_close(worker);                           // in the thread, at last
+ *     ..
+ *     monitor_join(recorder, worker, MONITOR_NOTHING); // AFTER the thread has been waited for
+ *
  * It is C11 with POSIX threads: compile monitor_recorder.c with the program, and link with -pthread. */
 #ifndef MONITOR_RECORDER_H
 #define MONITOR_RECORDER_H
@@ -26,6 +35,7 @@ extern "C" {
 
 #define MONITOR_EVENT_LIMIT 10000
 #define MONITOR_VARIABLE_LIMIT 16
+#define MONITOR_PROCESS_LIMIT 16
 #define MONITOR_NAME_BYTE_LIMIT 32
 #define MONITOR_ID_BYTE_LIMIT 64
 /* The room that an id takes with the NUL after it. */
@@ -51,12 +61,17 @@ typedef enum {
     MONITOR_PROCESS_NAME,  /* no name: letters, digits and _, at most 32, no digit first, no word of predicates */
     MONITOR_VARIABLE_NAME, /* no name of a variable, or one that stands twice */
     MONITOR_VARIABLES,     /* a process has at most 16 variables */
-    MONITOR_EVENTS,        /* a process has at most 10,000 events */
+    MONITOR_EVENTS,        /* a process has at most 10,000 events, of which a strand's last one is its end */
     MONITOR_ID,            /* an id has 1 to 64 bytes, which are UTF-8 */
     MONITOR_ID_TWICE,      /* the process has sent or received this id before */
     MONITOR_FORK,          /* the recorder belongs to the process of which this one is a fork */
     MONITOR_BROKEN,        /* an earlier line could not be written, so none is any more */
-    MONITOR_SYSTEM         /* the system refused: see errno; a part of the line may have been written */
+    MONITOR_SYSTEM,        /* the system refused: see errno; a part of the line may have been written */
+    MONITOR_ENDED,         /* the strand has ended */
+    MONITOR_NAME_TWICE,    /* the name is that of the process or of another strand of it */
+    MONITOR_PROCESSES,     /* a process and its strands are at most 16, since a session has no more processes */
+    MONITOR_NO_PLACE,      /* the recorder was made for a descriptor: there is no place for the stream of a strand */
+    MONITOR_NOT_ENDED      /* what is to be joined is no strand that has ended */
 } monitor_status;
 
 /* Records to a new file. One that is there already is MONITOR_SYSTEM with EEXIST. */
@@ -87,6 +102,16 @@ monitor_status monitor_send_as(monitor_recorder *recorder, const char *id, const
 monitor_status monitor_receive(monitor_recorder *recorder, const char *id, const monitor_setting *settings,
                                size_t count);
 
+/* Begins a strand, for a thread that waits by itself: a recorder which is a process of the session, of this name. It is
+ * recorded to NAME.stream beside the file of this recorder, or to the same port. This process sends it a message, so
+ * call it where the thread is started. A strand ends by `monitor_close`; then it sends a message to whoever joins it.
+ * It ends with its process at the latest, and is there until then, to be joined. */
+monitor_status monitor_strand(monitor_recorder *recorder, const char *name, monitor_recorder **made);
+
+/* This process has waited for a strand, which has ended: call it AFTER that. It receives the strand's last message. */
+monitor_status monitor_join(monitor_recorder *recorder, monitor_recorder *strand, const monitor_setting *settings,
+                            size_t count);
+
 /* Keeps other threads from recording, so that an event and its line stay together. One thread may lock it again. */
 void monitor_lock(monitor_recorder *recorder);
 void monitor_unlock(monitor_recorder *recorder);
@@ -94,11 +119,12 @@ void monitor_unlock(monitor_recorder *recorder);
 /* How many events are recorded. */
 size_t monitor_events(monitor_recorder *recorder);
 
-/* Nothing more happens in this process: writes the end line. However it ends, the recorder is gone; no other thread may
- * use it meanwhile or afterwards. */
+/* Nothing more happens in this process: writes the end line, also of its strands that have not ended. However it ends,
+ * the recorder and its strands are gone; no other thread may use them meanwhile or afterwards. A strand only ends by
+ * it: it sends its last message before the end line, and can be joined. A second call does nothing then. */
 monitor_status monitor_close(monitor_recorder *recorder);
 
-/* The same without an end line, so that `monitor` refuses the stream as `unended`. */
+/* The same without end lines, so that `monitor` refuses the streams as `unended`. A strand ends as by monitor_close. */
 void monitor_abandon(monitor_recorder *recorder);
 
 /* What a status says, as a text. */

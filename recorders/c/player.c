@@ -20,6 +20,30 @@ typedef struct {
 static monitor_recorder *recorder;
 static int total;
 
+/* The recorder of the process and those of its strands, with the names by which they are called. */
+static struct {
+    char name[WORDS];
+    monitor_recorder *recorder;
+} named[THREADS];
+static size_t named_count;
+
+static monitor_recorder *find_named(const char *name)
+{
+    for (size_t i = 0; i < named_count; i++)
+        if (strcmp(named[i].name, name) == 0)
+            return named[i].recorder;
+    return NULL;
+}
+
+/* Keeps the recorder by this name, if there is one. */
+static void keep_named(const char *name, monitor_recorder *made)
+{
+    if (made == NULL || named_count == THREADS)
+        return;
+    snprintf(named[named_count].name, sizeof named[0].name, "%s", name);
+    named[named_count++].recorder = made;
+}
+
 /* The text for which a word stands, in its place: `%` and two digits are a byte, and `%` alone is no text at all. */
 static char *text_of(char *word)
 {
@@ -77,7 +101,10 @@ static void answer_status(monitor_status status, const char *id)
         [MONITOR_RECORDED] = "recorded", [MONITOR_PROCESS_NAME] = "refused process-name",
         [MONITOR_VARIABLE_NAME] = "refused variable-name", [MONITOR_VARIABLES] = "refused variables",
         [MONITOR_EVENTS] = "refused events", [MONITOR_ID] = "refused id", [MONITOR_ID_TWICE] = "refused id-twice",
-        [MONITOR_FORK] = "refused fork", [MONITOR_BROKEN] = "refused broken", [MONITOR_SYSTEM] = "failed"};
+        [MONITOR_FORK] = "refused fork", [MONITOR_BROKEN] = "refused broken", [MONITOR_SYSTEM] = "failed",
+        [MONITOR_ENDED] = "refused ended", [MONITOR_NAME_TWICE] = "refused name-twice",
+        [MONITOR_PROCESSES] = "refused processes", [MONITOR_NO_PLACE] = "refused no-place",
+        [MONITOR_NOT_ENDED] = "refused not-ended"};
     answer(texts[status], status == MONITOR_RECORDED ? id : "");
 }
 
@@ -114,6 +141,20 @@ static void *send_all(void *argument)
     return NULL;
 }
 
+/* Of which each thread takes one. */
+static monitor_recorder **taken;
+
+static void *take_strand(void *argument)
+{
+    work *mine = argument;
+    monitor_recorder *strand = taken[mine->number];
+    bool is_done = true;
+    for (int turn = 0; turn < mine->turns; turn++)
+        is_done = monitor_event(strand, MONITOR_SET({"x", turn})) == MONITOR_RECORDED && is_done;
+    mine->is_done = monitor_close(strand) == MONITOR_RECORDED && is_done;
+    return NULL;
+}
+
 /* Runs so many threads, and says whether each did its work. */
 static bool run(void *(*work_of)(void *), int count, int turns)
 {
@@ -133,21 +174,63 @@ static bool run(void *(*work_of)(void *), int count, int turns)
     return is_done;
 }
 
-/* Makes a call that begins a recording, or ends it. */
+/* Makes a call that begins a recording, or ends it. The strands of a process are gone with it. */
 static bool open_or_close(char **words)
 {
+    monitor_status status = MONITOR_RECORDED;
+    bool is_strand = recorder != NULL && named_count > 0 && recorder != named[0].recorder;
     if (strcmp(words[0], "file") == 0) {
-        answer_status(monitor_to_file(text_of(words[1]), text_of(words[2]), &recorder), "");
+        status = monitor_to_file(text_of(words[1]), text_of(words[2]), &recorder);
     } else if (strcmp(words[0], "port") == 0) {
-        answer_status(monitor_to_port(text_of(words[1]), (uint16_t)atoi(words[2]), atof(words[3]), &recorder), "");
+        status = monitor_to_port(text_of(words[1]), (uint16_t)atoi(words[2]), atof(words[3]), &recorder);
     } else if (strcmp(words[0], "close") == 0) {
         if (recorder != NULL)
             monitor_abandon(recorder);
         recorder = NULL;
-        answer("recorded", "");
     } else if (strcmp(words[0], "end") == 0 && recorder != NULL) {
-        answer_status(monitor_close(recorder), "");
+        status = monitor_close(recorder);
         recorder = NULL;
+    } else {
+        return false;
+    }
+    answer_status(status, "");
+    if (!is_strand)
+        named_count = 0;
+    if (recorder != NULL)
+        keep_named(words[1], recorder);
+    return true;
+}
+
+/* Runs so many threads, each with a strand of its own, and says whether all was recorded. */
+static bool take_strands(int count, int turns)
+{
+    monitor_recorder *strands[THREADS];
+    char name[24];
+    for (int i = 0; i < count; i++) {
+        snprintf(name, sizeof name, "strand%d", i);
+        if (monitor_strand(recorder, name, &strands[i]) != MONITOR_RECORDED)
+            return false;
+    }
+    taken = strands;
+    bool is_done = run(take_strand, count, turns);
+    for (int i = 0; i < count; i++)
+        is_done = monitor_join(recorder, strands[i], MONITOR_NOTHING) == MONITOR_RECORDED && is_done;
+    return is_done;
+}
+
+/* Makes a call that begins or joins a strand. */
+static bool begin_or_join(char **words, size_t count)
+{
+    monitor_setting settings[WORDS];
+    if (strcmp(words[0], "strand") == 0) {
+        char name[WORDS];
+        monitor_recorder *strand;
+        snprintf(name, sizeof name, "%s", words[1]);
+        monitor_status status = monitor_strand(recorder, text_of(words[1]), &strand);
+        keep_named(name, strand);
+        answer_status(status, "");
+    } else if (strcmp(words[0], "join") == 0 && are_settings(words + 2, count - 2, settings)) {
+        answer_status(monitor_join(recorder, find_named(words[1]), settings, count - 2), "");
     } else {
         return false;
     }
@@ -177,6 +260,13 @@ static void record(char **words, size_t count)
 static void make(char **words, size_t count)
 {
     char text[24];
+    if (strcmp(words[0], "in") == 0) {
+        monitor_recorder *process = recorder;
+        recorder = find_named(words[1]);
+        make(words + 2, count - 2);
+        recorder = process;
+        return;
+    }
     if (open_or_close(words))
         return;
     if (recorder == NULL) { /* it is gone with its end */
@@ -188,7 +278,9 @@ static void make(char **words, size_t count)
         answer(run(take_turns, atoi(words[1]), atoi(words[2])) ? "recorded" : "failed", "");
     } else if (strcmp(words[0], "flood") == 0) {
         answer(run(send_all, atoi(words[1]), 0) ? "recorded" : "failed", "");
-    } else {
+    } else if (strcmp(words[0], "strands") == 0) {
+        answer(take_strands(atoi(words[1]), atoi(words[2])) ? "recorded" : "failed", "");
+    } else if (!begin_or_join(words, count)) {
         record(words, count);
     }
 }

@@ -7,6 +7,7 @@
 #include <errno.h>
 #include <fcntl.h>
 #include <netinet/in.h>
+#include <pthread.h>
 #include <stdbool.h>
 #include <stdio.h>
 #include <stdlib.h>
@@ -167,6 +168,118 @@ static void test_a_port_on_which_nobody_listens(void)
     close(bound);
 }
 
+static monitor_recorder *strand_of(monitor_recorder *recorder, const char *name, const char *file)
+{
+    monitor_recorder *strand = NULL;
+    path_of(file);
+    monitor_status status = monitor_strand(recorder, name, &strand);
+    if (status != MONITOR_RECORDED) {
+        printf("%s: %s: %s\n", name, monitor_text(status), strerror(errno));
+        exit(1);
+    }
+    return strand;
+}
+
+static void *record_100(void *strand)
+{
+    for (int turn = 0; turn < 100; turn++)
+        RECORDED(monitor_event(strand, MONITOR_NOTHING));
+    RECORDED(monitor_close(strand));
+    return NULL;
+}
+
+static void test_threads_with_a_strand_each(void)
+{
+    pthread_t threads[8];
+    monitor_recorder *recorder = opened("left", "left"), *strands[8];
+    for (int i = 0; i < 8; i++) {
+        char name[8], file[24];
+        snprintf(name, sizeof name, "s%d", i % 8);
+        snprintf(file, sizeof file, "%s.stream", name);
+        strands[i] = strand_of(recorder, name, file);
+        CHECK(pthread_create(&threads[i], NULL, record_100, strands[i]) == 0);
+    }
+    for (int i = 0; i < 8; i++) {
+        pthread_join(threads[i], NULL);
+        RECORDED(monitor_join(recorder, strands[i], MONITOR_SET({"x", i})));
+        CHECK(monitor_events(strands[i]) == 102);
+    }
+    RECORDED(monitor_close(recorder));
+    char *text = text_of("left");
+    CHECK(strstr(text, "{\"recv\":\"s6-1\",\"set\":{\"x\":6}}\n{\"recv\":\"s7-1\",\"set\":{\"x\":7}}\n"
+                       "{\"end\":true}\n") != NULL);
+    free(text);
+}
+
+static void test_strands_end_with_their_process(void)
+{
+    monitor_recorder *none, *recorder = opened("left", "left");
+    monitor_recorder *worker = strand_of(recorder, "worker", "worker.stream");
+    CHECK(monitor_join(recorder, worker, MONITOR_NOTHING) == MONITOR_NOT_ENDED);
+    CHECK(monitor_join(recorder, recorder, MONITOR_NOTHING) == MONITOR_NOT_ENDED);
+    CHECK(monitor_join(recorder, NULL, MONITOR_NOTHING) == MONITOR_NOT_ENDED);
+    CHECK(monitor_strand(recorder, NULL, &none) == MONITOR_PROCESS_NAME && none == NULL);
+    CHECK(monitor_strand(worker, "left", &none) == MONITOR_NAME_TWICE && none == NULL);
+    monitor_recorder *ended = strand_of(recorder, "ended", "ended.stream");
+    monitor_abandon(ended);
+    RECORDED(monitor_close(ended));
+    CHECK(monitor_event(ended, MONITOR_NOTHING) == MONITOR_ENDED);
+    CHECK(monitor_strand(ended, "more", &none) == MONITOR_ENDED && none == NULL);
+    RECORDED(monitor_close(recorder));
+    CHECK(has_text("worker.stream", "{\"process\":\"worker\"}\n{\"recv\":\"left-1\"}\n{\"end\":true}\n"));
+    CHECK(has_text("ended.stream", "{\"process\":\"ended\"}\n{\"recv\":\"left-2\"}\n{\"send\":\"ended-1\"}\n"
+                                   "{\"end\":true}\n"));
+    recorder = opened("left", "left");
+    strand_of(recorder, "worker", "worker.stream");
+    monitor_abandon(recorder);
+    CHECK(has_text("worker.stream", "{\"process\":\"worker\"}\n{\"recv\":\"left-1\"}\n"));
+}
+
+static void test_the_working_directory_may_change(void)
+{
+    char before[4096];
+    monitor_recorder *recorder = opened("left", "left"), *worker;
+    path_of("worker.stream");
+    CHECK(getcwd(before, sizeof before) != NULL && chdir("/") == 0);
+    RECORDED(monitor_strand(recorder, "worker", &worker));
+    CHECK(chdir(before) == 0);
+    RECORDED(monitor_close(recorder));
+    CHECK(has_text("worker.stream", "{\"process\":\"worker\"}\n{\"recv\":\"left-1\"}\n{\"end\":true}\n"));
+}
+
+static void test_strands_that_cannot_be_opened(void)
+{
+    monitor_recorder *recorder = opened("left", "left"), *none, *given;
+    close(open(path_of("worker.stream"), O_WRONLY | O_CREAT, 0600));
+    CHECK(monitor_strand(recorder, "worker", &none) == MONITOR_SYSTEM && errno == EEXIST && none == NULL);
+    RECORDED(monitor_close(strand_of(recorder, "worker", "worker.stream")));
+    RECORDED(monitor_close(recorder));
+    CHECK(has_text("left", "{\"process\":\"left\"}\n{\"send\":\"left-1\"}\n{\"end\":true}\n"));
+    RECORDED(monitor_to_descriptor("left", open("left", O_WRONLY), &given));
+    CHECK(monitor_strand(given, "worker", &none) == MONITOR_NO_PLACE && none == NULL);
+    RECORDED(monitor_close(given));
+}
+
+static void test_a_fork_does_not_record_to_strands(void)
+{
+    monitor_recorder *none, *recorder = opened("left", "left");
+    monitor_recorder *worker = strand_of(recorder, "worker", "worker.stream");
+    fflush(stdout);
+    pid_t child = fork();
+    if (child == 0) {
+        bool is_refused = monitor_event(worker, MONITOR_NOTHING) == MONITOR_FORK &&
+                          monitor_strand(recorder, "more", &none) == MONITOR_FORK &&
+                          monitor_join(recorder, worker, MONITOR_NOTHING) == MONITOR_FORK &&
+                          monitor_close(worker) == MONITOR_FORK && monitor_close(recorder) == MONITOR_FORK;
+        _exit(is_refused ? 7 : 0);
+    }
+    int status;
+    waitpid(child, &status, 0);
+    CHECK(WIFEXITED(status) && WEXITSTATUS(status) == 7);
+    RECORDED(monitor_close(recorder));
+    CHECK(has_text("worker.stream", "{\"process\":\"worker\"}\n{\"recv\":\"left-1\"}\n{\"end\":true}\n"));
+}
+
 int main(int count, char **arguments)
 {
     if (count < 2 || chdir(arguments[1]) != 0) {
@@ -179,5 +292,10 @@ int main(int count, char **arguments)
     test_a_fork_does_not_record();
     test_a_peer_that_is_gone();
     test_a_port_on_which_nobody_listens();
+    test_threads_with_a_strand_each();
+    test_strands_end_with_their_process();
+    test_the_working_directory_may_change();
+    test_strands_that_cannot_be_opened();
+    test_a_fork_does_not_record_to_strands();
     return failures > 0;
 }
