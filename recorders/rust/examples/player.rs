@@ -1,19 +1,24 @@
 //! Makes the calls that it is told on its standard input, with the recorder for Rust: see recorders/cases/README.md.
 use monitor_recorder::{Error, Recorder, Setting};
+use std::collections::HashMap;
 use std::io::{self, BufRead, Write};
 use std::sync::Mutex;
 use std::thread;
 use std::time::Duration;
+
+/// The strands of the process, by their names.
+type Strands = HashMap<String, Recorder>;
 
 /// What a call came to: an answer that begins with `recorded`, or an error.
 type Made = Result<String, Error>;
 
 fn main() -> io::Result<()> {
     let mut recorder = None;
+    let mut strands = HashMap::new();
     for line in io::stdin().lock().lines() {
         let line = line?;
         let words: Vec<&str> = line.split(' ').collect();
-        let answer = match make(&mut recorder, words[0], &words[1..]) {
+        let answer = match make(&mut recorder, &mut strands, words[0], &words[1..]) {
             None => "cannot".to_owned(),
             Some(Ok(given)) => format!("recorded {given}").trim_end().to_owned(),
             Some(Err(error)) => word_of(&error),
@@ -40,19 +45,28 @@ fn word_of(error: &Error) -> String {
         Error::IdTwice(_) => "refused id-twice",
         Error::Ended => "refused ended",
         Error::Broken => "refused broken",
+        Error::NameTwice(_) => "refused name-twice",
+        Error::Processes => "refused processes",
+        Error::NotEnded(_) => "refused not-ended",
         _ => "failed",
     }
     .to_owned()
 }
 
 /// Makes a call; nothing, if Rust has no such call.
-fn make(recorder: &mut Option<Recorder>, call: &str, words: &[&str]) -> Option<Made> {
+fn make(
+    recorder: &mut Option<Recorder>,
+    strands: &mut Strands,
+    call: &str,
+    words: &[&str],
+) -> Option<Made> {
     match call {
         "file" => {
+            strands.clear();
             return Some(opened(
                 recorder,
                 Recorder::to_file(&text_of(words[0]), text_of(words[1])),
-            ))
+            ));
         }
         "port" => {
             let patience = Duration::from_secs_f64(words[2].parse().expect("a number of seconds"));
@@ -66,16 +80,46 @@ fn make(recorder: &mut Option<Recorder>, call: &str, words: &[&str]) -> Option<M
             *recorder = None;
             return Some(Ok(String::new()));
         }
+        "in" => {
+            let strand = strands.remove(words[0])?;
+            let made = make_open(&strand, strands, words[1], &words[2..]);
+            strands.insert(words[0].to_owned(), strand);
+            return made;
+        }
         _ => (),
     }
-    let recorder = recorder.as_ref()?; // with close it is gone
+    make_open(recorder.as_ref()?, strands, call, words) // with close it is gone
+}
+
+/// Makes a call by a recorder that there is.
+fn make_open(
+    recorder: &Recorder,
+    strands: &mut Strands,
+    call: &str,
+    words: &[&str],
+) -> Option<Made> {
     match call {
+        "strand" => Some(recorder.strand(&text_of(words[0])).map(|strand| {
+            strands.insert(words[0].to_owned(), strand);
+            String::new()
+        })),
+        "join" => Some(join(recorder, strands, words).map(nothing)),
+        "strands" => Some(take_strands(recorder, number(words[0]), number(words[1])).map(nothing)),
         "events" => Some(Ok(recorder.events().to_string())),
         "end" => Some(recorder.end().map(nothing)),
         "threads" => Some(threads(recorder, number(words[0]), number(words[1])).map(nothing)),
         "flood" => Some(flood(recorder, number(words[0])).map(nothing)),
         _ => record(recorder, call, words),
     }
+}
+
+fn join(recorder: &Recorder, strands: &Strands, words: &[&str]) -> Result<(), Error> {
+    let settings = settings_of(&words[1..]).unwrap_or_default();
+    let settings: Vec<Setting> = settings
+        .iter()
+        .map(|(name, value)| (name.as_str(), *value))
+        .collect();
+    recorder.join(strands.get(words[0]).unwrap_or(recorder), &settings)
 }
 
 fn nothing((): ()) -> String {
@@ -98,11 +142,7 @@ fn record(recorder: &Recorder, call: &str, words: &[&str]) -> Option<Made> {
     } else {
         String::new()
     };
-    let mut settings = Vec::new();
-    for word in &words[usize::from(has_id)..] {
-        let (name, value) = word.rsplit_once('=').expect("a setting");
-        settings.push((text_of(name), value_of(value)?));
-    }
+    let settings = settings_of(&words[usize::from(has_id)..])?;
     let settings: Vec<Setting> = settings
         .iter()
         .map(|(name, value)| (name.as_str(), *value))
@@ -113,6 +153,16 @@ fn record(recorder: &Recorder, call: &str, words: &[&str]) -> Option<Made> {
         "send-as" => recorder.send_as(&id, &settings).map(nothing),
         _ => recorder.receive(&id, &settings).map(nothing),
     })
+}
+
+/// The settings, if Rust can say them.
+fn settings_of(words: &[&str]) -> Option<Vec<(String, i64)>> {
+    let mut settings = Vec::new();
+    for word in words {
+        let (name, value) = word.rsplit_once('=').expect("a setting");
+        settings.push((text_of(name), value_of(value)?));
+    }
+    Some(settings)
 }
 
 /// The value, if Rust can say it as one of 64 bits.
@@ -148,6 +198,22 @@ fn threads(recorder: &Recorder, count: i64, turns: i64) -> Result<(), Error> {
         }
         Ok(())
     })
+}
+
+fn take_strands(recorder: &Recorder, count: i64, turns: i64) -> Result<(), Error> {
+    let strands = (0..count)
+        .map(|number| recorder.strand(&format!("strand{number}")))
+        .collect::<Result<Vec<_>, _>>()?;
+    run(count, |thread| {
+        let strand = &strands[usize::try_from(thread).expect("a thread's number")];
+        for turn in 0..turns {
+            strand.event(&[("x", turn)])?;
+        }
+        strand.end()
+    })?;
+    strands
+        .iter()
+        .try_for_each(|strand| recorder.join(strand, &[]))
 }
 
 fn flood(recorder: &Recorder, count: i64) -> Result<(), Error> {

@@ -20,14 +20,33 @@
 //!
 //! A recorder that is dropped before [`Recorder::end`], by `?` or by a panic, closes its file or connection and leaves
 //! no end line, since nobody knows what the process would have done: `monitor` refuses the stream as `unended`.
+//!
+//! One recorder is one order of events. A thread or task that waits by itself gets a strand, or the order in which it
+//! came is taken for a cause:
+//!
+//! ```no_run
+//! # fn main() -> Result<(), monitor_recorder::Error> {
+//! # let recorder = monitor_recorder::Recorder::to_file("left", "left.stream")?;
+//! let worker = recorder.strand("worker")?; // where the thread is started; it records to worker.stream
+//! std::thread::scope(|scope| {
+//!     scope.spawn(|| {
+//!         worker.event(&[("busy", 1)])?;
+//!         worker.end() // in the thread, when it has done its work
+//!     });
+//! });
+//! recorder.join(&worker, &[])?; // AFTER the thread has been waited for
+//! # Ok(())
+//! # }
+//! ```
 use std::collections::HashSet;
+use std::env;
 use std::fmt;
-use std::fs::OpenOptions;
+use std::fs::{File, OpenOptions};
 use std::io::{self, Write};
 use std::net::{Ipv4Addr, TcpStream};
-use std::path::Path;
+use std::path::{Path, PathBuf};
 use std::process;
-use std::sync::{Mutex, MutexGuard, PoisonError};
+use std::sync::{Arc, Mutex, MutexGuard, PoisonError};
 use std::thread;
 use std::time::{Duration, Instant};
 
@@ -35,6 +54,8 @@ use std::time::{Duration, Instant};
 pub const EVENT_LIMIT: usize = 10_000;
 /// At most so many variables has a process.
 pub const VARIABLE_LIMIT: usize = 16;
+/// At most so many processes has a session: a process and its strands are as many at most.
+pub const PROCESS_LIMIT: usize = 16;
 /// At most so many bytes has the name of a process or of a variable.
 pub const NAME_BYTE_LIMIT: usize = 32;
 /// At most so many bytes has the id of a message, and at least one.
@@ -57,7 +78,7 @@ pub enum Error {
     VariableName(String),
     /// A process has at most 16 variables.
     Variables,
-    /// A process has at most 10,000 events.
+    /// A process has at most 10,000 events. The last one of a strand is kept for its end.
     Events,
     /// The id of a message has 1 to 64 bytes, and this one hasn't.
     Id(String),
@@ -70,6 +91,14 @@ pub enum Error {
     Ended,
     /// An earlier line could not be written, so none is any more.
     Broken,
+    /// This name is that of the process or of another strand of it.
+    NameTwice(String),
+    /// A process and its strands are at most 16.
+    Processes,
+    /// The recorder was made by [`Recorder::new`], so there is no place for the stream of a strand.
+    NoPlace,
+    /// What is to be joined, of this name, is no strand that has ended.
+    NotEnded(String),
     /// The system could not open or write the recording; a part of the line may have been written.
     Io(io::Error),
 }
@@ -82,7 +111,10 @@ impl fmt::Display for Error {
                 write!(to, "{name:?} is not a name of a variable, or stands twice")
             }
             Error::Variables => write!(to, "a process has at most {VARIABLE_LIMIT} variables"),
-            Error::Events => write!(to, "a process has at most {EVENT_LIMIT} events"),
+            Error::Events => write!(
+                to,
+                "a process has at most {EVENT_LIMIT} events, of which a strand's last one is its end"
+            ),
             Error::Id(id) => write!(
                 to,
                 "the id of a message has 1 to {ID_BYTE_LIMIT} bytes, and {id:?} has {}",
@@ -96,6 +128,30 @@ impl fmt::Display for Error {
             Error::Ended => write!(to, "the recording has ended"),
             Error::Broken => write!(to, "an earlier line could not be written"),
             Error::Io(error) => write!(to, "the recording could not be opened or written: {error}"),
+            _ => self.fmt_of_strands(to),
+        }
+    }
+}
+
+impl Error {
+    fn fmt_of_strands(&self, to: &mut fmt::Formatter<'_>) -> fmt::Result {
+        match self {
+            Error::NameTwice(name) => write!(
+                to,
+                "{name} is another process of this recording: give each strand a name of its own"
+            ),
+            Error::NotEnded(name) => write!(
+                to,
+                "{name} is no strand that has ended: wait for it, and then join it"
+            ),
+            Error::NoPlace => write!(
+                to,
+                "there is no place for the stream of a strand: make the recorder by to_file or to_port"
+            ),
+            _ => write!(
+                to,
+                "a session has at most {PROCESS_LIMIT} processes, and a process and its strands are as many"
+            ),
         }
     }
 }
@@ -115,7 +171,7 @@ impl From<io::Error> for Error {
     }
 }
 
-/// The recording of one process. It writes its first line when it is made.
+/// The recording of one process, or of a strand of one. It writes its first line when it is made.
 ///
 /// Record while you hold the lock of the data, if a change of shared data and its line must stay together.
 ///
@@ -127,10 +183,35 @@ impl From<io::Error> for Error {
 pub struct Recorder {
     process: String,
     owner: u32,
-    recording: Mutex<Recording>,
+    recording: Arc<Mutex<Recording>>,
+    is_strand: bool,
+    family: Arc<Family>,
+}
+
+/// A process that is recorded and its strands.
+struct Family {
+    /// Where the streams of strands are, if there is a place for them.
+    place: Option<Place>,
+    strands: Mutex<Strands>,
+}
+
+enum Place {
+    /// Beside the file of the process.
+    Beside(PathBuf),
+    Port(u16, Duration),
+}
+
+struct Strands {
+    names: HashSet<String>,
+    /// Nothing, once the process has ended.
+    recordings: Option<Vec<Arc<Mutex<Recording>>>>,
 }
 
 struct Recording {
+    process: String,
+    is_strand: bool,
+    /// The id of the message by which a strand has ended.
+    last: Option<String>,
     /// Nothing, once the recording has ended.
     out: Option<Box<dyn Write + Send>>,
     is_broken: bool,
@@ -145,10 +226,9 @@ impl Recorder {
     /// Records to a new file. One that is there already is [`io::ErrorKind::AlreadyExists`].
     pub fn to_file(process: &str, path: impl AsRef<Path>) -> Result<Self, Error> {
         check_process(process)?;
-        Recorder::new(
-            process,
-            OpenOptions::new().write(true).create_new(true).open(path)?,
-        )
+        let path = env::current_dir().unwrap_or_default().join(path); // the working directory may change
+        let file = new_file(&path)?;
+        Recorder::over(process, file, Some(Place::Beside(path)))
     }
 
     /// Records to `monitor serve` on a port of this machine, which may listen up to ten seconds later; if nobody does
@@ -160,25 +240,35 @@ impl Recorder {
     /// The same, with another time to wait for somebody who listens.
     pub fn to_port_within(process: &str, port: u16, patience: Duration) -> Result<Self, Error> {
         check_process(process)?;
-        Recorder::new(process, connection_to(port, patience)?)
+        let place = Place::Port(port, patience);
+        Recorder::over(process, connection_to(port, patience)?, Some(place))
     }
 
     /// Records to a file, a connection or whatever else takes bytes; each line is flushed.
     pub fn new(process: &str, out: impl Write + Send + 'static) -> Result<Self, Error> {
         check_process(process)?;
-        let mut recording = Recording {
-            out: Some(Box::new(out)),
-            is_broken: false,
-            events: 0,
-            made: 0,
-            ids: HashSet::new(),
-            names: HashSet::new(),
+        Recorder::over(process, out, None)
+    }
+
+    fn over(
+        process: &str,
+        out: impl Write + Send + 'static,
+        place: Option<Place>,
+    ) -> Result<Self, Error> {
+        let recording = Recording::begun(process, Box::new(out), false)?;
+        let strands = Strands {
+            names: HashSet::from([process.to_owned()]),
+            recordings: Some(Vec::new()),
         };
-        recording.write(&format!("{{\"process\":\"{process}\"}}\n"))?;
         Ok(Recorder {
             process: process.to_owned(),
             owner: process::id(),
-            recording: Mutex::new(recording),
+            recording: Arc::new(Mutex::new(recording)),
+            is_strand: false,
+            family: Arc::new(Family {
+                place,
+                strands: Mutex::new(strands),
+            }),
         })
     }
 
@@ -192,13 +282,8 @@ impl Recorder {
     /// the message.
     pub fn send(&self, settings: &[Setting]) -> Result<String, Error> {
         let mut recording = self.ready()?;
-        let mut number = recording.made + 1;
-        while recording.ids.contains(&self.id(number)) {
-            number += 1;
-        }
-        recording.record(Some(("send", &self.id(number))), settings)?;
-        recording.made = number;
-        Ok(self.id(number))
+        recording.check_room()?;
+        recording.send_any(settings)
     }
 
     /// The same, with an id that no other send of the session has.
@@ -211,31 +296,64 @@ impl Recorder {
         self.ready()?.record(Some(("recv", id)), settings)
     }
 
+    /// Begins a strand, for a thread or task that waits by itself: a recorder which is a process of the session, of
+    /// this name. It is recorded to NAME.stream beside the file of this recorder, or to the same port. This process
+    /// sends it a message, so call it where the thread or task is started. A strand ends by [`Recorder::end`], or when
+    /// it is dropped; then it sends a message to whoever joins it. It ends with its process at the latest.
+    pub fn strand(&self, name: &str) -> Result<Recorder, Error> {
+        check_process(name)?;
+        let mut recording = self.ready()?;
+        recording.check_room()?;
+        let strand = Recorder {
+            process: name.to_owned(),
+            owner: self.owner,
+            recording: self.family.begun(name)?,
+            is_strand: true,
+            family: Arc::clone(&self.family),
+        };
+        let begun = recording
+            .send_any(&[])
+            .and_then(|id| strand.receive(&id, &[]));
+        if let Err(error) = begun {
+            strand.locked().out = None;
+            return Err(error);
+        }
+        Ok(strand)
+    }
+
+    /// This process has waited for a strand, which has ended: call it AFTER that. It receives the strand's last
+    /// message; these variables have these values from now on.
+    pub fn join(&self, strand: &Recorder, settings: &[Setting]) -> Result<(), Error> {
+        let last = strand.locked().last.clone();
+        let mut recording = self.ready()?;
+        recording.check_room()?;
+        let last = last.ok_or_else(|| Error::NotEnded(strand.process.clone()))?;
+        recording.record(Some(("recv", &last)), settings)
+    }
+
     /// How many events are recorded.
     pub fn events(&self) -> usize {
         self.locked().events
     }
 
-    /// Nothing more happens in this process: writes the end line, and closes the file or connection. A second call does
-    /// nothing.
+    /// Nothing more happens in this process: writes the end line, and closes the file or connection; its strands that
+    /// have not ended get their end lines. A strand sends its last message before. A second call does nothing.
     pub fn end(&self) -> Result<(), Error> {
+        let strands = if self.is_strand || process::id() != self.owner {
+            Ok(())
+        } else {
+            self.family.end_all(Recording::cut_off)
+        };
         let mut recording = match self.ready() {
-            Err(Error::Ended) => return Ok(()),
+            Err(Error::Ended) => return strands,
             ready => ready?,
         };
-        recording.write("{\"end\":true}\n")?;
-        recording.out = None;
-        Ok(())
-    }
-
-    fn id(&self, number: u64) -> String {
-        format!("{}-{number}", self.process)
+        recording.end()?;
+        strands
     }
 
     fn locked(&self) -> MutexGuard<'_, Recording> {
-        self.recording
-            .lock()
-            .unwrap_or_else(PoisonError::into_inner)
+        locked(&self.recording)
     }
 
     /// The recording, if a line may be written to it.
@@ -252,6 +370,64 @@ impl Recorder {
     }
 }
 
+impl Drop for Recorder {
+    /// Ends a strand. A process that has not ended leaves no end line, and neither do its strands.
+    fn drop(&mut self) {
+        if process::id() != self.owner {
+            return;
+        }
+        if self.is_strand {
+            let _ = self.end(); // who wants to know of an error calls it before
+            self.locked().out = None;
+        } else {
+            let _ = self.family.end_all(|strand| {
+                strand.out = None;
+                Ok(())
+            });
+        }
+    }
+}
+
+fn locked<T>(mutex: &Mutex<T>) -> MutexGuard<'_, T> {
+    mutex.lock().unwrap_or_else(PoisonError::into_inner)
+}
+
+impl Family {
+    /// The recording of a strand of this name, which has its first line.
+    fn begun(&self, name: &str) -> Result<Arc<Mutex<Recording>>, Error> {
+        let mut guard = locked(&self.strands);
+        let strands = &mut *guard;
+        let recordings = strands.recordings.as_mut().ok_or(Error::Ended)?;
+        if strands.names.contains(name) {
+            return Err(Error::NameTwice(name.to_owned()));
+        }
+        if strands.names.len() == PROCESS_LIMIT {
+            return Err(Error::Processes);
+        }
+        let out: Box<dyn Write + Send> = match &self.place {
+            None => return Err(Error::NoPlace),
+            Some(Place::Beside(path)) => {
+                Box::new(new_file(&path.with_file_name(format!("{name}.stream")))?)
+            }
+            Some(Place::Port(port, patience)) => Box::new(connection_to(*port, *patience)?),
+        };
+        let recording = Arc::new(Mutex::new(Recording::begun(name, out, true)?));
+        strands.names.insert(name.to_owned());
+        recordings.push(Arc::clone(&recording));
+        Ok(recording)
+    }
+
+    /// Ends each of the strands, and gives the first error. No lock of the process is held.
+    fn end_all(&self, end: impl Fn(&mut Recording) -> Result<(), Error>) -> Result<(), Error> {
+        let recordings = locked(&self.strands).recordings.take().unwrap_or_default();
+        let mut ended = Ok(());
+        for recording in recordings {
+            ended = ended.and(end(&mut locked(&recording)));
+        }
+        ended
+    }
+}
+
 impl fmt::Debug for Recorder {
     fn fmt(&self, to: &mut fmt::Formatter<'_>) -> fmt::Result {
         to.debug_struct("Recorder")
@@ -261,11 +437,77 @@ impl fmt::Debug for Recorder {
 }
 
 impl Recording {
-    /// Checks an event and writes its line; the message is its field and its id.
-    fn record(&mut self, message: Option<(&str, &str)>, settings: &[Setting]) -> Result<(), Error> {
-        if self.events == EVENT_LIMIT {
+    /// A recording with its first line.
+    fn begun(process: &str, out: Box<dyn Write + Send>, is_strand: bool) -> Result<Self, Error> {
+        let mut recording = Recording {
+            process: process.to_owned(),
+            is_strand,
+            last: None,
+            out: Some(out),
+            is_broken: false,
+            events: 0,
+            made: 0,
+            ids: HashSet::new(),
+            names: HashSet::new(),
+        };
+        recording.write(&format!("{{\"process\":\"{process}\"}}\n"))?;
+        Ok(recording)
+    }
+
+    fn id(&self, number: u64) -> String {
+        format!("{}-{number}", self.process)
+    }
+
+    /// One of a strand's events is kept for its end.
+    fn check_room(&self) -> Result<(), Error> {
+        if self.events >= EVENT_LIMIT - usize::from(self.is_strand) {
             return Err(Error::Events);
         }
+        Ok(())
+    }
+
+    /// Records a send with an id that it makes.
+    fn send_any(&mut self, settings: &[Setting]) -> Result<String, Error> {
+        let mut number = self.made + 1;
+        while self.ids.contains(&self.id(number)) {
+            number += 1;
+        }
+        let id = self.id(number);
+        self.put(Some(("send", &id)), settings)?;
+        self.made = number;
+        Ok(id)
+    }
+
+    /// Writes the end line and closes; a strand sends its last message before.
+    fn end(&mut self) -> Result<(), Error> {
+        if self.is_strand {
+            self.last = Some(self.send_any(&[])?);
+        }
+        self.write("{\"end\":true}\n")?;
+        self.out = None;
+        Ok(())
+    }
+
+    /// The process of this strand ends before it: writes the end line alone. If an earlier line could not be written,
+    /// the call has said so.
+    fn cut_off(&mut self) -> Result<(), Error> {
+        let ended = if self.out.is_some() && !self.is_broken {
+            self.write("{\"end\":true}\n")
+        } else {
+            Ok(())
+        };
+        self.out = None;
+        ended
+    }
+
+    /// Checks an event and writes its line; the message is its field and its id.
+    fn record(&mut self, message: Option<(&str, &str)>, settings: &[Setting]) -> Result<(), Error> {
+        self.check_room()?;
+        self.put(message, settings)
+    }
+
+    /// Checks the message and the variables of an event, and writes its line.
+    fn put(&mut self, message: Option<(&str, &str)>, settings: &[Setting]) -> Result<(), Error> {
         if let Some((_, id)) = message {
             if id.is_empty() || id.len() > ID_BYTE_LIMIT {
                 return Err(Error::Id(id.to_owned()));
@@ -345,6 +587,10 @@ fn quoted(text: &str) -> String {
     }
     quoted.push('"');
     quoted
+}
+
+fn new_file(path: &Path) -> io::Result<File> {
+    OpenOptions::new().write(true).create_new(true).open(path)
 }
 
 fn check_process(name: &str) -> Result<(), Error> {

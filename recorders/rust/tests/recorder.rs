@@ -224,6 +224,138 @@ fn errors_say_what_is_wrong() {
     assert!(format!("{recorder:?}").contains("left"));
 }
 
+/// A recorder in a folder of its own, and the streams there.
+fn opened_in(folder: &Folder) -> Recorder {
+    Recorder::to_file("left", folder.0.join("left.stream")).unwrap()
+}
+
+fn stream_of(folder: &Folder, name: &str) -> String {
+    fs::read_to_string(folder.0.join(format!("{name}.stream"))).unwrap()
+}
+
+/// What a strand writes at its begin.
+fn begun(name: &str, number: u32) -> String {
+    format!("{{\"process\":\"{name}\"}}\n{{\"recv\":\"left-{number}\"}}\n")
+}
+
+#[test]
+fn threads_with_a_strand_each() {
+    let folder = Folder::new("threads");
+    let left = opened_in(&folder);
+    let threads: Vec<_> = (0..8)
+        .map(|number| {
+            let strand = left.strand(&format!("s{number}")).unwrap();
+            thread::spawn(move || {
+                (0..100).try_for_each(|_| strand.event(&[]))?;
+                strand.end()?;
+                Ok::<_, Error>(strand)
+            })
+        })
+        .collect();
+    let mut joins = String::new();
+    for (number, thread) in (0..).zip(threads) {
+        let strand = thread.join().unwrap().unwrap();
+        left.join(&strand, &[("x", number)]).unwrap();
+        joins += &format!("{{\"recv\":\"s{number}-1\",\"set\":{{\"x\":{number}}}}}\n");
+    }
+    left.end().unwrap();
+    assert!(stream_of(&folder, "left").ends_with(&format!("left-8\"}}\n{joins}{END}")));
+    for number in 0..8 {
+        let name = format!("s{number}");
+        let begin = begun(&name, number + 1);
+        let events = "{}\n".repeat(100);
+        let wanted = format!("{begin}{events}{{\"send\":\"{name}-1\"}}\n{END}");
+        assert_eq!(stream_of(&folder, &name), wanted);
+    }
+}
+
+#[test]
+fn a_strand_that_is_dropped_has_ended() {
+    let folder = Folder::new("dropped");
+    let left = opened_in(&folder);
+    let strand = left.strand("worker").unwrap();
+    let panicked = panic::catch_unwind(AssertUnwindSafe(|| {
+        let _strand = strand;
+        panic::resume_unwind(Box::new("something went wrong"));
+    }));
+    assert!(panicked.is_err());
+    left.end().unwrap();
+    let wanted = format!("{}{{\"send\":\"worker-1\"}}\n{END}", begun("worker", 1));
+    assert_eq!(stream_of(&folder, "worker"), wanted);
+}
+
+#[test]
+fn strands_end_with_their_process() {
+    let folder = Folder::new("with");
+    let left = opened_in(&folder);
+    let outer = left.strand("outer").unwrap();
+    let inner = outer.strand("inner").unwrap();
+    assert!(matches!(outer.join(&inner, &[]), Err(Error::NotEnded(name)) if name == "inner"));
+    assert!(matches!(outer.join(&outer, &[]), Err(Error::NotEnded(name)) if name == "outer"));
+    left.end().unwrap();
+    assert!(matches!(inner.event(&[]), Err(Error::Ended)));
+    assert!(matches!(outer.strand("more"), Err(Error::Ended)));
+    outer.end().unwrap();
+    drop((outer, inner));
+    assert!(stream_of(&folder, "outer").ends_with(&format!("outer-1\"}}\n{END}")));
+    assert!(stream_of(&folder, "inner").ends_with(&format!("{{\"recv\":\"outer-1\"}}\n{END}")));
+}
+
+#[test]
+fn strands_are_closed_with_their_process() {
+    let folder = Folder::new("closed");
+    let left = opened_in(&folder);
+    let strand = left.strand("worker").unwrap();
+    drop(left);
+    assert!(matches!(strand.event(&[]), Err(Error::Ended)));
+    drop(strand);
+    assert_eq!(stream_of(&folder, "worker"), begun("worker", 1));
+}
+
+#[test]
+fn a_process_that_ends_while_its_strands_record() {
+    let folder = Folder::new("races");
+    let left = opened_in(&folder);
+    thread::scope(|scope| {
+        for number in 0..4 {
+            let (left, strand) = (&left, left.strand(&format!("s{number}")).unwrap());
+            scope.spawn(move || loop {
+                let recorded = strand.event(&[]).and_then(|()| left.event(&[]));
+                if let Err(error) = recorded {
+                    assert!(matches!(error, Error::Ended), "{error}");
+                    break;
+                }
+                thread::sleep(Duration::from_millis(1)); // or there are no more events before the end
+            });
+        }
+        thread::sleep(Duration::from_millis(5));
+        left.end().unwrap();
+    });
+    for number in 0..4 {
+        let text = stream_of(&folder, &format!("s{number}"));
+        assert_eq!(text.find(END), Some(text.len() - END.len()));
+    }
+}
+
+#[test]
+fn strands_that_are_refused() {
+    let folder = Folder::new("refused");
+    let given = Recorder::new("left", io::sink()).unwrap();
+    assert!(matches!(given.strand("worker"), Err(Error::NoPlace)));
+    assert!(matches!(given.strand("left"), Err(Error::NameTwice(name)) if name == "left"));
+    let left = opened_in(&folder);
+    fs::write(folder.0.join("worker.stream"), "").unwrap();
+    let there = left.strand("worker");
+    assert!(matches!(there, Err(Error::Io(error)) if error.kind() == ErrorKind::AlreadyExists));
+    fs::remove_file(folder.0.join("worker.stream")).unwrap();
+    left.strand("worker").unwrap().end().unwrap();
+    left.end().unwrap();
+    assert_eq!(
+        stream_of(&folder, "left"),
+        format!("{JOIN}{{\"send\":\"left-1\"}}\n{END}")
+    );
+}
+
 #[cfg(unix)]
 #[test]
 fn a_fork_does_not_record() {
