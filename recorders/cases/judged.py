@@ -33,8 +33,8 @@ def see_report(folder, document, streams, wanted):
 
 
 class Plain:
-    """Recordings of which no document is given, and one that fits: with their processes and variables, and with one
-    process more, which has sent what they received and none of them sent."""
+    """Recordings of which no document is given, and one that fits: with their processes and variables and, if they
+    received what none of them sent, with one process more, which has sent that."""
 
     def __init__(self, paths):
         self.paths, self.processes, self.sent, self.received = paths, {}, set(), set()
@@ -43,6 +43,8 @@ class Plain:
             with open(path, encoding="utf-8", newline="\n") as file:
                 self.read(number, [json.loads(line) for line in file])
         self.from_outside = sorted(self.received - self.sent)
+        if self.from_outside:
+            self.processes["outside"] = {}
 
     def read(self, number, lines):
         names = self.processes.setdefault(lines[0]["process"], {})
@@ -57,15 +59,20 @@ class Plain:
 
     def document(self):
         processes = [{"name": name, "vars": names} for name, names in self.processes.items()]
-        return json.dumps({"processes": [*processes, {"name": "outside", "vars": {}}],
-                           "predicates": [{"name": "never", "text": "false"}], "width": 1})
+        return json.dumps({"processes": processes, "predicates": [{"name": "never", "text": "false"}], "width": 1})
 
     def see(self, folder):
         """Sees that the program takes the recordings, with the events and messages that they have."""
-        outside = os.path.join(folder, "outside.stream")
-        lines = [{"process": "outside"}, *({"send": message} for message in self.from_outside), {"end": True}]
-        with open(outside, "w", encoding="utf-8") as file:
-            file.writelines(f"{json.dumps(line)}\n" for line in lines)
-        wanted = self.unended or (f"session {len(self.processes) + 1} processes "
+        wanted = self.unended or (f"session {len(self.processes)} processes "
                                   f"{self.events + len(self.from_outside)} events {len(self.received)} messages\n")
-        see_report(folder, self.document(), [*self.paths, outside], wanted)
+        see_report(folder, self.document(), [*self.paths, *self.outside(folder)], wanted)
+
+    def outside(self, folder):
+        """The path of the stream of the process more, if there is one."""
+        if not self.from_outside:
+            return []
+        path = os.path.join(folder, "outside.stream")
+        lines = [{"process": "outside"}, *({"send": message} for message in self.from_outside), {"end": True}]
+        with open(path, "w", encoding="utf-8") as file:
+            file.writelines(f"{json.dumps(line)}\n" for line in lines)
+        return [path]

@@ -25,16 +25,19 @@ AT_ONCE = 100
 
 def play(case, players, folder):
     """Plays a case, and gives how many calls were left out."""
-    left_out, streams = 0, {}
+    left_out, streams, begun = 0, {}, {}
     for call in case.calls:
         stream = streams.setdefault(call.process, Stream(folder, call.process))
+        player, words = owner_of(call.process, begun)
+        note_strand(call, folder, streams, begun)
         try:
             for first in range(1, call.times + 1, AT_ONCE):
                 numbers = range(first, min(first + AT_ONCE, call.times + 1))
-                left_out += make(players.of(call.process), stream, [call.numbered(number) for number in numbers])
+                turns = [call.numbered(number) for number in numbers]
+                left_out += make(players.of(player), words, stream, streams, turns)
         except Wrong as wrong:
             raise Wrong(f"{call.where}: {wrong}") from None
-    for process in streams:
+    for process in set(streams) - set(begun):
         players.of(process).ask("close")
     paths = [stream.path for stream in streams.values() if stream.size]
     if judged.has_program() and paths:
@@ -42,17 +45,35 @@ def play(case, players, folder):
     return left_out
 
 
-def make(player, stream, turns):
+def note_strand(call, folder, streams, begun):
+    """Notes who begins a strand, if that is the call, and where its stream is. A name that is taken stays taken."""
+    word, _, name = call.words.partition(" ")
+    if word == "strand" and name not in streams:
+        streams[name], begun[name] = Stream(folder, name), call.process
+
+
+def owner_of(process, begun):
+    """The process whose player makes the calls of this one, and the words with which they begin: a strand's calls are
+    made by the player of the process whose strand it is."""
+    words = f"in {process} " if process in begun else ""
+    while process in begun:
+        process = begun[process]
+    return process, words
+
+
+def make(player, prefix, stream, streams, turns):
     """Has calls made, which are words, an answer and what is written; gives how many were left out."""
-    wanted, left_out = b"", 0
+    wanted, left_out = {}, 0
     for words, _, _ in turns:
-        player.tell(f"{words} {stream.word()}" if words.startswith("file ") else words)
-    for words, answer, text in turns:
+        player.tell(f"{words} {stream.word()}" if words.startswith("file ") else prefix + words)
+    for words, answer, written in turns:
         if player.has_answered(words, answer):
-            wanted += text
+            for process, text in written.items():
+                wanted[process] = wanted.get(process, b"") + text
         else:
             left_out += 1
-    see_text(stream.added(), wanted)
+    for process, each in streams.items():
+        see_text(each.added(), wanted.get(process, b""))
     return left_out
 
 

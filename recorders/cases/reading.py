@@ -10,19 +10,22 @@ NUMBER = re.compile(r"\{n(?::0(\d+))?\}")
 
 
 class Call:
-    """A call that a process makes, as its player is given it, the answer, and the lines that it must write."""
+    """A call that a process makes, as its player is given it, the answer, and the lines that it must write, each with
+    the process in whose stream it stands."""
 
     def __init__(self, where, process, words, times):
         self.where, self.process, self.words, self.times = where, process, words, times
         self.answer, self.lines = "recorded", []
 
     def numbered(self, number):
-        """The words, the answer and the bytes of this turn, counted from 1."""
+        """The words, the answer and, by processes, the bytes of this turn, counted from 1."""
         def put(text):
             return NUMBER.sub(lambda found: str(number).zfill(int(found[1] or 0)), text)
 
-        text = "".join(f"{line}\n" for line in self.lines)
-        return put(self.words), put(self.answer), unquote_to_bytes(put(text))
+        written = {}
+        for process, line in self.lines:
+            written[process] = written.get(process, b"") + unquote_to_bytes(put(f"{line}\n"))
+        return put(self.words), put(self.answer), written
 
 
 class Case:
@@ -48,8 +51,8 @@ class Reader:
             self.cases[-1].report += f"{rest}\n"
         elif word == "times":
             self.times = int(rest)
-        elif word == ">":
-            self.last_call().lines.append(rest)
+        elif word.endswith(">"):
+            self.last_call().lines.append([word[:-1] or self.last_call().process, rest])
         elif word == "gives":
             self.last_call().answer = f"recorded {rest}"
         elif word in ("refused", "failed"):
@@ -69,8 +72,8 @@ class Reader:
         """More text of the document or of a line that is written, or more words of a call."""
         if self.last == "session":
             self.cases[-1].document += rest
-        elif self.last == ">":
-            self.last_call().lines[-1] += rest
+        elif self.last.endswith(">"):
+            self.last_call().lines[-1][1] += rest
         else:
             self.last_call().words += f" {rest}"
 

@@ -17,12 +17,16 @@ sys.path.append(os.path.join(judged.TOP, "cases"))
 import listening  # noqa: E402
 
 THREADS, TURNS = 6, 50
+STRANDS = 15
 SEEN = 300
 BURST = 4000
 JOIN, END = b'{"process":"left"}\n', b'{"end":true}\n'
 SECONDS = 60
 DOCUMENT = json.dumps({"processes": [{"name": "left", "vars": {"inside": 0}}, {"name": "right", "vars": {"inside": 0}}],
                        "predicates": [{"name": "both", "text": "left.inside == 1 and right.inside == 1"}]})
+STRANDED = json.dumps({"processes": [{"name": "left", "vars": {"x": 0}}, {"name": "worker", "vars": {"x": 0}}],
+                       "predicates": [{"name": "both", "text": "left.x == 1 and worker.x == 1"}]})
+STRANDED_REPORT = "session 2 processes 6 events 2 messages\nboth possibly yes 2,2\n"
 REPORT = "session 2 processes 3 events 1 messages\nboth possibly no\nboth definitely no left,left,right\n"
 
 
@@ -60,6 +64,25 @@ def see_thread(thread, lines):
         wanted += [{"send": message, "set": {x: turn}}, {"set": {y: int(message.rpartition("-")[2])}},
                    {"recv": f"m{thread}-{turn}"}]
     see(mine == wanted, f"the lines of thread {thread} are\n{mine}\nand not\n{wanted}")
+
+
+def with_strands(players, folder):
+    """strands that record at the same time, each in a thread of its own"""
+    player, stream = players.of("left"), Stream(folder, "left")
+    player.ask(f"file left {stream.word()}")
+    player.ask(f"strands {STRANDS} {TURNS}")
+    player.ask("end")
+    names = [f"strand{number}" for number in range(STRANDS)]
+    lines = [f'{{"send":"left-{number}"}}\n' for number in range(1, STRANDS + 1)]
+    lines += [f'{{"recv":"{name}-1"}}\n' for name in names]
+    see_text(stream.added(), JOIN + "".join(lines).encode() + END)
+    strands = [Stream(folder, name) for name in names]
+    for number, (name, strand) in enumerate(zip(names, strands), 1):
+        begin = f'{{"process":"{name}"}}\n{{"recv":"left-{number}"}}\n'
+        events = "".join(f'{{"set":{{"x":{turn}}}}}\n' for turn in range(TURNS))
+        see_text(strand.added(), f'{begin}{events}{{"send":"{name}-1"}}\n'.encode() + END)
+    if judged.has_program():
+        judged.Plain([stream.path, *(strand.path for strand in strands)]).see(folder)
 
 
 def killed_at_rest(players, folder):
@@ -144,6 +167,22 @@ def lines_as_they_are_recorded(players, _folder):
         see_text(lines.readline(), b'{"send":"left-1"}\n')
         player.ask("end")
         see_text(lines.read(), END)
+
+
+def strand_over_a_connection(players, _folder):
+    """a strand that has a connection of its own"""
+    player = players.of("left")
+    with Listener() as listener, listener.connected(player) as connection, connection.makefile("rb") as lines:
+        player.ask("strand worker")
+        with listener.socket.accept()[0] as second, second.makefile("rb") as others:
+            see_text(others.readline() + others.readline(), b'{"process":"worker"}\n{"recv":"left-1"}\n')
+            player.ask("in worker event x=1")
+            see_text(others.readline(), b'{"set":{"x":1}}\n')
+            player.ask("in worker end")
+            see_text(others.read(), b'{"send":"worker-1"}\n' + END)
+        player.ask("join worker")
+        player.ask("end")
+        see_text(lines.read(), JOIN + b'{"send":"left-1"}\n{"recv":"worker-1"}\n' + END)
 
 
 def without_an_end_over_a_connection(players, _folder):
@@ -237,11 +276,11 @@ class Reading(threading.Thread):
         return self.text
 
 
-def server(folder):
+def server(folder, document):
     """The program as a server, and its port, once it listens. Others are tried if another program has the port."""
     path = os.path.join(folder, "session.json")
     with open(path, "w", encoding="utf-8") as file:
-        file.write(DOCUMENT)
+        file.write(document)
     while True:
         port = listening.free_ports(1)
         running = subprocess.Popen([judged.PROGRAM, "serve", path, "--port", str(port)], stdout=subprocess.PIPE)
@@ -256,7 +295,7 @@ def served(players, folder):
     """a session that `serve` judges"""
     if not judged.has_program():
         return
-    running, port = server(folder)
+    running, port = server(folder, DOCUMENT)
     left, right = players.of("left"), players.of("right")
     with running, contextlib.ExitStack() as at_end:
         at_end.callback(running.kill)
@@ -270,5 +309,25 @@ def served(players, folder):
         see_text(running.stdout.read().decode(), REPORT)
 
 
-TRIALS = [with_threads, killed_at_rest, killed_at_work, lines_as_they_are_recorded, without_an_end_over_a_connection,
-          killed_over_a_connection, gone, nobody_listens, listens_later, reads_late, served]
+def served_with_a_strand(players, folder):
+    """a session with a strand that `serve` judges"""
+    if not judged.has_program():
+        return
+    running, port = server(folder, STRANDED)
+    left = players.of("left")
+    with running, contextlib.ExitStack() as at_end:
+        at_end.callback(running.kill)
+        left.ask(f"port left {port} {SECONDS}")
+        left.ask("strand worker")
+        left.ask("event x=1")
+        left.ask("in worker event x=1")
+        left.ask("in worker end")
+        left.ask("join worker x=0")
+        left.ask("end")
+        report = running.stdout.read().decode()
+        see(report.startswith(STRANDED_REPORT), f"the report is\n{report}and not\n{STRANDED_REPORT}")
+
+
+TRIALS = [with_threads, with_strands, killed_at_rest, killed_at_work, lines_as_they_are_recorded,
+          strand_over_a_connection, without_an_end_over_a_connection, killed_over_a_connection, gone, nobody_listens,
+          listens_later, reads_late, served, served_with_a_strand]

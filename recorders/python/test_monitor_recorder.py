@@ -430,6 +430,7 @@ class Limits(unittest.TestCase):
               "javascript/monitor_recorder.d.cts": (r"^export const {}: ([\d_]+);$", "EVENT_LIMIT"),
               "rust/src/lib.rs": (r"^pub const {}: usize = ([\d_]+);$", "EVENT_LIMIT")}
     NAMES = {"event_limit": ("EVENT_LIMIT", "EventLimit"), "var_limit": ("VARIABLE_LIMIT", "VariableLimit"),
+             "process_limit": ("PROCESS_LIMIT", "ProcessLimit"),
              "name_byte_limit": ("NAME_BYTE_LIMIT", "NameByteLimit"), "id_byte_limit": ("ID_BYTE_LIMIT", "IDByteLimit")}
 
     def setUp(self):
