@@ -1,7 +1,9 @@
-// node commit.mjs FOLDER [--apart]: records a two-phase commit of a coordinator and three banks into FOLDER.
+// node commit.mjs FOLDER [--apart | --strands]: records a two-phase commit of a coordinator and three banks into a
+// folder.
 //
 // The coordinator asks all banks at once, each in an async function of its own, and takes two votes of three for all:
-// that is the bug. With --apart each call of this function records into a stream of its own.
+// that is the bug. With --apart each call of this function records into a stream of its own, by code that is written
+// here; with --strands it does the same by strands of the recorder.
 import { once } from "node:events";
 import http from "node:http";
 import path from "node:path";
@@ -18,7 +20,6 @@ const BANKS = {
 const ENOUGH = 2; // of three banks
 
 const [folder, option] = process.argv.slice(2);
-const isApart = option === "--apart";
 const recorderOf = (name) => Recorder.toFile(name, path.join(folder, `${name}.stream`));
 
 /** Answers the one question that this bank is asked, with its vote. */
@@ -55,6 +56,12 @@ class Votes {
     this.decision ??= this.no > 0 ? "abort" : this.yes >= ENOUGH ? "commit" : undefined;
     return this[vote];
   }
+
+  /** The same, for whoever asks for one vote only: what that one has heard. */
+  countOne(vote) {
+    this.count(vote);
+    return { [vote]: 1 };
+  }
 }
 
 /** Asks all banks at once, and records as one process, as a program is recorded by itself. */
@@ -75,10 +82,7 @@ async function coordinateApart(urls) {
   const askApart = async ([name, url]) => {
     const task = recorderOf(`ask_${name}`);
     task.receive(recorder.send());
-    await ask(url, task, (vote) => {
-      votes.count(vote);
-      return { [vote]: 1 };
-    });
+    await ask(url, task, (vote) => votes.countOne(vote));
     const joined = task.send();
     task.end();
     return joined;
@@ -88,6 +92,18 @@ async function coordinateApart(urls) {
   recorder.end();
 }
 
+/** The same by strands: the recorder makes the processes, and the messages by which they begin and end. */
+async function coordinateByStrands(urls) {
+  const recorder = recorderOf("coordinator");
+  const votes = new Votes();
+  const askInStrand = ([name, url]) =>
+    recorder.strand(`ask_${name}`, (task) => ask(url, task, (vote) => votes.countOne(vote)));
+  await Promise.all(Object.entries(urls).map(askInStrand));
+  recorder.event({ commits: Number(votes.decision === "commit") });
+  recorder.end();
+}
+
+const ways = { "--apart": coordinateApart, "--strands": coordinateByStrands };
 const urls = {};
 for (const name of Object.keys(BANKS)) urls[name] = await bank(name, recorderOf(name));
-await (isApart ? coordinateApart(urls) : coordinate(urls));
+await (ways[option] ?? coordinate)(urls);

@@ -12,6 +12,8 @@ const recording = require("./monitor_recorder.cjs");
 
 const { NotRecorded, Recorder } = recording;
 const FILE = path.join(__dirname, "monitor_recorder.cjs");
+const EXAMPLES = path.join(__dirname, "..", "..", "examples");
+const MONITOR = path.resolve(process.env.MONITOR ?? path.join(EXAMPLES, "..", "crates", "monitor", "out", "monitor"));
 const JOIN = '{"process":"left"}\n';
 const END = '{"end":true}\n';
 const folder = fs.mkdtempSync(path.join(os.tmpdir(), "recorder-"));
@@ -299,6 +301,36 @@ function linkOf(number) {
     return undefined;
   }
 }
+
+/** The answers to what is asked of a recording of the program of examples/two-phase-commit. */
+function answersOf(example, ...option) {
+  const at = fs.mkdtempSync(path.join(folder, "commit-"));
+  const program = path.join(EXAMPLES, "two-phase-commit", "commit.mjs");
+  const done = spawnSync(process.execPath, [program, at, ...option], { encoding: "utf8" });
+  assert.equal(done.status, 0, done.stderr);
+  const streams = fs.readdirSync(at).sort();
+  const stored = fs.readdirSync(path.join(EXAMPLES, example)).filter((name) => name.endsWith(".stream"));
+  assert.deepEqual(streams, stored.sort());
+  const document = path.join(EXAMPLES, example, "session.json");
+  const judged = spawnSync(MONITOR, ["judge", document, ...streams], { cwd: at, encoding: "utf8" });
+  return judged.stdout.split("\n").map((line) => line.split(" ").slice(0, 3).join(" "));
+}
+
+test("by strands a bug is seen that one recorder misses", { skip: !fs.existsSync(MONITOR) }, () => {
+  const [, missed] = answersOf("two-phase-commit");
+  assert.equal(missed, "would_commit possibly no");
+  for (const way of ["apart", "strands"]) {
+    const [, seen] = answersOf(`two-phase-commit-${way}`, `--${way}`);
+    assert.equal(seen, "would_commit possibly yes");
+  }
+});
+
+test("strands write what an example writes by hand", () => {
+  const [byHand, byStrands] = ["apart", "strands"].map((way) => path.join(EXAMPLES, `two-phase-commit-${way}`));
+  for (const name of fs.readdirSync(byHand)) {
+    assert.equal(fs.readFileSync(path.join(byStrands, name), "utf8"), fs.readFileSync(path.join(byHand, name), "utf8"));
+  }
+});
 
 test("strands that are refused", () => {
   const { recorder, at } = openedWithStrands();
