@@ -15,7 +15,7 @@ import sys
 import tempfile
 
 TOP = os.path.dirname(os.path.dirname(os.path.abspath(__file__)))
-COMMANDS = {"export", "mkdir", "cp", "cd", "cat", "sed", "rm", "for", "python3", "pytest", "go", "javac", "java",
+COMMANDS = {"alias", "export", "mkdir", "cp", "cd", "cat", "sed", "rm", "for", "python3", "pytest", "go", "javac", "java",
             "monitor"}
 SECONDS = 300
 
@@ -33,7 +33,7 @@ def blocks(text, without, only):
 
 def typed(page, without, only, folder):
     """For each block of commands the lines that they wrote and those that the page has."""
-    script, wanted = [], []
+    script, wanted = ["shopt -s expand_aliases"], []
     with open(page, encoding="utf-8") as file:
         text = re.sub(r"(?<!\w)/tmp/", f"{folder}/", file.read())
     for before, lines in blocks(text, without, only):

@@ -64,6 +64,20 @@ def early(run):
 
 @needs_program
 class Judged(Case):
+    def test_strands_are_judged_with_their_process(self):
+        document = {"processes": [{"name": "main", "vars": {}}, *DOCUMENT["processes"]],
+                    "predicates": [DOCUMENT["predicates"][0]]}
+
+        def both_in_strands(run):
+            main = run.recorder("main")
+            for name in ("left", "right"):
+                with main.strand(name) as strand:
+                    strand.event(inside=1)
+                    strand.event(inside=0)
+
+        self.assertIn("both possibly yes 2,2,2", self.failure(both_in_strands, document))
+        self.assertIn("left.stream", self.kept())
+
     def test_a_run_that_passes(self):
         with MonitoredRun("turns", DOCUMENT, never=["both"]) as run:
             take_turns(run.recorder("left"), run.recorder("right"), early=False)
