@@ -27,6 +27,7 @@ import itertools
 import json
 import operator
 import os
+import queue
 import re
 import socket
 import threading
@@ -344,6 +345,70 @@ class Strand(Recorder):
 
     def _is_open_strand(self):
         return self._state == OPEN
+
+
+class RecordedQueue(queue.Queue):
+    """A queue between threads, whose items are messages: to put one is a send of the `current()` recorder, and to get
+    it a receipt. What no recorder puts or gets is no message, and neither is what a recorder has put itself."""
+
+    def put(self, item, block=True, timeout=None):
+        recorder = current()
+        sent = None if recorder is None else (recorder.process, recorder.send())
+        super().put((sent, item), block, timeout)
+
+    def get(self, block=True, timeout=None):
+        sent, item = super().get(block, timeout)
+        receive_from_another(sent)
+        return item
+
+
+class RecordedLock:
+    """A lock between threads, whose release is a message to whoever acquires it next: a send of the `current()`
+    recorder and a receipt, if that is another one. So what the lock keeps apart is kept apart in the recording. But the
+    order in which it was acquired is a cause then, and no other order is judged."""
+
+    def __init__(self):
+        self._lock = threading.Lock()
+        self._sent = None
+
+    def acquire(self, blocking=True, timeout=-1):
+        """As that of `threading.Lock`. If the receipt is refused the lock isn't held."""
+        is_held = self._lock.acquire(blocking, timeout)
+        if is_held:
+            try:
+                if receive_from_another(self._sent):
+                    self._sent = None
+            except BaseException:
+                self._lock.release()
+                raise
+        return is_held
+
+    def release(self):
+        """As that of `threading.Lock`. It is released, whatever becomes of the send."""
+        try:
+            recorder = current()
+            if recorder is not None:
+                self._sent = (recorder.process, recorder.send())
+        finally:
+            self._lock.release()
+
+    def locked(self):
+        return self._lock.locked()
+
+    def __enter__(self):
+        return self.acquire()
+
+    def __exit__(self, kind, error, trace):
+        self.release()
+
+
+def receive_from_another(sent):
+    """Has the current recorder receive the message, if there is one and another process has sent it."""
+    recorder = current()
+    if sent is None or recorder is None or sent[0] == recorder.process:
+        return False
+    recorder.receive(sent[1])
+    return True
 
 
 class Family:

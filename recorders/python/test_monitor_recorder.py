@@ -223,15 +223,20 @@ class Threads(Case):
         self.assertEqual(self.lines(), [{"process": "left"}, *[{}] * sum(recorded), {"end": True}])
 
 
-class Strands(Case):
+class StrandCase(Case):
     def setUp(self):
         super().setUp()
         self.folder = os.path.dirname(self.path)
 
-    def lines_of(self, name):
+    def text_of(self, name):
         with open(os.path.join(self.folder, f"{name}.stream"), encoding="utf-8") as file:
-            return [json.loads(line) for line in file]
+            return file.read()
 
+    def lines_of(self, name):
+        return [json.loads(line) for line in self.text_of(name).splitlines()]
+
+
+class Strands(StrandCase):
     def test_threads_of_which_each_has_its_own(self):
         def work(strand, number):
             with strand:
@@ -392,6 +397,95 @@ class Strands(Case):
         self.assertEqual(sorted(refused), ["a", "b", "c"])
         for lines in (self.lines(), *map(self.lines_of, "abc")):
             self.assertEqual([place for place, line in enumerate(lines) if line == {"end": True}], [len(lines) - 1])
+
+
+class Shared(StrandCase):
+    """What strands share: a queue, a lock."""
+
+    def run_in_strands(self, left, **works):
+        """Runs each of the functions in a thread with a strand of its name."""
+        strands = [left.strand(name) for name in works]
+
+        def run(strand, work):
+            with strand:
+                work(strand)
+
+        threads = [threading.Thread(target=run, args=(strand, work)) for strand, work in zip(strands, works.values())]
+        for thread in threads:
+            thread.start()
+        for thread in threads:
+            thread.join(30)
+
+    def test_a_queue_hands_on_what_was_before(self):
+        items = monitor_recorder.RecordedQueue(maxsize=1)
+
+        def put(strand):
+            for number in range(3):
+                strand.event(x=number)
+                items.put(f"item {number}")
+
+        def get(strand):
+            self.assertEqual([items.get(timeout=30) for _ in range(3)], ["item 0", "item 1", "item 2"])
+
+        with Recorder.to_file("left", self.path) as left:
+            self.run_in_strands(left, a=put, b=get)
+        self.assertEqual([line for line in self.lines_of("a") if "send" in line],
+                         [{"send": f"a-{number}"} for number in range(1, 5)])
+        self.assertEqual(self.lines_of("b")[1:],
+                         [{"recv": "left-2"}, *({"recv": f"a-{number}"} for number in (1, 2, 3)), {"send": "b-1"},
+                          {"end": True}])
+
+    def test_a_queue_without_recorders_or_with_one(self):
+        items = monitor_recorder.RecordedQueue()
+        items.put(None)
+        self.assertIsNone(items.get_nowait())
+        with Recorder.to_file("left", self.path) as left:
+            items.put_nowait("mine")
+            self.assertEqual(items.get(), "mine")
+            items.put("more")
+        self.assertEqual(items.get(), "more")
+        self.assertEqual(left.events, 2)
+
+    @needs_program
+    def test_a_lock_keeps_apart(self):
+        lock = monitor_recorder.RecordedLock()
+
+        def work(strand):
+            for _ in range(20):
+                with lock:
+                    strand.event(inside=1)
+                    strand.event(inside=0)
+                time.sleep(0.0005)
+
+        with Recorder.to_file("left", self.path) as left:
+            self.run_in_strands(left, a=work, b=work)
+        self.assertFalse(lock.locked())
+        document = {"processes": [{"name": name, "vars": {"inside": 0}} for name in ("left", "a", "b")],
+                    "predicates": [{"name": "both", "text": "a.inside == 1 and b.inside == 1"}]}
+        self.assertRegex(report_of(document, [self.text(), self.text_of("a"), self.text_of("b")]),
+                         "^session 3 processes [0-9]+ events [0-9]+ messages\nboth possibly no\n")
+
+    def test_a_lock_that_is_refused_isn_t_held(self):
+        lock = monitor_recorder.RecordedLock()
+        with Recorder.to_file("left", self.path) as left:
+            with left.strand("a"), lock:
+                pass
+            with left.strand("b") as strand:
+                strand.close()
+                self.assertRaises(NotRecorded, lock.acquire)
+                self.assertFalse(lock.locked())
+            lock.acquire()
+            left.close()
+            self.assertRaises(NotRecorded, lock.release)
+            self.assertFalse(lock.locked())
+        self.assertEqual(self.lines_of("left")[3:], [{"recv": "a-1"}, {"end": True}])
+
+    def test_a_lock_without_recorders(self):
+        lock = monitor_recorder.RecordedLock()
+        with lock:
+            self.assertFalse(lock.acquire(blocking=False))
+            self.assertFalse(lock.acquire(timeout=0.001))
+        self.assertTrue(lock.acquire())
 
 
 class Ports(Case):
