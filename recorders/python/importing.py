@@ -1,10 +1,13 @@
 """What the importers share: events with what they set and the messages between them, how a session is made of them,
-and the part of the command line that says what the session asks."""
+files that are written whole or not at all, and the part of the command line that says what the session asks."""
 import argparse
+import contextlib
 import json
 import os
 import re
+import shutil
 import sys
+import tempfile
 
 from monitor_recorder import EVENT_LIMIT, NotRecorded, Recorder, checked_name, checked_value, checked_variables
 
@@ -139,6 +142,57 @@ def initial_values(names, variables, given):
     return values
 
 
+# Files
+
+@contextlib.contextmanager
+def written_folder(path):
+    """A folder to write files to, which come to `path`, new or empty, once all of them are written. After an error
+    none is there."""
+    is_there = os.path.isdir(path)
+    whole = os.path.abspath(path)
+    os.makedirs(os.path.dirname(whole), exist_ok=True)
+    part = f"{whole}/{os.getpid()}.part" if is_there else f"{whole}.{os.getpid()}.part"
+    os.mkdir(part)
+    try:
+        yield part
+        if is_there:
+            for name in os.listdir(part):
+                os.rename(os.path.join(part, name), os.path.join(whole, name))
+        else:
+            os.rename(part, whole)
+    finally:
+        shutil.rmtree(part, ignore_errors=True)
+
+
+def replaced_files(texts):
+    """Writes these bytes to these paths: all of them under other names first, which are then renamed."""
+    made = {}
+    try:
+        for path, text in texts.items():
+            descriptor, made[path] = tempfile.mkstemp(dir=os.path.dirname(path) or ".", suffix=".part")
+            with open(descriptor, "wb") as file:
+                file.write(text)
+                if os.path.exists(path):
+                    file.flush()
+                    os.fsync(file.fileno())
+            os.chmod(made[path], mode_for(path))
+        for path in texts:
+            os.replace(made[path], path)
+            del made[path]
+    finally:
+        for part in made.values():
+            os.unlink(part)
+
+
+def mode_for(path):
+    """The permissions of the file that is there, or else those that a new one gets."""
+    if os.path.exists(path):
+        return os.stat(path).st_mode & 0o7777
+    mask = os.umask(0)
+    os.umask(mask)
+    return 0o666 & ~mask
+
+
 # Writing
 
 def check_lengths(processes):
@@ -197,8 +251,8 @@ def write_session(given, processes):
     shared = sum(len(event.receivers) > 1 for event in ids)
     if shared:
         document["version"] = 2
-    os.makedirs(given.out, exist_ok=True)
-    write_files(given.out, document, processes, ids)
+    with written_folder(given.out) as folder:
+        write_files(folder, document, processes, ids)
     events = [event for events in processes.values() for event in events]
     split = sum(event.lines() > 1 for event in events)
     line = f"{len(processes)} processes, {len(events)} events, {len(ids)} messages, {split} events written as several"

@@ -14,6 +14,7 @@ import time
 import unittest
 
 import importing
+import monitor_mend
 import monitor_recorder
 from judging import FOLDER, needs_program, report_of
 from monitor_recorder import EVENT_LIMIT, IdTwice, NotRecorded, Recorder
@@ -514,7 +515,7 @@ class Ports(Case):
 
 
 class Limits(unittest.TestCase):
-    """The limits of each recorder, and of the importer, are those of the definitions."""
+    """The limits of each recorder, of the importers and of monitor_mend are those of the definitions."""
 
     # Where they stand, and how: a pattern with the name of a limit in that language, and with its number.
     OTHERS = {"c/monitor_recorder.h": (r"^#define MONITOR_{} (\d+)$", "EVENT_LIMIT"),
@@ -535,9 +536,10 @@ class Limits(unittest.TestCase):
     def test_of_python(self):
         for limit, (name, _) in self.NAMES.items():
             self.assertEqual(getattr(monitor_recorder, name), self.limits[limit], name)
-        for name, limit in (("PROCESS_LIMIT", "process_limit"), ("PREDICATE_LIMIT", "predicate_limit"),
-                            ("WIDTH_LIMIT", "width_limit")):
-            self.assertEqual(getattr(importing, name), self.limits[limit], name)
+        for module, names in ((importing, ("PROCESS_LIMIT", "PREDICATE_LIMIT", "WIDTH_LIMIT")),
+                              (monitor_mend, ("LINE_BYTE_LIMIT", "STREAM_BYTE_LIMIT"))):
+            for name in names:
+                self.assertEqual(getattr(module, name), self.limits[name.lower()], name)
 
     def test_of_the_others(self):
         for path, (pattern, example) in self.OTHERS.items():

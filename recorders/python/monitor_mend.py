@@ -1,0 +1,329 @@
+#!/usr/bin/env python3
+"""Mends the streams of processes that were killed, so that `monitor` takes them:
+
+    python3 monitor_mend.py --out MENDED FOLDER
+    monitor judge session.json MENDED/*.stream
+
+Of a folder each file `*.stream` is a stream. A stream without an end line gets one, and a last line that was cut short
+is dropped before it. What was done is printed for each stream, with the line. A stream that is damaged elsewhere is
+refused with its line, as is one with a line that no recorder writes; then nothing is written.
+
+MENDED, which must be new or empty, then has a copy of each stream, also of one that was whole. Without --out each copy
+stands beside its stream, as `left.stream.mended`; with --in-place the streams that were not whole are replaced. Each
+copy is written under another name and renamed once it is whole.
+
+With --orphans-as-local a receipt of a message that none of these streams sends becomes a local event, so all streams of
+the session have to be given. recorders/python/README.md says what a report still shows then.
+
+The status is 0 if all streams are whole or mended, 1 if one is refused, and 2 if the command line is."""
+import argparse
+import io
+import json
+import os
+import re
+import sys
+
+from importing import Refused, replaced_files, written_folder
+from monitor_recorder import (EVENT_LIMIT, GREATEST_VALUE, ID_BYTE_LIMIT, LEAST_VALUE, NotRecorded, checked_name)
+
+LINE_BYTE_LIMIT = 65_536
+STREAM_BYTE_LIMIT = 16_777_216
+ENDING = ".stream"
+# So many numbers of lines are named of those of which the same is said.
+SHOWN = 8
+JOIN, EVENT, END = "join", "event", "end"
+
+
+class Torn(Exception):
+    """The line isn't JSON, as one that was cut short."""
+
+
+class Faulty(Exception):
+    """The line is JSON, and no line of a stream: the text says why."""
+
+
+# A line
+
+def fields_of(pairs):
+    """The fields of an object. What no recorder writes, and Python and the monitor might take differently, is refused:
+    a field twice, and half of a pair of surrogates."""
+    if len(dict(pairs)) < len(pairs):
+        raise Faulty("a field stands there twice")
+    for field, value in pairs:
+        for text in (field, value):
+            if isinstance(text, str) and re.search("[\ud800-\udfff]", text):
+                raise Faulty("half of a pair of surrogates")
+    return dict(pairs)
+
+
+def refuse_constant(text):
+    raise Faulty(f"{text} is no value of JSON")
+
+
+def number_of(text):
+    """The number, which is an int only if it is a whole number of 64 bits that the monitor takes."""
+    return int(text) if text != "-0" and len(text) <= 20 else float(text)
+
+
+def value_of_line(line):
+    """The value for which the bytes of a line stand as JSON."""
+    try:
+        return json.loads(line.decode(), object_pairs_hook=fields_of, parse_constant=refuse_constant,
+                          parse_int=number_of)
+    except ValueError:
+        raise Torn("it isn't JSON in UTF-8") from None
+    except RecursionError:
+        raise Faulty("it nests too deep") from None
+
+
+def kind_of(line):
+    """The kind of a line by its fields, which are looked at too."""
+    if not isinstance(line, dict):
+        raise Faulty("it isn't an object")
+    if line.keys() == {"process"} and isinstance(line["process"], str):
+        return JOIN
+    if line == {"end": True} and line["end"] is True:
+        return END
+    for field in line:
+        if field not in ("send", "recv", "set"):
+            raise Faulty(f"{field[:40]!r} is no field that it can have")
+    if "send" in line and "recv" in line:
+        raise Faulty("an event either sends or receives")
+    check_id(line.get("send", line.get("recv", "none")))
+    check_settings(line.get("set", {}))
+    return EVENT
+
+
+def check_length(line):
+    if len(line.rstrip(b"\n")) > LINE_BYTE_LIMIT:
+        raise Faulty(f"it has over {LINE_BYTE_LIMIT} bytes")
+
+
+def check_id(message):
+    if not isinstance(message, str) or not 1 <= len(message.encode()) <= ID_BYTE_LIMIT:
+        raise Faulty(f"the id of a message is a text of 1 to {ID_BYTE_LIMIT} bytes")
+
+
+def check_settings(settings):
+    if not isinstance(settings, dict):
+        raise Faulty("'set' isn't an object")
+    for name, value in settings.items():
+        if type(value) is not int or not LEAST_VALUE <= value <= GREATEST_VALUE:
+            raise Faulty(f"the value of {name[:40]!r} is no whole number of 64 bits")
+
+
+def line_of(value):
+    return json.dumps(value, ensure_ascii=False, separators=(",", ":")).encode() + b"\n"
+
+
+# A stream
+
+class Stream:
+    """What a file has of a stream: its lines up to the end line, as they are to be written, and what follows that.
+    `events` has the number of the line, its place in `lines` and its fields for each event, and `done` says what was
+    done to mend it."""
+
+    def __init__(self, path):
+        self.path = path
+        self.process = None
+        self.lines = []
+        self.events = []
+        self.is_ended = False
+        self.rest = b""
+        self.done = []
+
+    def refused(self, number, why):
+        return Refused(f"{self.path} line {number}: {why}")
+
+    def take(self, number, line, is_blank=False):
+        """Takes the next line, if it is one that the monitor takes there."""
+        value = None if is_blank else value_of_line(line)
+        check_length(line)
+        if not is_blank:
+            self.take_value(number, value)
+        self.lines.append(line)
+
+    def take_value(self, number, value):
+        kind = kind_of(value)
+        if (kind == JOIN) != (self.process is None):
+            raise Faulty("a second run begins here" if kind == JOIN else 'the first line isn\'t {"process":NAME}')
+        if kind == JOIN:
+            self.process = value["process"]
+        elif kind == END:
+            self.is_ended = True
+        elif len(self.events) == EVENT_LIMIT:
+            raise Faulty(f"the process would have over {EVENT_LIMIT} events")
+        else:
+            self.events.append((number, len(self.lines), value))
+
+    def text(self):
+        return b"".join(self.lines) + self.rest
+
+    def says(self):
+        return f"{self.path}: {'; '.join(self.done) if self.done else 'whole'}: {len(self.events)} events"
+
+
+def bytes_of(path):
+    if not os.path.isfile(path):
+        raise Refused(f"{path}: there is no such file" if not os.path.exists(path) else f"{path}: this is no file")
+    with open(path, "rb") as file:
+        data = file.read(STREAM_BYTE_LIMIT + 1)
+    if len(data) > STREAM_BYTE_LIMIT:
+        raise Refused(f"{path}: it has over {STREAM_BYTE_LIMIT} bytes, and no stream has: often the wrong file")
+    return data
+
+
+def read_stream(path):
+    """What the file has, up to a last line that was cut short."""
+    stream = Stream(path)
+    file = io.BytesIO(bytes_of(path))
+    torn = None
+    for number, line in enumerate(file, 1):
+        is_blank = not line.strip(b" \t\r\n")
+        if torn is not None and not is_blank:
+            raise stream.refused(torn, "it isn't JSON, and isn't the last line: the stream is damaged there, and what "
+                                       "came after it can't be trusted")
+        if torn is None:
+            try:
+                stream.take(number, line, is_blank)
+            except Torn:
+                torn = number
+            except Faulty as fault:
+                raise stream.refused(number, fault) from None
+        if stream.is_ended:
+            break
+    stream.rest = file.read()
+    if torn is not None:
+        stream.done.append(f"line {torn} was cut short and is dropped")
+    return stream
+
+
+def name_of_file(stream):
+    """The process of a stream that has no line: that which its file is named for."""
+    name, ending = os.path.splitext(os.path.basename(stream.path))
+    try:
+        if ending != ENDING:
+            raise NotRecorded
+        return checked_name("process", name)
+    except NotRecorded:
+        raise Refused(f"{stream.path}: it has no line, so nobody knows whose stream it is: name the file as its "
+                      f"process, NAME{ENDING}, or take it out") from None
+
+
+def end_stream(stream):
+    """Adds the lines that the stream lacks."""
+    if stream.process is None:
+        stream.process = name_of_file(stream)
+        stream.lines.append(line_of({"process": stream.process}))
+        stream.done.append(f"the first line is added, by the name of the file, for {stream.process}")
+    if stream.is_ended:
+        return
+    if stream.lines[-1][-1:] != b"\n":
+        stream.lines[-1] += b"\n"
+        stream.done.append("the line feed of the last line is added")
+    stream.lines.append(line_of({"end": True}))
+    if sum(map(len, stream.lines)) > STREAM_BYTE_LIMIT:
+        raise Refused(f"{stream.path}: with an end line it has over {STREAM_BYTE_LIMIT} bytes, and no stream has")
+    stream.is_ended = True
+    stream.done.append("the end line is added")
+
+
+def make_orphans_local(streams):
+    """Makes local events of the receipts of messages that no stream sends, and gives their number."""
+    sent = {value["send"] for stream in streams for _, _, value in stream.events if "send" in value}
+    count = 0
+    for stream in streams:
+        orphans = [event for event in stream.events if "recv" in event[2] and event[2]["recv"] not in sent]
+        for _, place, value in orphans:
+            stream.lines[place] = line_of({"set": value["set"]} if "set" in value else {})
+        if orphans:
+            numbers = ", ".join(str(number) for number, _, _ in orphans[:SHOWN])
+            more = f" and {len(orphans) - SHOWN} more" if len(orphans) > SHOWN else ""
+            stream.done.append(f"what none of these streams sends was received in line {numbers}{more}, "
+                               "which is a local event now")
+        count += len(orphans)
+    return count
+
+
+ORPHANS = """\
+receipts that are local events now: {}. Order is left out with them, so of the recorded events 'possibly no' and
+'definitely yes' still hold, and 'possibly yes' and 'definitely no' only say that it may be so."""
+
+
+# Files
+
+def streams_in(paths):
+    """The files that are given, and those of the folders."""
+    found = []
+    for path in paths:
+        if os.path.isdir(path):
+            names = sorted(name for name in os.listdir(path) if name.endswith(ENDING))
+            if not names:
+                raise Refused(f"{path}: there is no file *{ENDING} in it")
+            found += [os.path.join(path, name) for name in names]
+        else:
+            found.append(path)
+    for number, path in enumerate(found):
+        if os.path.realpath(path) in map(os.path.realpath, found[:number]):
+            raise Refused(f"{path}: it is given twice")
+    return found
+
+
+def write_streams(streams, given):
+    """Writes the copies, all of them or none."""
+    if given.out is not None:
+        names = [os.path.basename(stream.path) for stream in streams]
+        for number, name in enumerate(names):
+            if name in names[:number]:
+                raise Refused(f"{streams[number].path}: a second file of this name can't stand in {given.out}")
+        with written_folder(given.out) as folder:
+            for stream, name in zip(streams, names):
+                with open(os.path.join(folder, name), "xb") as file:
+                    file.write(stream.text())
+    elif given.in_place:
+        replaced_files({os.path.realpath(stream.path): stream.text() for stream in streams if stream.done})
+    else:
+        copies = {f"{stream.path}.mended": stream.text() for stream in streams}
+        for path in copies:
+            if os.path.lexists(path):
+                raise Refused(f"{path} is there already, and isn't written over")
+        replaced_files(copies)
+
+
+def mended(given):
+    """Mends the streams, and gives what is to be said of them."""
+    streams = [read_stream(path) for path in streams_in(given.streams)]
+    for stream in streams:
+        end_stream(stream)
+    orphans = make_orphans_local(streams) if given.orphans_as_local else 0
+    write_streams(streams, given)
+    return "\n".join([*(stream.says() for stream in streams), *([ORPHANS.format(orphans)] if orphans else [])])
+
+
+def arguments(words):
+    parser = argparse.ArgumentParser(description=__doc__, formatter_class=argparse.RawDescriptionHelpFormatter)
+    add = parser.add_argument
+    add("streams", nargs="+", metavar="FOLDER|FILE", help="the file of a stream, or a folder of files *.stream")
+    where = parser.add_mutually_exclusive_group()
+    where.add_argument("--out", metavar="MENDED", help="the folder for the copies, new or empty")
+    where.add_argument("--in-place", action="store_true", help="replace the streams that are mended")
+    add("--orphans-as-local", action="store_true",
+        help="make a local event of each receipt of a message that none of these streams sends")
+    given = parser.parse_args(words)
+    if given.out is not None and os.path.exists(given.out) and (not os.path.isdir(given.out) or os.listdir(given.out)):
+        parser.error(f"{given.out} is no empty folder")
+    return given
+
+
+def main(words):
+    given = arguments(words)
+    try:
+        print(mended(given))
+    except (Refused, OSError) as error:
+        print(f"refused: {error}", file=sys.stderr)
+        return 1
+    return 0
+
+
+if __name__ == "__main__":
+    sys.exit(main(sys.argv[1:]))
