@@ -213,9 +213,14 @@ def message_ids(processes):
     return ids
 
 
-def write_stream(recorder, events, ids, table):
+def table_row(process, number, event):
+    return f"{process}#{number}\t{event.place}\t{event.text}\n"
+
+
+def write_stream(recorder, events, ids, note):
     """Each event as one line, or as one for each of its receipts and then one for its send. What it sets stands with
-    its last receipt or, if it has none, with its send: so no state is added and none is lost."""
+    its last receipt or, if it has none, with its send: so no state is added and none is lost. `note` is called with the
+    process, the number and the event of each line."""
     for event in events:
         for source in event.sources:
             recorder.receive(ids[source], **(event.settings if source is event.sources[-1] else {}))
@@ -224,15 +229,16 @@ def write_stream(recorder, events, ids, table):
         elif not event.sources:
             recorder.event(**event.settings)
         for number in range(recorder.events - event.lines() + 1, recorder.events + 1):
-            table.write(f"{recorder.process}#{number}\t{event.place}\t{event.text}\n")
+            note(recorder.process, number, event)
 
 
-def write_files(folder, document, processes, ids):
+def write_files(folder, document, processes, ids, notes):
+    table_name, row = notes
     # A text out of JSON may have half of a pair of surrogates, which UTF-8 can't.
-    with open(os.path.join(folder, "events.tsv"), "x", encoding="utf-8", errors="backslashreplace") as table:
+    with open(os.path.join(folder, table_name), "x", encoding="utf-8", errors="backslashreplace") as table:
         for name, events in processes.items():
             with Recorder.to_file(name, os.path.join(folder, name + ".stream")) as recorder:
-                write_stream(recorder, events, ids, table)
+                write_stream(recorder, events, ids, lambda *of_line: table.write(row(*of_line)))
     with open(os.path.join(folder, "session.json"), "x", encoding="utf-8") as file:
         file.write(json.dumps(document, ensure_ascii=False) + "\n")
 
@@ -242,6 +248,12 @@ def write_session(given, processes):
     one if its document is of version 2, since several processes received a message. `given` is what the command line
     says."""
     check_lengths(processes)
+    with written_folder(given.out) as folder:
+        return session_in(folder, given, processes, ("events.tsv", table_row))
+
+
+def session_in(folder, given, processes, notes):
+    """The same in a folder that is there. `notes` is the name of a file and what gives its row for an event."""
     values = initial_values(processes, given.all_variables, given.initial)
     document = {"processes": [{"name": name, "vars": values[name]} for name in processes],
                 "predicates": [{"name": name, "text": text} for name, text in given.predicate]}
@@ -251,8 +263,7 @@ def write_session(given, processes):
     shared = sum(len(event.receivers) > 1 for event in ids)
     if shared:
         document["version"] = 2
-    with written_folder(given.out) as folder:
-        write_files(folder, document, processes, ids)
+    write_files(folder, document, processes, ids, notes)
     events = [event for events in processes.values() for event in events]
     split = sum(event.lines() > 1 for event in events)
     line = f"{len(processes)} processes, {len(events)} events, {len(ids)} messages, {split} events written as several"
