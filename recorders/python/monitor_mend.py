@@ -12,6 +12,10 @@ MENDED, which must be new or empty, then has a copy of each stream, also of one 
 stands beside its stream, as `left.stream.mended`; with --in-place the streams that were not whole are replaced. Each
 copy is written under another name and renamed once it is whole.
 
+Of a process that was started again, which recorded by `again`, the streams are joined by a message from the end of each
+incarnation to the beginning of the next. With --one-process they become one stream of the process. --killed sets a
+variable at the end of each stream that had no end line.
+
 With --orphans-as-local a receipt of a message that none of these streams sends becomes a local event, so all streams of
 the session have to be given. recorders/python/README.md says what a report still shows then.
 
@@ -23,8 +27,9 @@ import os
 import re
 import sys
 
-from importing import Refused, replaced_files, written_folder
-from monitor_recorder import (EVENT_LIMIT, GREATEST_VALUE, ID_BYTE_LIMIT, LEAST_VALUE, NotRecorded, checked_name)
+from importing import Refused, initial, replaced_files, written_folder
+from monitor_recorder import (EVENT_LIMIT, GREATEST_VALUE, ID_BYTE_LIMIT, LEAST_VALUE, NotRecorded, checked_name,
+                              ending_of)
 
 LINE_BYTE_LIMIT = 65_536
 STREAM_BYTE_LIMIT = 16_777_216
@@ -156,11 +161,26 @@ class Stream:
         else:
             self.events.append((number, len(self.lines), value))
 
+    def add(self, value):
+        """Adds an event at the end."""
+        if len(self.events) == EVENT_LIMIT:
+            raise Refused(f"{self.path}: {self.process} has {EVENT_LIMIT} events, and can't have {value} too")
+        place = len(self.lines) - self.is_ended
+        self.events.append((None, place, value))
+        self.lines.insert(place, line_of(value))
+
+    def replace(self, place, value):
+        """Puts this in place of an event, which is given by its place among the events."""
+        number, line, _ = self.events[place]
+        self.events[place] = number, line, value
+        self.lines[line] = line_of(value)
+
     def text(self):
         return b"".join(self.lines) + self.rest
 
     def says(self):
-        return f"{self.path}: {'; '.join(self.done) if self.done else 'whole'}: {len(self.events)} events"
+        head = f"{self.path}: {len(self.events)} events, "
+        return head + ("mended:" + "".join(f"\n  {what}" for what in self.done) if self.done else "whole")
 
 
 def bytes_of(path):
@@ -210,17 +230,20 @@ def name_of_file(stream):
                       f"process, NAME{ENDING}, or take it out") from None
 
 
-def end_stream(stream):
-    """Adds the lines that the stream lacks."""
+def begin_stream(stream):
+    """Adds the first line, or the line feed of the last one, if it is missing."""
     if stream.process is None:
         stream.process = name_of_file(stream)
         stream.lines.append(line_of({"process": stream.process}))
         stream.done.append(f"the first line is added, by the name of the file, for {stream.process}")
-    if stream.is_ended:
-        return
-    if stream.lines[-1][-1:] != b"\n":
+    elif not stream.is_ended and stream.lines[-1][-1:] != b"\n":
         stream.lines[-1] += b"\n"
         stream.done.append("the line feed of the last line is added")
+
+
+def end_stream(stream):
+    if stream.is_ended:
+        return
     stream.lines.append(line_of({"end": True}))
     if sum(map(len, stream.lines)) > STREAM_BYTE_LIMIT:
         raise Refused(f"{stream.path}: with an end line it has over {STREAM_BYTE_LIMIT} bytes, and no stream has")
@@ -228,21 +251,99 @@ def end_stream(stream):
     stream.done.append("the end line is added")
 
 
+def join_incarnations(streams):
+    """Adds the sends of the messages that incarnations have received from the ones before them, and gives (before,
+    after) for each."""
+    of_ending = {ending_of(stream.process): stream for stream in streams}
+    joined = []
+    for after in streams:
+        message = after.events[0][2].get("recv") if after.events else None
+        before = of_ending.get(message)
+        if before in (None, after):
+            continue
+        joined.append((before, after))
+        if not any(value.get("send") == message for _, _, value in before.events):
+            before.add({"send": message})
+            before.done.append(f"an event is added after which {after.process} begins")
+    return joined
+
+
+def set_at_end(streams, settings):
+    """Adds what is set since a process was killed: (process or None, variable, value), those of one process last."""
+    for stream in streams:
+        values = {name: value for process, name, value in sorted(settings, key=lambda entry: entry[0] is not None)
+                  if process in (None, stream.process)}
+        if not values or stream.is_ended:
+            continue
+        number, _, value = stream.events[-1] if stream.events else (1, None, None)
+        if number is None and "send" in value:
+            stream.replace(-1, {**value, "set": values})
+        else:
+            stream.add({"set": values})
+        stream.done.append("it is added that " + ", ".join(f"{name}={values[name]}" for name in values))
+
+
 def make_orphans_local(streams):
     """Makes local events of the receipts of messages that no stream sends, and gives their number."""
     sent = {value["send"] for stream in streams for _, _, value in stream.events if "send" in value}
     count = 0
     for stream in streams:
-        orphans = [event for event in stream.events if "recv" in event[2] and event[2]["recv"] not in sent]
-        for _, place, value in orphans:
-            stream.lines[place] = line_of({"set": value["set"]} if "set" in value else {})
+        orphans = [place for place, (_, _, value) in enumerate(stream.events)
+                   if "recv" in value and value["recv"] not in sent]
+        for place in orphans:
+            make_local(stream, place)
         if orphans:
-            numbers = ", ".join(str(number) for number, _, _ in orphans[:SHOWN])
+            numbers = ", ".join(str(stream.events[place][0]) for place in orphans[:SHOWN])
             more = f" and {len(orphans) - SHOWN} more" if len(orphans) > SHOWN else ""
             stream.done.append(f"what none of these streams sends was received in line {numbers}{more}, "
                                "which is a local event now")
         count += len(orphans)
     return count
+
+
+def as_one(streams, joined):
+    """The streams, with one for all incarnations of a process."""
+    following = {}
+    for before, after in joined:
+        if before in following:
+            raise Refused(f"{after.path}: it comes after {before.process}, as {following[before].path} does")
+        following[before] = after
+    firsts = [stream for stream in streams if stream not in following.values()]
+    for first in firsts:
+        ids = ids_of(first)
+        after = following.pop(first, None)
+        while after is not None:
+            go_on(first, after, ids)
+            ids |= ids_of(after)
+            after = following.pop(after, None)
+    for before, after in following.items():
+        raise Refused(f"{after.path}: it comes after {before.process}, and that after it")
+    return firsts
+
+
+def ids_of(stream):
+    return {value[field] for _, _, value in stream.events for field in ("send", "recv") if field in value}
+
+
+def go_on(first, after, ids):
+    """Adds the events of a later incarnation. A copy of a message that an earlier one received or sent, of which these
+    are the ids, is a local event, as is what joined the two."""
+    if first.is_ended:
+        first.lines.pop()
+        first.is_ended, first.rest = False, b""
+    message = after.events[0][2]["recv"]
+    make_local(first, next(place for place in reversed(range(len(first.events)))
+                           if first.events[place][2].get("send") == message))
+    for _, _, value in after.events:
+        first.add(value)
+        if value.get("send", value.get("recv")) in ids:
+            make_local(first, len(first.events) - 1)
+    first.done.append(f"what {after.path} has follows")
+
+
+def make_local(stream, place):
+    value = stream.events[place][2]
+    stream.replace(place, {"set": value["set"]} if "set" in value else {})
 
 
 ORPHANS = """\
@@ -294,8 +395,14 @@ def mended(given):
     """Mends the streams, and gives what is to be said of them."""
     streams = [read_stream(path) for path in streams_in(given.streams)]
     for stream in streams:
-        end_stream(stream)
+        begin_stream(stream)
+    joined = join_incarnations(streams)
+    set_at_end(streams, given.killed)
     orphans = make_orphans_local(streams) if given.orphans_as_local else 0
+    if given.one_process:
+        streams = as_one(streams, joined)
+    for stream in streams:
+        end_stream(stream)
     write_streams(streams, given)
     return "\n".join([*(stream.says() for stream in streams), *([ORPHANS.format(orphans)] if orphans else [])])
 
@@ -307,9 +414,15 @@ def arguments(words):
     where = parser.add_mutually_exclusive_group()
     where.add_argument("--out", metavar="MENDED", help="the folder for the copies, new or empty")
     where.add_argument("--in-place", action="store_true", help="replace the streams that are mended")
+    add("--killed", type=initial, action="append", default=[], metavar="[PROCESS.]NAME=VALUE",
+        help="what a variable is once a process was killed: of each stream without an end line, or of one process")
+    add("--one-process", action="store_true",
+        help="make one stream of the incarnations of a process that was started again")
     add("--orphans-as-local", action="store_true",
         help="make a local event of each receipt of a message that none of these streams sends")
     given = parser.parse_args(words)
+    if given.one_process and given.in_place:
+        parser.error("with --one-process a stream is made of several files, so none can be replaced")
     if given.out is not None and os.path.exists(given.out) and (not os.path.isdir(given.out) or os.listdir(given.out)):
         parser.error(f"{given.out} is no empty folder")
     return given

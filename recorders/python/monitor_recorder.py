@@ -33,6 +33,11 @@ import socket
 import threading
 import time
 
+try:
+    import fcntl
+except ImportError:
+    fcntl = None
+
 EVENT_LIMIT = 10_000
 VARIABLE_LIMIT = 16
 PROCESS_LIMIT = 16
@@ -92,13 +97,48 @@ class Recorder:
         self._state = OPEN
 
     @classmethod
-    def to_file(cls, process, path, variables=None, replace=False):
-        """Records to a new file. One that is there already is an OSError, unless it is to be replaced."""
+    def to_file(cls, process, path, variables=None, replace=False, again=False):
+        """Records to a new file. One that is there already is an OSError, unless it is to be replaced.
+
+        With `again` a file that is there is what the process recorded before it was killed and started again. Then a
+        further incarnation is recorded, as a process of its own and to a file beside: of `left` and `left.stream` the
+        second one is `left_2` in `left_2.stream`. Its first event receives the message `left-ended`, by which it comes
+        after all that the one before did; monitor_mend adds the send. While the one before still runs it is refused."""
+        if replace and again:
+            raise NotRecorded("a file that is replaced has no recording of an earlier incarnation")
+
         def opened():
             return open(path, "wb" if replace else "xb", buffering=0)
 
+        def opened_for(name):
+            return new_file_beside(first, name, replace)
+
         first = os.path.abspath(os.fsdecode(path))  # the working directory may change
-        return cls._over(process, variables, opened, lambda name: new_file_beside(first, name, replace))
+        if again:
+            return cls._incarnation(process, path, variables, opened_for)
+        return cls._over(process, variables, opened, opened_for)
+
+    @classmethod
+    def _incarnation(cls, process, path, variables, opened_for):
+        number = next(number for number in itertools.count(1) if not os.path.lexists(path_of(path, number)))
+        if number > 1:
+            refuse_running(incarnation_of(process, number - 1), path_of(path, number - 1))
+        # It gets its name once the receipt stands in it, so that it has that whenever the process is killed.
+        part = f"{path_of(path, number)}.{os.getpid()}.part"
+        recorder = None
+        try:
+            name = incarnation_of(process, number)
+            recorder = cls._over(name, variables, lambda: locked_file(part), opened_for)
+            if number > 1:
+                recorder.receive(ending_of(incarnation_of(process, number - 1)))
+            os.rename(part, path_of(path, number))
+        except BaseException:
+            if recorder is not None:
+                recorder.abandon()
+            with contextlib.suppress(FileNotFoundError):
+                os.unlink(part)
+            raise
+        return recorder
 
     @classmethod
     def to_port(cls, process, port, variables=None, seconds=CONNECT_SECONDS):
@@ -478,6 +518,42 @@ def checked_file(out):
     if isinstance(out, (io.BufferedIOBase, io.TextIOBase)) and not isinstance(out, io.BytesIO):
         raise NotRecorded("the file has a buffer, which a crash would lose: open it in mode wb with buffering=0")
     return out
+
+
+def incarnation_of(process, number):
+    return process if number == 1 else f"{process}_{number}"
+
+
+def path_of(path, number):
+    """The file of this incarnation, if the path is that of the first one."""
+    root, ending = os.path.splitext(os.fspath(path))
+    return f"{incarnation_of(root, number)}{ending}"
+
+
+def ending_of(process):
+    """The id of the message by which an incarnation comes after the one before."""
+    return f"{process}-ended"
+
+
+def locked_file(path):
+    """A new file, with a lock that this process has on it for as long as it runs, if the system has such locks."""
+    out = open(path, "xb", buffering=0)
+    if fcntl is not None:
+        with contextlib.suppress(OSError):
+            fcntl.lockf(out, fcntl.LOCK_EX | fcntl.LOCK_NB)
+    return out
+
+
+def refuse_running(process, path):
+    """Refuses what is started while the earlier incarnation with this file still runs, if locks show that."""
+    if fcntl is None:
+        return
+    with open(path, "rb") as file, contextlib.suppress(OSError):
+        try:
+            fcntl.lockf(file, fcntl.LOCK_SH | fcntl.LOCK_NB)
+        except (BlockingIOError, PermissionError):
+            raise NotRecorded(f"{process} still runs and records to {path}: what is started beside it is no later "
+                              "incarnation, but a process of its own") from None
 
 
 def write_all(out, text):

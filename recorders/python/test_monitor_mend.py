@@ -8,11 +8,14 @@ import os
 import random
 import re
 import resource
+import select
+import shutil
 import signal
 import stat
 import subprocess
 import sys
 import tempfile
+import time
 import unittest
 
 import monitor_mend as mend
@@ -76,28 +79,30 @@ class Mended(Case):
     def test_a_stream_that_is_whole(self):
         for data in (WHOLE, WHOLE[:-1], WHOLE + b"what comes after the end\n", WHOLE.replace(b"\n", b"\r\n"),
                      b"\n \t\r\n" + WHOLE):
-            self.assertEqual(self.mended(data), (data, "left.stream: whole: 4 events\n"))
+            self.assertEqual(self.mended(data), (data, "left.stream: 4 events, whole\n"))
 
     def test_a_stream_without_an_end_line(self):
         self.assertEqual(self.mended(LEFT + b"{}\n"),
-                         (LEFT + b'{}\n{"end":true}\n', "left.stream: the end line is added: 1 events\n"))
+                         (LEFT + b'{}\n{"end":true}\n', "left.stream: 1 events, mended:\n  the end line is added\n"))
 
     def test_a_line_that_was_cut_short(self):
         for torn in (b'{"set":{"x":1}', b'{"set":{"x":1}\n', b"{", b'{"recv":"\xc3', b"\0" * 70_000, b'{"en',
                      b'{"set":{"x":1}\n\n  \n'):
             self.assertEqual(self.mended(LEFT + b"{}\n" + torn),
                              (LEFT + b'{}\n{"end":true}\n',
-                              "left.stream: line 3 was cut short and is dropped; the end line is added: 1 events\n"))
+                              "left.stream: 1 events, mended:\n  line 3 was cut short and is dropped\n"
+                              "  the end line is added\n"))
 
     def test_a_whole_line_without_its_line_feed(self):
         self.assertEqual(self.mended(LEFT + b'{"set":{"x":1}}'),
                          (LEFT + b'{"set":{"x":1}}\n{"end":true}\n',
-                          "left.stream: the line feed of the last line is added; the end line is added: 1 events\n"))
+                          "left.stream: 1 events, mended:\n  the line feed of the last line is added\n"
+                          "  the end line is added\n"))
 
     def test_a_stream_without_its_first_line(self):
         for data in (b"", b"\n", b'{"proc'):
-            self.assertRegex(self.mended(data)[1], "the first line is added, by the name of the file, for left; the "
-                                                   "end line is added: 0 events\n$")
+            self.assertRegex(self.mended(data)[1], "(?s)^left.stream: 0 events, .*\n  the first line is added, by the "
+                                                   "name of the file, for left\n  the end line is added\n$")
             self.assertEqual(self.read("left.stream.mended").lstrip(), ENDED)
         for name in ("left", "1.stream", "and.stream"):
             self.write(name, b"")
@@ -169,7 +174,7 @@ class Refused(Case):
         for count in (EVENT_LIMIT, EVENT_LIMIT + 1):
             self.write("left.stream", LEFT + b"{}\n" * count)
             if count == EVENT_LIMIT:
-                self.assertRegex(self.run_with("left.stream")[1], f": {EVENT_LIMIT} events\n")
+                self.assertRegex(self.run_with("left.stream")[1], f": {EVENT_LIMIT} events, mended:\n")
                 os.remove("left.stream.mended")
         self.refused("left.stream line 10002: the process would have over 10000 events", "left.stream")
         self.write("left.stream", LEFT + b" " * 65_537)
@@ -209,8 +214,8 @@ class Files(Case):
 
     def test_copies_beside(self):
         self.two()
-        said = ("run/left.stream: line 3 was cut short and is dropped; the end line is added: 1 events\n"
-                "run/right.stream: whole: 0 events\n")
+        said = ("run/left.stream: 1 events, mended:\n  line 3 was cut short and is dropped\n"
+                "  the end line is added\nrun/right.stream: 0 events, whole\n")
         self.assertEqual(self.run_with("run"), (0, said, ""))
         self.assertEqual(sorted(os.listdir("run")), ["left.stream", "left.stream.mended", "right.stream",
                                                      "right.stream.mended", "session.json"])
@@ -285,10 +290,11 @@ class Orphans(Case):
         self.assertEqual(self.read("left.stream.mended").splitlines()[1:-1],
                          [b'{"send":"a"}', b'{"set":{"x":1,"\xc3\xa9":2}}', b"{}"])
         self.assertEqual(self.read("right.stream.mended").splitlines()[1:-1], [b'{"recv":"a"}', b"{}"])
-        self.assertEqual(said.splitlines()[0],
-                         "left.stream: line 5 was cut short and is dropped; the end line is added; what none of these "
-                         "streams sends was received in line 3, 4, which is a local event now: 3 events")
-        self.assertEqual(said.splitlines()[2][:40], "receipts that are local events now: 3. O")
+        self.assertEqual(said.splitlines()[:4], [
+            "left.stream: 3 events, mended:", "  line 5 was cut short and is dropped",
+            "  what none of these streams sends was received in line 3, 4, which is a local event now",
+            "  the end line is added"])
+        self.assertEqual(said.splitlines()[8][:40], "receipts that are local events now: 3. O")
 
     def test_a_send_in_the_line_that_is_dropped(self):
         self.write("left.stream", LEFT + b'{"send":"a"')
@@ -404,14 +410,153 @@ class Strictness(Case):
         self.assertGreater(min(taken, torn, faulty), 30)
 
 
+class Incarnations(Case):
+    def lines(self, path):
+        return [json.loads(line) for line in self.read(path).splitlines()]
+
+    def written(self, *streams):
+        for process, *lines in streams:
+            self.write(f"{process}.stream", b"".join(map(mend.line_of, [{"process": process}, *lines])))
+
+    def made(self, *words):
+        status, self.said, errors = self.run_with(*words, "--out", "out", ".")
+        self.assertEqual((status, errors), (0, ""))
+        return {name[:-7]: self.lines(f"out/{name}")[1:-1] for name in sorted(os.listdir("out"))}
+
+    def test_they_are_joined(self):
+        self.written(["left", {"set": {"x": 1}}], ["left_2", {"recv": "left-ended"}, {}, {"end": True}],
+                     ["left_3", {"recv": "left_2-ended"}], ["right", {"end": True}])
+        self.assertEqual(self.made("--killed", "x=0", "--killed", "left_3.x=7"), {
+            "left": [{"set": {"x": 1}}, {"send": "left-ended", "set": {"x": 0}}],
+            "left_2": [{"recv": "left-ended"}, {}, {"send": "left_2-ended"}],
+            "left_3": [{"recv": "left_2-ended"}, {"set": {"x": 7}}], "right": []})
+        self.assertEqual(self.said.splitlines()[:4], [
+            "./left.stream: 2 events, mended:", "  an event is added after which left_2 begins",
+            "  it is added that x=0", "  the end line is added"])
+        os.rename("out", "again")
+        self.assertEqual(self.run_with("again", "--out", "out")[1].count("events, whole\n"), 4)
+
+    def test_as_one_process(self):
+        self.written(["left", {"send": "a"}, {"recv": "m"}, {"end": True}],
+                     ["left_2", {"recv": "left-ended"}, {"recv": "m", "set": {"x": 1}}, {"send": "a"}, {"recv": "a"}],
+                     ["left_3", {"recv": "left_2-ended"}, {"send": "b", "set": {"x": 2}}, {"recv": "n"}],
+                     ["right", {"recv": "a"}, {"send": "m"}, {"send": "n"}, {"recv": "b"}])
+        self.assertEqual(self.made("--one-process", "--killed", "x=0"), {
+            "left": [{"send": "a"}, {"recv": "m"}, {}, {}, {"set": {"x": 1}}, {}, {}, {"set": {"x": 0}}, {},
+                     {"send": "b", "set": {"x": 2}}, {"recv": "n"}, {"set": {"x": 0}}],
+            "right": [{"recv": "a"}, {"send": "m"}, {"send": "n"}, {"recv": "b"}, {"set": {"x": 0}}]})
+        self.assertEqual(self.said.splitlines()[:5], [
+            "./left.stream: 12 events, mended:", "  an event is added after which left_2 begins",
+            "  what ./left_2.stream has follows", "  what ./left_3.stream has follows", "  the end line is added"])
+
+    def test_what_cannot_be_one_process(self):
+        self.written(["left"], ["left_2", {"recv": "left-ended"}], ["left_3", {"recv": "left-ended"}])
+        self.refused("./left_3.stream: it comes after left, as ./left_2.stream does", "--one-process", ".")
+        self.written(["left", {"recv": "left_3-ended"}], ["left_3", {"recv": "left-ended"}])
+        os.remove("left_2.stream")
+        self.refused("./left.stream: it comes after left_3, and that after it", "--one-process", ".")
+        status, _, errors = self.run_with("--one-process", "--in-place", ".")
+        self.assertEqual((status, errors.splitlines()[-1].partition("error: ")[2]),
+                         (2, "with --one-process a stream is made of several files, so none can be replaced"))
+
+    def test_no_room(self):
+        self.written(["left", *[{}] * EVENT_LIMIT], ["left_2", {"recv": "left-ended"}])
+        self.refused("./left.stream: left has 10000 events, and can't have {'send': 'left-ended'} too", ".")
+
+
 class Killed(Case):
+    """A process is killed at random moments and started again. What it and another one recorded is never refused."""
+
+    RUNS, KILLS = 10, 5
+
+    def start(self):
+        """The number of a process, a fork of this one, that is `left`, and pipes from and to it."""
+        from_left, to_right = os.pipe()
+        from_right, to_left = os.pipe()
+        process = os.fork()
+        if process:
+            os.close(to_right)
+            os.close(from_right)
+            return process, from_left, to_left
+        try:
+            self.be_left(from_right, to_right)
+        finally:
+            os._exit(0)
+
+    def be_left(self, from_right, to_right):
+        recorder = Recorder.to_file("left", "left.stream", again=True)
+        recorder.event(x=1)
+        for number in itertools.count():
+            os.write(to_right, f"{recorder.send(x=number % 3)}\n".encode())
+            recorder.event(x=2)
+            recorder.receive(os.read(from_right, 100).decode().strip(), x=1)
+
+    def talk(self, right, from_left, to_left, seconds):
+        """Takes what left sends and answers it, until this time has passed or left has ended."""
+        until = time.monotonic() + seconds
+        while (left_over := until - time.monotonic()) > 0:
+            if select.select([from_left], [], [], left_over)[0]:
+                message = os.read(from_left, 100).decode().strip()
+                if not message:
+                    return
+                right.receive(message, x=1)
+                os.write(to_left, right.send(x=2).encode())
+
+    def one_run(self, generator):
+        """Every other time left is killed while it starts, and else once it has sent something."""
+        with Recorder.to_file("right", "right.stream") as right:
+            for number in range(self.KILLS):
+                process, from_left, to_left = self.start()
+                if number % 2 == 0:
+                    self.assertTrue(select.select([from_left], [], [], 60)[0])
+                self.talk(right, from_left, to_left, generator.choice([0.002, 0.01, 0.03]) * generator.random())
+                os.kill(process, signal.SIGKILL)
+                os.waitpid(process, 0)
+                os.close(from_left)
+                os.close(to_left)
+
+    def judged(self, *words):
+        status, said, errors = self.run_with(*words, "--out", "out", ".")
+        self.assertEqual((status, errors), (0, ""))
+        names = sorted(os.listdir("out"))
+        document = {"processes": [{"name": name[:-7], "vars": {"x": 0}} for name in names],
+                    "predicates": [{"name": "none", "text": "false"}], "width": 1}
+        report = report_of(document, [self.read(f"out/{name}").decode() for name in names])
+        shutil.rmtree("out")
+        return len(names), report
+
+    @needs_program
+    def test_a_process_that_is_killed_and_started_again(self):
+        generator = random.Random(9)
+        incarnations = messages = 0
+        for number in range(self.RUNS):
+            os.mkdir(str(number))
+            os.chdir(str(number))
+            self.one_run(generator)
+            streams = [name for name in os.listdir(".") if name.startswith("left") and name.endswith(".stream")]
+            for name in generator.sample(streams, len(streams) // 2):
+                with open(name, "ab") as file:
+                    file.write(b'{"set":{"x":1}}'[:generator.randrange(15)])
+            count, report = self.judged("--killed", "x=0")
+            self.assertEqual(count, len(streams) + 1)
+            self.assertRegex(report, "^session")
+            messages += int(report.split()[5])
+            count, report = self.judged("--one-process")
+            self.assertEqual(count, 2)
+            self.assertRegex(report, "^session 2 processes ")
+            incarnations += len(streams)
+            os.chdir("..")
+        self.assertGreaterEqual(incarnations, self.RUNS * 3)
+        self.assertGreater(messages, incarnations)
+
     def test_the_program(self):
         with Recorder.to_file("left", "left.stream") as recorder:
             recorder.event(x=1)
             recorder.abandon()
         done = subprocess.run([sys.executable, os.path.join(FOLDER, "monitor_mend.py"), "left.stream"],
                               capture_output=True, encoding="utf-8", timeout=60)
-        self.assertEqual((done.returncode, done.stdout), (0, "left.stream: the end line is added: 1 events\n"))
+        self.assertEqual((done.returncode, done.stdout),
+                         (0, "left.stream: 1 events, mended:\n  the end line is added\n"))
 
 
 if __name__ == "__main__":

@@ -7,6 +7,7 @@ import json
 import os
 import random
 import re
+import signal
 import socket
 import tempfile
 import threading
@@ -137,6 +138,43 @@ class Files(Case):
         self.assertEqual(len(self.lines()), 2)
         Recorder.to_file("right", self.path, replace=True).close()
         self.assertEqual(self.lines()[0], {"process": "right"})
+
+    def test_a_process_that_is_started_again(self):
+        for number in range(1, 4):
+            recorder = Recorder.to_file("left", self.path, variables=["x"], again=True)
+            self.assertEqual((recorder.process, recorder.events), (f"left_{number}" if number > 1 else "left",
+                                                                   int(number > 1)))
+            self.assertEqual(recorder.send(x=number), f"{recorder.process}-1")
+            recorder.abandon()
+        with open(self.path.replace("left", "left_3"), encoding="utf-8") as file:
+            self.assertEqual(file.read(), '{"process":"left_3"}\n{"recv":"left_2-ended"}\n'
+                                          '{"send":"left_3-1","set":{"x":3}}\n')
+        with self.assertRaisesRegex(NotRecorded, "a file that is replaced has no recording of an earlier"):
+            Recorder.to_file("left", self.path, again=True, replace=True)
+        with self.assertRaisesRegex(NotRecorded, "is no name of a process"):
+            Recorder.to_file("l" * 31, self.path, again=True)
+        self.assertEqual(len(os.listdir(os.path.dirname(self.path))), 3)
+
+    def test_a_process_that_still_runs_is_not_started_again(self):
+        ready, started = os.pipe()
+        process = os.fork()
+        if not process:
+            try:
+                recorder = Recorder.to_file("left", self.path, again=True)
+                os.write(started, b"x")
+                time.sleep(600 + recorder.events)
+            finally:
+                os._exit(0)
+        try:
+            os.read(ready, 1)
+            with self.assertRaisesRegex(NotRecorded, f"left still runs and records to {self.path}: "):
+                Recorder.to_file("left", self.path, again=True)
+        finally:
+            os.kill(process, signal.SIGKILL)
+            os.waitpid(process, 0)
+        recorder = Recorder.to_file("left", self.path, again=True)
+        self.assertEqual(recorder.process, "left_2")
+        recorder.close()
 
     def test_a_file_with_a_buffer(self):
         for mode in ("wb", "w"):
