@@ -120,6 +120,14 @@ class Sessions(Case):
         self.assertEqual(self.lines(rules, ["x\n", "x\n", "z\nx\n"]),
                          {"a": [{"set": {"x": 1}}], "b": [{"set": {"x": 2, "y": 1}}], "c": [{"set": {"x": 2, "y": 1}}]})
 
+    def test_a_rule_for_some_logs(self):
+        rules = {"rules": [{"file": "a|b", "match": "x"}, {"match": "x", "set": {"x": 1}}]}
+        self.write("rules.json", json.dumps(rules))
+        for name in ("a.log", "ab.log", "b.c.log", "b.txt"):
+            self.write(name, "x\n")
+        self.assertEqual(self.run_on([], "--rules", "rules.json", "a.log", "ab.log", "b.c.log", "b.txt")[0], 0)
+        self.assertEqual(self.streams(), {"a": [{}], "ab": [{"set": {"x": 1}}], "b_c": [{"set": {"x": 1}}], "b": [{}]})
+
     def test_groups_that_match_nothing_set_nothing(self):
         rules = {"rules": [{"match": "x(?<x>\\d)?", "set": {"x": "{x}", "y": "1{x}"}}]}
         self.assertEqual(self.lines(rules, ["x\nx7\n"]), {"a": [{}, {"set": {"x": 7, "y": 17}}]})
@@ -342,6 +350,7 @@ class Long(Case):
                              ({"begin": slow, "rules": [{"match": "z"}]}, []),
                              ({"rules": [{"match": "z"}]}, ["--when", slow, "x=1"])):
             self.is_refused(why, rules, ["x\n" + "z" * 16_384 + "\n"], *words)
+            self.assertEqual(signal.getitimer(signal.ITIMER_VIRTUAL), (0, 0))
 
 
 class Given(Case):
