@@ -379,6 +379,10 @@ class Given(Case):
         self.assertEqual(self.written_file("notes.jsonl").splitlines()[1],
                          '{"process": "client", "event": 2, "text": "asking, waiting=1", "place": "client.log:3"}')
 
+    def test_govector_with_times(self):
+        self.write("a.log", '1546300800000000000 a {"a":1}\nINFO begins {\n1546300800000000001 a {"a":2}\nn=7 {}\n')
+        self.assertEqual(self.made("govector.toml", "--variables", "n=(?<n>.)", "a.log"), {"a": [{}, {"set": {"n": 7}}]})
+
     @needs_program
     def test_mosquitto(self):
         self.write("boss.log", "Client boss sending CONNECT\nClient boss received CONNACK (0)\n" + "".join(
