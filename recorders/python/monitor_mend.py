@@ -308,7 +308,8 @@ def as_one(streams, joined):
         if before in following:
             raise Refused(f"{after.path}: it comes after {before.process}, as {following[before].path} does")
         following[before] = after
-    firsts = [stream for stream in streams if stream not in following.values()]
+    later = set(following.values())
+    firsts = [stream for stream in streams if stream not in later]
     for first in firsts:
         ids = ids_of(first)
         after = following.pop(first, None)
@@ -364,22 +365,26 @@ def streams_in(paths):
             found += [os.path.join(path, name) for name in names]
         else:
             found.append(path)
-    for number, path in enumerate(found):
-        if os.path.realpath(path) in map(os.path.realpath, found[:number]):
-            raise Refused(f"{path}: it is given twice")
+    refuse_second(found, os.path.realpath, "it is given twice")
     return found
+
+
+def refuse_second(paths, key, why):
+    seen = set()
+    for path in paths:
+        if key(path) in seen:
+            raise Refused(f"{path}: {why}")
+        seen.add(key(path))
 
 
 def write_streams(streams, given):
     """Writes the copies, all of them or none."""
     if given.out is not None:
-        names = [os.path.basename(stream.path) for stream in streams]
-        for number, name in enumerate(names):
-            if name in names[:number]:
-                raise Refused(f"{streams[number].path}: a second file of this name can't stand in {given.out}")
+        refuse_second([stream.path for stream in streams], os.path.basename,
+                      f"a second file of this name can't stand in {given.out}")
         with written_folder(given.out) as folder:
-            for stream, name in zip(streams, names):
-                with open(os.path.join(folder, name), "xb") as file:
+            for stream in streams:
+                with open(os.path.join(folder, os.path.basename(stream.path)), "xb") as file:
                     file.write(stream.text())
     elif given.in_place:
         replaced_files({os.path.realpath(stream.path): stream.text() for stream in streams if stream.done})

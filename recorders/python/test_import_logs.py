@@ -381,7 +381,8 @@ class Given(Case):
 
     def test_govector_with_times(self):
         self.write("a.log", '1546300800000000000 a {"a":1}\nINFO begins {\n1546300800000000001 a {"a":2}\nn=7 {}\n')
-        self.assertEqual(self.made("govector.toml", "--variables", "n=(?<n>.)", "a.log"), {"a": [{}, {"set": {"n": 7}}]})
+        self.assertEqual(self.made("govector.toml", "--variables", "n=(?<n>.)", "a.log"),
+                         {"a": [{}, {"set": {"n": 7}}]})
 
     @needs_program
     def test_mosquitto(self):
