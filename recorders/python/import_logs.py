@@ -37,6 +37,47 @@ RULE_FIELDS = {"file": str, "match": (str, dict), "process": str, "text": str, "
                "from": str, "clock": str, "set": dict}
 
 
+class Watch:
+    """Refuses an entry if patterns take too long for it, as some do for the square of its length, or worse: within
+    `with WATCH.on():` what stands in `with WATCH(place):` has that much time. Where the system has no such timer it
+    takes what it takes."""
+
+    def __init__(self):
+        self.is_on = False
+        self.place = None
+
+    @contextlib.contextmanager
+    def on(self):
+        if not hasattr(signal, "setitimer"):
+            yield
+            return
+        before = signal.signal(signal.SIGVTALRM, self.refuse)
+        self.is_on = True
+        try:
+            yield
+        finally:
+            self.is_on = False
+            signal.signal(signal.SIGVTALRM, before)
+
+    def refuse(self, *_):
+        raise Refused(f"{self.place}: the patterns take over {ENTRY_SECONDS:g} seconds for this entry")
+
+    def __call__(self, place):
+        self.place = place
+        return self
+
+    def __enter__(self):
+        if self.is_on:
+            signal.setitimer(signal.ITIMER_VIRTUAL, ENTRY_SECONDS)
+
+    def __exit__(self, *_):
+        if self.is_on:
+            signal.setitimer(signal.ITIMER_VIRTUAL, 0)
+
+
+WATCH = Watch()
+
+
 class LogEvent(import_vector_clocks.LogEvent):
     """An event that an entry of a log says. `sends` is None or the message's key and, if it is known, the receiver;
     `receives` is None or the key and, if it is known, the sender."""
@@ -167,6 +208,14 @@ class Rules:
         self.has_clocks = "clock" in self.rules[0].fields
         self.variables = {name for rule in self.rules for name in rule.fields.get("set", {})}
 
+    def kind_of(self, place, line):
+        """Whether a line stands between two runs, and whether an entry begins with it."""
+        if self.run is None and self.begin is None:
+            return False, True
+        with WATCH(place):
+            return (self.run is not None and self.run.search(line) is not None,
+                    self.begin is None or self.begin.search(line) is not None)
+
 
 # The logs
 
@@ -258,9 +307,7 @@ def entries_of(path, rules, skipped):
     entry = None
     for number, line in lines_of(path, skipped):
         place = f"{path}:{number}"
-        with watched(place):
-            is_between = rules.run is not None and rules.run.search(line)
-            begins = rules.begin is None or rules.begin.search(line)
+        is_between, begins = rules.kind_of(place, line)
         if entry is None or is_between or begins:
             yield from whole(entry, skipped)
             entry = None if is_between else Entry(place, stem)
@@ -279,30 +326,11 @@ def whole(entry, skipped):
             yield entry
 
 
-@contextlib.contextmanager
-def watched(place):
-    """Refuses the entry at this place if patterns take too long for it, as some do for the square of its length, or
-    worse. Where the system has no such timer they take what they take."""
-    def refuse(*_):
-        raise Refused(f"{place}: the patterns take over {ENTRY_SECONDS:g} seconds for this entry")
-
-    if not hasattr(signal, "setitimer"):
-        yield
-        return
-    before = signal.signal(signal.SIGVTALRM, refuse)
-    signal.setitimer(signal.ITIMER_VIRTUAL, ENTRY_SECONDS)
-    try:
-        yield
-    finally:
-        signal.setitimer(signal.ITIMER_VIRTUAL, 0)
-        signal.signal(signal.SIGVTALRM, before)
-
-
 # Events
 
 def event_of(entry, rules):
     """The event that the entry says by the first rule that matches, or None."""
-    with watched(entry.place):
+    with WATCH(entry.place):
         for rule in rules.rules:
             found = rule.found_in(entry)
             if found is not None:
@@ -483,7 +511,7 @@ def imported(given):
     orphans, runs = 0, []
     for processes in found.runs:
         for event in (event for events in processes.values() for event in events):
-            with watched(event.place):
+            with WATCH(event.place):
                 find_settings([event], given.variables, given.when)
         if rules.has_clocks:
             import_vector_clocks.find_messages(processes)
@@ -508,7 +536,9 @@ def arguments(words):
 
 
 def main(words):
-    return run(imported, arguments(words))
+    given = arguments(words)
+    with WATCH.on():
+        return run(imported, given)
 
 
 if __name__ == "__main__":
