@@ -103,7 +103,9 @@ class Recorder:
         With `again` a file that is there is what the process recorded before it was killed and started again. Then a
         further incarnation is recorded, as a process of its own and to a file beside: of `left` and `left.stream` the
         second one is `left_2` in `left_2.stream`. Its first event receives the message `left-ended`, by which it comes
-        after all that the one before did; monitor_mend adds the send. While the one before still runs it is refused."""
+        after all that the one before did; monitor_mend adds the send. It is refused while the one before still runs,
+        and on a system without POSIX's locks.
+        """
         if replace and again:
             raise NotRecorded("a file that is replaced has no recording of an earlier incarnation")
 
@@ -115,6 +117,8 @@ class Recorder:
 
         first = os.path.abspath(os.fsdecode(path))  # the working directory may change
         if again:
+            if fcntl is None:
+                raise NotRecorded("this system has no locks by which an earlier incarnation is seen to have ended")
             return cls._incarnation(process, path, variables, opened_for)
         return cls._over(process, variables, opened, opened_for)
 
@@ -536,18 +540,15 @@ def ending_of(process):
 
 
 def locked_file(path):
-    """A new file, with a lock that this process has on it for as long as it runs, if the system has such locks."""
+    """A new file, with a lock that this process has on it for as long as it runs, if its folder can have locks."""
     out = open(path, "xb", buffering=0)
-    if fcntl is not None:
-        with contextlib.suppress(OSError):
-            fcntl.lockf(out, fcntl.LOCK_EX | fcntl.LOCK_NB)
+    with contextlib.suppress(OSError):
+        fcntl.lockf(out, fcntl.LOCK_EX | fcntl.LOCK_NB)
     return out
 
 
 def refuse_running(process, path):
-    """Refuses what is started while the earlier incarnation with this file still runs, if locks show that."""
-    if fcntl is None:
-        return
+    """Refuses what is started while the earlier incarnation with this file still runs, if a lock shows that."""
     with open(path, "rb") as file, contextlib.suppress(OSError):
         try:
             fcntl.lockf(file, fcntl.LOCK_SH | fcntl.LOCK_NB)

@@ -13,6 +13,7 @@ import tempfile
 import threading
 import time
 import unittest
+from unittest import mock
 
 import importing
 import monitor_mend
@@ -153,6 +154,8 @@ class Files(Case):
             Recorder.to_file("left", self.path, again=True, replace=True)
         with self.assertRaisesRegex(NotRecorded, "is no name of a process"):
             Recorder.to_file("l" * 31, self.path, again=True)
+        with mock.patch.object(monitor_recorder, "fcntl", None), self.assertRaisesRegex(NotRecorded, "has no locks"):
+            Recorder.to_file("left", self.path, again=True)
         self.assertEqual(len(os.listdir(os.path.dirname(self.path))), 3)
 
     def test_a_process_that_still_runs_is_not_started_again(self):
