@@ -36,7 +36,7 @@ COLUMNS = 116
 # The variable of the environment that asks for explanations.
 VARIABLE = "MONITOR_EXPLAIN"
 # The columns of a line of an explanation.
-ROW = 100
+ROW = 80
 # How errors begin that have more than one fixed line.
 FINDING = "monitor: no picture, for a check finds:\n"
 # What is told while a server runs, in an order that may change: `servers.py` has the cases.

@@ -338,7 +338,7 @@ def begins_otherwise(server):
     send(first, b"GET / HTTP/1.1\r\n\r\n")
     tells(server, b"serve: stream 1 hasn't said whose it is. It begins so:\n    GET / HTTP/1.1\\x0d\n")
     tells(server, f"serve: stream 1, from 127.0.0.1:{port}, is refused at line 1".encode())
-    tells(server, b": this line isn't a JSON text.\n" + NO_MORE)
+    tells(server, b": this line isn't a\n  JSON text.\n" + NO_MORE)
     send(second, OF_B)
     tells(server, b"serve: stream 2 is the one of `b`. Missing: `a`.\n")
     tells(server, f"Stream 1, from 127.0.0.1:{port}, is refused at line 1".encode())
@@ -351,8 +351,8 @@ def refused_meanwhile(server):
     first.sendall(OF_A[:OF_A.index(b"\n") + 1])
     tells(server, b"serve: stream 1 is the one of `a`. Missing: `b`.\n")
     first.sendall(b'{"set":{"z":1}}\n')
-    tells(server, f"serve: stream 1, from 127.0.0.1:{port}, of process `a`, is refused at line 2: the process".encode())
-    tells(server, b" has no\n  variable of this name.\n"
+    tells(server, f"serve: stream 1, from 127.0.0.1:{port}, of process `a`, is refused at line 2: the\n".encode())
+    tells(server, b"  process has no variable of this name.\n"
           b'serve: stream 1, line 2, byte 9:\n    {"set":{"z":1}}\n            ^\n' + NO_MORE)
     send(second, OF_B)
     tells(server, b"serve: stream 2 is the one of `b`. None is missing.\n")
@@ -386,11 +386,11 @@ OF_PADDED = b'{"process":"a"}\n' + (b'{"set":{"x":0}}'.ljust(65_000) + b"\n") * 
 REPORT_PADDED = (b"session 2 processes 50 events 0 messages\nboth possibly no\n"
                  b"both definitely no b,b" + b",a" * 48 + b"\n")
 # What is told of it at once, and at the end.
-STOPPED = (b"serve: kept/a.stream can't be written: File too large (os error 27). What comes of that stream from\n"
-           b"  here on isn't kept; the session is judged all the same.\n")
+STOPPED = (b"serve: kept/a.stream can't be written: File too large (os error 27). What comes\n"
+           b"  of that stream from here on isn't kept; the session is judged all the same.\n")
 UNKEPT = (b"Not all of the session is kept. kept/a.stream: File too large (os error 27).\n"
-          b"Expected: an empty folder, or a name that nothing has yet in a folder that there is; and room for\n"
-          b"  all that comes.\n"
+          b"Expected: an empty folder, or a name that nothing has yet in a folder that there\n"
+          b"  is; and room for all that comes.\n"
           b"What to do: give another folder after --keep, or make room.\nmonitor: write\n")
 
 
@@ -445,27 +445,28 @@ def kept():
 
 
 # What is told at last of a stream that is refused.
-NO_MORE = b"serve: no more of it is read; the report comes once the other streams have ended.\n"
+NO_MORE = b"serve: no more of it is read; the report comes once the other streams have\n  ended.\n"
 # What is explained of a stream that isn't one of ours, after where it came from.
-NO_STREAM = (b": this line isn't a JSON text.\nIn stream 1, line 1, byte 1:\n    GET / HTTP/1.1\\x0d\n    ^\n"
+NO_STREAM = (b": this line isn't a JSON\n  text.\nIn stream 1, line 1, byte 1:\n    GET / HTTP/1.1\\x0d\n    ^\n"
              b"Streams count in the order in which they connected.\n"
              b"Expected: one JSON object a line, in UTF-8, ended by a line feed.\n"
-             b"What to do: look how the line was written: two writers may share the file; or a crash cut it off,\n"
-             b"  then put {\"end\":true} in its place.\n")
+             b"What to do: look how the line was written: two writers may share the file; or a\n"
+             b"  crash cut it off, then put {\"end\":true} in its place.\n")
 
 
 # What is explained of a variable that there isn't, after where the stream came from.
-NO_VARIABLE = (b": the process has no variable of\n  this name.\n"
+NO_VARIABLE = (b": the\n  process has no variable of this name.\n"
                b'In stream 1, line 2, byte 9:\n    {"set":{"z":1}}\n            ^\n'
                b"Expected here: a variable of process `a`, which has `x`.\n"
                b"Streams count in the order in which they connected.\n"
-               b"What to do: correct the name in the stream, or add the variable to the process in the document.\n")
+               b"What to do: correct the name in the stream, or add the variable to the process\n"
+               b"  in the document.\n")
 
 
 # What is explained of the answers to a session that is judged.
 ANSWERS = (b"`both` can happen, when these processes have come this far:\n"
-           b"Process `a` after event 1 (stream 2, line 2), which is local: x = 1.\n"
-           b"Process `b` after event 1 (stream 1, line 2), which is local: y = 1.\n"
+           b"Process `a` after event 1 (stream 2, line 2), which is local: x=1.\n"
+           b"Process `b` after event 1 (stream 1, line 2), which is local: y=1.\n"
            b"No message prevents it: each can come this far before another goes on.\n"
            b"Next: `a` has a local event, `b` has a local event.\n"
            b"`both` need not happen: in some order that fits the messages it never does.\n"

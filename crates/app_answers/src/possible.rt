@@ -41,7 +41,7 @@ fn say_values(
         if let Some(name) = vars.get(*var) {
             say(out, before)?;
             say(out, name)?;
-            say(out, " = ")?;
+            say(out, "=")?;
             say_signed(out, alloc, *value)?;
             before = ", ";
         }

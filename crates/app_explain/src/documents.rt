@@ -33,8 +33,9 @@ fn expected(word: DocumentWord) -> &'static str {
             "one JSON value in UTF-8, with no comments and no byte order mark, in which values stand no more than 127 \
 deep in each other.",
         DocumentWord::Shape => {
-            "{\"processes\":[{\"name\":\"a\",\"vars\":{\"x\":0}}],\
-\"predicates\":[{\"name\":\"p\",\"text\":\"a.x == 1\"}]}, and beside these two fields \"width\" and \"version\" alone."
+            "an object of this form, and beside these two fields \"width\" and \"version\" alone:\n    \
+{\"processes\":[{\"name\":\"a\",\"vars\":{\"x\":0}}],\n     \
+\"predicates\":[{\"name\":\"p\",\"text\":\"a.x == 1\"}]}"
         }
         DocumentWord::Processes => "1 to 16 processes.",
         DocumentWord::Name => {
@@ -64,7 +65,7 @@ before it."
         }
         DocumentWord::Shape => "give each part the form of this example.",
         DocumentWord::Processes =>
-            "name in \"processes\" each process that you record, and no more than 16.",
+            "name in \"processes\" each process that you record, at most 16.",
         DocumentWord::Name => "choose another name, here and where predicates and streams use it.",
         DocumentWord::NameTwice => "rename one of the two.",
         DocumentWord::Vars =>

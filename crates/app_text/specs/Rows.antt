@@ -1,4 +1,4 @@
--- The lines of a text in rows of 100 columns at most. A line is broken in place of a space, or within a word.
+-- The lines of a text in rows of 80 columns at most. A line is broken in place of a space, or within a word.
 use Rattle.std.specs.Prelude.{◌≡◌, ◌≢◌, ℕ, ◌+◌, ◌<◌, ◌≤◌, Bool, false, ◌==◌, nat_eq, if◌then◌else◌, List, [], ◌∷◌, ◌++◌, ◌⊎◌, length, drop, take, slice_index}
 use Rattle.std.specs.Bool.{MatchBool}
 use Rattle.std.specs.List.{starts_with}
@@ -6,10 +6,10 @@ use Rattle.def_format.specs.Lines.{line_feed, has_line_feed}
 
 -- how many bytes the first row of a line has at most, and each other one, which begins with two spaces
 abbrev pub first_columns : ℕ
-first_columns = 100
+first_columns = 80
 
 abbrev pub later_columns : ℕ
-later_columns = 98
+later_columns = 78
 
 -- what stands between two rows of a line
 abbrev pub row_break : List ℕ

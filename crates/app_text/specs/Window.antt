@@ -4,10 +4,10 @@ use Rattle.app_text.specs.Shown.{shown, columns, dots}
 
 -- how many columns are shown before a place, and in all
 abbrev pub before_limit : ℕ
-before_limit = 60
+before_limit = 45
 
 abbrev pub window_limit : ℕ
-window_limit = 90
+window_limit = 70
 
 -- as many of the first bytes as fit in this many columns
 pub record IsFittingFirst (bytes : List ℕ) (limit count : ℕ) : Type 0 where

@@ -1,7 +1,7 @@
 //! The text of an explanation: words and bytes as they are shown, lines of what was read, and rows.
 //!
 //! Each function that puts something puts it to the end of a text. Nothing is taken for granted of bytes that are
-//! shown: what isn't plain ASCII is shown as `\xNN`, a name has at most 100 bytes, and a line a window of 90 columns.
+//! shown: what isn't plain ASCII is shown as `\xNN`, a name has at most 100 bytes, and a line a window of 70 columns.
 //! Stated is which bytes are put, which line, record and place is found, which window of a line is shown and where its
 //! caret stands, and how lines are broken into rows.
 //!
@@ -9,7 +9,7 @@
 //! - `lines`: the lines of bytes, and places in them
 //! - `window`: a line with a caret below a place of it
 //! - `source`: what was read of a file, and its lines as they are shown
-//! - `rows`: the lines of an explanation, no wider than 100 columns
+//! - `rows`: the lines of an explanation, no wider than 80 columns
 #![tactic(auto)]
 
 mod lines;

@@ -7,7 +7,7 @@ use pd_report::push_bytes;
 use std::alloc::{AllocError, Global};
 
 /// How many columns a row has at most.
-const COLUMNS: usize = 100;
+const COLUMNS: usize = 80;
 
 /// What begins a line that shows a part of a file, which stays as it is.
 const SHOWN: &[u8] = b"    ";
@@ -74,7 +74,7 @@ fn push_line(out: &mut Vec<u8>, line: &[u8]) -> Result<(), AllocError>
     push_rows(out, line)
 }
 
-/// The lines of an explanation in rows of 100 columns at most. A line that shows a part of a file stays as it is.
+/// The lines of an explanation in rows of 80 columns at most. A line that shows a part of a file stays as it is.
 ///
 /// # Errors
 /// Out of memory.

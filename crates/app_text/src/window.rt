@@ -8,10 +8,10 @@ use super::says::{columns_of, dots, say, say_bytes};
 use std::alloc::AllocError;
 
 /// How many columns before the place are shown.
-const BEFORE_LIMIT: usize = 60;
+const BEFORE_LIMIT: usize = 45;
 
-/// How many columns of it are shown: with what stands before and after them no row has more than 100 columns.
-const LIMIT: usize = 90;
+/// How many columns of it are shown: with what stands before and after them no row has more than 80 columns.
+const LIMIT: usize = 70;
 
 /// How many of the first bytes fit in this many columns.
 fn fitting_first(bytes: &[u8], columns: usize) -> usize
@@ -143,7 +143,7 @@ fn show_parts(out: &mut Vec<u8>, before: &[u8], after: &[u8]) -> Result<(), Allo
     Ok(())
 }
 
-/// Shows a line, cut to a window of 90 columns around the place, with a caret below the byte there. A place past the
+/// Shows a line, cut to a window of 70 columns around the place, with a caret below the byte there. A place past the
 /// line's end is that of its end. With no place the line's start is shown, and no caret.
 ///
 /// # Errors
