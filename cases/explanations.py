@@ -13,6 +13,7 @@ import argparse
 import collections
 import concurrent.futures
 import difflib
+import gzip
 import json
 import os
 import re
@@ -48,6 +49,8 @@ Case = collections.namedtuple("Case", "name files words input output memory peer
 A = '{"process":"a"}\n'
 B = '{"process":"b"}\n'
 END = '{"end":true}\n'
+# The byte order mark of UTF-8.
+MARK = b"\xef\xbb\xbf"
 
 
 def document(text="a.x == 1 and b.y == 1", **fields):
@@ -114,6 +117,13 @@ def documents():
     yield session("the document has no predicate", document(predicates=[]))
     yield session("the width is too great", document(width=65_537))
     yield session("the version is unknown", document(version=3))
+    yield session("a stream stands where the document belongs")._replace(
+        words=("judge", "a.stream", "session.json", "b.stream"))
+    yield session("the document begins with a byte order mark", MARK + document().encode())
+    yield session("the document is UTF-16", document().encode("utf-16"))
+    yield session("the document is compressed", gzip.compress(b"{}", mtime=0))
+    yield session("the document is a ZIP archive", b"PK\x03\x04")
+    yield session("the document is a picture", b"\x89PNG\r\n\x1a\n")
 
 
 def predicates():
@@ -124,6 +134,20 @@ def predicates():
     yield session("a predicate ends too soon", document("a.x == 1 and b."))
     yield session("a variable is unknown", document("a.x == 1 and b.yy == 1"))
     yield session("a process is unknown in a predicate", document("a.x == 1 and c.y == 1"))
+    meant = {"two comparisons are joined without a word": "1 < a.x < 3", "and is written as in C": "a.x == 1 && b.y == 1",
+             "or is written as in C": "a.x == 1 || b.y == 1", "not is written as in C": "!(a.x == 1)",
+             "unequal is written as in Pascal": "a.x <> 1", "a sign has its parts in the other order": "a.x => 1",
+             "a word stands in capital letters": "a.x == 1 AND b.y == 1", "a word is misspelled": "a.x == 1 adn b.y == 1",
+             "not stands in capital letters": "NOT a.x == 1", "a value is a fraction": "a.x == 0.5",
+             "a value is true": "a.x == true", "a value is a text": 'a.x == "yes"',
+             "a variable is multiplied by another": "a.x * b.y == 1", "a variable stands without its process": "x == 1",
+             "a variable is one of another process": "b.x == 1", "no name is near": "b.zzz == 1"}
+    for name, text in meant.items():
+        yield session(name, document(text))
+    named = (("leader", {"term": 0, "is_open": 1}), ("follower", {"term": 0}))
+    for name, text in (("a variable is misspelled", "leader.tern == 1"), ("a process is misspelled", "leadre.term == 1"),
+                       ("a variable of two processes stands without either", "term == 1")):
+        yield session(name, document(text, processes=[{"name": it, "vars": variables} for it, variables in named]))
     yield session("a predicate is too deep", document("(" * 65 + "a.x == 1" + ")" * 65))
 
 
@@ -158,6 +182,16 @@ def lines():
     yield session("a process is unknown", a='{"process":"c"}\n' + END)
     yield session("a line sets an unknown variable", a=A + '{"set":{"y":1}}\n' + END)
     yield session("a value isn't a whole number", a=A + '{"set":{"x":"yes"}}\n' + END)
+    named = document("a.inside == 1", processes=[{"name": "a", "vars": {"inside": 0, "term": 0}},
+                                                 {"name": "follower", "vars": {"y": 0}}])
+    yield session("a variable in a line is misspelled", named, a=A + '{"set":{"insdie":1}}\n' + END)
+    yield session("a process in a line is misspelled", named, a='{"process":"folower"}\n' + END)
+    yield session("a field of a line is misspelled", a=A + '{"sned":"m1"}\n' + END)
+    yield session("the document stands where a stream belongs")._replace(
+        words=("judge", "session.json", "session.json", "b.stream"))
+    yield session("a document of several lines stands where a stream belongs", a=json.dumps({"processes": []}, indent=1))
+    yield session("a stream begins with a byte order mark", a=MARK + (A + END).encode())
+    yield session("a stream is compressed", a=gzip.compress(b"{}", mtime=0))
     yield session("the id of a message is too long", a=A + '{"send":"' + "m" * 65 + '"}\n' + END)
     yield session("a process has too many events", a=A + "{}\n" * 10_001 + END)
     yield session("a stream has no end line", a=A + '{"set":{"x":1}}\n')

@@ -2,3 +2,5 @@
 pub mod Peers
 pub mod Fields
 pub mod Answers
+pub mod Nearest
+pub mod FileKinds

@@ -1,10 +1,14 @@
 //! Finds the part of a session document that is refused.
+use super::near_names::say_near;
 use super::words::DocumentWord;
 use app_text::{Source, place_of_name, places_of_name, say, say_name, say_number, show_place};
 use def_format::VAR_LIMIT;
 use pd_pred::is_name;
 use serde_json::{Map, Value};
-use std::alloc::AllocError;
+use std::alloc::{AllocError, Global};
+
+/// The fields of a document.
+const FIELDS: [&str; 4] = ["processes", "predicates", "width", "version"];
 
 /// Shows where this name stands in the document, if that is sure.
 fn show_name(out: &mut Vec<u8>, source: &Source<'_>, name: &str) -> Result<(), AllocError> {
@@ -47,11 +51,18 @@ fn text_of<'a>(item: &'a Value, name: &str) -> &'a str {
 }
 
 /// Says that the document has a field that it may not have.
-fn say_other_field(out: &mut Vec<u8>, source: &Source<'_>, name: &str) -> Result<(), AllocError> {
+fn say_other_field(
+    out: &mut Vec<u8>,
+    alloc: Global,
+    source: &Source<'_>,
+    name: &str,
+) -> Result<(), AllocError> {
     say(out, "There is a field ")?;
     say_name(out, name)?;
     say(out, " that has no meaning here.\n")?;
-    show_name(out, source, name)
+    show_name(out, source, name)?;
+    let _ = say_near(out, alloc, name, &FIELDS, "")?;
+    Ok(())
 }
 
 /// Says which of the two lists is absent, or is none.
@@ -123,12 +134,17 @@ fn say_items(
 }
 
 /// Says which part of a document has not the form that it should have.
-fn say_shape(out: &mut Vec<u8>, source: &Source<'_>, value: &Value) -> Result<(), AllocError> {
+fn say_shape(
+    out: &mut Vec<u8>,
+    alloc: Global,
+    source: &Source<'_>,
+    value: &Value,
+) -> Result<(), AllocError> {
     let Some(fields) = value.as_object() else {
         return say(out, "It isn't an object, in braces.\n");
     };
-    if let Some(other) = other_field(fields, &["processes", "predicates", "width", "version"]) {
-        return say_other_field(out, source, other);
+    if let Some(other) = other_field(fields, &FIELDS) {
+        return say_other_field(out, alloc, source, other);
     }
     if say_list(out, source, fields, "processes")? || say_list(out, source, fields, "predicates")? {
         return Ok(());
@@ -284,12 +300,13 @@ fn say_vars_of(
 /// Out of memory.
 pub(crate) fn say_detail(
     out: &mut Vec<u8>,
+    alloc: Global,
     source: &Source<'_>,
     value: &Value,
     word: DocumentWord,
 ) -> Result<(), AllocError> {
     match word {
-        DocumentWord::Shape => say_shape(out, source, value),
+        DocumentWord::Shape => say_shape(out, alloc, source, value),
         DocumentWord::Processes => say_count(
             out,
             items_of(value, "processes").len(),

@@ -1,8 +1,11 @@
 //! Explains why a session document is refused.
 use super::document_details::say_detail;
+use super::file_kinds::{kind_of, said_of};
 use super::json_faults::json_place;
+use super::streams::joined_name;
 use super::words::DocumentWord;
-use app_text::{Source, line_at, say, say_advice, show_numbered};
+use app_text::{Source, line_at, say, say_advice, say_name, show_numbered};
+use def_format::DOCUMENT_BYTE_LIMIT;
 use serde_json::Value;
 use std::alloc::{AllocError, Global};
 
@@ -103,6 +106,50 @@ fn show_json(out: &mut Vec<u8>, alloc: Global, source: &Source<'_>) -> Result<()
     show_numbered(out, source, found.line, line, Some(found.place))
 }
 
+/// Whether these bytes are a session document, or were meant as one: a JSON object with a field of processes.
+///
+/// # Errors
+/// Out of memory.
+pub(crate) fn is_document(alloc: Global, bytes: &[u8]) -> Result<bool, AllocError> {
+    if bytes.len() > DOCUMENT_BYTE_LIMIT {
+        return Ok(false);
+    }
+    match Value::from_slice(alloc, bytes) {
+        Ok(value) => match value.as_object() {
+            Some(fields) => Ok(fields.contains_key("processes")),
+            None => Ok(false),
+        },
+        Err(error) if error.is_memory() => Err(AllocError),
+        Err(_) => Ok(false),
+    }
+}
+
+/// Says what a file is that isn't a session document, and what to do, if that is clear. It gives whether it is.
+fn say_other_file(
+    out: &mut Vec<u8>,
+    alloc: Global,
+    bytes: &[u8],
+    word: DocumentWord,
+) -> Result<bool, AllocError> {
+    if word != DocumentWord::Json && word != DocumentWord::Shape {
+        return Ok(false);
+    }
+    if let Some(kind) = kind_of(bytes) {
+        say(out, said_of(kind))?;
+        return Ok(true);
+    }
+    let Some(process) = joined_name(alloc, bytes)? else {
+        return Ok(false);
+    };
+    say(out, "It is the stream of process ")?;
+    say_name(out, &process)?;
+    say(
+        out,
+        ", and no session document.\nWhat to do: give the document first, and then the streams.\n",
+    )?;
+    Ok(true)
+}
+
 /// Explains why this session document is refused by this word: what it means, where in the document the fault is, as
 /// far as that is sure, what is expected there, and what to do.
 ///
@@ -119,9 +166,12 @@ pub fn explain_document(
     match word {
         DocumentWord::Json => show_json(out, alloc, source)?,
         _ => match Value::from_slice(alloc, source.bytes) {
-            Ok(value) => say_detail(out, source, &value, word)?,
+            Ok(value) => say_detail(out, alloc, source, &value, word)?,
             Err(_) => {}
         },
+    }
+    if say_other_file(out, alloc, source.bytes, word)? {
+        return Ok(());
     }
     say_advice(out, expected(word), advice(word))
 }

@@ -28,7 +28,15 @@ fn joined(alloc: Global, begin: &str, token: &str) -> Result<String, AllocError>
 }
 
 /// Whether some predicate begins with this text and then the token.
-fn may_follow(alloc: Global, names: &Names, begin: &str, token: &str) -> Result<bool, AllocError> {
+///
+/// # Errors
+/// Out of memory.
+pub(crate) fn may_follow(
+    alloc: Global,
+    names: &Names,
+    begin: &str,
+    token: &str,
+) -> Result<bool, AllocError> {
     let text = joined(alloc, begin, token)?;
     match Pred::parse(alloc, names, &text) {
         Ok(_) => Ok(true),

@@ -14,6 +14,9 @@
 //! - `seen`: what was read of a session
 //! - `documents`, `document_details`: why a session document is refused
 //! - `predicates`, `expected_tokens`, `known_names`: why the text of a predicate is refused
+//! - `predicate_hints`: what may have been meant there
+//! - `nearest`, `near_names`: which name is near to one that there isn't
+//! - `file_kinds`: what a file is that holds no JSON
 //! - `streams`, `record_details`: why a stream is refused
 //! - `fields`: the texts of fields of lines
 //! - `peers`: who sends the streams of a server, and who is missing
@@ -31,11 +34,15 @@ mod documents;
 mod expected_tokens;
 mod faults;
 mod fields;
+mod file_kinds;
 mod findings;
 mod json_faults;
 mod known_names;
 mod messages;
+mod near_names;
+mod nearest;
 mod peers;
+mod predicate_hints;
 mod predicates;
 mod record_details;
 mod refusals;

@@ -5,7 +5,7 @@ ghost use Rattle.std.specs.Prelude.{◌≡◌, ◌++◌, not, OnOk};
 
 use super::known_names::{name_at, say_processes};
 use super::record_details::place_in_record;
-use super::streams::{StreamFault, advice, expected, say_head, say_known, say_refused};
+use super::streams::{StreamFault, advice, expected, say_head, say_instead, say_refused};
 use super::words::StreamWord;
 use app_text::{say, say_advice, say_name, say_number, say_shown, show_line, show_line_of};
 use pd_pred::Names;
@@ -110,7 +110,7 @@ fn show_refused(
     say(out, "In ")?;
     show_sent_line(out, alloc, names, fault, sender, line)?;
     match names {
-        Some(names) => say_known(out, names, sender.process, fault.word),
+        Some(names) => say_instead(out, alloc, names, sender.process, line, fault.word),
         None => Ok(()),
     }
 }

@@ -1,6 +1,7 @@
 //! Explains why the text of a predicate is refused.
 use super::expected_tokens::say_expected_tokens;
 use super::known_names::{name_at, say_processes, say_vars};
+use super::predicate_hints::{say_meant_form, say_meant_name, say_meant_sign};
 use super::words::PredicateWord;
 use app_text::{Source, say, say_advice, say_name, say_number, say_shown, show_line};
 use pd_pred::Names;
@@ -100,11 +101,13 @@ fn bare_document(alloc: Global, document: &Value) -> Result<Option<Spec>, AllocE
 /// Says which names there are in place of the one at this place of a predicate's text.
 fn say_known_names(
     out: &mut Vec<u8>,
+    alloc: Global,
     names: &Names,
     text: &str,
     place: usize,
 ) -> Result<(), AllocError> {
-    match process_before(names, text.as_bytes(), place) {
+    let process = process_before(names, text.as_bytes(), place);
+    match process {
         Some(process) => {
             say(out, "Expected here: a variable of process ")?;
             say_name(out, name_at(names, process))?;
@@ -116,7 +119,8 @@ fn say_known_names(
             say_processes(out, names)?;
         }
     }
-    say(out, ".\n")
+    say(out, ".\n")?;
+    say_meant_name(out, alloc, names, text, place, process)
 }
 
 /// The process whose variable should stand at this place of a text: the one before a dot.
@@ -184,8 +188,12 @@ fn show_text(
         return Ok(());
     };
     match fault.word {
-        PredicateWord::Expected => say_expected_tokens(out, alloc, spec.names(), text, place),
-        PredicateWord::UnknownName => say_known_names(out, spec.names(), text, place),
+        PredicateWord::Expected => {
+            say_expected_tokens(out, alloc, spec.names(), text, place)?;
+            say_meant_form(out, alloc, spec.names(), text, place)
+        }
+        PredicateWord::UnknownName => say_known_names(out, alloc, spec.names(), text, place),
+        PredicateWord::Character => say_meant_sign(out, text, place),
         _ => Ok(()),
     }
 }

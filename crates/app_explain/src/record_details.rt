@@ -7,13 +7,13 @@ use pd_pred::Names;
 use serde_json::{Map, Value};
 use std::alloc::{AllocError, Global};
 
+/// The fields that lines may have.
+pub(crate) const FIELDS: [&str; 5] = ["process", "end", "set", "send", "recv"];
+
 /// The first field that a line may not have.
 fn other_field(fields: &Map<String, Value>) -> Option<&str> {
     for key in fields.keys() {
-        if !["process", "end", "set", "send", "recv"]
-            .iter()
-            .any(|name| key.as_str() == *name)
-        {
+        if !FIELDS.iter().any(|name| key.as_str() == *name) {
             return Some(key.as_str());
         }
     }
@@ -152,6 +152,30 @@ pub(crate) fn place_in_record(
     };
     match name_at_fault(names, process, fields, word) {
         Some(name) => Ok(place_of_name(line, name)),
+        None => Ok(None),
+    }
+}
+
+/// The name or field of a line that has the fault of this word, if it has one. The line is one of this process, which
+/// is counted from 0.
+///
+/// # Errors
+/// Out of memory.
+pub(crate) fn name_in_record(
+    alloc: Global,
+    names: &Names,
+    process: Option<usize>,
+    line: &[u8],
+    word: StreamWord,
+) -> Result<Option<String>, AllocError> {
+    let Ok(value) = Value::from_slice(alloc, line) else {
+        return Ok(None);
+    };
+    let Some(fields) = value.as_object() else {
+        return Ok(None);
+    };
+    match name_at_fault(names, process, fields, word) {
+        Some(name) => Ok(Some(String::from_str(alloc, name)?)),
         None => Ok(None),
     }
 }

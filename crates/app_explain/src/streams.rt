@@ -3,9 +3,12 @@ ghost use Rattle.app_explain.specs.Fields.{joined_name};
 ghost use Rattle.std.specs.Option.{option_map};
 ghost use Rattle.std.specs.Prelude.{◌≡◌, string_bytes, IfOk};
 
+use super::documents::is_document;
 use super::fields::text_in_line;
+use super::file_kinds::{kind_of, said_of};
 use super::known_names::{name_at, say_processes, say_vars};
-use super::record_details::place_in_record;
+use super::near_names::{process_texts, say_near, var_texts};
+use super::record_details::{FIELDS, name_in_record, place_in_record};
 use super::seen::SeenStream;
 use super::words::StreamWord;
 use app_text::{
@@ -211,10 +214,10 @@ fn show_fault(
 }
 
 /// Says which processes or variables there are in place of a name that there isn't.
-pub(crate) fn say_known(
+fn say_known(
     out: &mut Vec<u8>,
     names: &Names,
-    process: Option<&str>,
+    process: Option<usize>,
     word: StreamWord,
 ) -> Result<(), AllocError> {
     if word == StreamWord::UnknownProcess {
@@ -222,17 +225,86 @@ pub(crate) fn say_known(
         say_processes(out, names)?;
         return say(out, ".\n");
     }
-    if word != StreamWord::UnknownVar {
-        return Ok(());
+    match process {
+        Some(process) if word == StreamWord::UnknownVar => {
+            say(out, "Expected here: a variable of process ")?;
+            say_name(out, name_at(names, process))?;
+            say(out, ", which has ")?;
+            say_vars(out, names, process)?;
+            say(out, ".\n")
+        }
+        _ => Ok(()),
     }
-    let Some(process) = process.and_then(|name| names.find(name)) else {
+}
+
+/// Says which name is near to the one in this line that there isn't, or which field.
+fn say_meant(
+    out: &mut Vec<u8>,
+    alloc: Global,
+    names: &Names,
+    process: Option<usize>,
+    line: &[u8],
+    word: StreamWord,
+) -> Result<(), AllocError> {
+    let Some(name) = name_in_record(alloc, names, process, line, word)? else {
         return Ok(());
     };
-    say(out, "Expected here: a variable of process ")?;
-    say_name(out, name_at(names, process))?;
-    say(out, ", which has ")?;
-    say_vars(out, names, process)?;
-    say(out, ".\n")
+    let _ = match word {
+        StreamWord::UnknownProcess => {
+            say_near(out, alloc, &name, &process_texts(alloc, names)?, "")?
+        }
+        StreamWord::UnknownVar => match process {
+            Some(process) => say_near(out, alloc, &name, &var_texts(alloc, names, process)?, "")?,
+            None => false,
+        },
+        StreamWord::Shape => {
+            !FIELDS.iter().any(|field| *field == name.as_str())
+                && say_near(out, alloc, &name, &FIELDS, "")?
+        }
+        _ => false,
+    };
+    Ok(())
+}
+
+/// Says what there is in place of a name in this line that there isn't, and what may have been meant.
+///
+/// # Errors
+/// Out of memory; what was put until then stays.
+pub(crate) fn say_instead(
+    out: &mut Vec<u8>,
+    alloc: Global,
+    names: &Names,
+    process: Option<&str>,
+    line: &[u8],
+    word: StreamWord,
+) -> Result<(), AllocError> {
+    let process = process.and_then(|name| names.find(name));
+    say_known(out, names, process, word)?;
+    say_meant(out, alloc, names, process, line, word)
+}
+
+/// Says what a file is that isn't a stream, and what to do, if that is clear. It gives whether it is.
+fn say_other_file(
+    out: &mut Vec<u8>,
+    alloc: Global,
+    bytes: &[u8],
+    word: StreamWord,
+) -> Result<bool, AllocError> {
+    if word != StreamWord::Json && word != StreamWord::Shape {
+        return Ok(false);
+    }
+    if let Some(kind) = kind_of(bytes) {
+        say(out, said_of(kind))?;
+        return Ok(true);
+    }
+    if !is_document(alloc, bytes)? {
+        return Ok(false);
+    }
+    say(
+        out,
+        "It is a session document, and no stream.\nWhat to do: give the document first, and then the streams.\n",
+    )?;
+    Ok(true)
 }
 
 /// Explains why this stream is refused: what the fault means, the line with a caret below the place, as far as that is
@@ -255,7 +327,11 @@ pub fn explain_stream(
     let process = joined.as_deref();
     say_head(out, fault, stream.file, process)?;
     show_fault(out, alloc, names, &source, fault)?;
-    say_known(out, names, process, fault.word)?;
+    let line = line_at(source.bytes, fault.line);
+    say_instead(out, alloc, names, process, line, fault.word)?;
     say(out, order)?;
+    if say_other_file(out, alloc, source.bytes, fault.word)? {
+        return Ok(());
+    }
     say_advice(out, expected(fault.word), advice(fault.word))
 }
