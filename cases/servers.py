@@ -471,7 +471,8 @@ ANSWERS = (b"`both` can happen, when these processes have come this far:\n"
            b"Next: `a` has a local event, `b` has a local event.\n"
            b"`both` need not happen: in some order that fits the messages it never does.\n"
            b"One such order: 2 events of `b`, then 2 events of `a`.\n"
-           b"Warning: no message leads between the processes that are named by `both`.\n")
+           b"Warning: no message leads between the processes that are named by `both`. Then\n"
+           b"  nothing orders their events: look whether all messages are recorded.\n")
 
 
 def at_once():

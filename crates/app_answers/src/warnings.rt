@@ -2,7 +2,7 @@
 use super::after_end::records_after;
 use super::possible::named_count;
 use super::session::{Session, name_of, source_of, vars_of};
-use app_text::{Source, say, say_name, say_number, say_shown};
+use app_text::{Source, record_after, say, say_name, say_number, say_shown};
 use judge_facts::{has_links, is_set, names_variable};
 use pd_spec::NamedPred;
 use std::alloc::{AllocError, Global};
@@ -48,14 +48,21 @@ fn warn_unset(
 ) -> Result<(), AllocError> {
     let names = session.spec.names();
     let value = initial_of(session, process, var);
-    let said = format!(in alloc; ", which no event sets: it stays {value}.\n")?;
     say(out, "Warning: ")?;
     say_name(out, &asked.name)?;
     say(out, " names `")?;
     say(out, name_of(names, process))?;
     say(out, ".")?;
     say(out, var_name(vars_of(names, process), var))?;
-    say(out, "`")?;
+    say(out, "`, which no event ")?;
+    if let Some(source) = source_of(session.sources, process) {
+        say(out, "in ")?;
+        say_shown(out, source.name.as_bytes())?;
+        say(out, " ")?;
+    }
+    let said = format!(in alloc;
+        "sets: it stays {value}. Look whether it is recorded under this name.\n"
+    )?;
     say(out, &said)
 }
 
@@ -97,7 +104,14 @@ fn warn_unlinked(out: &mut Vec<u8>, session: &Session<'_, '_>) -> Result<(), All
             is_found = true;
         }
     }
-    say(out, if is_found { ".\n" } else { "" })
+    say(
+        out,
+        if is_found {
+            ". Then nothing orders their events: look whether all messages are recorded.\n"
+        } else {
+            ""
+        },
+    )
 }
 
 /// Warns of a stream without events.
@@ -111,14 +125,27 @@ fn warn_empty(
     say_name(out, name_of(session.spec.names(), process))?;
     say(out, " has no event: ")?;
     say_shown(out, source.name.as_bytes())?;
-    say(out, " ends after its first line.\n")
+    say(
+        out,
+        " ends after its first line. Look whether the process recorded into another file.\n",
+    )
 }
 
 /// Warns of lines after the end line of a stream, of which there are this many or more.
-fn warn_others(out: &mut Vec<u8>, source: &Source<'_>, others: u64) -> Result<(), AllocError> {
+fn warn_others(
+    out: &mut Vec<u8>,
+    source: &Source<'_>,
+    events: u64,
+    others: u64,
+) -> Result<(), AllocError> {
     say(out, "Warning: ")?;
     say_shown(out, source.name.as_bytes())?;
-    say(out, " goes on after its end line: ")?;
+    say(out, " goes on after its end line")?;
+    if let Some(end) = record_after(source.bytes, events.saturating_add(1)) {
+        say(out, ", line ")?;
+        say_number(out, end.line)?;
+    }
+    say(out, ": ")?;
     say_number(out, others)?;
     say(
         out,
@@ -128,7 +155,10 @@ fn warn_others(out: &mut Vec<u8>, source: &Source<'_>, others: u64) -> Result<()
             " lines or more aren't judged.\n"
         },
     )?;
-    say(out, "Are there two runs in one file?\n")
+    say(
+        out,
+        "Are there two runs in one file? Then give each a file of its own.\n",
+    )
 }
 
 /// Warns of a stream without events, and of lines after its end line.
@@ -147,7 +177,7 @@ fn warn_stream(
     }
     let others = records_after(source.bytes, events.saturating_add(2));
     if others > 0 {
-        warn_others(out, source, others)?;
+        warn_others(out, source, events, others)?;
     }
     Ok(())
 }
