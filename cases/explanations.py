@@ -74,13 +74,33 @@ def processes(*items):
     return document(processes=[{"name": name, "vars": variables} for name, variables in items])
 
 
-def wide():
-    """A session of four processes with no messages, that is unknown at the width 2."""
-    names = "abcd"
-    spec = document("a.x + b.x + c.x > 5", width=2, processes=[{"name": name, "vars": {"x": 0}} for name in names])
-    events = '{"set":{"x":1}}\n{"set":{"x":2}}\n'
-    files = {f"{name}.stream": f'{{"process":"{name}"}}\n{events}{END}' for name in names}
-    return Case("an answer is unknown", {"session.json": spec, **files}, ("judge", "session.json", *files))
+def wide(name="an answer is unknown", text="a.x + b.x + c.x > 5", words=(), names="abcd", events=2, width=2):
+    """A session of processes with no messages, that is unknown at this width."""
+    spec = document(text, width=width, processes=[{"name": it, "vars": {"x": 0}} for it in names])
+    lines = "".join(f'{{"set":{{"x":{number + 1}}}}}\n' for number in range(events))
+    files = {f"{it}.stream": f'{{"process":"{it}"}}\n{lines}{END}' for it in names}
+    return Case(name, {"session.json": spec, **files}, ("judge", "session.json", *files, *words))
+
+
+def unknown():
+    """Answers that are unknown, by the width alone and beyond it."""
+    yield wide()
+    yield wide_by_connections()
+    equal, two = "2 * a.x + 2 * b.x + 2 * c.x == 6", "a.x + b.x + c.x > 2 and a.x + b.x + d.x > 2"
+    many = " and ".join(f"(a.x + b.x + c.x > {n} or d.x == {n})" for n in range(13))
+    beyond = ("--beyond-width",)
+    yield wide("an answer is unknown that is decided at any width", "a.x == 1 and b.x == 1 and c.x == 1")
+    yield wide("an answer is unknown that may be decided at any width", two)
+    yield wide("an answer is unknown that no rule decides", many)
+    yield wide("two sums stand in an and", two, beyond)
+    yield wide("sums are asked whether they are equal", equal, beyond)
+    yield wide("two sums, and sums that may be equal", f"{two} or {equal}", beyond)
+    yield wide("a predicate has too many terms", many, beyond)
+    yield wide("a search back comes to too many dead ends", "a.x + b.x + c.x == 3", beyond)
+    yield wide("a level is too wide for any width", "a.x + b.x + c.x > 5", (), "abcdefghijklmnop", 3, 60_000)
+    late = "a.x + b.x + c.x > 8 and a.x + b.x + d.x > 8"
+    yield wide("a level is too wide, and no rule decides", late, beyond, "abcdefghijklmnop", 3, 60_000)
+    yield wide("a level is too wide for the greatest width", late, (), "abcdefghijklmnop", 3, 65_536)
 
 
 def wide_by_connections():
@@ -339,7 +359,7 @@ KINDS = {
     "The session document": documents, "The text of a predicate": predicates,
     "The text of a predicate that is asked for": asked, "A line of a stream": lines,
     "The list of streams": streams, "Messages": messages, "Answers": answers,
-    "Unknown answers": lambda: [wide(), wide_by_connections()],
+    "Unknown answers": unknown,
     "Reports that a check finds bad": checks,
     "What comes by a pipe or a connection": connections, "A bundle": bundles, "Faults": faults,
 }

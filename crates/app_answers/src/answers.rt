@@ -1,6 +1,7 @@
 //! What is said of each answer that is known.
 use super::possible::{named_count, say_possible};
 use super::session::Session;
+use super::undecided::{say_bundle, say_undecided};
 use app_text::{say, say_name, say_number};
 use judge_facts::first_run;
 use pd_pred::Tree;
@@ -142,7 +143,8 @@ fn say_answer(
 }
 
 /// Explains each answer that is known: that the predicate can happen, where and why, that it can't, that it always
-/// does, or that it need not. The answers are those for the predicates of the document, in its order.
+/// does, or that it need not; and says of each one that is unknown what would decide it at any width. The answers are
+/// those for the predicates of the document, in its order.
 ///
 /// # Errors
 /// Out of memory; what was put until then stays.
@@ -153,10 +155,13 @@ pub fn explain_known(
     answers: &[Answer],
 ) -> Result<(), AllocError> {
     let predicates = session.spec.predicates();
+    let mut is_undecided = false;
     for (place, answer) in answers.iter().enumerate() {
         if let Some(asked) = predicates.get(place) {
             say_answer(out, alloc, session, asked, answer)?;
+            let said = say_undecided(out, session, asked.pred.tree(), answer)?;
+            is_undecided = is_undecided || said;
         }
     }
-    Ok(())
+    say_bundle(out, session, is_undecided)
 }

@@ -8,15 +8,19 @@
 //! - `places`: where an event was recorded, and what it did
 //! - `possible`: what can happen, where and why
 //! - `answers`: what is said of each answer that is known
+//! - `forms`: whether rules decide a predicate at any width
+//! - `undecided`: what would decide an answer that is unknown
 //! - `after_end`: how many lines stand after an end line
 //! - `warnings`: what may be green by accident
 #![tactic(auto)]
 
 mod after_end;
 mod answers;
+mod forms;
 mod places;
 mod possible;
 mod session;
+mod undecided;
 mod warnings;
 
 pub use after_end::records_after;

@@ -1,6 +1,7 @@
 -- What is known of the cuts of a level, and which answers are unknown.
 use Rattle.std.specs.Prelude.{ℕ, ◌-◌, ◌^◌, Bool, true, false, ◌&&◌, ◌||◌, ◌==◌, nat_lt, if◌then◌else◌, Option, Some, None}
 use Rattle.std.specs.Option.{unwrap_or}
+use Rattle.def_format.specs.Limits.{width_limit}
 use Rattle.pd_report.specs.declared.answer.Answer.{Answer}
 use Rattle.pd_report.specs.declared.possibly.Possibly.{Possibly}
 use Rattle.pd_report.specs.declared.possibly.Possibly.TheVariants as possibly
@@ -15,6 +16,10 @@ known_cuts judged level =
     let cuts = judged.widest.cuts in
     if judged.widest.number == level && (nat_lt (unwrap_or judged.width 0) cuts && nat_lt cuts (2 ^ 64 - 1))
     then Some cuts else None
+
+-- no width is great enough for a level with this many cuts
+abbrev pub is_too_wide : ℕ → Bool
+is_too_wide cuts = nat_lt width_limit cuts
 
 abbrev pub is_possibly_unknown : Possibly → Bool
 is_possibly_unknown (possibly.Yes counts) = false

@@ -1,5 +1,5 @@
 //! Explains what an answer leaves unknown.
-ghost use Rattle.app_explain.specs.Answers.{is_definitely_unknown, is_possibly_unknown, is_unknown};
+ghost use Rattle.app_explain.specs.Answers.{is_definitely_unknown, is_possibly_unknown, is_too_wide, is_unknown};
 ghost use Rattle.std.specs.List.{list_any};
 ghost use Rattle.std.specs.Prelude.{◌≡◌, false, IfOk, OnOk};
 
@@ -138,10 +138,16 @@ fn say_answer(out: &mut Vec<u8>, answer: &Answer, judged: Judged) -> Result<bool
     Ok(possibly || definitely)
 }
 
+/// Whether no width is great enough for a level with this many cuts.
+fn is_too_wide(cuts: u64) -> bool
+    ensures { result ≡ is_too_wide cuts }
+{
+    cuts > def_format::WIDTH_LIMIT
+}
+
 /// Says that a greater width might decide answers that are unknown, unless the widest level is too wide for any.
 fn say_width(out: &mut Vec<u8>, judged: Judged) -> Result<(), AllocError> {
-    let needed = judged.cuts_of(judged.widest.number).unwrap_or(0);
-    if needed > def_format::WIDTH_LIMIT {
+    if is_too_wide(judged.widest.cuts) {
         return Ok(());
     }
     match judged.width {
@@ -160,21 +166,13 @@ fn say_width(out: &mut Vec<u8>, judged: Judged) -> Result<(), AllocError> {
 fn say_ways(out: &mut Vec<u8>, judged: Judged) -> Result<(), AllocError> {
     say(out, "What to do: ")?;
     say_width(out, judged)?;
-    if !judged.beyond_width {
-        say(
-            out,
-            "judge files with --beyond-width, which answers predicates that name two processes, most of those in which \
-each comparison names one, whether an `or` of such predicates, or a sum over several processes, possibly holds, and \
-mostly whether any other definitely holds; or ",
-        )?;
-    }
     say(
         out,
         "record fewer events that neither send nor receive and set no variable that a predicate names.\n",
     )
 }
 
-/// Explains each answer that is unknown: at which level, and what would decide it.
+/// Explains each answer that is unknown: at which level, and which width would decide it, if one would.
 ///
 /// # Errors
 /// Out of memory; what was put until then stays.

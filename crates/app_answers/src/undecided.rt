@@ -1,0 +1,168 @@
+//! Says what would decide an answer that is unknown at any width, or which rule doesn't apply.
+use super::forms::{PossiblyForm, decides_definitely, possibly_form};
+use super::session::Session;
+use app_text::{say, say_name};
+use def_format::WIDTH_LIMIT;
+use pd_pred::Tree;
+use pd_report::{Answer, Definitely, Possibly};
+use std::alloc::AllocError;
+
+/// What is said of a Possibly that is unknown, and was asked at the width alone.
+fn possibly_ways(form: PossiblyForm) -> &'static str {
+    match form {
+        PossiblyForm::Decided => "--beyond-width decides whether it possibly holds",
+        PossiblyForm::ManyTerms => {
+            "no rule decides at any width whether it possibly holds, since it is an `or` of more than 4,096 `and`s \
+once it is multiplied out"
+        }
+        PossiblyForm::SeveralSums | PossiblyForm::EqualSum | PossiblyForm::Both => {
+            "--beyond-width decides in some cases whether it possibly holds"
+        }
+    }
+}
+
+/// What is said of a Definitely that is unknown, and was asked at the width alone, after this was said of Possibly.
+fn definitely_ways(form: Option<PossiblyForm>, decides: bool) -> &'static str {
+    match (form, decides) {
+        (None, true) => "--beyond-width decides whether it definitely holds",
+        (None, false) => "--beyond-width may find whether it definitely holds",
+        (Some(PossiblyForm::ManyTerms), _) =>
+            "; --beyond-width may find whether it definitely holds",
+        (Some(_), true) => ", and whether it definitely holds",
+        (Some(_), false) => ", and may find whether it definitely holds",
+    }
+}
+
+/// What is said of a Possibly that is unknown, and was asked beyond the width too.
+fn possibly_reason(form: PossiblyForm) -> &'static str {
+    match form {
+        PossiblyForm::Decided => "",
+        PossiblyForm::ManyTerms =>
+            ", since it is an `or` of more than 4,096 `and`s once it is multiplied out",
+        PossiblyForm::SeveralSums =>
+            ", since two comparisons of one `and` name several processes each",
+        PossiblyForm::EqualSum => {
+            ", since it asks whether sums over several processes are equal; with >= or <= in the place of that it is \
+decided"
+        }
+        PossiblyForm::Both => {
+            ", since two comparisons of one `and` name several processes each, or since it asks whether sums over \
+several processes are equal"
+        }
+    }
+}
+
+/// Says what would decide what is unknown of Possibly, of this form, and of Definitely, if they were asked at the width
+/// alone.
+fn say_ways(
+    out: &mut Vec<u8>,
+    possibly: Option<PossiblyForm>,
+    definitely: Option<bool>,
+) -> Result<(), AllocError> {
+    if let Some(form) = possibly {
+        say(out, possibly_ways(form))?;
+    }
+    match definitely {
+        Some(decides) => say(out, definitely_ways(possibly, decides)),
+        None => Ok(()),
+    }
+}
+
+/// Says why the answers that are unknown weren't found beyond the width either: of Possibly of this form, and of
+/// Definitely with this width.
+fn say_reasons(
+    out: &mut Vec<u8>,
+    possibly: Option<PossiblyForm>,
+    definitely: Option<u64>,
+) -> Result<(), AllocError> {
+    if let Some(form) = possibly {
+        say(
+            out,
+            "no rule decides at any width whether it possibly holds",
+        )?;
+        say(out, possibly_reason(form))?;
+    }
+    let Some(width) = definitely else {
+        return Ok(());
+    };
+    say(out, if possibly.is_some() { "; " } else { "" })?;
+    say(
+        out,
+        "the search back for whether it definitely holds came to more dead ends than the width",
+    )?;
+    say(
+        out,
+        if width < WIDTH_LIMIT {
+            ", so a greater width may find it"
+        } else {
+            ""
+        },
+    )
+}
+
+/// Whether a session was read of a bundle.
+fn is_of_bundle(session: &Session<'_, '_>) -> bool {
+    for source in session.sources {
+        if let Some(source) = source {
+            if source.before > 0 {
+                return true;
+            }
+        }
+    }
+    false
+}
+
+/// Says how the session of a bundle is judged beyond the width, if something is undecided that was asked without that.
+///
+/// # Errors
+/// Out of memory; what was put until then stays.
+pub(crate) fn say_bundle(
+    out: &mut Vec<u8>,
+    session: &Session<'_, '_>,
+    is_undecided: bool,
+) -> Result<(), AllocError> {
+    if is_undecided && !session.spec.beyond_width() && is_of_bundle(session) {
+        return say(
+            out,
+            "A bundle is judged without --beyond-width: put its parts into files for that.\n",
+        );
+    }
+    Ok(())
+}
+
+/// Says of a predicate of which an answer is unknown what would decide it at any width, or which rule doesn't apply.
+/// Nothing is judged for that: it is said by the predicate alone, and by how it was asked. It gives whether an answer
+/// is unknown.
+///
+/// # Errors
+/// Out of memory; what was put until then stays.
+pub(crate) fn say_undecided(
+    out: &mut Vec<u8>,
+    session: &Session<'_, '_>,
+    tree: &Tree,
+    answer: &Answer,
+) -> Result<bool, AllocError> {
+    let processes = session.computation.processes();
+    let possibly = match &answer.possibly {
+        Possibly::Unknown(_) => Some(possibly_form(tree, processes)),
+        Possibly::Yes(_) | Possibly::No => None,
+    };
+    let is_definitely_unknown = match &answer.definitely {
+        Definitely::Unknown(_) => true,
+        Definitely::Yes(_) | Definitely::No(_) => false,
+    };
+    if possibly.is_none() && !is_definitely_unknown {
+        return Ok(false);
+    }
+    say_name(out, answer.name.as_str())?;
+    say(out, " is undecided: ")?;
+    if session.spec.beyond_width() {
+        let width = session.spec.width();
+        say_reasons(out, possibly, is_definitely_unknown.then_some(width))?;
+    } else {
+        let decides = decides_definitely(tree, processes);
+        say_ways(out, possibly, is_definitely_unknown.then_some(decides))?;
+    }
+    say(out, ".\n")?;
+    Ok(true)
+}
