@@ -154,18 +154,21 @@ def predicates():
     yield session("a predicate ends too soon", document("a.x == 1 and b."))
     yield session("a variable is unknown", document("a.x == 1 and b.yy == 1"))
     yield session("a process is unknown in a predicate", document("a.x == 1 and c.y == 1"))
-    meant = {"two comparisons are joined without a word": "1 < a.x < 3", "and is written as in C": "a.x == 1 && b.y == 1",
-             "or is written as in C": "a.x == 1 || b.y == 1", "not is written as in C": "!(a.x == 1)",
-             "unequal is written as in Pascal": "a.x <> 1", "a sign has its parts in the other order": "a.x => 1",
-             "a word stands in capital letters": "a.x == 1 AND b.y == 1", "a word is misspelled": "a.x == 1 adn b.y == 1",
-             "not stands in capital letters": "NOT a.x == 1", "a value is a fraction": "a.x == 0.5",
-             "a value is true": "a.x == true", "a value is a text": 'a.x == "yes"',
-             "a variable is multiplied by another": "a.x * b.y == 1", "a variable stands without its process": "x == 1",
-             "a variable is one of another process": "b.x == 1", "no name is near": "b.zzz == 1"}
+    meant = {
+        "two comparisons are joined without a word": "1 < a.x < 3", "and is written as in C": "a.x == 1 && b.y == 1",
+        "or is written as in C": "a.x == 1 || b.y == 1", "not is written as in C": "!(a.x == 1)",
+        "unequal is written as in Pascal": "a.x <> 1", "a sign has its parts in the other order": "a.x => 1",
+        "a word stands in capital letters": "a.x == 1 AND b.y == 1", "a word is misspelled": "a.x == 1 adn b.y == 1",
+        "not stands in capital letters": "NOT a.x == 1", "a value is a fraction": "a.x == 0.5",
+        "a value is true": "a.x == true", "a value is a text": 'a.x == "yes"',
+        "a variable is multiplied by another": "a.x * b.y == 1", "a variable stands without its process": "x == 1",
+        "a variable is one of another process": "b.x == 1", "no name is near": "b.zzz == 1",
+    }
     for name, text in meant.items():
         yield session(name, document(text))
     named = (("leader", {"term": 0, "is_open": 1}), ("follower", {"term": 0}))
-    for name, text in (("a variable is misspelled", "leader.tern == 1"), ("a process is misspelled", "leadre.term == 1"),
+    for name, text in (("a variable is misspelled", "leader.tern == 1"),
+                       ("a process is misspelled", "leadre.term == 1"),
                        ("a variable of two processes stands without either", "term == 1")):
         yield session(name, document(text, processes=[{"name": it, "vars": variables} for it, variables in named]))
     yield session("a predicate is too deep", document("(" * 65 + "a.x == 1" + ")" * 65))
@@ -209,7 +212,8 @@ def lines():
     yield session("a field of a line is misspelled", a=A + '{"sned":"m1"}\n' + END)
     yield session("the document stands where a stream belongs")._replace(
         words=("judge", "session.json", "session.json", "b.stream"))
-    yield session("a document of several lines stands where a stream belongs", a=json.dumps({"processes": []}, indent=1))
+    yield session("a document of several lines stands where a stream belongs",
+                  a=json.dumps({"processes": []}, indent=1))
     yield session("a stream begins with a byte order mark", a=MARK + (A + END).encode())
     yield session("a stream is compressed", a=gzip.compress(b"{}", mtime=0))
     yield session("the id of a message is too long", a=A + '{"send":"' + "m" * 65 + '"}\n' + END)
