@@ -275,6 +275,14 @@ def answers():
     yield session("two runs stand in one file", a=EARLY + EARLY, b=TAKES)
     yield session("one line stands after an end line", a=EARLY + "\n" + END, b=TAKES)
     yield session("a stream ends at once", b=B + END)
+    yield session("a condition is met", a=EARLY, b=TAKES, words=("--fail-on", "possibly"))
+    two = document(predicates=[{"name": "both", "text": "a.x == 1 and b.y == 1"}, {"name": "seen", "text": "a.x == 1"},
+                               {"name": "never", "text": "a.x == 2"}])
+    yield session("several conditions are met, some by several predicates", two, a=EARLY, b=TAKES,
+                  words=("--fail-on", "unknown,possibly,never:possibly-no,seen:definitely,definitely-no"))
+    yield session("no condition is met", two, a=EARLY, b=TAKES, words=("--fail-on", "never:possibly,unknown"))
+    unknown = wide()
+    yield unknown._replace(name="a condition is met by what is unknown", words=(*unknown.words, "--fail-on", "unknown"))
     yield session("an answer about streams on standard input", input=TAKES.encode(), a=EARLY)._replace(
         words=("judge", "session.json", "a.stream", "-"))
     yield Case("an answer about a bundle", input=bundle(document(), EARLY, TAKES))

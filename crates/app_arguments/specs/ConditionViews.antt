@@ -9,6 +9,8 @@ use Rattle.app_arguments.specs.declared.condition.Condition.{Condition}
 use Rattle.app_arguments.specs.declared.conclusion.Conclusion.{Conclusion}
 use Rattle.app_arguments.specs.declared.conclusion.Conclusion.TheVariants as conclusions
 use Rattle.app_arguments.specs.declared.fail_on.FailOn.{FailOn}
+use Rattle.app_arguments.specs.declared.reason.Reason.{Reason}
+use Rattle.pd_report.specs.Views.{answer_view}
 
 abbrev pub kind_view : Kind → conditions.Kind
 kind_view kinds.Possibly = conditions.PossiblyYes
@@ -47,3 +49,9 @@ conclusion_view conclusions.Refused = conditions.OfRefusal
 conclusion_view conclusions.NoPredicate = conditions.NoPredicate
 conclusion_view conclusions.Met = conditions.Met
 conclusion_view conclusions.Unmet = conditions.Unmet
+
+abbrev pub reason_view : Reason → conditions.Reason
+reason_view reason = record {
+  condition = record { name = name_view reason.name; kind = kind_view reason.kind };
+  answer = answer_view reason.answer.now;
+}

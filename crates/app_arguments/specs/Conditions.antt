@@ -1,5 +1,5 @@
 -- The answers that a script asks to fail on: conditions, the text of a list of them, and what a report comes to.
-use Rattle.std.specs.Prelude.{ℕ, ◌<◌, ◌&&◌, ◌||◌, not, Bool, true, false, if◌then◌else◌, List, ◌∷◌, ◌++◌, codes, length, map, Option, Some, None, IfSome}
+use Rattle.std.specs.Prelude.{ℕ, ◌<◌, ◌&&◌, ◌||◌, not, Bool, true, false, if◌then◌else◌, List, [], ◌∷◌, ◌++◌, codes, filter, flat_map, length, map, Option, Some, None, IfSome}
 use Rattle.std.specs.List.{AllByRecursion, list_any}
 use Rattle.std.specs.Str.{bytes_eq}
 use Rattle.def_format.specs.Reports.{Answer, Possibly, Definitely, Report, Judged, Refused, IsName, with_commas}
@@ -131,3 +131,21 @@ conclusion_of_answers conditions answers =
 abbrev pub conclusion : List Condition → Report → Conclusion
 conclusion conditions (Judged processes events messages answers) = conclusion_of_answers conditions answers
 conclusion conditions (Refused refusal) = OfRefusal
+
+-- ---- why it is to fail
+
+-- a condition, and an answer that meets it
+pub record Reason : Type 0 where
+  pub condition : Condition
+  pub answer : Answer
+
+-- a condition with each of the answers that it asks for, in their order
+abbrev pub reasons_of : List Answer → Condition → List Reason
+reasons_of answers condition =
+    map (λ answer. record { condition = condition; answer = answer }) (filter (is_asked_for condition) answers)
+
+-- By which conditions and answers a report is to be failed on: each condition that is met with each answer that meets
+-- it, the conditions in the order of their list.
+abbrev pub reasons : List Condition → Report → List Reason
+reasons conditions (Judged processes events messages answers) = flat_map (reasons_of answers) conditions
+reasons conditions (Refused refusal) = []

@@ -1,14 +1,16 @@
 //! One condition.
-ghost use Rattle.app_arguments.specs.Conditions.{IsLawful, condition_text, is_asked_for, is_met, is_of_name, lacks_predicate};
-ghost use Rattle.app_arguments.specs.ConditionViews.{IsNamed, IsOnName, condition_view, name_view};
+ghost use Rattle.app_arguments.specs.Conditions.{IsLawful, condition_text, is_asked_for, is_met, is_of_name, lacks_predicate, reasons_of};
+ghost use Rattle.app_arguments.specs.ConditionViews.{IsNamed, IsOnName, condition_view, name_view, reason_view};
 ghost use Rattle.pd_report.specs.Reading.{IsFoundAs};
 ghost use Rattle.pd_report.specs.Views.{answer_view};
 ghost use Rattle.std.specs.List.{list_any};
-ghost use Rattle.std.specs.Prelude.{◌≡◌, Some, map};
+ghost use Rattle.std.specs.Prelude.{◌≡◌, ◌++◌, OnOk, Some, map};
 
 use super::kind::{Kind, is_of_kind, kind_of};
+use super::reason::Reason;
 use pd_pred::is_name;
 use pd_report::Answer;
+use std::alloc::AllocError;
 
 /// The answers of a kind, of the predicate of a name, or of any if there is no name.
 #[derive(Drop)]
@@ -66,7 +68,7 @@ fn has_name(name: &[u8], answers: &[Answer]) -> bool
     answers.iter().any(|answer| is_of_name(Some(name), answer))
 }
 
-impl Condition<'_> {
+impl<'n> Condition<'n> {
     /// Whether an answer is one of those that it asks for.
     fn asks_for(&self, answer: &Answer) -> bool
         ensures { result ≡ is_asked_for (condition_view self.now) (answer_view answer.now) }
@@ -79,6 +81,27 @@ impl Condition<'_> {
         ensures { result ≡ is_met (map answer_view answers.now) (condition_view self.now) }
     {
         answers.iter().any(|answer| self.asks_for(answer))
+    }
+
+    /// Adds each of the answers that it asks for, in their order, as a reason to fail.
+    ///
+    /// # Errors
+    /// Out of memory; what was added until then stays.
+    pub(crate) fn add_reasons<'a>(
+        &self,
+        answers: &'a [Answer],
+        reasons: &mut Vec<Reason<'n, 'a>>,
+    ) -> Result<(), AllocError>
+        ensures { OnOk result (map reason_view reasons.new.items ≡ map reason_view reasons.old.items
+            ++ reasons_of (map answer_view answers.now) (condition_view self.now)) }
+    {
+        for answer in answers {
+            if self.asks_for(answer) {
+                let (name, kind) = (self.name, self.kind);
+                reasons.push(Reason { name, kind, answer })?;
+            }
+        }
+        Ok(())
     }
 
     /// Whether it names a predicate that the answers don't have.

@@ -1,13 +1,14 @@
 //! A list of conditions.
-ghost use Rattle.app_arguments.specs.Conditions.{AreLawful, conclusion, conclusion_of_answers, is_met, lacks_predicate, list_text};
-ghost use Rattle.app_arguments.specs.ConditionViews.{conclusion_view, conditions_view, fail_on_view};
+ghost use Rattle.app_arguments.specs.Conditions.{AreLawful, conclusion, conclusion_of_answers, is_met, lacks_predicate, list_text, reasons, reasons_of};
+ghost use Rattle.app_arguments.specs.ConditionViews.{conclusion_view, conditions_view, fail_on_view, reason_view};
 ghost use Rattle.pd_report.specs.Reading.{IsFoundAs};
 ghost use Rattle.pd_report.specs.Views.{answer_view, report_view};
 ghost use Rattle.std.specs.List.{list_any};
-ghost use Rattle.std.specs.Prelude.{◌≡◌, [], IfOk, map};
+ghost use Rattle.std.specs.Prelude.{◌≡◌, [], IfOk, flat_map, map};
 
 use super::conclusion::Conclusion;
 use super::condition::{Condition, condition_of};
+use super::reason::Reason;
 use pd_report::{Answer, Report};
 use std::alloc::{AllocError, Global};
 
@@ -67,6 +68,22 @@ fn conclusion_of(conditions: &[Condition<'_>], answers: &[Answer]) -> Conclusion
     Conclusion::Unmet
 }
 
+/// The conditions that are met, each with each answer that meets it.
+fn reasons_of<'n, 'a>(
+    alloc: Global,
+    conditions: &[Condition<'n>],
+    answers: &'a [Answer],
+) -> Result<Vec<Reason<'n, 'a>>, AllocError>
+    ensures { IfOk result (λ found. map reason_view found.items
+        ≡ flat_map (reasons_of (map answer_view answers.now)) (conditions_view conditions.now)) }
+{
+    let mut found = Vec::new(alloc);
+    for condition in conditions {
+        condition.add_reasons(answers, &mut found)?;
+    }
+    Ok(found)
+}
+
 impl<'a> FailOn<'a> {
     /// No condition.
     pub fn nothing(alloc: Global) -> FailOn<'a>
@@ -97,6 +114,24 @@ impl<'a> FailOn<'a> {
         match report {
             Report::Judged { answers, .. } => conclusion_of(&self.conditions, answers),
             Report::Refused(_) => Conclusion::Refused,
+        }
+    }
+
+    /// The conditions that a report meets, in their order, each with each of the answers that meet it, in theirs.
+    ///
+    /// # Errors
+    /// An allocation was refused.
+    pub fn reasons<'r>(
+        &self,
+        alloc: Global,
+        report: &'r Report,
+    ) -> Result<Vec<Reason<'a, 'r>>, AllocError>
+        ensures { IfOk result (λ found. map reason_view found.items
+            ≡ reasons (fail_on_view self.now) (report_view report.now)) }
+    {
+        match report {
+            Report::Judged { answers, .. } => reasons_of(alloc, &self.conditions, answers),
+            Report::Refused(_) => Ok(Vec::new(alloc)),
         }
     }
 }

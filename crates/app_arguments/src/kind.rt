@@ -9,7 +9,7 @@ use pd_report::{Answer, Definitely, Possibly};
 
 /// The kinds of answers that a condition can ask for.
 #[derive(Clone, Copy, Debug)]
-pub(crate) enum Kind {
+pub enum Kind {
     /// Some consistent cut satisfies the predicate.
     Possibly,
     /// None does.
@@ -51,6 +51,25 @@ pub(crate) fn kind_of(word: &[u8]) -> Option<Kind>
         return Some(Kind::Unknown);
     }
     None
+}
+
+impl Kind {
+    ghost use Rattle.app_arguments.specs.Conditions.{kind_text};
+    ghost use Rattle.app_arguments.specs.ConditionViews.{kind_view};
+    ghost use Rattle.std.specs.Prelude.{◌≡◌};
+
+    /// Its word in a list of conditions.
+    pub fn word(self) -> &'static str
+        ensures { result.now ≡ kind_text (kind_view self) }
+    {
+        match self {
+            Kind::Possibly => "possibly",
+            Kind::PossiblyNo => "possibly-no",
+            Kind::Definitely => "definitely",
+            Kind::DefinitelyNo => "definitely-no",
+            Kind::Unknown => "unknown",
+        }
+    }
 }
 
 /// Whether an answer is of this kind.

@@ -15,6 +15,7 @@
 //! - `workers`: how many workers share the work on a session
 //! - `kind`: the kinds of answers
 //! - `condition`: one condition
+//! - `reason`: a condition, and an answer that meets it
 //! - `fail_on`: a list of conditions
 //! - `conclusion`: what a report comes to
 #![tactic(auto)]
@@ -25,6 +26,7 @@ mod conclusion;
 mod condition;
 mod fail_on;
 mod kind;
+mod reason;
 mod request;
 mod workers;
 
@@ -32,5 +34,7 @@ pub use arguments::parse;
 pub use commands::version_line;
 pub use conclusion::Conclusion;
 pub use fail_on::FailOn;
+pub use kind::Kind;
+pub use reason::Reason;
 pub use request::{Exploration, Judgement, Request, Service, SessionNames};
 pub use workers::Workers;

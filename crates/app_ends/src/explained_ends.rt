@@ -1,5 +1,6 @@
 //! Explains how a run ended, by what it has read.
 use super::explained_answers::put_answers;
+use super::reasons::put_reasons;
 use super::seen_files::{seen_document, seen_file, seen_streams};
 use super::seen_parts::{document_of, parts_of, streams_of};
 use app_arguments::{Conclusion, Exploration, FailOn, Judgement, SessionNames};
@@ -121,8 +122,8 @@ fn put_predicates(out: &mut Vec<u8>, alloc: Global, seen: Seen<'_>) -> Result<()
     }
 }
 
-/// Says which predicates there are, if answers are to be failed on of one that there isn't.
-pub fn put_named(
+/// Says by which answers the run is to fail, and which predicates there are, if one is named that there isn't.
+pub fn put_conclusion(
     out: &mut Vec<u8>,
     alloc: Global,
     seen: Seen<'_>,
@@ -131,12 +132,13 @@ pub fn put_named(
 ) -> Result<(), AllocError> {
     match fail_on.conclusion(report) {
         Conclusion::NoPredicate => put_predicates(out, alloc, seen),
-        _ => Ok(()),
+        Conclusion::Met => put_reasons(out, alloc, fail_on, report),
+        Conclusion::Unmet | Conclusion::Refused => Ok(()),
     }
 }
 
-/// Explains the answers of the report of files, or why it is a refusal, and which predicates there are, if answers
-/// are to be failed on of one that there isn't.
+/// Explains the answers of the report of files, or why it is a refusal, and how it meets the conditions, if there are
+/// some.
 fn put_files_report<Y: System>(
     out: &mut Vec<u8>,
     world: &World<'_, Y>,
@@ -154,7 +156,7 @@ fn put_files_report<Y: System>(
     };
     put_report(out, world.rt, world.alloc, seen, widest, report)?;
     match fail_on {
-        Some(fail_on) => put_named(out, world.alloc, seen, fail_on, report),
+        Some(fail_on) => put_conclusion(out, world.alloc, seen, fail_on, report),
         None => Ok(()),
     }
 }

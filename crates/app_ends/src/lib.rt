@@ -6,15 +6,17 @@
 //! - `seen_parts`: what a run has read of a bundle
 //! - `explained_answers`: explains the answers of a session
 //! - `explained_ends`: explains how a run ended
+//! - `reasons`: says why a run ends with status 5
 #![tactic(auto)]
 
 mod explained_answers;
 mod explained_ends;
+mod reasons;
 mod seen_files;
 mod seen_parts;
 
 pub use explained_ends::{
-    bundle_text, check_text, drawing_text, exploration_text, judgement_text, put_fault, put_named,
-    put_report, rows_of,
+    bundle_text, check_text, drawing_text, exploration_text, judgement_text, put_conclusion,
+    put_fault, put_report, rows_of,
 };
 pub use seen_files::seen_document;

@@ -2,7 +2,7 @@
 use super::host::Host;
 use super::senders::{known_senders, senders};
 use super::service_fault::ServiceFault;
-use app_ends::{put_fault, put_named, put_report, rows_of, seen_document};
+use app_ends::{put_conclusion, put_fault, put_report, rows_of, seen_document};
 use app_explain::{
     Seen, SeenStream, StreamFault, StreamWord, explain_connection, explain_port,
     explain_sent_stream, explain_unkept, explain_wait,
@@ -113,7 +113,7 @@ fn put_seen_report<T: RandomSource + Threads + Wait + Sync, F: FileSource, N>(
         order: "Streams count in the order in which they connected.\n",
     };
     put_report(out, rt, host.alloc, seen, host.gate.widest(), report)?;
-    put_named(out, host.alloc, seen, &host.service.fail_on, report)
+    put_conclusion(out, host.alloc, seen, &host.service.fail_on, report)
 }
 
 /// The same by what was read of the streams.
