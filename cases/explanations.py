@@ -325,6 +325,7 @@ def faults():
     yield good._replace(name="there is no predicate of that name", files={**good.files, "report": REPORT},
                         words=("draw", "session.json", "report", "a.stream", "b.stream", "--predicate", "bot"))
     yield session("there is no predicate of that name to fail on", words=("--fail-on", "bot:possibly"))
+    yield session("there is no predicate of nearly that name to fail on", words=("--fail-on", "possibly,other:unknown"))
     yield session("there is none of that name among those that are asked for",
                   words=("--ask", "a.x == 1", "--fail-on", "both:possibly"))
     yield good._replace(name="there is no picture of a bad report", files={**good.files, "report": "all possibly no\n"},

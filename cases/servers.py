@@ -513,13 +513,16 @@ def cases():
     options = {"watchers": 1, "fail_on": "both:definitely,possibly"}
     yield "a condition that is met", two, options, (5, REPORT, b"")
     yield "a condition that isn't met", two, {**options, "fail_on": "unknown,both:definitely"}, (0, REPORT, b"")
-    options = {"watchers": 1, "fail_on": "both:possibly,other:possibly"}
-    yield "a condition on no predicate", two, options, (2, REPORT, b"monitor: no predicate of this name\n")
+    options, absent = {"fail_on": "both:possibly,other:possibly"}, (2, b"", b"monitor: no predicate of this name\n")
+    yield "a condition on no predicate", nobody, options, absent
+    yield "a condition on no predicate, and the port is taken", nobody, {**options, "taken": [0]}, absent
     options = {"document": NARROW, "watchers": 1, "fail_on": "unknown"}
     yield "width 1, and a condition that is met", two, options, (5, UNKNOWN, b"")
     yield "beyond width 1, and a condition that isn't met", two, {**options, "beyond": True}, (0, REPORT, b"")
     options = {"document": b"x", "fail_on": "possibly"}
     yield "a condition, and the document refused", nobody, options, (1, b"refused spec json\n", b"")
+    options = {"document": b"x", "fail_on": "other:possibly"}
+    yield "a condition on no predicate, and the document refused", nobody, options, (1, b"refused spec json\n", b"")
     yield "sixteen connections", senders(OF_SIXTEEN), {"document": SIXTEEN}, (0, OF_LAST, b"")
     options = {"document": SIXTEEN, "workers": 4}
     yield "sixteen connections in the other order", senders(OF_SIXTEEN[::-1]), options, (0, OF_LAST, b"")

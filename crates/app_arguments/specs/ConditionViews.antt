@@ -46,7 +46,6 @@ fail_on_view fail_on = conditions_view fail_on.conditions.items
 
 abbrev pub conclusion_view : Conclusion → conditions.Conclusion
 conclusion_view conclusions.Refused = conditions.OfRefusal
-conclusion_view conclusions.NoPredicate = conditions.NoPredicate
 conclusion_view conclusions.Met = conditions.Met
 conclusion_view conclusions.Unmet = conditions.Unmet
 

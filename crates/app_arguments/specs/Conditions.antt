@@ -1,7 +1,10 @@
--- The answers that a script asks to fail on: conditions, the text of a list of them, and what a report comes to.
+-- The answers that a script asks to fail on: conditions, the text of a list of them, the names in it, and what a report
+-- comes to.
 use Rattle.std.specs.Prelude.{ℕ, ◌<◌, ◌&&◌, ◌||◌, not, Bool, true, false, if◌then◌else◌, List, [], ◌∷◌, ◌++◌, codes, filter, flat_map, length, map, Option, Some, None, IfSome}
 use Rattle.std.specs.List.{AllByRecursion, list_any}
 use Rattle.std.specs.Str.{bytes_eq}
+use Rattle.def_format.specs.Documents.{NamedPredicate}
+use Rattle.def_format.specs.Lists.{is_one_of}
 use Rattle.def_format.specs.Reports.{Answer, Possibly, Definitely, Report, Judged, Refused, IsName, with_commas}
 
 -- ---- what is asked for
@@ -55,6 +58,27 @@ AreLawful conditions = (0 < length conditions) × AllByRecursion IsLawful condit
 abbrev pub list_text : List Condition → List ℕ
 list_text conditions = with_commas (map condition_text conditions)
 
+-- ---- the names in a list
+
+-- the names of predicates
+abbrev pub names_of : List NamedPredicate → List (List ℕ)
+names_of predicates = map (λ (predicate : NamedPredicate). predicate.name) predicates
+
+-- none of these is this name; of any predicate there is no name to look up
+abbrev pub lacks_name : (names : List (List ℕ)) → Option (List ℕ) → Bool
+lacks_name names None = false
+lacks_name names (Some name) = not (is_one_of names name)
+
+-- a condition names a predicate of which the name isn't among these
+abbrev pub lacks_predicate : (names : List (List ℕ)) → Condition → Bool
+lacks_predicate names condition = lacks_name names condition.name
+
+-- the first name in a condition that isn't among these, if there is one
+abbrev pub unknown_name : (names : List (List ℕ)) → List Condition → Option (List ℕ)
+unknown_name names [] = None
+unknown_name names (condition ∷ conditions) =
+    if lacks_predicate names condition then condition.name else unknown_name names conditions
+
 -- ---- whether a report has such an answer
 
 abbrev pub is_possibly_yes : Possibly → Bool
@@ -102,31 +126,18 @@ is_asked_for condition answer = is_of_name condition.name answer && is_of_kind c
 abbrev pub is_met : List Answer → Condition → Bool
 is_met answers condition = list_any (is_asked_for condition) answers
 
--- the answers have none of the predicate of this name
-abbrev pub lacks_name : List Answer → Option (List ℕ) → Bool
-lacks_name answers None = false
-lacks_name answers (Some name) = not (list_any (is_of_name (Some name)) answers)
-
--- a condition names a predicate that isn't there
-abbrev pub lacks_predicate : List Answer → Condition → Bool
-lacks_predicate answers condition = lacks_name answers condition.name
-
 -- ---- what a report comes to
 
 pub data Conclusion : Type 0 where
   -- the session is refused
   OfRefusal : Conclusion
-  -- it is judged, and a condition names a predicate that the report doesn't have
-  NoPredicate : Conclusion
-  -- it is judged, the report has all predicates that are named, and some condition is met
+  -- it is judged, and some condition is met
   Met : Conclusion
-  -- and none is
+  -- it is judged, and none is
   Unmet : Conclusion
 
 abbrev pub conclusion_of_answers : List Condition → List Answer → Conclusion
-conclusion_of_answers conditions answers =
-    if list_any (lacks_predicate answers) conditions then NoPredicate
-    else (if list_any (is_met answers) conditions then Met else Unmet)
+conclusion_of_answers conditions answers = if list_any (is_met answers) conditions then Met else Unmet
 
 abbrev pub conclusion : List Condition → Report → Conclusion
 conclusion conditions (Judged processes events messages answers) = conclusion_of_answers conditions answers

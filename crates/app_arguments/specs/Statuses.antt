@@ -5,7 +5,7 @@ use Rattle.def_format.specs.Documents.{Document, DocumentFault, IsDocument, IsRe
 use Rattle.def_format.specs.Limits.{document_byte_limit, report_byte_limit}
 use Rattle.def_format.specs.Reports.{Report}
 use Rattle.app_arguments.specs.Conditions as conditions
-use Rattle.app_arguments.specs.Conditions.{Condition, Conclusion, conclusion}
+use Rattle.app_arguments.specs.Conditions.{Condition, Conclusion, conclusion, names_of, unknown_name}
 use Rattle.out_picture.specs.Scopes.{Scope}
 use Rattle.def_judgement.specs.Writes.{Source, Writes, Whole, Partial, IsAnyReport, IsBrokenOff, IsJudged, IsRefused, IsWholeInput, IsTextOfBundle, IsTextOfStreams, IsTooLong, IsFindingTextOf}
 
@@ -85,7 +85,7 @@ pub data Ending : Type 0 where
   Negative : Ending
   -- the session is judged, and has an answer to fail on
   Alarm : Ending
-  -- the session is judged, and has no predicate of a name that the arguments give
+  -- the document has no predicate of a name that the arguments give
   NoPredicate : Ending
   -- the arguments are refused
   Misuse : Ending
@@ -166,16 +166,32 @@ abbrev pub ComesTo : (fail_on : List Condition) → Conclusion → Report → Ty
 ComesTo fail_on end report = conclusion fail_on report ≡ end
 
 -- What is left of the texts of a report, of which IsText holds by what is said of the report. A session that is judged
--- has an answer to fail on, or none, or no predicate of a name among these conditions; or it is refused: the text
--- of its report. The output fails: that text or a prefix of it.
+-- has an answer to fail on, or none; or it is refused: the text of its report. The output fails: that text or a prefix
+-- of it.
 abbrev pub OfReport : (IsText : (Report → Type 0) → List ℕ → Type 0) (fail_on : List Condition) → Ending
     → (old new : Option (List ℕ)) → Type 0
 OfReport IsText fail_on Success old new = Writes (IsText (ComesTo fail_on conditions.Unmet)) Whole old new
 OfReport IsText fail_on Negative old new = Writes (IsText IsRefused) Whole old new
 OfReport IsText fail_on Alarm old new = Writes (IsText (ComesTo fail_on conditions.Met)) Whole old new
-OfReport IsText fail_on NoPredicate old new = Writes (IsText (ComesTo fail_on conditions.NoPredicate)) Whole old new
 OfReport IsText fail_on (Failed WriteFailure) old new = WritesUpTo (IsText IsAnyReport) old new
 OfReport IsText fail_on _ old new = ⊥
+
+-- the document, if the inquiry is of one, has each predicate that these conditions name
+abbrev pub HasNamed : (fail_on : List Condition) → Inquiry → Type 0
+HasNamed fail_on inquiry =
+    (document : Document) → IsDocument inquiry document → unknown_name (names_of document.predicates) fail_on ≡ None
+
+-- the inquiry is of a document, which doesn't have each of them
+abbrev pub LacksNamed : (fail_on : List Condition) → Inquiry → Type 0
+LacksNamed fail_on inquiry = (document : Document) × IsDocument inquiry document
+    × (unknown_name (names_of document.predicates) fail_on ≢ None)
+
+-- First the predicates that these conditions name are looked up in the document. One isn't there: nothing is left. All
+-- are there, or the document is refused: what P says.
+abbrev pub OfNamed : (fail_on : List Condition) (P : Inquiry → Ending → (old new : Option (List ℕ)) → Type 0)
+    → Inquiry → Ending → (old new : Option (List ℕ)) → Type 0
+OfNamed fail_on P inquiry NoPredicate old new = LacksNamed fail_on inquiry × Keeps old new
+OfNamed fail_on P inquiry ending old new = HasNamed fail_on inquiry × P inquiry ending old new
 
 -- of a document and of streams that these sources give
 abbrev pub OfStreams : (streams : List Source) (fail_on : List Condition) → Inquiry → Ending

@@ -1,15 +1,19 @@
 //! One condition.
-ghost use Rattle.app_arguments.specs.Conditions.{IsLawful, condition_text, is_asked_for, is_met, is_of_name, lacks_predicate, reasons_of};
+ghost use Rattle.app_arguments.specs.Conditions.{IsLawful, condition_text, is_asked_for, is_met, is_of_name, lacks_predicate, names_of, reasons_of};
 ghost use Rattle.app_arguments.specs.ConditionViews.{IsNamed, IsOnName, condition_view, name_view, reason_view};
+ghost use Rattle.def_format.specs.Lists.{is_one_of};
 ghost use Rattle.pd_report.specs.Reading.{IsFoundAs};
 ghost use Rattle.pd_report.specs.Views.{answer_view};
+ghost use Rattle.pd_spec.specs.Named.{named_view};
 ghost use Rattle.std.specs.List.{list_any};
-ghost use Rattle.std.specs.Prelude.{◌≡◌, ◌++◌, OnOk, Some, map};
+ghost use Rattle.std.specs.Prelude.{◌≡◌, ◌++◌, OnOk, map, string_bytes};
+ghost use Rattle.std.specs.Str.{bytes_eq};
 
 use super::kind::{Kind, is_of_kind, kind_of};
 use super::reason::Reason;
 use pd_pred::is_name;
 use pd_report::Answer;
+use pd_spec::NamedPred;
 use std::alloc::AllocError;
 
 /// The answers of a kind, of the predicate of a name, or of any if there is no name.
@@ -61,11 +65,20 @@ fn is_of_name(name: Option<&[u8]>, answer: &Answer) -> bool
     }
 }
 
-/// Whether one of the answers is that of the predicate of this name.
-fn has_name(name: &[u8], answers: &[Answer]) -> bool
-    ensures { result ≡ list_any (is_of_name (Some name.now)) (map answer_view answers.now) }
+/// Whether this is the name of a predicate.
+fn is_name_of(name: &[u8], predicate: &NamedPred) -> bool
+    ensures { result ≡ bytes_eq name.now (string_bytes predicate.now.name) }
 {
-    answers.iter().any(|answer| is_of_name(Some(name), answer))
+    name == predicate.name.as_bytes()
+}
+
+/// Whether one of the predicates has this name.
+fn has_name(predicates: &[NamedPred], name: &[u8]) -> bool
+    ensures { result ≡ is_one_of (names_of (map named_view predicates.now)) name.now }
+{
+    predicates
+        .iter()
+        .any(|predicate| is_name_of(name, predicate))
 }
 
 impl<'n> Condition<'n> {
@@ -104,12 +117,19 @@ impl<'n> Condition<'n> {
         Ok(())
     }
 
-    /// Whether it names a predicate that the answers don't have.
-    pub(crate) fn lacks_predicate(&self, answers: &[Answer]) -> bool
-        ensures { result ≡ lacks_predicate (map answer_view answers.now) (condition_view self.now) }
+    /// The name of the predicate that it is on, if it has one.
+    pub(crate) fn name(&self) -> Option<&'n [u8]>
+        ensures { name_view result ≡ (condition_view self.now).name }
+    {
+        self.name
+    }
+
+    /// Whether it names a predicate that isn't among these.
+    pub(crate) fn lacks_predicate(&self, predicates: &[NamedPred]) -> bool
+        ensures { result ≡ lacks_predicate (names_of (map named_view predicates.now)) (condition_view self.now) }
     {
         match self.name {
-            Some(name) => !has_name(name, answers),
+            Some(name) => !has_name(predicates, name),
             None => false,
         }
     }

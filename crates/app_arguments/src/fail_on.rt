@@ -1,15 +1,17 @@
 //! A list of conditions.
-ghost use Rattle.app_arguments.specs.Conditions.{AreLawful, conclusion, conclusion_of_answers, is_met, lacks_predicate, list_text, reasons, reasons_of};
-ghost use Rattle.app_arguments.specs.ConditionViews.{conclusion_view, conditions_view, fail_on_view, reason_view};
+ghost use Rattle.app_arguments.specs.Conditions.{AreLawful, conclusion, conclusion_of_answers, is_met, list_text, names_of, reasons, reasons_of, unknown_name};
+ghost use Rattle.app_arguments.specs.ConditionViews.{conclusion_view, conditions_view, fail_on_view, name_view, reason_view};
 ghost use Rattle.pd_report.specs.Reading.{IsFoundAs};
 ghost use Rattle.pd_report.specs.Views.{answer_view, report_view};
+ghost use Rattle.pd_spec.specs.Named.{named_view};
 ghost use Rattle.std.specs.List.{list_any};
-ghost use Rattle.std.specs.Prelude.{◌≡◌, [], IfOk, flat_map, map};
+ghost use Rattle.std.specs.Prelude.{◌≡◌, [], IfOk, flat_map, is_some, map};
 
 use super::conclusion::Conclusion;
 use super::condition::{Condition, condition_of};
 use super::reason::Reason;
 use pd_report::{Answer, Report};
+use pd_spec::NamedPred;
 use std::alloc::{AllocError, Global};
 
 /// The answers that a script asks to fail on: a list of conditions, which may be empty.
@@ -38,13 +40,17 @@ fn conditions_of(alloc: Global, list: &str) -> Result<Option<Vec<Condition<'_>>>
     Ok(Some(conditions))
 }
 
-/// Whether a condition names a predicate that the answers don't have.
-fn any_lacks(conditions: &[Condition<'_>], answers: &[Answer]) -> bool
-    ensures { result ≡ list_any (lacks_predicate (map answer_view answers.now)) (conditions_view conditions.now) }
+/// The first name in a condition that is none of these predicates', if there is one.
+fn unknown_name<'n>(conditions: &[Condition<'n>], predicates: &[NamedPred]) -> Option<&'n [u8]>
+    ensures { name_view result
+        ≡ unknown_name (names_of (map named_view predicates.now)) (conditions_view conditions.now) }
 {
-    conditions
-        .iter()
-        .any(|condition| condition.lacks_predicate(answers))
+    for condition in conditions {
+        if condition.lacks_predicate(predicates) {
+            return condition.name();
+        }
+    }
+    None
 }
 
 /// Whether a condition is met.
@@ -59,9 +65,6 @@ fn conclusion_of(conditions: &[Condition<'_>], answers: &[Answer]) -> Conclusion
     ensures { conclusion_view result
         ≡ conclusion_of_answers (conditions_view conditions.now) (map answer_view answers.now) }
 {
-    if any_lacks(conditions, answers) {
-        return Conclusion::NoPredicate;
-    }
     if any_met(conditions, answers) {
         return Conclusion::Met;
     }
@@ -105,6 +108,21 @@ impl<'a> FailOn<'a> {
             return Ok(None);
         };
         Ok(Some(FailOn { conditions }))
+    }
+
+    /// The first name in a condition that is none of these predicates', if there is one.
+    pub fn unknown_name(&self, predicates: &[NamedPred]) -> Option<&'a [u8]>
+        ensures { name_view result
+            ≡ unknown_name (names_of (map named_view predicates.now)) (fail_on_view self.now) }
+    {
+        unknown_name(&self.conditions, predicates)
+    }
+
+    /// Whether a condition has the name of a predicate.
+    pub fn has_names(&self) -> bool
+        ensures { result ≡ is_some (unknown_name [] (fail_on_view self.now)) }
+    {
+        self.unknown_name(&[]).is_some()
     }
 
     /// What a report comes to under these conditions.

@@ -3,16 +3,18 @@ use super::explained_answers::put_answers;
 use super::reasons::put_reasons;
 use super::seen_files::{seen_document, seen_file, seen_streams};
 use super::seen_parts::{document_of, parts_of, streams_of};
-use app_arguments::{Conclusion, Exploration, FailOn, Judgement, SessionNames};
+use super::unknown_names::{put_unknown, put_unknown_condition};
+use app_arguments::{Exploration, FailOn, Judgement, SessionNames};
 use app_explain::{
     Judged, Seen, SeenStream, Widest, explain_bundle_fault, explain_file, explain_finding,
-    explain_long_report, explain_memory, explain_no_file, explain_no_picture, explain_no_predicate,
-    explain_output, explain_refusal, explain_unread_finding,
+    explain_long_report, explain_memory, explain_no_file, explain_no_picture, explain_output,
+    explain_refusal, explain_unread_finding,
 };
 use app_host::{FileSource, Note, System, World, check_seen};
 use app_text::{Source, in_rows};
 use judge_draw::DrawOutcome;
 use judge_session::EngineFault;
+use out_picture::DrawOptions;
 use pd_report::Report;
 use std::alloc::{AllocError, Global};
 use std::random::RandomSource;
@@ -114,29 +116,6 @@ pub fn put_fault<Y: System>(
     }
 }
 
-/// Says which predicates there are.
-fn put_predicates(out: &mut Vec<u8>, alloc: Global, seen: Seen<'_>) -> Result<(), AllocError> {
-    match seen.spec(alloc) {
-        Some(spec) => explain_no_predicate(out, spec.predicates()),
-        None => Ok(()),
-    }
-}
-
-/// Says by which answers the run is to fail, and which predicates there are, if one is named that there isn't.
-pub fn put_conclusion(
-    out: &mut Vec<u8>,
-    alloc: Global,
-    seen: Seen<'_>,
-    fail_on: &FailOn<'_>,
-    report: &Report,
-) -> Result<(), AllocError> {
-    match fail_on.conclusion(report) {
-        Conclusion::NoPredicate => put_predicates(out, alloc, seen),
-        Conclusion::Met => put_reasons(out, alloc, fail_on, report),
-        Conclusion::Unmet | Conclusion::Refused => Ok(()),
-    }
-}
-
 /// Explains the answers of the report of files, or why it is a refusal, and how it meets the conditions, if there are
 /// some.
 fn put_files_report<Y: System>(
@@ -156,8 +135,45 @@ fn put_files_report<Y: System>(
     };
     put_report(out, world.rt, world.alloc, seen, widest, report)?;
     match fail_on {
-        Some(fail_on) => put_conclusion(out, world.alloc, seen, fail_on, report),
+        Some(fail_on) => put_reasons(out, world.alloc, fail_on, report),
         None => Ok(()),
+    }
+}
+
+/// What is read of the document in a session's file, with what is asked.
+fn seen_alone<'a, Y: System>(world: &World<'a, Y>, names: &'a SessionNames<'a>) -> Seen<'a> {
+    Seen {
+        document: seen_document(world.notes, names.spec),
+        options: Some(&names.options),
+        streams: &[],
+        order: "",
+    }
+}
+
+/// Says which predicate a judgement of files names that isn't there.
+fn put_unknown_named<Y: System>(
+    out: &mut Vec<u8>,
+    world: &World<'_, Y>,
+    judgement: &Judgement<'_>,
+) -> Result<(), AllocError> {
+    match seen_alone(world, &judgement.names).spec(world.alloc) {
+        Some(spec) => put_unknown_condition(out, world.alloc, &spec, &judgement.fail_on),
+        None => Ok(()),
+    }
+}
+
+/// Says which predicate is to be drawn that isn't there.
+fn put_undrawn<Y: System>(
+    out: &mut Vec<u8>,
+    world: &World<'_, Y>,
+    scope: &DrawOptions<'_>,
+    names: &SessionNames<'_>,
+) -> Result<(), AllocError> {
+    match (seen_alone(world, names).spec(world.alloc), scope.predicate) {
+        (Some(spec), Some(name)) => {
+            put_unknown(out, world.alloc, spec.predicates(), "--predicate", name)
+        }
+        _ => Ok(()),
     }
 }
 
@@ -167,13 +183,14 @@ fn put_judgement<Y: System>(
     world: &World<'_, Y>,
     judgement: &Judgement<'_>,
     widest: Widest,
-    end: &Result<Report, EngineFault>,
+    end: &Result<Option<Report>, EngineFault>,
 ) -> Result<(), AllocError> {
     let names = &judgement.names;
     match end {
-        Ok(report) => {
+        Ok(Some(report)) => {
             put_files_report(out, world, names, Some(&judgement.fail_on), widest, report)
         }
+        Ok(None) => put_unknown_named(out, world, judgement),
         Err(fault) => put_fault(out, world, None, names.spec, &names.streams, fault),
     }
 }
@@ -183,7 +200,7 @@ pub fn judgement_text<Y: System>(
     world: &World<'_, Y>,
     judgement: &Judgement<'_>,
     widest: Widest,
-    end: &Result<Report, EngineFault>,
+    end: &Result<Option<Report>, EngineFault>,
 ) -> Vec<u8> {
     let mut out = Vec::new(world.alloc);
     if world.explain {
@@ -363,19 +380,12 @@ fn put_drawing<Y: System>(
     out: &mut Vec<u8>,
     world: &World<'_, Y>,
     report: &str,
+    scope: &DrawOptions<'_>,
     names: &SessionNames<'_>,
     end: &Result<DrawOutcome, EngineFault>,
 ) -> Result<(), AllocError> {
     match end {
-        Ok(DrawOutcome::NoPredicate) => {
-            let seen = Seen {
-                document: seen_document(world.notes, names.spec),
-                options: Some(&names.options),
-                streams: &[],
-                order: "",
-            };
-            put_predicates(out, world.alloc, seen)
-        }
+        Ok(DrawOutcome::NoPredicate) => put_undrawn(out, world, scope, names),
         Ok(DrawOutcome::NoEvidence) => explain_no_evidence(out),
         Ok(DrawOutcome::Refused(_)) => explain_no_picture(out),
         Ok(DrawOutcome::Written | DrawOutcome::CycleWritten) => Ok(()),
@@ -388,12 +398,13 @@ fn put_drawing<Y: System>(
 pub fn drawing_text<Y: System>(
     world: &World<'_, Y>,
     report: &str,
+    scope: &DrawOptions<'_>,
     names: &SessionNames<'_>,
     end: &Result<DrawOutcome, EngineFault>,
 ) -> Vec<u8> {
     let mut out = Vec::new(world.alloc);
     if world.explain {
-        let _ = put_drawing(&mut out, world, report, names, end);
+        let _ = put_drawing(&mut out, world, report, scope, names, end);
     }
     rows_of(world.alloc, out)
 }

@@ -7,6 +7,7 @@
 //! - `explained_answers`: explains the answers of a session
 //! - `explained_ends`: explains how a run ended
 //! - `reasons`: says why a run ends with status 5
+//! - `unknown_names`: says which predicate that is named isn't there
 #![tactic(auto)]
 
 mod explained_answers;
@@ -14,9 +15,12 @@ mod explained_ends;
 mod reasons;
 mod seen_files;
 mod seen_parts;
+mod unknown_names;
 
 pub use explained_ends::{
-    bundle_text, check_text, drawing_text, exploration_text, judgement_text, put_conclusion,
-    put_fault, put_report, rows_of,
+    bundle_text, check_text, drawing_text, exploration_text, judgement_text, put_fault, put_report,
+    rows_of,
 };
+pub use reasons::put_reasons;
 pub use seen_files::seen_document;
+pub use unknown_names::put_unknown_condition;

@@ -53,7 +53,7 @@ fn say_reason(out: &mut Vec<u8>, reason: &Reason<'_, '_>) -> Result<(), AllocErr
 ///
 /// # Errors
 /// Out of memory; what was put until then stays.
-pub(crate) fn put_reasons(
+pub fn put_reasons(
     out: &mut Vec<u8>,
     alloc: Global,
     fail_on: &FailOn<'_>,

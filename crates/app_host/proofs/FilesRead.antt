@@ -241,8 +241,7 @@ report_weaker IsText IsOther fail_on old new go Success left =
 report_weaker IsText IsOther fail_on old new go Negative left = writes_weaker _ _ Whole old new (go IsRefused) left
 report_weaker IsText IsOther fail_on old new go Alarm left =
     writes_weaker _ _ Whole old new (go (ComesTo fail_on conditions.Met)) left
-report_weaker IsText IsOther fail_on old new go NoPredicate left =
-    writes_weaker _ _ Whole old new (go (ComesTo fail_on conditions.NoPredicate)) left
+report_weaker IsText IsOther fail_on old new go NoPredicate left = left
 report_weaker IsText IsOther fail_on old new go Misuse left = left
 report_weaker IsText IsOther fail_on old new go (Failed MemoryFailure) left = left
 report_weaker IsText IsOther fail_on old new go (Failed ReadFailure) left = left

@@ -16,7 +16,7 @@ use Rattle.pd_report.specs.declared.report.Report.{Report}
 use Rattle.judge_session.specs.declared.fault.EngineFault.TheVariants.{Write}
 use Rattle.pd_engine.specs.Ends.{IsGiven}
 use Rattle.app_arguments.specs.Conditions as conditions
-use Rattle.app_arguments.specs.Conditions.{Conclusion, Condition, conclusion, is_met, lacks_predicate}
+use Rattle.app_arguments.specs.Conditions.{Conclusion, Condition, conclusion, is_met}
 use Rattle.app_host.specs.Faults.{concluded_ending, ending_view, judged_ending, judgement_ending, report_ending}
 use Rattle.app_host.specs.FileSources.{ReadLeaves}
 use Rattle.app_host.proofs.WrittenSoFar.{appends_kept}
@@ -44,18 +44,16 @@ unsaid_of_finding document report inputs good text h = record {
 
 -- ---- the ends of a judgement
 
-no_refusal : (lacks meets : Bool) → ¬ ((if lacks then conditions.NoPredicate
-    else (if meets then conditions.Met else conditions.Unmet)) ≡ conditions.OfRefusal)
-no_refusal true meets is = cc
-no_refusal false true is = cc
-no_refusal false false is = cc
+no_refusal : (meets : Bool) → ¬ ((if meets then conditions.Met else conditions.Unmet) ≡ conditions.OfRefusal)
+no_refusal true is = cc
+no_refusal false is = cc
 
 -- a report that comes to a refusal is one
 is_refusal : (fail_on : List Condition) (report : formats.Report) → ComesTo fail_on conditions.OfRefusal report
     → is_judged report ≡ false
 is_refusal fail_on (formats.Refused refusal) is = refl
 is_refusal fail_on (formats.Judged processes events messages answers) is =
-    absurd (no_refusal (list_any (lacks_predicate answers) fail_on) (list_any (is_met answers) fail_on) is)
+    absurd (no_refusal (list_any (is_met answers) fail_on) is)
 
 -- a judgement's report is written, and then the output is flushed
 pub judged_ends : (document : Inquiry) (inputs : List Source) (given : Report) (old middle new : Option (List ℕ))
@@ -77,8 +75,6 @@ judged_ends document inputs given old middle new written keeps fail_on =
         → ReadLeaves (OfStreams inputs fail_on document) (concluded_ending end) old new
     go conditions.OfRefusal is = leaves IsRefused
         (λ report same. is_refusal fail_on report (ap (conclusion fail_on) same ∙ is))
-    go conditions.NoPredicate is = leaves (ComesTo fail_on conditions.NoPredicate)
-        (λ report same. ap (conclusion fail_on) same ∙ is)
     go conditions.Met is = leaves (ComesTo fail_on conditions.Met) (λ report same. ap (conclusion fail_on) same ∙ is)
     go conditions.Unmet is = leaves (ComesTo fail_on conditions.Unmet)
         (λ report same. ap (conclusion fail_on) same ∙ is)

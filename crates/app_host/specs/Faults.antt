@@ -6,6 +6,8 @@ use Rattle.app_arguments.specs.Conditions as conditions
 use Rattle.app_arguments.specs.Conditions.{Condition, Conclusion, conclusion}
 use Rattle.pd_report.specs.Views.{report_view}
 use Rattle.pd_report.specs.declared.report.Report.{Report}
+use Rattle.pd_spec.specs.declared.fault.SpecFault.{SpecFault}
+use Rattle.pd_spec.specs.declared.fault.SpecFault.TheVariants as spec_faults
 use Rattle.judge_session.specs.declared.fault.EngineFault.{EngineFault}
 use Rattle.judge_session.specs.declared.fault.EngineFault.TheVariants.{Memory, Write, Read, BundleLong}
 
@@ -34,7 +36,6 @@ report_ending (Err fault) = Failed (failure_view fault)
 -- the same by what a report comes to
 abbrev pub concluded_ending : Conclusion → Ending
 concluded_ending conditions.OfRefusal = Negative
-concluded_ending conditions.NoPredicate = NoPredicate
 concluded_ending conditions.Met = Alarm
 concluded_ending conditions.Unmet = Success
 
@@ -42,6 +43,18 @@ concluded_ending conditions.Unmet = Success
 abbrev pub judgement_ending : (fail_on : List Condition) → Result Report EngineFault → Ending
 judgement_ending fail_on (Ok report) = concluded_ending (conclusion fail_on (report_view report))
 judgement_ending fail_on (Err fault) = Failed (failure_view fault)
+
+-- how a run ends that first looks up the predicates that are named: one isn't there, or it comes to a report, or the
+-- fault
+abbrev pub named_ending : (fail_on : List Condition) → Result (Option Report) EngineFault → Ending
+named_ending fail_on (Ok None) = NoPredicate
+named_ending fail_on (Ok (Some report)) = judgement_ending fail_on (Ok report)
+named_ending fail_on (Err fault) = judgement_ending fail_on (Err fault)
+
+-- whether a document's fault says nothing of the document
+abbrev pub is_out_of_memory : SpecFault → Bool
+is_out_of_memory spec_faults.Memory = true
+is_out_of_memory _ = false
 
 -- how a run that explores ends: the session is judged, or refused; or the fault
 abbrev pub exploration_ending : Result (Option Report) EngineFault → Ending

@@ -13,6 +13,7 @@
 //! - `status`: exit statuses, and the lines that report faults
 //! - `session_files`: opens and reads the files of a session
 //! - `claim_files`: the files of a report and of the session that it is said to be of
+//! - `named`: looks up the predicates that conditions name
 //! - `judgements`: judges the session in files
 //! - `checks`: checks a report against the session in files
 #![tactic(auto)]
@@ -23,6 +24,7 @@ mod file_source;
 mod judgements;
 mod level_gate;
 mod line;
+mod named;
 mod network;
 mod note;
 mod noted_source;
@@ -37,13 +39,14 @@ pub use file_source::FileSource;
 pub use judgements::{judge_files, judge_read};
 pub use level_gate::LevelGate;
 pub use line::write_line;
+pub use named::is_out_of_memory;
 pub use network::Network;
 pub use note::Note;
 pub use noted_source::NotedSource;
 pub use notes::Notes;
 pub use session_files::{open_noted, read_document, read_session};
 pub use status::{
-    FAILED, MISUSED, REFUSED, SUCCESS, report_bundle, report_conclusion, report_end,
-    report_exploration, report_fault, report_judgement,
+    FAILED, MISUSED, REFUSED, SUCCESS, conclusion_status, report_bundle, report_end,
+    report_exploration, report_fault, report_judgement, report_no_predicate,
 };
 pub use world::{System, World};

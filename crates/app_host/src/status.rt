@@ -1,6 +1,5 @@
 //! Exit statuses, and what is reported on the errors.
-ghost use Rattle.app_host.specs.Faults.{concluded_ending, ending_view, exploration_ending, failure_view, judged_ending, judgement_ending, report_ending};
-ghost use Rattle.app_arguments.specs.Conditions.{conclusion};
+ghost use Rattle.app_host.specs.Faults.{concluded_ending, ending_view, exploration_ending, failure_view, judged_ending, named_ending, report_ending};
 ghost use Rattle.app_arguments.specs.ConditionViews.{conclusion_view, fail_on_view};
 ghost use Rattle.def_judgement.specs.Headline.{is_judged};
 ghost use Rattle.app_arguments.specs.Statuses.{IsLineOf, IsNoPredicateLine, Reports, WritesUpTo, line_of_failure, status_of, status_of_failure};
@@ -111,7 +110,7 @@ pub fn report_exploration<E: Write>(end: &Result<Option<Report>, EngineFault>, e
 }
 
 /// Writes the line that reports that there is no predicate of a name in the arguments, and gives the exit status.
-fn report_no_predicate<E: Write>(errors: &mut E) -> u8
+pub fn report_no_predicate<E: Write>(errors: &mut E) -> u8
     ensures status { result ≡ 2 }
     ensures line { WritesUpTo IsNoPredicateLine (E.contents errors.old) (E.contents errors.new) }
 {
@@ -119,32 +118,31 @@ fn report_no_predicate<E: Write>(errors: &mut E) -> u8
     MISUSED
 }
 
-/// The exit status of a run that wrote a report which comes to this. A predicate that isn't there is reported.
-pub fn report_conclusion<E: Write>(end: Conclusion, errors: &mut E) -> u8
-    ensures status { result ≡ status_of (concluded_ending (conclusion_view end)) }
-    ensures errors { Reports (concluded_ending (conclusion_view end)) (E.contents errors.old)
-        (E.contents errors.new) }
+/// The exit status of a run that wrote a report which comes to this.
+pub fn conclusion_status(end: Conclusion) -> u8
+    ensures { result ≡ status_of (concluded_ending (conclusion_view end)) }
 {
     match end {
         Conclusion::Refused => REFUSED,
-        Conclusion::NoPredicate => report_no_predicate(errors),
         Conclusion::Met => ALARMED,
         Conclusion::Unmet => SUCCESS,
     }
 }
 
-/// The exit status by how the judgement of files ended that is to fail on these answers, whose fault is reported.
+/// The exit status by how the judgement of files ended that is to fail on these answers, whose fault is reported, and
+/// that there is no predicate of a name.
 pub fn report_judgement<E: Write>(
     fail_on: &FailOn<'_>,
-    end: &Result<Report, EngineFault>,
+    end: &Result<Option<Report>, EngineFault>,
     errors: &mut E,
 ) -> u8
-    ensures status { result ≡ status_of (judgement_ending (fail_on_view fail_on.now) end.now) }
-    ensures errors { Reports (judgement_ending (fail_on_view fail_on.now) end.now) (E.contents errors.old)
+    ensures status { result ≡ status_of (named_ending (fail_on_view fail_on.now) end.now) }
+    ensures errors { Reports (named_ending (fail_on_view fail_on.now) end.now) (E.contents errors.old)
         (E.contents errors.new) }
 {
     match end {
-        Ok(report) => report_conclusion(fail_on.conclusion(report), errors),
+        Ok(Some(report)) => conclusion_status(fail_on.conclusion(report)),
+        Ok(None) => report_no_predicate(errors),
         Err(fault) => report_fault(fault, errors),
     }
 }

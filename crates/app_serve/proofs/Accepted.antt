@@ -1,29 +1,25 @@
 -- What is left written of streams that were accepted, by what is left written of streams with these bytes.
-use Rattle.std.proofs.Common.{◌≡◌, ℕ, List, [], length, refl, sym, ap, subst, ◌∙◌, Some, None, Option, true, false, arith, inl, inr}
-use Rattle.std.specs.Prelude.{◌⊎◌, All, Bool, IfErr, IfOk, MatchOption, MatchResult, Result, Ok, Err}
+use Rattle.std.proofs.Common.{◌≡◌, ℕ, List, [], length, refl, sym, ap, subst, ◌∙◌, Option, true, false, arith, inl, inr}
+use Rattle.std.specs.Prelude.{◌⊎◌, All, Bool, IfErr, IfOk, MatchResult, Result, Ok, Err}
 use Rattle.def_format.specs.Documents.{Document, DocumentFault, IsDocument, IsRefusedDocument, Inquiry, Options, inquiry_of}
 use Rattle.def_judgement.specs.OneReport.{DocumentNotRefused, OneDocument}
 use Rattle.def_format.specs.Reports as formats
 use Rattle.def_format.specs.Reports.{Report}
 use Rattle.def_judgement.specs.Headline.{is_judged}
 use Rattle.def_judgement.specs.Judgements.{IsJudgement, RawStream, of_read, of_refused}
-use Rattle.app_arguments.specs.Statuses.{Ending, Success, Negative, Alarm, NoPredicate, Misuse, Failed, ComesTo, File, MemoryFailure, ReadFailure, WriteFailure, BundleFailure, NetworkFailure, IsTextOfAccepted, LeavesOf, OfConnections, OfReport, OfStreams}
+use Rattle.app_arguments.specs.Statuses.{Ending, Success, Negative, Alarm, NoPredicate, Misuse, Failed, ComesTo, File, MemoryFailure, ReadFailure, WriteFailure, BundleFailure, NetworkFailure, HasNamed, IsTextOfAccepted, LeavesOf, OfConnections, OfNamed, OfReport, OfStreams}
 use Rattle.def_judgement.specs.Writes.{Source, Whole, IsAnyReport, IsRefused, IsTextOfStreams}
 use Rattle.def_judgement.proofs.TextsOwed.{weaker_said}
 use Rattle.def_judgement.proofs.Writing.{writes_weaker}
-use Rattle.pd_pred.specs.Views.{predicate_fault_view}
-use Rattle.def_format.specs.Documents as faults
-use Rattle.def_format.specs.PredicateTexts.{PredicateFault}
-use Rattle.pd_spec.specs.Views.{IsFaultOf}
-use Rattle.pd_spec.specs.declared.fault.SpecFault.{SpecFault}
-use Rattle.pd_spec.specs.declared.fault.SpecFault.TheVariants as kinds
 use Rattle.app_arguments.specs.Conditions as conditions
 use Rattle.app_arguments.specs.Conditions.{Condition, Conclusion, conclusion}
 use Rattle.pd_report.specs.Views.{report_view}
 use Rattle.pd_report.specs.declared.report.Report as programs
 use Rattle.pd_report.specs.declared.report.Report.TheVariants.{Judged, Refused}
-use Rattle.app_host.specs.Faults.{concluded_ending, judgement_ending}
-use Rattle.app_serve.specs.ServiceFaults.{is_out_of_memory, service_ending}
+use Rattle.app_host.specs.Faults.{concluded_ending, is_out_of_memory, judgement_ending}
+use Rattle.pd_spec.specs.Views.{IsFaultOf}
+use Rattle.pd_spec.specs.declared.fault.SpecFault.{SpecFault}
+use Rattle.app_serve.specs.ServiceFaults.{named_service_ending, service_ending}
 use Rattle.app_serve.specs.declared.service_fault.ServiceFault.{ServiceFault}
 use Rattle.app_serve.specs.declared.service_fault.ServiceFault.TheVariants.{Engine, Unkept}
 use Rattle.judge_session.specs.declared.fault.EngineFault.{EngineFault}
@@ -31,6 +27,7 @@ use Rattle.judge_session.specs.declared.fault.EngineFault.TheVariants.{Memory, W
 use Rattle.app_host.specs.FileSources.{IsReadOf, ReadLeaves, SameOutline}
 use Rattle.app_host.proofs.DocumentPrefixes.{same_document, same_refusal, same_report_text}
 use Rattle.app_host.proofs.FilesRead.{leaves_of_read, report_weaker}
+use Rattle.app_host.proofs.NamedPredicates.{has_of_refused, named_of_file, refused_unless_memory, with_named}
 
 -- The streams are those of accepted connections: as many as the document has processes, and none if it is refused.
 pub record AreAccepted (document : Inquiry) (G : Source → Type 0) (inputs : List Source) : Type 0 where
@@ -57,28 +54,6 @@ accepted_of_refused document G fault not_refused refused = record {
   one_each = λ read is. absurd (not_refused document read fault is refused);
   none_refused = λ other _. refl;
 }
-
--- a fault that isn't out of memory refuses the document
-pub refused_unless_memory : (document : Inquiry) (fault : SpecFault) → is_out_of_memory fault ≡ false
-    → IsFaultOf document fault → (refused : DocumentFault) × IsRefusedDocument document refused
-refused_unless_memory document kinds.Long e h = (faults.Long, h)
-refused_unless_memory document kinds.Json e h = (faults.Json, h)
-refused_unless_memory document kinds.Shape e h = (faults.Shape, h)
-refused_unless_memory document kinds.Processes e h = (faults.Processes, h)
-refused_unless_memory document kinds.Name e h = (faults.Name, h)
-refused_unless_memory document kinds.NameTwice e h = (faults.NameTwice, h)
-refused_unless_memory document kinds.Vars e h = (faults.Vars, h)
-refused_unless_memory document kinds.Predicates e h = (faults.Predicates, h)
-refused_unless_memory document kinds.Width e h = (faults.Width, h)
-refused_unless_memory document (kinds.Predicate number error) e h = go (predicate_fault_view error.kind) h
-  where
-    go : (o : Option PredicateFault)
-        → MatchOption o ⊥ (λ fault. IsRefusedDocument document (faults.InPredicate number fault error.at))
-        → (refused : DocumentFault) × IsRefusedDocument document refused
-    go None h = absurd h
-    go (Some fault) h = (faults.InPredicate number fault error.at, h)
-refused_unless_memory document kinds.Version e h = (faults.OtherVersion, h)
-refused_unless_memory document kinds.Memory e h = cc
 
 accepted_text : (document : Inquiry) (G : Source → Type 0) (inputs : List Source) (IsSaid : Report → Type 0)
     (text : List ℕ) → AreAccepted document G inputs → IsTextOfStreams document inputs IsSaid text
@@ -213,13 +188,14 @@ module _ (options : Options) (read document : List ℕ) (G : Source → Type 0) 
 pub service_of_file : (options : Options) (file : File) (read : List ℕ) (IsUnread : Type 0) (G : Source → Type 0)
     (MayNotServe IsKept : Type 0) (fail_on : List Condition) (ending : Ending) (old new : Option (List ℕ))
     → IsReadOf read file.source
-    → ReadLeaves (OfConnections G MayNotServe IsKept fail_on (inquiry_of options read)) ending old new
-    → LeavesOf options file IsUnread (OfConnections G MayNotServe IsKept fail_on) ending old new
+    → ReadLeaves (OfNamed fail_on (OfConnections G MayNotServe IsKept fail_on) (inquiry_of options read)) ending old new
+    → LeavesOf options file IsUnread (OfNamed fail_on (OfConnections G MayNotServe IsKept fail_on)) ending old new
 service_of_file options file read IsUnread G MayNotServe IsKept fail_on ending old new is left =
-    leaves_of_read options file read IsUnread
-    (OfConnections G MayNotServe IsKept fail_on (inquiry_of options read))
-    (OfConnections G MayNotServe IsKept fail_on) old new is
-    (λ document same. connections_of_file options read document G MayNotServe IsKept fail_on old new same) ending left
+    let P = OfConnections G MayNotServe IsKept fail_on in
+    leaves_of_read options file read IsUnread (OfNamed fail_on P (inquiry_of options read)) (OfNamed fail_on P) old new
+    is
+    (λ document same. named_of_file fail_on options read document P P old new same
+    (connections_of_file options read document G MayNotServe IsKept fail_on old new same)) ending left
 
 -- ---- a session that is kept
 
@@ -247,9 +223,6 @@ module _ (document : Inquiry) (G : Source → Type 0) (MayNotServe IsKept : Type
   unkept_left : (end : Conclusion) → Leaves (concluded_ending end) → Leaves (Failed WriteFailure)
   unkept_left conditions.OfRefusal left =
       inl (inl (writes_weaker _ _ Whole old new (any_accepted document G IsRefused) left))
-  unkept_left conditions.NoPredicate left =
-      inl (inl (writes_weaker _ _ Whole old new (any_accepted document G (ComesTo fail_on conditions.NoPredicate))
-      left))
   unkept_left conditions.Met left =
       inl (inl (writes_weaker _ _ Whole old new (any_accepted document G (ComesTo fail_on conditions.Met)) left))
   unkept_left conditions.Unmet left =
@@ -267,3 +240,43 @@ module _ (document : Inquiry) (G : Source → Type 0) (MayNotServe IsKept : Type
       (unkept_left (conclusion fail_on (report_view report)) left)
   kept_service (Err fault) result false kept unkept left =
       subst (λ (r : Result programs.Report ServiceFault). Leaves (service_ending fail_on r)) (sym (unkept refl)) left
+
+-- ---- the predicates that are named
+
+-- how a server ends that has them all
+pub named_service : (document : Inquiry) (G : Source → Type 0) (MayNotServe IsKept : Type 0) (fail_on : List Condition)
+    (end : Result programs.Report ServiceFault) (result : Result (Option programs.Report) ServiceFault)
+    (old new : Option (List ℕ)) → HasNamed fail_on document
+    → named_service_ending fail_on result ≡ service_ending fail_on end
+    → ReadLeaves (OfConnections G MayNotServe IsKept fail_on document) (service_ending fail_on end) old new
+    → ReadLeaves (OfNamed fail_on (OfConnections G MayNotServe IsKept fail_on) document)
+    (named_service_ending fail_on result) old new
+named_service document G MayNotServe IsKept fail_on end result old new has same left =
+    let P = OfConnections G MayNotServe IsKept fail_on in
+    subst (λ (e : Ending). ReadLeaves (OfNamed fail_on P document) e old new) (sym same)
+    (with_named fail_on P document old new has (λ never. never) (service_ending fail_on end) left)
+
+-- how a server ends whose document is refused, or for which memory ran out
+pub refused_service : (document : Inquiry) (G : Source → Type 0) (MayNotServe IsKept : Type 0)
+    (fail_on : List Condition) (fault : SpecFault) (end : Result programs.Report ServiceFault)
+    (result : Result (Option programs.Report) ServiceFault) (old new : Option (List ℕ)) → DocumentNotRefused
+    → IsFaultOf document fault → (is_out_of_memory fault ≡ true → end ≡ Err (Engine Memory))
+    → named_service_ending fail_on result ≡ service_ending fail_on end
+    → ReadLeaves (OfConnections G MayNotServe IsKept fail_on document) (service_ending fail_on end) old new
+    → ReadLeaves (OfNamed fail_on (OfConnections G MayNotServe IsKept fail_on) document)
+    (named_service_ending fail_on result) old new
+refused_service document G MayNotServe IsKept fail_on fault end result old new not_refused is_fault memory same left =
+    go (is_out_of_memory fault) refl
+  where
+    go : (b : Bool) → is_out_of_memory fault ≡ b
+        → ReadLeaves (OfNamed fail_on (OfConnections G MayNotServe IsKept fail_on) document)
+        (named_service_ending fail_on result) old new
+    go true is =
+        subst (λ (e : Ending). ReadLeaves (OfNamed fail_on (OfConnections G MayNotServe IsKept fail_on) document) e
+        old new) (sym (same ∙ ap (service_ending fail_on) (memory is)))
+        (subst (λ (e : Result programs.Report ServiceFault). ReadLeaves (OfConnections G MayNotServe IsKept fail_on
+        document) (service_ending fail_on e) old new) (memory is) left)
+    go false is =
+        let refused = refused_unless_memory document fault is is_fault in
+        named_service document G MayNotServe IsKept fail_on end result old new
+        (has_of_refused fail_on document refused.0 not_refused refused.1) same left

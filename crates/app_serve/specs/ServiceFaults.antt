@@ -1,14 +1,12 @@
 -- A server's faults and results, as ends of a run.
-use Rattle.std.specs.Prelude.{Bool, true, false, List, Result, Ok, Err}
-use Rattle.app_arguments.specs.Statuses.{WriteFailure, NetworkFailure, Ending, Failed}
+use Rattle.std.specs.Prelude.{List, Option, Some, None, Result, Ok, Err}
+use Rattle.app_arguments.specs.Statuses.{WriteFailure, NetworkFailure, Ending, Failed, NoPredicate}
 use Rattle.app_arguments.specs.Conditions.{Condition, conclusion}
 use Rattle.app_host.specs.Faults.{concluded_ending, failure_view}
 use Rattle.app_serve.specs.declared.service_fault.ServiceFault.{ServiceFault}
 use Rattle.app_serve.specs.declared.service_fault.ServiceFault.TheVariants.{Engine, Late, Network, Unkept}
 use Rattle.pd_report.specs.Views.{report_view}
 use Rattle.pd_report.specs.declared.report.Report.{Report}
-use Rattle.pd_spec.specs.declared.fault.SpecFault.{SpecFault}
-use Rattle.pd_spec.specs.declared.fault.SpecFault.TheVariants as spec_faults
 
 -- how a server ends that is to fail on these answers and comes to a report, or the fault
 abbrev pub service_ending : (fail_on : List Condition) → Result Report ServiceFault → Ending
@@ -18,7 +16,9 @@ service_ending fail_on (Err Network) = Failed NetworkFailure
 service_ending fail_on (Err Late) = Failed NetworkFailure
 service_ending fail_on (Err Unkept) = Failed WriteFailure
 
--- whether a document's fault says nothing of the document
-abbrev pub is_out_of_memory : SpecFault → Bool
-is_out_of_memory spec_faults.Memory = true
-is_out_of_memory _ = false
+-- how a server ends that first looks up the predicates that are named: one isn't there, or it comes to a report, or the
+-- fault
+abbrev pub named_service_ending : (fail_on : List Condition) → Result (Option Report) ServiceFault → Ending
+named_service_ending fail_on (Ok None) = NoPredicate
+named_service_ending fail_on (Ok (Some report)) = service_ending fail_on (Ok report)
+named_service_ending fail_on (Err fault) = service_ending fail_on (Err fault)

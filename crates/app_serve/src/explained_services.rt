@@ -2,7 +2,7 @@
 use super::host::Host;
 use super::senders::{known_senders, senders};
 use super::service_fault::ServiceFault;
-use app_ends::{put_conclusion, put_fault, put_report, rows_of, seen_document};
+use app_ends::{put_fault, put_reasons, put_report, put_unknown_condition, rows_of, seen_document};
 use app_explain::{
     Seen, SeenStream, StreamFault, StreamWord, explain_connection, explain_port,
     explain_sent_stream, explain_unkept, explain_wait,
@@ -113,7 +113,7 @@ fn put_seen_report<T: RandomSource + Threads + Wait + Sync, F: FileSource, N>(
         order: "Streams count in the order in which they connected.\n",
     };
     put_report(out, rt, host.alloc, seen, host.gate.widest(), report)?;
-    put_conclusion(out, host.alloc, seen, &host.service.fail_on, report)
+    put_reasons(out, host.alloc, &host.service.fail_on, report)
 }
 
 /// The same by what was read of the streams.
@@ -135,15 +135,24 @@ fn put_service_report<T: RandomSource + Threads + Wait + Sync, F: FileSource, N>
     put_seen_report(out, rt, host, &streams, report)
 }
 
+/// Says which predicate isn't there that is named.
+fn put_unknown<F, N>(out: &mut Vec<u8>, host: &Host<'_, F, N>) -> Result<(), AllocError> {
+    match spec_of(host) {
+        Some(spec) => put_unknown_condition(out, host.alloc, &spec, &host.service.fail_on),
+        None => Ok(()),
+    }
+}
+
 /// Explains how a server's run ended.
 fn put_service<Y: System>(
     out: &mut Vec<u8>,
     world: &World<'_, Y>,
     host: &Host<'_, Y::Files, Y::Network>,
-    end: &Result<Report, ServiceFault>,
+    end: &Result<Option<Report>, ServiceFault>,
 ) -> Result<(), AllocError> {
     match end {
-        Ok(report) => put_service_report(out, world.rt, host, report),
+        Ok(Some(report)) => put_service_report(out, world.rt, host, report),
+        Ok(None) => put_unknown(out, host),
         Err(ServiceFault::Engine(fault)) => {
             let spec = host.service.spec;
             put_fault(out, world, None, spec, &[], fault)
@@ -158,7 +167,7 @@ fn put_service<Y: System>(
 pub fn service_text<Y: System>(
     world: &World<'_, Y>,
     host: &Host<'_, Y::Files, Y::Network>,
-    end: &Result<Report, ServiceFault>,
+    end: &Result<Option<Report>, ServiceFault>,
 ) -> Vec<u8> {
     let mut out = Vec::new(world.alloc);
     if world.explain {

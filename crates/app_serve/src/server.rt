@@ -1,13 +1,14 @@
 //! Judges a session whose streams come by connections.
 ghost use Rattle.app_arguments.specs.Arguments.{port_limit};
 ghost use Rattle.app_host.specs.FileSources.{IsReadOf, ReadLeaves};
-ghost use Rattle.app_serve.specs.ServiceFaults.{is_out_of_memory, service_ending};
-ghost use Rattle.app_host.specs.Faults.{judgement_ending};
+ghost use Rattle.app_serve.specs.ServiceFaults.{named_service_ending, service_ending};
+ghost use Rattle.app_host.specs.Faults.{is_out_of_memory, judgement_ending};
 ghost use Rattle.app_serve.specs.declared.service_fault.ServiceFault.TheVariants as faults;
 ghost use Rattle.app_arguments.specs.Conditions.{Condition};
+ghost use Rattle.app_arguments.specs.ConditionViews.{fail_on_view};
 ghost use Rattle.def_format.specs.Documents.{IsDocument, inquiry_of};
 ghost use Rattle.def_judgement.specs.Headline.{is_judged};
-ghost use Rattle.app_arguments.specs.Statuses.{LeavesOf, MayBeUnread, OfConnections, OfStreams, ServiceMayFail};
+ghost use Rattle.app_arguments.specs.Statuses.{LeavesOf, MayBeUnread, OfConnections, OfNamed, OfStreams, ServiceMayFail};
 ghost use Rattle.app_arguments.specs.Views.{keep_view};
 ghost use Rattle.pd_report.specs.Views.{report_view};
 ghost use Rattle.judge_session.specs.Inquiries.{inquiry_view};
@@ -25,7 +26,8 @@ use super::service_notices::ServiceNotices;
 use super::watchers::Watchers;
 use app_arguments::Workers;
 use app_host::{
-    FileSource, Network, NotedSource, System, World, judge_read, open_noted, read_document,
+    FileSource, Network, NotedSource, System, World, is_out_of_memory, judge_read, open_noted,
+    read_document,
 };
 use def_judgement::one_document;
 use judge_session::EngineFault;
@@ -318,26 +320,6 @@ fn judge_no_streams<Y: System, O: Write>(
     judge_read(world, inquiry, streams, workers, &NoGate, output)
 }
 
-/// Whether a document's fault is that memory ran out. If not, the document is refused.
-fn is_out_of_memory(fault: &SpecFault) -> bool
-    ensures { result ≡ is_out_of_memory fault.now }
-{
-    match fault {
-        SpecFault::Memory => true,
-        SpecFault::Long
-        | SpecFault::Json
-        | SpecFault::Shape
-        | SpecFault::Processes
-        | SpecFault::Name
-        | SpecFault::NameTwice
-        | SpecFault::Vars
-        | SpecFault::Predicates
-        | SpecFault::Width
-        | SpecFault::Predicate(_, _)
-        | SpecFault::Version => false,
-    }
-}
-
 /// Reports why a document is refused. No port is bound.
 ///
 /// # Errors
@@ -354,6 +336,7 @@ fn refuse_document<Y: System, O: Write>(
         (keep : Option (List ℕ)) → ReadLeaves (OfConnections (Y.Network.may_give host.now.network.now port)
         (ServiceMayFail wait Y.Network.never_fails) (keep ≢ None) fail_on (inquiry_view inquiry.entry))
         (service_ending fail_on result) (O.contents output.old) (O.contents output.new) }
+    ensures memory { is_out_of_memory fault.now ≡ true → result ≡ Err (faults.Engine EngineFault.Memory) }
     // Its refusal is the report that is written whole, or the call fails.
     ensures refused { IfOk result (λ report. is_judged (report_view report) ≡ false) }
     ensures err { IfErr result (λ fault. (fault ≡ faults.Engine EngineFault.Memory)
@@ -416,7 +399,52 @@ fn serve_kept<S: RandomSource + Threads + Wait + Sync, F: FileSource, N: Network
     kept_end(end, is_kept)
 }
 
-/// Judges a document, with what is asked, and the streams that come, or reports why the document is refused.
+/// How a server ends that has each predicate that is named, by how it ended before.
+fn named_end(end: Result<Report, ServiceFault>) -> Result<Option<Report>, ServiceFault>
+    ensures { (fail_on : List Condition) → named_service_ending fail_on result ≡ service_ending fail_on end }
+{
+    match end {
+        Ok(report) => Ok(Some(report)),
+        Err(fault) => Err(fault),
+    }
+}
+
+/// Looks up in a document, with what is asked, the predicates that are named; if all are there, judges it and the
+/// streams that come, as `serve_kept`. It gives the report, or nothing if a predicate isn't there: then no port is
+/// bound, and nothing is written.
+///
+/// # Errors
+/// As `serve`, but for `Read`.
+fn serve_named<S: RandomSource + Threads + Wait + Sync, F: FileSource, N: Network + Sync, O: Write>(
+    rt: &S,
+    host: &Host<'_, F, N>,
+    inquiry: Inquiry<'_, '_, '_>,
+    spec: &Spec,
+    output: &mut O,
+) -> Result<Option<Report>, ServiceFault>
+    requires document { IsDocument (inquiry_view inquiry) (document_view spec.now) }
+    requires port { host.now.service.now.port ≤ port_limit }
+    ensures { ReadLeaves (OfNamed (fail_on_view host.now.service.now.fail_on) (OfConnections
+        (N.may_give host.now.network.now host.now.service.now.port)
+        (ServiceMayFail host.now.service.now.wait N.never_fails) (keep_view host.now.service.now.keep ≢ None)
+        (fail_on_view host.now.service.now.fail_on)) (inquiry_view inquiry.entry))
+        (named_service_ending (fail_on_view host.now.service.now.fail_on) result) (O.contents output.old)
+        (O.contents output.new) }
+{
+    one_document();
+    if host
+        .service
+        .fail_on
+        .unknown_name(spec.predicates())
+        .is_none()
+    {
+        return named_end(serve_kept(rt, host, inquiry, spec, output));
+    }
+    Ok(None)
+}
+
+/// Judges a document, with what is asked, and the streams that come, or reports why the document is refused. It gives
+/// the report, or nothing if a predicate that is named isn't there.
 ///
 /// # Errors
 /// As `serve`, but for `Read`.
@@ -425,20 +453,23 @@ fn serve_document<Y: System, O: Write>(
     host: &Host<'_, Y::Files, Y::Network>,
     document: &[u8],
     output: &mut O,
-) -> Result<Report, ServiceFault>
+) -> Result<Option<Report>, ServiceFault>
     requires { host.now.service.now.port ≤ port_limit }
-    ensures { (fail_on : List Condition) → ReadLeaves (OfConnections (Y.Network.may_give host.now.network.now
-        host.now.service.now.port) (ServiceMayFail host.now.service.now.wait Y.Network.never_fails) (keep_view
-        host.now.service.now.keep ≢ None) fail_on (inquiry_of (options_view host.now.service.now.options)
-        document.now)) (service_ending fail_on result) (O.contents output.old) (O.contents output.new) }
+    ensures { ReadLeaves (OfNamed (fail_on_view host.now.service.now.fail_on) (OfConnections (Y.Network.may_give
+        host.now.network.now host.now.service.now.port) (ServiceMayFail host.now.service.now.wait
+        Y.Network.never_fails) (keep_view host.now.service.now.keep ≢ None) (fail_on_view
+        host.now.service.now.fail_on)) (inquiry_of (options_view host.now.service.now.options) document.now))
+        (named_service_ending (fail_on_view host.now.service.now.fail_on) result) (O.contents output.old)
+        (O.contents output.new) }
 {
+    one_document();
     let inquiry = Inquiry {
         document,
         options: &host.service.options,
     };
     match Spec::read_with_options(host.alloc, document, &host.service.options) {
-        Ok(spec) => serve_kept(world.rt, host, inquiry, &spec, output),
-        Err(fault) => refuse_document(world, host, inquiry, &fault, output),
+        Ok(spec) => serve_named(world.rt, host, inquiry, &spec, output),
+        Err(fault) => named_end(refuse_document(world, host, inquiry, &fault, output)),
     }
 }
 
@@ -464,10 +495,11 @@ fn read_service<F: FileSource, N>(host: &Host<'_, F, N>) -> Result<Vec<u8>, Engi
     Ok(document)
 }
 
-/// Opens and reads the document of a session; binds the ports, unless the document, with what is asked, is refused;
-/// accepts a stream for each process; judges the document and the streams, writes the report, and flushes the output.
-/// It gives the report, and notes for the host's peers who sends each stream. Meanwhile the watchers are accepted, and
-/// each is shown how far the streams are read; it returns once all of them have come, or one can't be accepted.
+/// Opens and reads the document of a session; binds the ports, unless the document, with what is asked, is refused, or
+/// doesn't have a predicate that is named; accepts a stream for each process; judges the document and the streams,
+/// writes the report, and flushes the output. It gives the report, or nothing if a predicate that is named isn't there,
+/// and notes for the host's peers who sends each stream. Meanwhile the watchers are accepted, and each is shown how far
+/// the streams are read; it returns once all of them have come, or one can't be accepted.
 ///
 /// # Errors
 /// `Read`, if the document can't be opened or read, `Network`, if a port can't be bound or a stream not be accepted,
@@ -478,15 +510,16 @@ pub fn serve<Y: System, O: Write>(
     world: &World<'_, Y>,
     host: &Host<'_, Y::Files, Y::Network>,
     output: &mut O,
-) -> Result<Report, ServiceFault>
+) -> Result<Option<Report>, ServiceFault>
     requires { host.now.service.now.port ≤ port_limit }
-    // This is said for all answers on which the run may be to fail.
-    ensures { (fail_on : List Condition) → LeavesOf (options_view host.now.service.now.options) (Y.Files.file_of
+    ensures { LeavesOf (options_view host.now.service.now.options) (Y.Files.file_of
         host.now.files.now host.now.service.now.spec.now) (MayBeUnread (Y.Files.file_of host.now.files.now
         host.now.service.now.spec.now ∷ []) (Y.Files.file_of host.now.files.now host.now.service.now.spec.now ∷ []))
-        (OfConnections (Y.Network.may_give host.now.network.now host.now.service.now.port) (ServiceMayFail
-        host.now.service.now.wait Y.Network.never_fails) (keep_view host.now.service.now.keep ≢ None) fail_on)
-        (service_ending fail_on result) (O.contents output.old) (O.contents output.new) }
+        (OfNamed (fail_on_view host.now.service.now.fail_on) (OfConnections (Y.Network.may_give host.now.network.now
+        host.now.service.now.port) (ServiceMayFail host.now.service.now.wait Y.Network.never_fails) (keep_view
+        host.now.service.now.keep ≢ None) (fail_on_view host.now.service.now.fail_on)))
+        (named_service_ending (fail_on_view host.now.service.now.fail_on) result) (O.contents output.old)
+        (O.contents output.new) }
 {
     match read_service(host) {
         Ok(document) => serve_document(world, host, &document, output),

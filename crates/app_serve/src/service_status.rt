@@ -1,12 +1,12 @@
 //! The exit status of a server's run.
 ghost use Rattle.app_arguments.specs.ConditionViews.{fail_on_view};
 ghost use Rattle.app_arguments.specs.Statuses.{IsLineOf, NetworkFailure, Reports, WritesUpTo, status_of, status_of_failure};
-ghost use Rattle.app_serve.specs.ServiceFaults.{service_ending};
+ghost use Rattle.app_serve.specs.ServiceFaults.{named_service_ending};
 ghost use Rattle.std.specs.Prelude.{◌≡◌};
 
 use super::service_fault::ServiceFault;
 use app_arguments::FailOn;
-use app_host::{FAILED, report_conclusion, report_fault, write_line};
+use app_host::{FAILED, conclusion_status, report_fault, report_no_predicate, write_line};
 use judge_session::EngineFault;
 use pd_report::Report;
 use std::io::Write;
@@ -21,18 +21,19 @@ fn report_network<E: Write>(errors: &mut E) -> u8
     FAILED
 }
 
-/// The exit status by how a server's run ended, whose fault is reported.
+/// The exit status by how a server's run ended, whose fault is reported, and that there is no predicate of a name.
 pub fn report_service_end<E: Write>(
     fail_on: &FailOn<'_>,
-    end: &Result<Report, ServiceFault>,
+    end: &Result<Option<Report>, ServiceFault>,
     errors: &mut E,
 ) -> u8
-    ensures status { result ≡ status_of (service_ending (fail_on_view fail_on.now) end.now) }
-    ensures errors { Reports (service_ending (fail_on_view fail_on.now) end.now) (E.contents errors.old)
+    ensures status { result ≡ status_of (named_service_ending (fail_on_view fail_on.now) end.now) }
+    ensures errors { Reports (named_service_ending (fail_on_view fail_on.now) end.now) (E.contents errors.old)
         (E.contents errors.new) }
 {
     match end {
-        Ok(report) => report_conclusion(fail_on.conclusion(report), errors),
+        Ok(Some(report)) => conclusion_status(fail_on.conclusion(report)),
+        Ok(None) => report_no_predicate(errors),
         Err(ServiceFault::Engine(fault)) => report_fault(fault, errors),
         Err(ServiceFault::Network | ServiceFault::Late) => report_network(errors),
         Err(ServiceFault::Unkept) => report_fault(&EngineFault::Write, errors),

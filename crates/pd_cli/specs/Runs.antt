@@ -5,7 +5,7 @@ use Rattle.clap.specs.Words.{Text}
 use Rattle.def_judgement.specs.Writes.{Source}
 use Rattle.judge_explore.specs.Sources.{AreFilesOf}
 use Rattle.app_arguments.specs.Arguments.{AsksFor}
-use Rattle.app_arguments.specs.Statuses.{CheckFiles, DrawFiles, Ending, Ends, ExploreFiles, Failed, File, HelpLeaves, JudgeFiles, JudgeInput, JudgementLeaves, LeavesOf, MayBeUnread, MemoryFailure, MisuseLeaves, OfConnections, OfFinding, OfStreams, Request, ServeStreams, ServiceMayFail, SessionLeaves, ShowHelp, ShowVersion, Unclear, UnreadClaim, VersionLeaves, sources_of}
+use Rattle.app_arguments.specs.Statuses.{CheckFiles, DrawFiles, Ending, Ends, ExploreFiles, Failed, File, HelpLeaves, JudgeFiles, JudgeInput, JudgementLeaves, LeavesOf, MayBeUnread, MemoryFailure, MisuseLeaves, OfConnections, OfFinding, OfNamed, OfStreams, Request, ServeStreams, ServiceMayFail, SessionLeaves, ShowHelp, ShowVersion, Unclear, UnreadClaim, VersionLeaves, sources_of}
 use Rattle.pd_cli.specs.Drawings.{EndsDrawn}
 use Rattle.pd_cli.specs.Explorations.{OfPage}
 use Rattle.app_host.specs.FileSources.{bytes_in}
@@ -21,7 +21,7 @@ abbrev pub Leaves : (input : Source) (files : List ℕ → File) (connections : 
     (network_serves : Bool) → Request → (status : ℕ) (old new errors_old errors_new : Option (List ℕ)) → Type 0
 Leaves input files connections network_serves JudgeInput = By (JudgementLeaves input)
 Leaves input files connections network_serves (JudgeFiles options fail_on document streams) =
-    By (SessionLeaves files options document streams (λ sources. OfStreams sources fail_on))
+    By (SessionLeaves files options document streams (λ sources. OfNamed fail_on (OfStreams sources fail_on)))
 Leaves input files connections network_serves (CheckFiles options document report streams) =
     By (LeavesOf options (files document) (UnreadClaim files document report streams)
     (OfFinding (files report).source (sources_of (map files streams))))
@@ -29,7 +29,7 @@ Leaves input files connections network_serves (DrawFiles options scope document 
     EndsDrawn files options document report streams scope
 Leaves input files connections network_serves (ServeStreams options fail_on document port watchers wait keep) =
     By (LeavesOf options (files document) (MayBeUnread (files document ∷ []) (files document ∷ []))
-    (OfConnections (connections port) (ServiceMayFail wait network_serves) (keep ≢ None) fail_on))
+    (OfNamed fail_on (OfConnections (connections port) (ServiceMayFail wait network_serves) (keep ≢ None) fail_on)))
 Leaves input files connections network_serves (ExploreFiles options document streams) =
     By (SessionLeaves files options document streams (OfPage (AreFilesOf (bytes_in files) streams)))
 Leaves input files connections network_serves ShowHelp = By HelpLeaves

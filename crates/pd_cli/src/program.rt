@@ -8,7 +8,7 @@ ghost use Rattle.pd_cli.specs.Runs.{RunsAsAsked};
 ghost use Rattle.judge_explore.specs.Sources.{AreFilesOf};
 ghost use Rattle.out_picture.specs.Scopes.{scope_view};
 ghost use Rattle.app_arguments.specs.ConditionViews.{fail_on_view};
-ghost use Rattle.app_arguments.specs.Statuses.{Ends, JudgementLeaves, LeavesOf, MayBeUnread, OfConnections, OfFinding, OfStreams, ServiceMayFail, SessionLeaves, UnreadClaim, sources_of};
+ghost use Rattle.app_arguments.specs.Statuses.{Ends, JudgementLeaves, LeavesOf, MayBeUnread, OfConnections, OfFinding, OfNamed, OfStreams, ServiceMayFail, SessionLeaves, UnreadClaim, sources_of};
 ghost use Rattle.app_arguments.specs.Views.{keep_view, session_view};
 ghost use Rattle.def_judgement.specs.Writes.{WritesTruthOfBundle};
 ghost use Rattle.pd_spec.specs.Views.{options_view};
@@ -70,7 +70,7 @@ fn run_draw<Y: System, O: Write, E: Write>(
         (O.contents output.old) (O.contents output.new) start (E.contents errors.new)) (E.contents errors.old) }
 {
     let end = draw_files(world, report, scope, names, output);
-    let text = drawing_text(world, report, names, &end);
+    let text = drawing_text(world, report, scope, names, &end);
     write_explanation(world.explain, &text, errors);
     report_drawing(&end, errors)
 }
@@ -86,9 +86,10 @@ fn run_service<Y: System, O: Write, E: Write>(
     requires port { service.now.port ≤ port_limit }
     ensures { Explained world.now.explain (λ start. Ends (λ ending. LeavesOf (options_view service.now.options)
         (Y.Files.file_of world.now.files.now service.now.spec.now) (MayBeUnread (Y.Files.file_of world.now.files.now
-        service.now.spec.now ∷ []) (Y.Files.file_of world.now.files.now service.now.spec.now ∷ [])) (OfConnections
+        service.now.spec.now ∷ []) (Y.Files.file_of world.now.files.now service.now.spec.now ∷ []))
+        (OfNamed (fail_on_view service.now.fail_on) (OfConnections
         (Y.Network.may_give world.now.network.now service.now.port) (ServiceMayFail service.now.wait
-        Y.Network.never_fails) (keep_view service.now.keep ≢ None) (fail_on_view service.now.fail_on)) ending
+        Y.Network.never_fails) (keep_view service.now.keep ≢ None) (fail_on_view service.now.fail_on))) ending
         (O.contents output.old) (O.contents output.new)) result start (E.contents errors.new)) (E.contents errors.old) }
 {
     let peers = Peers::new(world.alloc, world.explain || service.keep.is_some());
@@ -118,7 +119,8 @@ fn run_files<Y: System, O: Write, E: Write>(
 ) -> u8
     ensures { Explained world.now.explain (λ start. Ends (λ ending. SessionLeaves (Y.Files.file_of world.now.files.now)
         (options_view judgement.now.names.options) judgement.now.names.spec.now (session_view judgement.now.names).1
-        (λ sources. OfStreams sources (fail_on_view judgement.now.fail_on)) ending (O.contents output.old)
+        (λ sources. OfNamed (fail_on_view judgement.now.fail_on) (OfStreams sources
+        (fail_on_view judgement.now.fail_on))) ending (O.contents output.old)
         (O.contents output.new)) result start (E.contents errors.new)) (E.contents errors.old) }
 {
     let gate = LevelGate::new(world.files);

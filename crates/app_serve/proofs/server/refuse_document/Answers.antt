@@ -4,7 +4,8 @@ use Rattle.def_judgement.specs.Headline.{is_judged}
 use Rattle.pd_report.specs.Views.{report_view}
 use Rattle.app_arguments.specs.Statuses.{Ending, OfConnections, ServiceMayFail}
 use Rattle.judge_session.specs.Inquiries.{inquiry_view}
-use Rattle.app_serve.proofs.Accepted.{accepted_of_refused, refused_outcome, refused_unless_memory, service_faults, service_of_judgement, service_outcome}
+use Rattle.app_serve.proofs.Accepted.{accepted_of_refused, refused_outcome, service_faults, service_of_judgement, service_outcome}
+use Rattle.app_host.proofs.NamedPredicates.{refused_unless_memory}
 use Rattle.app_host.specs.Faults.{judgement_ending}
 use Rattle.app_host.specs.FileSources.{ReadLeaves}
 use Rattle.app_serve.proofs.server.refuse_document.Goals as goal

@@ -1,6 +1,6 @@
 -- What is left is said for the answers on which this run is to fail.
 use Rattle.app_arguments.specs.ConditionViews.{fail_on_view}
-use Rattle.app_host.specs.Faults.{judgement_ending}
+use Rattle.app_host.specs.Faults.{named_ending}
 use Rattle.pd_cli.proofs.program.run_files.Goals as goal
 
 pub returns : goal.returns
@@ -8,9 +8,9 @@ returns g c = record {
   start = g.E.Write.contents c.write_explanation.new.errors;
   explanation = c.write_explanation.ensures;
   reported = record {
-    ending = judgement_ending (fail_on_view c.args.judgement.now.fail_on) c.judge_files-end.result;
+    ending = named_ending (fail_on_view c.args.judgement.now.fail_on) c.judge_files-end.result;
     is_status = c.report_judgement.ensures.status;
-    output = c.judge_files-end.ensures (fail_on_view c.args.judgement.now.fail_on);
+    output = c.judge_files-end.ensures;
     errors = c.report_judgement.ensures.errors;
   };
 }
