@@ -81,7 +81,8 @@ module _ (is_kept : Place → Bool) where
   bad_back version c e (self_message (id, d, receives, sends, same)) =
       self_message (id, d, (receives_back is_kept c e id receives).0, sends_back is_kept c d id sends, same)
   bad_back version c e (received_again (id, d, first, second, before, same)) =
-      received_again (id, d, (receives_back is_kept c e id first).0, (receives_back is_kept c d id second).0, before, same)
+      received_again
+      (id, d, (receives_back is_kept c e id first).0, (receives_back is_kept c d id second).0, before, same)
 
   pub well_formed : (version : Version) (c : Computation) → IsWellFormed version c
       → IsWellFormed version (reduced is_kept c)

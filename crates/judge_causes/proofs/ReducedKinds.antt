@@ -74,7 +74,8 @@ sets_in : (is_kept : Place → Bool) (p n : ℕ) (events : List Event)
     → map (λ (event : Event). event.sets) (reduced_from is_kept p n events)
     ≡ map (λ (event : Event). event.sets) events
 sets_in is_kept p n [] = refl
-sets_in is_kept p n (event ∷ rest) = ap (λ (sets : List (List (ℕ × ℤ))). event.sets ∷ sets) (sets_in is_kept p (suc n) rest)
+sets_in is_kept p n (event ∷ rest) =
+    ap (λ (sets : List (List (ℕ × ℤ))). event.sets ∷ sets) (sets_in is_kept p (suc n) rest)
 
 pub same_settings : (is_kept : Place → Bool) (c : Computation) → HasSettingsOf c (reduced is_kept c)
 same_settings is_kept c = record {

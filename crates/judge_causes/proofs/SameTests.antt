@@ -41,7 +41,8 @@ same_state initial c other same counts = λ i p v.
     (events_of c p) (same.settings p) i
 
 pub same_test : (r other : Recorded) (predicate : Predicate) → other.initial ≡ r.initial
-    → HasSettingsOf r.events other.events → (counts : List ℕ) → test_of other predicate counts ≡ test_of r predicate counts
+    → HasSettingsOf r.events other.events → (counts : List ℕ)
+    → test_of other predicate counts ≡ test_of r predicate counts
 same_test r other predicate initial same counts =
     ap (λ (given : Initial). holds_at (state_at given other.events counts) predicate) initial
     ∙ ap (λ (state : ℕ → ℕ → ℤ). holds_at state predicate) (same_state r.initial r.events other.events same counts)

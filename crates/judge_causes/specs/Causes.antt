@@ -1,10 +1,11 @@
 -- What is found of why no consistent cut satisfies a predicate.
-use Rattle.std.specs.Prelude.{All, AllPairs, Contains, IsTrue, Bool, List, ℕ}
+use Rattle.std.specs.Prelude.{◌⊎◌, All, AllPairs, Contains, IsTrue, Bool, List, ℕ}
 use Rattle.def_model.specs.Events.{Computation, Place, IsBefore}
 use Rattle.def_model.specs.Messages.{Receives}
 use Rattle.def_model.specs.Observations.{Possibly}
 use Rattle.def_model.specs.Predicates.{Predicate, Recorded, test_of}
-use Rattle.def_wide.specs.Decided.{IsPossiblyDecided}
+use Rattle.def_model.specs.Decided.{DecidesPossibly}
+use Rattle.def_wide.specs.Sums.{IsDecidedBySums}
 use Rattle.judge_causes.specs.Enough.{IsEnough, IsNeeded}
 
 abbrev pub IsReceipt : Computation → Place → Type 0
@@ -18,6 +19,11 @@ pub record AreCauses (r : Recorded) (predicate : Predicate) (receipts : List Pla
   pub ascending : AllPairs IsBefore receipts
   pub needed : IsTrue are_needed → All (IsNeeded r predicate receipts) receipts
 
--- it is decided, whatever the width, that no consistent cut satisfies
+-- The predicate is of a kind that is decided, whatever the width: it is of two processes, has few terms, or is decided
+-- by sums.
+abbrev pub IsDecided : Recorded → Predicate → Type 0
+IsDecided r predicate = DecidesPossibly r predicate ⊎ IsDecidedBySums r predicate
+
+-- it is, and no consistent cut satisfies
 abbrev pub IsDecidedNo : Recorded → Predicate → Type 0
-IsDecidedNo r predicate = IsPossiblyDecided r predicate × (¬ Possibly r.events (test_of r predicate))
+IsDecidedNo r predicate = IsDecided r predicate × (¬ Possibly r.events (test_of r predicate))

@@ -1,13 +1,9 @@
 -- What a search for receipts that are enough keeps.
-use Rattle.std.specs.Prelude.{All, AllPairs, Contains, ◌≡◌, ◌≤◌, ◌++◌, ◌+◌, ℕ, IsTrue, Bool, cond, List, Option, Some, None, length, take}
+use Rattle.std.specs.Prelude.{All, AllPairs, Contains, ◌≡◌, ◌≤◌, ◌++◌, ◌+◌, ℕ, IsTrue, Bool, List, length, take}
 use Rattle.def_model.specs.Events.{Place, IsBefore}
 use Rattle.def_model.specs.Observations.{Possibly}
 use Rattle.def_model.specs.Predicates.{Predicate, Recorded, test_of}
-use Rattle.def_wide.specs.Decided.{IsPossiblyDecided}
-use Rattle.def_wide.specs.Sums.{IsDecidedBySums}
-use Rattle.walk_back.specs.declared.possibly_answer.PossiblyAnswer.{PossiblyAnswer}
-use Rattle.walk_back.specs.declared.possibly_answer.PossiblyAnswer.TheVariants.{Yes, No, Unknown}
-use Rattle.judge_causes.specs.Causes.{IsReceipt}
+use Rattle.judge_causes.specs.Causes.{IsDecided, IsReceipt}
 use Rattle.judge_causes.specs.Enough.{IsEnough, IsNeeded}
 use Rattle.judge_causes.specs.Reduced.{is_listed, reduced_run}
 use Rattle.pd_clock.specs.Orders.{places_view}
@@ -20,17 +16,7 @@ use Rattle.judge_causes.specs.declared.trial.Trial.TheVariants.{Enough, NotEnoug
 abbrev pub IsTrialOf : Recorded → Predicate → Trial → Type 0
 IsTrialOf r predicate Enough = ¬ Possibly r.events (test_of r predicate)
 IsTrialOf r predicate NotEnough = ¬ ¬ Possibly r.events (test_of r predicate)
-IsTrialOf r predicate Undecided = (¬ IsPossiblyDecided r predicate) × (¬ IsDecidedBySums r predicate)
-
--- what an answer for Possibly says; that sums decide that some cut satisfies says that one does
-abbrev pub trial_known : Option PossiblyAnswer → Trial
-trial_known None = Undecided
-trial_known (Some (Yes cut)) = NotEnough
-trial_known (Some No) = Enough
-trial_known (Some (Unknown level)) = Undecided
-
-abbrev pub trial_for : Option PossiblyAnswer → (by_height : Bool) → Trial
-trial_for answer by_height = cond by_height NotEnough (trial_known answer)
+IsTrialOf r predicate Undecided = ¬ IsDecided r predicate
 
 -- what is found of these receipts
 abbrev pub IsTrial : Recorded → Predicate → List Place → Trial → Type 0

@@ -22,7 +22,8 @@ fn causes_in<R: RandomSource>(
     trials: u64,
 ) -> Result<Causes, AllocError>
     requires fit { FitsAsked asked.now }
-    requires none { ¬ Possibly (asked_run asked.now).events (test_of (asked_run asked.now) (asked_predicate asked.now)) }
+    requires none { ¬ Possibly (asked_run asked.now).events
+        (test_of (asked_run asked.now) (asked_predicate asked.now)) }
     ensures { IfOk result (λ causes. AreCauses (asked_run asked.now) (asked_predicate asked.now)
         (places_view causes.receipts.items) causes.are_needed) }
 {
@@ -34,8 +35,8 @@ fn causes_in<R: RandomSource>(
 /// needed if the trials suffice. There is nothing if some cut satisfies, or if it isn't decided whatever the width that
 /// none does.
 ///
-/// A trial takes time for all events, and as much as `wide` takes for the predicate. Each receipt that is found takes
-/// as many as a binary search among all receipts, and one more.
+/// A trial takes time for all events, and as much as the predicate takes whatever the width. Each receipt that is found
+/// takes as many as a binary search among all receipts, and one more.
 ///
 /// # Errors
 /// An allocation was refused.

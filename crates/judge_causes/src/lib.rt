@@ -2,8 +2,8 @@
 //!
 //! Some receipts are enough if no counts of events that have the send of each of them satisfy the predicate: then no
 //! run with the same events does, however else these are ordered, if those messages are among its messages. Whether
-//! they are enough is asked of the run in which all other receipts are local events, by what `wide` decides whatever
-//! the width. A search leaves out what isn't needed.
+//! they are enough is asked of the run in which all other receipts are local events, by terms, by the counts of two
+//! processes or by sums, as `wide` does. A search leaves out what isn't needed.
 //!
 //! - `asked`: what is asked of a run
 //! - `laws`: what it means that receipts are enough

@@ -21,19 +21,22 @@ pub returns-then-receipt-other : goal.returns-then-receipt-other
 returns-then-receipt-other c receipts found =
     not_last receipts (place_view c.args.send) (place_view c.args.receipt) (place_view c.in-Some.other)
     c.if-receipt-other.true
-    (subst (λ (best : Option kept.Place). FindsLastBefore receipts (place_view c.args.send) (option_map place_view best))
+    (subst (λ (best : Option kept.Place).
+    FindsLastBefore receipts (place_view c.args.send) (option_map place_view best))
     c.in-Some.is found)
 
 pub returns-else-receipt-other : goal.returns-else-receipt-other
 returns-else-receipt-other c receipts found =
     is_last receipts (place_view c.args.send) (place_view c.args.receipt) (place_view c.in-Some.other)
     c.if-receipt-other.false c.if-receipt-send.false c.if-receipt-send-2.false
-    (subst (λ (best : Option kept.Place). FindsLastBefore receipts (place_view c.args.send) (option_map place_view best))
+    (subst (λ (best : Option kept.Place).
+    FindsLastBefore receipts (place_view c.args.send) (option_map place_view best))
     c.in-Some.is found)
 
 pub returns-in-None : goal.returns-in-None
 returns-in-None c receipts found =
     is_first receipts (place_view c.args.send) (place_view c.args.receipt) c.if-receipt-send.false
     c.if-receipt-send-2.false
-    (subst (λ (best : Option kept.Place). FindsLastBefore receipts (place_view c.args.send) (option_map place_view best))
+    (subst (λ (best : Option kept.Place).
+    FindsLastBefore receipts (place_view c.args.send) (option_map place_view best))
     c.in-None.is found)
